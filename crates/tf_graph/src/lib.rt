@@ -1,0 +1,6 @@
+//! Finite directed graphs, and what is recursive over one without cycles.
+#![tactic(auto)]
+
+mod graph;
+
+pub use graph::{Graph, GraphFault, MAX_NODES};
