@@ -1,0 +1,4 @@
+pub mod Tree
+pub mod Equality
+pub mod Known
+pub mod Refinement
