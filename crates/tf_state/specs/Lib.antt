@@ -1,3 +1,2 @@
 pub mod Provider
 pub mod State
-pub mod Text
