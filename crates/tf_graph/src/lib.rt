@@ -2,5 +2,6 @@
 #![tactic(auto)]
 
 mod graph;
+pub mod laws;
 
 pub use graph::{Graph, GraphFault, MAX_NODES};
