@@ -1,14 +1,14 @@
 -- What a state holds, as plain data.
 use Rattle.std.specs.Prelude.{ℕ, suc, Bool, if◌then◌else◌, List, [], ◌∷◌, map, codes, string_bytes}
 use Rattle.tf_address.specs.Label.{LabelView, label_of, label_below}
-use Rattle.tf_value.specs.Tree.{Entries, entries_view}
+use Rattle.tf_value.specs.Tree.{Tree, tree_of}
 use Rattle.tf_state.specs.declared.state.Record.{Record}
 use Rattle.tf_state.specs.declared.state.Resource.{Resource}
 use Rattle.tf_state.specs.declared.state.State.{State}
 
 -- one object of a resource
 pub record RecordView : Type 0 where
-  pub attributes : Entries
+  pub attributes : Tree
   pub schema_version : ℕ
   pub tainted : Bool
 
@@ -26,7 +26,7 @@ pub record StateView : Type 0 where
   pub resources : List ResourceView
 
 abbrev pub record_of : Record → RecordView
-record_of r = record { attributes = entries_view r.attributes.entries.entries; schema_version = r.schema_version; tainted = r.tainted }
+record_of r = record { attributes = tree_of r.attributes.value; schema_version = r.schema_version; tainted = r.tainted }
 
 abbrev pub resource_of : Resource → ResourceView
 resource_of r = record { label = label_of r.label; provider = string_bytes r.provider; records = map record_of r.records.items }

@@ -4,7 +4,9 @@
 mod object;
 mod provider;
 mod state;
+mod writing;
 
 pub use object::Object;
 pub use provider::provider_address;
 pub use state::{Record, Resource, State};
+pub use writing::write;
