@@ -1,3 +1,5 @@
+pub mod Tests
 pub mod Views
 pub mod Order
 pub mod JsonForms
+pub mod Forms
