@@ -43,7 +43,7 @@ entries_view-insert_entry (e ∷ es) k v = entries_view-match_ordering (string_c
 abbrev pub shown : {V : Type 0} → (V → Tree) → List (String Global × V) → Entries
 shown f es = entries_of (each (λ e. (e.0, f e.1)) es)
 
-below_middle : {V : Type 0} (k : String Global) (es : List (String Global × V)) (e : String Global × V) (more : List (String Global × V)) → AllByRecursion (λ y. string_cmp k y ≡ Less) (keys_of (es ++ e ∷ more)) → string_cmp k e.0 ≡ Less
+pub below_middle : {V : Type 0} (k : String Global) (es : List (String Global × V)) (e : String Global × V) (more : List (String Global × V)) → AllByRecursion (λ y. string_cmp k y ≡ Less) (keys_of (es ++ e ∷ more)) → string_cmp k e.0 ≡ Less
 below_middle k [] e more h = h.0
 below_middle k (x ∷ es) e more h = below_middle k es e more h.1
 

@@ -2,3 +2,5 @@ pub mod Tree
 pub mod Equality
 pub mod Known
 pub mod Refinement
+pub mod Measure
+pub mod Json
