@@ -1,0 +1,10 @@
+//! Claims on the actions of a plan: who may call an action's provider, and when.
+//!
+//! A `Permit` is the right to call the provider of one action, and `Finished` says that this right was
+//! spent. Neither can be copied or let go, so an action that was claimed is called or waived, and then
+//! finished.
+#![tactic(auto)]
+
+pub mod permit;
+
+pub use permit::{Finished, Permit, waive};
