@@ -19,11 +19,15 @@ pub record BlockView : Type 0 where
 abbrev pub Blocks : Type 0
 Blocks = List BlockView
 
+-- the arguments of a block
+abbrev pub arguments_of : Block → Members
+arguments_of block = members_view block.arguments.entries
+
 abbrev pub block_of : Label × Block → BlockView
 block_of entry = record {
   kind = string_bytes entry.0.kind;
   name = string_bytes entry.0.name;
-  arguments = members_view entry.1.arguments.entries;
+  arguments = arguments_of entry.1;
 }
 
 abbrev pub blocks_of : Config → Blocks

@@ -5,6 +5,7 @@
 //! properties in byte order, the limit on blocks.
 #![tactic(auto)]
 
+mod body;
 pub mod config;
 mod demand;
 mod literal;
