@@ -1,0 +1,4 @@
+pub mod ConfigurationLaws
+pub mod Literals
+pub mod Reading
+pub mod Refusals
