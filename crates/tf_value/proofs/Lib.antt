@@ -1,4 +1,4 @@
-pub mod Tests
+pub mod Conjunction
 pub mod Views
 pub mod Order
 pub mod JsonForms

@@ -10,6 +10,8 @@ mod laws;
 mod measure;
 mod reading;
 mod refinement;
+#[cfg(test)]
+mod tests;
 mod value;
 mod writing;
 
