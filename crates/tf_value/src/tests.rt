@@ -1,6 +1,6 @@
 use crate::{
     JsonFault, MAX_DEPTH, MAX_WEIGHT, Value, copy, depth, entries_to_json, find, from_json,
-    is_known, refines, to_json, weight,
+    is_known, is_within_limits, refines, to_json, weight,
 };
 use serde_json::Value as Json;
 use std::alloc::{AllocError, Global};
@@ -58,6 +58,10 @@ fn long(alloc: Global, bytes: usize) -> Result<String, AllocError> {
 #[test]
 fn texts(rt: HostRuntime) -> Result<(), Fail> {
     let table = [
+        (
+            "{\"b\":1,\"a\":{\"d\":[],\"c\":2}}",
+            "{\"a\":{\"c\":2,\"d\":[]},\"b\":1}",
+        ),
         ("null", "null"),
         ("true", "true"),
         ("0", "0"),
@@ -81,10 +85,6 @@ fn texts(rt: HostRuntime) -> Result<(), Fail> {
         ("[1,[2.5]]", "NotWhole"),
         ("{\"a\":{\"b\":1e1}}", "NotWhole"),
         ("[1, \"a\", [null, {}]]", "[1,\"a\",[null,{}]]"),
-        (
-            "{\"b\":1,\"a\":{\"d\":[],\"c\":2}}",
-            "{\"a\":{\"c\":2,\"d\":[]},\"b\":1}",
-        ),
     ];
     for (text, expected) in table {
         let found = written(rt.alloc(), text)?;
@@ -133,6 +133,7 @@ fn measures(rt: HostRuntime) -> Result<(), Fail> {
     }
     assert_eq!(rt; weight(&Value::Unknown), 1);
     assert_eq!(rt; depth(&Value::Unknown), 0);
+    assert!(rt; is_within_limits(&Value::Unknown));
     assert!(rt; MAX_WEIGHT == 1_000_000 && MAX_DEPTH == 32);
     Ok(())
 }
@@ -213,4 +214,5 @@ fn laws() {
     crate::forms_are_one();
     crate::forms_read_back();
     crate::limits_decide();
+    crate::puts_are_found();
 }
