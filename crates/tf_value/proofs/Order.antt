@@ -7,7 +7,7 @@ use Rattle.tf_value.specs.Refinement.{Refines, RefinesItems, RefinesEntries}
 use Rattle.tf_value.specs.Equality.{same_Decides}
 use Rattle.tf_value.specs.Known.{known, known_items, known_entries}
 use Rattle.tf_value.specs.Place.{Place, whole_value, in_item, at_key, items_around, entries_around, with_part}
-use Rattle.tf_value.proofs.Tests.{and-first, and-second}
+use Rattle.tf_value.proofs.Conjunction.{and-first, and-second}
 use Rattle.tf_value.specs.declared.value.Value.{Value}
 use Rattle.tf_value.proofs.Views.{Entry}
 
