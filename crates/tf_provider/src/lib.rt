@@ -13,4 +13,4 @@ pub mod verdict;
 pub use provider::{Provider, first_provider};
 pub use request::{Op, Reply, Request};
 pub use schema::{Attribute, Kind, Mode, Schema, SchemaFault};
-pub use verdict::Verdict;
+pub use verdict::{Verdict, has_attributes, judge, well_formed};
