@@ -39,9 +39,9 @@ mutual
   refined_entries_Decides no_entries no_entries = (λ e. tt, λ e. refl)
   refined_entries_Decides (entry k t ts) (entry l u us) =
       let rest : Decides (refined t u && refined_entries ts us) (Refines t u × RefinesEntries ts us) =
-        both _ _ (refined_Decides t u) (refined_entries_Decides ts us) in
+      both _ _ (refined_Decides t u) (refined_entries_Decides ts us) in
       let all : Decides (refined_entries (entry k t ts) (entry l u us)) ((k ≡ l) × (Refines t u × RefinesEntries ts us)) =
-        both _ _ (bytes_eq-Decides k l) rest in
+      both _ _ (bytes_eq-Decides k l) rest in
       (λ e. let p = all.0 e in (p.0, p.1.0, p.1.1), λ r. all.1 (r.0, (r.1, r.2)))
   refined_entries_Decides _ _ = (λ e. false≢true e, λ e. absurd e)
 

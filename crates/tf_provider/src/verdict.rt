@@ -7,11 +7,10 @@ ghost use Rattle.tf_provider.specs.Schema.{attribute_of};
 ghost use Rattle.tf_provider.specs.Verdict.{asks_fully, verdict_on, verdict_on_object, well_formed, has_attributes, same_names, keys_of, fits, fits_in, is_allowed, contradicts_at};
 ghost use Rattle.tf_value.specs.Tree.{tree_of, entries_view};
 
-use std::collections::BTreeMap;
-use tf_value::{MAX_DEPTH, MAX_WEIGHT, Value, depth, is_known, refines, weight};
-
 use crate::request::{Op, Reply, Request};
 use crate::schema::{Attribute, Kind, Mode, Schema};
+use std::collections::BTreeMap;
+use tf_value::{MAX_DEPTH, MAX_WEIGHT, Value, depth, is_known, refines, weight};
 
 /// Whether a reply keeps what was promised.
 #[derive(Clone, Copy, Debug, PartialEq, Eq)]

@@ -8,5 +8,5 @@ abbrev pub invariant-loop-key : goal.invariant-loop-key
 invariant-loop-key l = record {
   same_length : length l.key-iterator.a ≡ length l.key-iterator.b.rest.now;
   left : same_names (keys_of (entries_view l.entries.entries)) (map (λ a. a.name) (map attribute_of l.attributes))
-    ≡ same_names (keys_of (entries_view l.key-iterator.a)) (map (λ a. a.name) (map attribute_of l.key-iterator.b.rest.now));
+      ≡ same_names (keys_of (entries_view l.key-iterator.a)) (map (λ a. a.name) (map attribute_of l.key-iterator.b.rest.now));
 }
