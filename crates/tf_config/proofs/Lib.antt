@@ -1,4 +1,5 @@
+pub mod Blocks
 pub mod ConfigurationLaws
 pub mod Literals
-pub mod Reading
+pub mod Members
 pub mod Refusals

@@ -24,22 +24,31 @@ max_blocks = 2000
 abbrev pub whole_fault : ℕ → Told
 whole_fault code = fault code (dotted whole_file) bare
 
--- The one thing that is told of a text, in the order of tests: it is too long; it is no JSON; its first
--- fault in walk order; it has too many blocks. That there was no memory may be told of any text.
+-- The text is no tree: 1, NotJson.
+abbrev pub IsNotJson : List ℕ → Told → Type 0
+IsNotJson bytes refusal = ((tree : Data) → ¬ IsTree bytes tree) × (refusal ≡ whole_fault 1)
+
+-- That is told, or that there was no memory.
+abbrev pub TellsNotJson : List ℕ → Told → Type 0
+TellsNotJson bytes no_memory = Unit {0}
+TellsNotJson bytes workers = ⊥
+TellsNotJson bytes (fault code place detail) = IsNotJson bytes (fault code place detail)
+
+-- The text has more blocks than there may be: 14, Limit.
+abbrev pub HasTooManyBlocks : List ℕ → Told → Type 0
+HasTooManyBlocks bytes refusal =
+    (tree : Data) × IsTree bytes tree × (blocks : Blocks) × IsConfiguration tree blocks × (max_blocks < length blocks) × (refusal ≡ whole_fault 14)
+
+-- The text has a fault in its shape, and this is the first in walk order.
+abbrev pub IsMisshapen : List ℕ → Told → Type 0
+IsMisshapen bytes refusal = (tree : Data) × IsTree bytes tree × Refuses (configuration_checks tree) refusal
+
+-- What is told of a text, in the order of tests: it is longer than it may be, 14; it is no JSON; it has a
+-- fault in its shape; it has too many blocks. That there was no memory may be told of any text.
 abbrev pub IsRefused : List ℕ → Told → Type 0
 IsRefused bytes no_memory = Unit {0}
 IsRefused bytes workers = ⊥
 IsRefused bytes (fault code place detail) =
-    ((max_bytes < length bytes) × (fault code place detail ≡ whole_fault 14))
-    ⊎ ((length bytes ≤ max_bytes) × ((tree : Data) → ¬ IsTree bytes tree) × (fault code place detail ≡ whole_fault 1))
-    ⊎ ((length bytes ≤ max_bytes) × (tree : Data) × IsTree bytes tree × Refuses (configuration_checks tree) (fault code place detail))
-    ⊎ ((length bytes ≤ max_bytes) × (tree : Data) × IsTree bytes tree × (blocks : Blocks) × IsConfiguration tree blocks × (max_blocks < length blocks)
-      × (fault code place detail ≡ whole_fault 14))
-
--- the text is a configuration within the limits, with these blocks
-pub record Reads (bytes : List ℕ) (blocks : Blocks) : Type 0 where
-  pub small : length bytes ≤ max_bytes
-  pub tree : Data
-  pub text : IsTree bytes tree
-  pub stands : IsConfiguration tree blocks
-  pub few : length blocks ≤ max_blocks
+    let refusal = fault code place detail in
+    ((max_bytes < length bytes) × (refusal ≡ whole_fault 14))
+    ⊎ ((length bytes ≤ max_bytes) × (IsNotJson bytes refusal ⊎ IsMisshapen bytes refusal ⊎ HasTooManyBlocks bytes refusal))

@@ -1,8 +1,8 @@
 ghost use Rattle.std.specs.Prelude.{IsTrue, IsSome};
 ghost use Rattle.serde_json.specs.View.{number_view};
-ghost use Rattle.tf_config.specs.Demand.{Judges, TellsAt, Refuses, bad_shape, a_name, a_type_name, a_plain_name, a_whole_number, a_template};
-ghost use Rattle.tf_config.specs.Configuration.{wrong};
-ghost use Rattle.tf_config.specs.Refusal.{told, detail_of};
+ghost use Rattle.tf_config.specs.Demand.{Judges, TellsAt, bad_shape, a_name, a_type_name, a_plain_name, a_whole_number, a_template};
+ghost use Rattle.tf_config.specs.Configuration.{whole_file};
+ghost use Rattle.tf_config.specs.Refusal.{bare, told, detail_of};
 ghost use Rattle.tf_text.specs.Check.{demanded};
 ghost use Rattle.tf_text.specs.Place.{dotted, place_of};
 
@@ -13,8 +13,10 @@ use std::alloc::Global;
 use tf_address::is_name;
 use tf_text::Path;
 
-const BAD_SHAPE: u8 = 2;
+pub(crate) const NOT_JSON: u8 = 1;
+pub(crate) const BAD_SHAPE: u8 = 2;
 const BAD_TEMPLATE: u8 = 3;
+pub(crate) const LIMIT: u8 = 14;
 
 /// A fault at a place, or that there is no memory to write the place out.
 fn fault(alloc: Global, path: &Path<'_>, code: u8, detail: Detail) -> Refusal
@@ -28,6 +30,14 @@ fn fault(alloc: Global, path: &Path<'_>, code: u8, detail: Detail) -> Refusal
         },
         Err(_) => Refusal::OutOfMemory,
     }
+}
+
+/// A fault of the whole file, which has nothing behind its name.
+pub(crate) fn whole_file_fault(alloc: Global, code: u8) -> Refusal
+    ensures { TellsAt (dotted whole_file) (code, bare) (told result) }
+{
+    let path = Path::Member(&Path::Root, "configuration");
+    fault(alloc, &path, code, Detail::Bare)
 }
 
 /// Nothing is allowed at the place.

@@ -9,6 +9,7 @@ mod body;
 pub mod config;
 mod demand;
 mod literal;
+pub mod reading;
 pub mod refusal;
 pub mod tf_expr;
 mod words;
