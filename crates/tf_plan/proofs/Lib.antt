@@ -1,2 +1,3 @@
-pub mod Entries
 pub mod Attributes
+pub mod Entries
+pub mod Orders

@@ -3,5 +3,13 @@
 
 pub mod argument;
 pub mod object;
+pub mod order;
+pub mod plan;
+pub mod planner;
+pub mod refused;
 
-pub use argument::{ArgumentFault, ValueFault, attribute_value};
+pub use argument::{ArgumentFault, ValueFault};
+pub use order::Order;
+pub use plan::{Action, Plan};
+pub use planner::plan_for;
+pub use refused::Refused;
