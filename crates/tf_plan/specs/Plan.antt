@@ -53,10 +53,13 @@ planned ms blocks lineage =
 -- ---- the plan's text
 
 -- four spaces, the name, ` = ` and the value; nothing for an attribute that is null
+abbrev pub attribute_line : List ℕ → tree.Tree → List ℕ
+attribute_line name tree.null = []
+attribute_line name t = codes "    " ++ name ++ codes " = " ++ shown t ++ 10 ∷ []
+
 abbrev pub attribute_lines : tree.Entries → List ℕ
 attribute_lines tree.no_entries = []
-attribute_lines (tree.entry name tree.null es) = attribute_lines es
-attribute_lines (tree.entry name t es) = (codes "    " ++ name ++ codes " = " ++ shown t ++ 10 ∷ []) ++ attribute_lines es
+attribute_lines (tree.entry name t es) = attribute_line name t ++ attribute_lines es
 
 abbrev pub object_lines : tree.Tree → List ℕ
 object_lines (tree.map es) = attribute_lines es

@@ -7,6 +7,8 @@ pub mod order;
 pub mod plan;
 pub mod planner;
 pub mod refused;
+mod shown;
+mod text;
 
 pub use argument::{ArgumentFault, ValueFault};
 pub use order::Order;
