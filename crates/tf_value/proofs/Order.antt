@@ -1,5 +1,5 @@
 -- Refinement is an order, and what refines both ways is equal.
-use Rattle.std.proofs.Common.{◌≡◌, ℕ, suc, List, [], ◌∷◌, length, String, Global, Bool, true, false, refl, sym, ap, ◌∙◌, subst, IsTrue, rules}
+use Rattle.std.proofs.Common.{◌≡◌, ℕ, suc, List, [], ◌∷◌, length, Bool, true, false, refl, sym, ap, ◌∙◌, subst, IsTrue}
 use Rattle.std.specs.Prelude.{◌↔◌}
 use Rattle.std.specs.Bool.{one_answer}
 use Rattle.tf_value.specs.Tree.{Tree, null, boolean, whole, text, list, map, unknown, Items, no_items, item, Entries, no_entries, entry, same, items_view, entries_view}

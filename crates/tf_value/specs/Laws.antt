@@ -1,5 +1,5 @@
 -- What holds of values and their JSON forms, whatever they are.
-use Rattle.std.specs.Prelude.{ℕ, List, ◌≡◌, ◌↔◌, ◌⊎◌, true, Some, None, Option}
+use Rattle.std.specs.Prelude.{ℕ, List, ◌≡◌, ◌↔◌, true, Some, None}
 use Rattle.serde_json.specs.Data.{Data}
 use Rattle.tf_value.specs.Tree.{Tree, Entries, IsHeld, get, put, same}
 use Rattle.tf_value.specs.Known.{known}

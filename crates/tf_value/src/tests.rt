@@ -188,6 +188,8 @@ fn unknown_is_not_written(rt: HostRuntime) -> Result<(), Fail> {
     let planned = pair(alloc, Value::Null, Value::Unknown)?;
     let found = to_json(alloc, &planned);
     assert!(rt; matches!(found, Err(JsonFault::UnknownInside)));
+    let message = JsonFault::UnknownInside.to_string(alloc)?;
+    assert_eq!(rt; message.as_str(), "a part of the value is unknown");
     Ok(())
 }
 
