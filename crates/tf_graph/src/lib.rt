@@ -1,7 +1,10 @@
 //! Finite directed graphs, and what is recursive over one without cycles.
 #![tactic(auto)]
 
+mod closure;
 mod graph;
 pub mod laws;
+mod node_set;
 
+pub use closure::Closure;
 pub use graph::{Graph, GraphFault, MAX_NODES};
