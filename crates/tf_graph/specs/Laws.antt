@@ -110,6 +110,18 @@ pub passing_below : (ℕ → Bool) → ℕ → ℕ
 passing_below p zero = 0
 passing_below p (suc c) = cond (p c) 1 0 + passing_below p c
 
+pub passing_below-most : (p : ℕ → Bool) (n : ℕ) → passing_below p n ≤ n
+unfolding passing_below
+passing_below-most p zero = omega arith
+passing_below-most p (suc n) =
+    let rest : passing_below p n ≤ n = passing_below-most p n in
+    let here : cond (p n) 1 0 ≤ 1 = one (p n) in
+    omega arith
+  where
+    one : (b : Bool) → cond b 1 0 ≤ 1
+    one true = omega arith
+    one false = omega arith
+
 one_le : (b d : Bool) → (b ≡ true → d ≡ true) → cond b 1 0 ≤ cond d 1 0
 one_le true d h = rw (h refl) (omega arith)
 one_le false d h = omega arith

@@ -8,3 +8,7 @@ pub mod NodeSet
 pub mod Edges
 pub mod Closure
 pub mod Search
+pub mod Strip
+pub mod Removal
+pub mod Orders
+pub mod GraphLaws

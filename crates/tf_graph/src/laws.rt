@@ -1,6 +1,8 @@
 //! Laws on what is recursive over a relation without cycles: each is the contract of a function that does nothing.
 
 ghost use Rattle.tf_graph.specs.Solutions.{SolutionIsUnique, SolutionExists, AllAreDone, RankedHasNoCycle, OrderedIsRanked};
+ghost use Rattle.tf_graph.specs.Closure.{ClosureIsLeast, AcyclicIsRanked};
+ghost use Rattle.tf_graph.specs.Strip.{StripIsEmpty, LeftIsBehindCycle};
 ghost use Rattle.tf_graph.specs.Order.{OrderGrows, OrderFollowsPaths};
 
 /// Two solutions of a rule over a ranked relation have the same result at each node.
@@ -39,3 +41,27 @@ pub fn order_grows()
 pub fn order_follows_paths()
     ensures { OrderFollowsPaths }
 {}
+
+/// A closure holds the edges, is transitive, and is the least such relation.
+pub fn closure_is_least()
+    ensures { ClosureIsLeast }
+{
+}
+
+/// Where no node reaches itself by a closure, what stands directly before a node has a rank.
+pub fn acyclic_is_ranked()
+    ensures { AcyclicIsRanked }
+{
+}
+
+/// No node is left of a graph exactly where none reaches itself.
+pub fn strip_is_empty()
+    ensures { StripIsEmpty }
+{
+}
+
+/// A node is left exactly where one that reaches itself reaches it, or is it.
+pub fn left_is_behind_cycle()
+    ensures { LeftIsBehindCycle }
+{
+}

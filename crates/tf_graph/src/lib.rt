@@ -5,6 +5,7 @@ mod closure;
 mod graph;
 pub mod laws;
 mod node_set;
+mod strip;
 
 pub use closure::Closure;
 pub use graph::{Graph, GraphFault, MAX_NODES};
