@@ -23,3 +23,15 @@ impl fmt::Display for Label {
         write!(f, "{kind}.{name}")
     }
 }
+
+impl Label {
+    ghost use Rattle.std.specs.Prelude.{◌≡◌};
+    ghost use Rattle.tf_address.specs.Label.{label_of, label_below};
+
+    /// Whether this address comes before another: by type, and then by name, byte by byte.
+    pub fn is_below(&self, other: &Label) -> bool
+        ensures { result ≡ label_below (label_of self.now) (label_of other.now) }
+    {
+        self < other
+    }
+}

@@ -4,3 +4,5 @@ pub mod Known
 pub mod Refinement
 pub mod Measure
 pub mod Json
+pub mod Place
+pub mod Laws

@@ -1,7 +1,8 @@
 -- What a value is, as plain data: no pointers, no capacities.
-use Rattle.std.specs.Prelude.{ℕ, ℤ, Bool, true, false, if◌then◌else◌, ◌&&◌, Option, Some, None, List, [], ◌∷◌, map as each, String, string_bytes}
+use Rattle.std.specs.Prelude.{ℕ, ℤ, Bool, true, false, if◌then◌else◌, ◌&&◌, Option, Some, None, List, [], ◌∷◌, map as each, String, string_bytes, FitsSigned, ⊤}
 use Rattle.std.specs.Ordering.{int_eq, nat_cmp, match_ordering}
 use Rattle.std.specs.Cmp.Lexicographic.{slice_cmp}
+use Rattle.std.specs.Int.{w64}
 use Rattle.std.specs.Str.{bytes_eq}
 use mathlib.Core.Bool.{beq}
 use Rattle.std.specs.declared.alloc.Global.{Global}
@@ -72,6 +73,22 @@ part_at k _ = None
 abbrev pub put : List ℕ → Tree → Entries → Entries
 put k t no_entries = entry k t no_entries
 put k t (entry l u es) = match_ordering (slice_cmp nat_cmp k l) (entry k t (entry l u es)) (entry l t es) (entry l u (put k t es))
+
+-- A tree is held by a `Value` where each whole number in it is one of 64 bits with a sign.
+abbrev mutual
+  pub IsHeld : Tree → Type 0
+  IsHeld (whole z) = FitsSigned w64 z
+  IsHeld (list ts) = AreHeld ts
+  IsHeld (map es) = AreHeldEntries es
+  IsHeld _ = ⊤
+
+  pub AreHeld : Items → Type 0
+  AreHeld no_items = ⊤
+  AreHeld (item t ts) = IsHeld t × AreHeld ts
+
+  pub AreHeldEntries : Entries → Type 0
+  AreHeldEntries no_entries = ⊤
+  AreHeldEntries (entry k t es) = IsHeld t × AreHeldEntries es
 
 -- Two values are the same where their trees are.
 abbrev mutual

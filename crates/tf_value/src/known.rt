@@ -31,7 +31,7 @@ fn are_known(items: &Vec<Value>) -> bool
 }
 
 #[cycle(known)]
-fn entries_are_known(entries: &BTreeMap<String, Value>) -> bool
+pub(crate) fn entries_are_known(entries: &BTreeMap<String, Value>) -> bool
     ensures { result ≡ known_entries (entries_view entries.now.entries) }
 {
     for (_, value) in entries.iter() {

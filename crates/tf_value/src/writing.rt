@@ -1,11 +1,10 @@
-ghost use Rattle.std.specs.Prelude.{◌≡◌, IfOk, IfErr, OnOk, true};
+ghost use Rattle.std.specs.Prelude.{◌≡◌, IfOk, IfErr, OnOk};
 ghost use Rattle.serde_json.specs.View.{view, items_view as json_items, members_view};
-ghost use Rattle.tf_value.specs.Tree.{tree_of, items_view, entries_view};
-ghost use Rattle.tf_value.specs.Known.{known};
-ghost use Rattle.tf_value.specs.Json.{IsJson, IsUnwritten, value_data, items_data, entries_data};
+ghost use Rattle.tf_value.specs.Tree.{map, IsHeld, AreHeld, AreHeldEntries, tree_of, items_view, entries_view};
+ghost use Rattle.tf_value.specs.Json.{IsJson, IsObject, IsUnwritten, value_data, items_data, entries_data};
 
 use crate::json::JsonFault;
-use crate::known::is_known;
+use crate::known::{entries_are_known, is_known};
 use crate::value::Value;
 use serde_json::{Map, Number, Value as Json};
 use std::alloc::{AllocError, Global};
@@ -13,9 +12,10 @@ use std::collections::BTreeMap;
 
 /// The JSON form of a value. Refused `UnknownInside` exactly where a part of the value is unknown, else only
 /// where there is no memory.
+#[tactic(auto, using(crate::proofs::Forms::form_along))]
 pub fn to_json(alloc: Global, value: &Value) -> Result<Json, JsonFault>
     ensures ok { IfOk result (λ j. view j ≡ value_data (tree_of value.now)) }
-    ensures known { OnOk result (known (tree_of value.now) ≡ true) }
+    ensures form { IfOk result (λ j. IsJson (tree_of value.now) (view j)) }
     ensures err { IfErr result (λ e. IsUnwritten (tree_of value.now) e) }
 {
     if !is_known(value) {
@@ -24,9 +24,26 @@ pub fn to_json(alloc: Global, value: &Value) -> Result<Json, JsonFault>
     Ok(written(alloc, value)?)
 }
 
+/// The JSON form of a map's entries, with the same refusals as for the map.
+#[tactic(auto, using(crate::proofs::Forms::object_along))]
+pub fn entries_to_json(
+    alloc: Global,
+    entries: &BTreeMap<String, Value>,
+) -> Result<Map<String, Json>, JsonFault>
+    ensures ok { IfOk result (λ m. members_view m.entries ≡ entries_data (entries_view entries.now.entries)) }
+    ensures form { IfOk result (λ m. IsObject (entries_view entries.now.entries) (members_view m.entries)) }
+    ensures err { IfErr result (λ e. IsUnwritten (map (entries_view entries.now.entries)) e) }
+{
+    if !entries_are_known(entries) {
+        return Err(JsonFault::UnknownInside);
+    }
+    Ok(written_entries(alloc, entries)?)
+}
+
 #[cycle(write)]
 fn written(alloc: Global, value: &Value) -> Result<Json, AllocError>
-    ensures { IfOk result (λ j. view j ≡ value_data (tree_of value.now)) }
+    ensures held { OnOk result (IsHeld (tree_of value.now)) }
+    ensures value { IfOk result (λ j. view j ≡ value_data (tree_of value.now)) }
 {
     match value {
         Value::Null | Value::Unknown => Ok(Json::Null),
@@ -40,7 +57,8 @@ fn written(alloc: Global, value: &Value) -> Result<Json, AllocError>
 
 #[cycle(write)]
 fn written_items(alloc: Global, items: &Vec<Value>) -> Result<Vec<Json>, AllocError>
-    ensures { IfOk result (λ js. json_items js.items ≡ items_data (items_view items.now.items)) }
+    ensures held { OnOk result (AreHeld (items_view items.now.items)) }
+    ensures value { IfOk result (λ js. json_items js.items ≡ items_data (items_view items.now.items)) }
 {
     let mut array = Vec::with_capacity(alloc, items.len())?;
     for item in items {
@@ -54,7 +72,8 @@ fn written_entries(
     alloc: Global,
     entries: &BTreeMap<String, Value>,
 ) -> Result<Map<String, Json>, AllocError>
-    ensures { IfOk result (λ m. members_view m.entries ≡ entries_data (entries_view entries.now.entries)) }
+    ensures held { OnOk result (AreHeldEntries (entries_view entries.now.entries)) }
+    ensures value { IfOk result (λ m. members_view m.entries ≡ entries_data (entries_view entries.now.entries)) }
 {
     let mut object = BTreeMap::new(alloc);
     for (key, value) in entries.iter() {

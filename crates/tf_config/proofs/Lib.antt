@@ -1,0 +1,5 @@
+pub mod Blocks
+pub mod ConfigurationLaws
+pub mod Literals
+pub mod Members
+pub mod Refusals

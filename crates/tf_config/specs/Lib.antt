@@ -1,0 +1,9 @@
+pub mod Config
+pub mod Configuration
+pub mod Demand
+pub mod EvalFault
+pub mod Literal
+pub mod Opening
+pub mod Reading
+pub mod Refusal
+pub mod Words

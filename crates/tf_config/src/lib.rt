@@ -1,0 +1,19 @@
+//! Reading a configuration.
+//!
+//! A configuration is one JSON object in Terraform's JSON syntax. `read` gives its resource blocks in
+//! address order, or the first fault in the order of tests: the file's size, JSON, the walk over the
+//! properties in byte order, the limit on blocks.
+#![tactic(auto)]
+
+mod body;
+pub mod config;
+mod demand;
+mod literal;
+pub mod reading;
+pub mod refusal;
+pub mod tf_expr;
+mod words;
+
+pub use config::{Block, Config};
+pub use refusal::{Detail, Refusal};
+pub use tf_expr::EvalFault;

@@ -1,0 +1,5 @@
+pub mod Argument
+pub mod Gives
+pub mod Object
+pub mod Planned
+pub mod Stepped
