@@ -7,5 +7,6 @@ pub mod Literal
 pub mod Opening
 pub mod Reading
 pub mod Refusal
+pub mod RefusalText
 pub mod Whole
 pub mod Words

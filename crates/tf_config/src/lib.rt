@@ -10,6 +10,7 @@ pub mod config;
 mod demand;
 mod laws;
 mod literal;
+mod names;
 mod reading;
 pub mod refusal;
 pub mod tf_expr;
