@@ -1,11 +1,11 @@
 -- What the format of a configuration demands, and how a demand fails.
-use Rattle.std.specs.Prelude.{◌≡◌, ℕ, List, IsTrue, IsSome, MatchResult, Result, false, is_some}
+use Rattle.std.specs.Prelude.{◌≡◌, ℕ, List, IsTrue, MatchResult, Result, false}
 use Rattle.serde_json.specs.Data.{Num}
-use Rattle.serde_json.specs.Find.{as_i64}
 use Rattle.tf_address.specs.Name.{is_name}
 use Rattle.tf_text.specs.Check.{Check, AllMet, IsFirst}
 use Rattle.tf_config.specs.Opening.{IsPlain, IsFirstOpening}
 use Rattle.tf_config.specs.Refusal.{DetailView, bare, at, Told, no_memory, workers, fault, told}
+use Rattle.tf_config.specs.Whole.{is_whole}
 use Rattle.tf_config.specs.Words.{is_type_name}
 use Rattle.tf_config.specs.declared.refusal.Refusal.{Refusal}
 
@@ -29,7 +29,7 @@ IsMet nothing_fits = ⊥
 IsMet (a_name text) = IsTrue (is_name text)
 IsMet (a_type_name text) = IsTrue (is_type_name text)
 IsMet (a_plain_name text) = IsPlain text
-IsMet (a_whole_number number) = IsSome (as_i64 number)
+IsMet (a_whole_number number) = IsTrue (is_whole number)
 IsMet (a_template text) = IsPlain text
 
 -- a refusal's code, and what stands behind its name
@@ -50,7 +50,7 @@ Fails nothing_fits way = way ≡ bad_shape
 Fails (a_name text) way = (is_name text ≡ false) × (way ≡ bad_shape)
 Fails (a_type_name text) way = (is_type_name text ≡ false) × (way ≡ bad_shape)
 Fails (a_plain_name text) way = (¬ IsPlain text) × (way ≡ bad_shape)
-Fails (a_whole_number number) way = (is_some (as_i64 number) ≡ false) × (way ≡ bad_shape)
+Fails (a_whole_number number) way = (is_whole number ≡ false) × (way ≡ bad_shape)
 Fails (a_template text) way = (offset : ℕ) × IsFirstOpening text offset × (way ≡ bad_template offset)
 
 -- what there is to check, in walk order

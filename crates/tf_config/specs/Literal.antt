@@ -1,12 +1,11 @@
 -- Literal JSON as an expression.
-use Rattle.std.specs.Prelude.{ℕ, List, [], ◌∷◌, ◌++◌, IsSome}
+use Rattle.std.specs.Prelude.{ℕ, List, [], ◌∷◌, ◌+◌, ◌++◌, IsTrue}
 use Rattle.std.specs.Fmt.{decimal}
 use Rattle.serde_json.specs.Data.{Data, null, boolean, number, string, array, object, Items, no_items, item, Members, no_members, member}
-use Rattle.serde_json.specs.Find.{as_i64}
 use Rattle.tf_text.specs.Check.{demanded}
 use Rattle.tf_config.specs.Demand.{Checks, a_plain_name, a_whole_number, a_template}
 use Rattle.tf_config.specs.Opening.{IsPlain}
-use Rattle.std.specs.Prelude.{◌+◌}
+use Rattle.tf_config.specs.Whole.{is_whole}
 
 -- What is demanded of a value at a place, of the elements of an array from a position on, and of the
 -- members of an object. A property's name comes before its value.
@@ -33,7 +32,7 @@ abbrev mutual
   pub IsLiteral : Data → Type 0
   IsLiteral null = Unit {0}
   IsLiteral (boolean b) = Unit {0}
-  IsLiteral (number n) = IsSome (as_i64 n)
+  IsLiteral (number n) = IsTrue (is_whole n)
   IsLiteral (string text) = IsPlain text
   IsLiteral (array items) = AreLiterals items
   IsLiteral (object members) = HoldsLiterals members

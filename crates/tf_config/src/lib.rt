@@ -8,12 +8,16 @@
 mod body;
 pub mod config;
 mod demand;
+mod laws;
 mod literal;
-pub mod reading;
+mod names;
+mod reading;
 pub mod refusal;
 pub mod tf_expr;
 mod words;
 
 pub use config::{Block, Config};
+pub use laws::{blocks_are_in_order, faultless_trees_stand, refusals_are_one};
+pub use reading::read;
 pub use refusal::{Detail, Refusal};
 pub use tf_expr::EvalFault;

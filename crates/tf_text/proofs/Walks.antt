@@ -62,6 +62,11 @@ module _ {B : Type 0} (Adds : List ℕ → Data → B → B → Type 0) where
   builds_more [] e a b c same adds = (c, subst (λ x. Adds (string_bytes e.0) (view e.1) x c) (sym same) adds, refl)
   builds_more (d ∷ done) e a b c builds adds = (builds.0, builds.1, builds_more done e builds.0 b c builds.2 adds)
 
+  -- what each member keeps, all of them keep
+  pub Builds-keeps : (P : B → Type 0) → ((k : List ℕ) (d : Data) (a b : B) → Adds k d a b → P a → P b) → (ms : Members) (a b : B) → Builds Adds ms a b → P a → P b
+  Builds-keeps P one no_members a b same h = subst P same h
+  Builds-keeps P one (member k d ms) a b builds h = Builds-keeps P one ms builds.0 b builds.2 (one k d a builds.0 builds.1 h)
+
   -- members lead to one result at most, if each adds one thing at most
   pub Builds-same : ((k : List ℕ) (d : Data) (a b c : B) → Adds k d a b → Adds k d a c → b ≡ c) → (ms : Members) (a b c : B) → Builds Adds ms a b → Builds Adds ms a c → b ≡ c
   Builds-same one no_members a b c h j = sym h ∙ j
