@@ -1,0 +1,7 @@
+//! Carrying out a plan: each action is called once, when all that it depends on is good, and what came of it
+//! is recorded and reported.
+#![tactic(auto)]
+
+pub mod report;
+
+pub use report::{Diagnostic, Excuse, Outcome, Report, Walked};
