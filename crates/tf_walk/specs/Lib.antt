@@ -3,3 +3,6 @@ pub mod Diagnostics
 pub mod Excuse
 pub mod Outcome
 pub mod Report
+pub mod Ended
+pub mod Room
+pub mod RoomHead

@@ -2,6 +2,11 @@
 //! is recorded and reported.
 #![tactic(auto)]
 
+mod asking;
+mod ended;
+mod furnish;
 pub mod report;
+mod requests;
+mod rooms;
 
 pub use report::{Diagnostic, Excuse, Outcome, Report, Walked};
