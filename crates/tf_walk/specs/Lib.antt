@@ -6,3 +6,4 @@ pub mod Report
 pub mod Ended
 pub mod Room
 pub mod RoomHead
+pub mod Ends

@@ -3,6 +3,8 @@
 #![tactic(auto)]
 
 mod asking;
+mod calls;
+mod claims;
 mod ended;
 mod furnish;
 pub mod report;
