@@ -23,9 +23,12 @@ pub record DiagnosticView : Type 0 where
 abbrev pub diagnostic_of : Diagnostic → DiagnosticView
 diagnostic_of d = record { code = d.code; place = string_bytes d.place; verb = d.verb; message = string_bytes d.message }
 
+abbrev pub blanked : ℕ → ℕ
+blanked c = if nat_lt c 32 then 32 else c
+
 -- a message with a space for each character below U+0020
 abbrev pub in_one_line : List ℕ → List ℕ
-in_one_line message = map (λ c. if nat_lt c 32 then 32 else c) message
+in_one_line message = map blanked message
 
 abbrev pub failure_message : Option Answer → List ℕ
 failure_message (Some (failed message there)) = in_one_line message
