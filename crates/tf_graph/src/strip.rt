@@ -17,10 +17,11 @@ impl Graph {
         let mut left = vec![in alloc; true; self.nodes()]?;
         let mut removal = start(alloc, self)?;
         while let Some(node) = removal.free.pop() {
-            if left[node] {
-                left[node] = false;
-                release(self, &mut removal, node)?;
+            if !left[node] {
+                continue;
             }
+            left[node] = false;
+            release(self, &mut removal, node)?;
         }
         Ok(left)
     }
