@@ -1,0 +1,62 @@
+-- A value, level by level, and a `BTreeMap` beside the entries that it stands for.
+use Rattle.std.proofs.Common.{◌≡◌, ℕ, List, [], ◌∷◌, ◌++◌, Option, Some, None, option_map, String, Vec, BTreeMap, Global, Bor, Ordering, Less, Equal, Greater, string_bytes, string_cmp, nat_cmp, is_eq, cond, Bool, true, false, map as each, refl, ap, ◌∙◌, rules}
+use Rattle.std.proofs.lemmas.Cmp.{nat_list_cmp_total}
+use Rattle.std.proofs.lemmas.Map.Text.{is_eq-slice_cmp}
+use Rattle.std.specs.Cmp.Lexicographic.{slice_cmp}
+use Rattle.std.specs.List.{AllByRecursion}
+use Rattle.std.specs.List.Sorted.{IsStrictlySortedBy}
+use Rattle.std.specs.Map.{keys_of, lookup}
+use Rattle.std.specs.Ordering.{match_ordering, ordering_reverse}
+use Rattle.std.specs.BTreeMap.{insert_entry, is_at}
+use Rattle.tf_value.specs.Tree.{Tree, list, map, Entries, entry, get, put, entries_of, tree_of, items_view, entries_view}
+use Rattle.tf_value.specs.declared.value.Value.{Value, List as Listed, Map as Mapped, the_lemmas}
+
+abbrev pub Entry : Type 0
+Entry = String Global × Value
+
+pub tree_of-List : (v : Vec Value Global) → tree_of (Listed v) ≡ list (items_view v.items)
+tree_of-List v = search (rules, the_lemmas)
+
+pub tree_of-Map : (m : BTreeMap (String Global) Value) → tree_of (Mapped m) ≡ map (entries_view m.entries)
+tree_of-Map m = search (rules, the_lemmas)
+
+found_or : (b : Bool) (v : Value) (rest : Option Value) (r : Option Tree) → option_map tree_of rest ≡ r → option_map tree_of (cond b (Some v) rest) ≡ cond b (Some (tree_of v)) r
+found_or true v rest r e = refl
+found_or false v rest r e = e
+
+-- what a look-up finds in a `BTreeMap<String, Value>`
+pub tree_of-lookup : (key : List ℕ) (es : List Entry) → option_map tree_of (lookup (is_at (λ k. slice_cmp nat_cmp key (string_bytes k))) es) ≡ get key (entries_view es)
+tree_of-lookup key [] = refl
+tree_of-lookup key (e ∷ es) = rw (← is_eq-slice_cmp key (string_bytes e.0)) (found_or (is_eq (slice_cmp nat_cmp key (string_bytes e.0))) e.1 _ _ (tree_of-lookup key es))
+
+entries_view-match_ordering : (o : Ordering) (a b c : List Entry) → entries_view (match_ordering o a b c) ≡ match_ordering o (entries_view a) (entries_view b) (entries_view c)
+entries_view-match_ordering Less a b c = refl
+entries_view-match_ordering Equal a b c = refl
+entries_view-match_ordering Greater a b c = refl
+
+-- what an insert into a `BTreeMap<String, Value>` leaves
+pub entries_view-insert_entry : (es : List Entry) (k : String Global) (v : Value) → entries_view (insert_entry string_cmp es k v) ≡ put (string_bytes k) (tree_of v) (entries_view es)
+entries_view-insert_entry [] k v = refl
+entries_view-insert_entry (e ∷ es) k v = entries_view-match_ordering (string_cmp k e.0) _ _ _ ∙ rw (entries_view-insert_entry es k v)
+
+-- entries whose values stand for trees by a function
+abbrev pub shown : {V : Type 0} → (V → Tree) → List (String Global × V) → Entries
+shown f es = entries_of (each (λ e. (e.0, f e.1)) es)
+
+pub below_middle : {V : Type 0} (k : String Global) (es : List (String Global × V)) (e : String Global × V) (more : List (String Global × V)) → AllByRecursion (λ y. string_cmp k y ≡ Less) (keys_of (es ++ e ∷ more)) → string_cmp k e.0 ≡ Less
+below_middle k [] e more h = h.0
+below_middle k (x ∷ es) e more h = below_middle k es e more h.1
+
+-- a key that is above those before it goes last
+pub put_last : {V : Type 0} (f : V → Tree) (done : List (String Global × V)) (e : String Global × V) (more : List (String Global × V)) → IsStrictlySortedBy string_cmp (keys_of (done ++ e ∷ more))
+    → put (string_bytes e.0) (f e.1) (shown f done) ≡ shown f (done ++ e ∷ [])
+unfolding IsStrictlySortedBy
+put_last f [] e more h = refl
+put_last f (first ∷ done) e more h =
+    let above : slice_cmp nat_cmp (string_bytes e.0) (string_bytes first.0) ≡ Greater =
+    nat_list_cmp_total.antisymm (string_bytes e.0) (string_bytes first.0) ∙ ap ordering_reverse (below_middle first.0 done e more h.0) in
+    rw above (ap (entry (string_bytes first.0) (f first.1)) (put_last f done e more h.1))
+
+pub tree_of_ref : (r : Option (Bor Value)) → option_map (λ v. tree_of v.now) r ≡ option_map tree_of (option_map (λ v. v.now) r)
+tree_of_ref None = refl
+tree_of_ref (Some v) = refl

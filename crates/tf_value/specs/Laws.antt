@@ -1,0 +1,73 @@
+-- What holds of values and their JSON forms, whatever they are.
+use Rattle.std.specs.Prelude.{ℕ, List, ◌≡◌, ◌↔◌, true, Some, None}
+use Rattle.serde_json.specs.Data.{Data}
+use Rattle.tf_value.specs.Tree.{Tree, Entries, IsHeld, get, put, same}
+use Rattle.tf_value.specs.Known.{known}
+use Rattle.tf_value.specs.Refinement.{Refines}
+use Rattle.tf_value.specs.Place.{Place, with_part}
+use Rattle.tf_value.specs.Measure.{IsWithinLimits, IsTooLarge}
+use Rattle.tf_value.specs.Json.{IsJson, value_data, value_from}
+
+-- Each value refines to itself.
+abbrev pub RefinementIsReflexive : Type 0
+RefinementIsReflexive = (t : Tree) → Refines t t
+
+-- What refines to a value that refines to a third one refines to the third one.
+abbrev pub RefinementIsTransitive : Type 0
+RefinementIsTransitive = (t u v : Tree) → Refines t u → Refines u v → Refines t v
+
+-- Two values that refine to each other are equal.
+abbrev pub RefinementIsAntisymmetric : Type 0
+RefinementIsAntisymmetric = (t u : Tree) → Refines t u → Refines u t → t ≡ u
+
+-- A known value refines to itself alone.
+abbrev pub KnownStays : Type 0
+KnownStays = (t u : Tree) → known t ≡ true → Refines t u → t ≡ u
+
+-- A value with a part refines to the same value with a part that the first one refines to, at any place.
+abbrev pub PartsRefine : Type 0
+PartsRefine = (p : Place) (t u : Tree) → Refines t u → Refines (with_part p t) (with_part p u)
+
+-- `same` answers whether two values are equal.
+abbrev pub SameIsEquality : Type 0
+SameIsEquality = (t u : Tree) → (same t u ≡ true) ↔ (t ≡ u)
+
+-- A value has at most one JSON form.
+abbrev pub FormIsOne : Type 0
+FormIsOne = (t : Tree) (d e : Data) → IsJson t d → IsJson t e → d ≡ e
+
+-- A JSON tree is the form of at most one value.
+abbrev pub ValueOfFormIsOne : Type 0
+ValueOfFormIsOne = (t u : Tree) (d : Data) → IsJson t d → IsJson u d → t ≡ u
+
+-- What has a JSON form is known.
+abbrev pub FormedIsKnown : Type 0
+FormedIsKnown = (t : Tree) (d : Data) → IsJson t d → known t ≡ true
+
+-- A known value has a JSON form, `value_data` of it.
+abbrev pub KnownHasForm : Type 0
+KnownHasForm = (t : Tree) → IsHeld t → known t ≡ true → IsJson t (value_data t)
+
+-- `value_from` answers the value that a JSON tree is the form of.
+abbrev pub ReadsForms : Type 0
+ReadsForms = (t : Tree) (d : Data) → (value_from d ≡ Some t) ↔ IsJson t d
+
+-- `value_from` answers none exactly where a JSON tree is no value's form.
+abbrev pub ReadsFormsAlone : Type 0
+ReadsFormsAlone = (d : Data) → (value_from d ≡ None) ↔ ((t : Tree) → ¬ IsJson t d)
+
+-- The JSON form of a known value reads as that value.
+abbrev pub FormReadsBack : Type 0
+FormReadsBack = (t : Tree) → IsHeld t → known t ≡ true → value_from (value_data t) ≡ Some t
+
+-- A value is within the limits or too large.
+abbrev pub LimitsDecide : Type 0
+LimitsDecide = (t : Tree) → IsTooLarge t ↔ (¬ IsWithinLimits t)
+
+-- What was put at a key stands there.
+abbrev pub PutIsFound : Type 0
+PutIsFound = (k : List ℕ) (t : Tree) (es : Entries) → get k (put k t es) ≡ Some t
+
+-- A put at a key leaves what stands at the others.
+abbrev pub PutLeavesOthers : Type 0
+PutLeavesOthers = (k l : List ℕ) (t : Tree) (es : Entries) → (¬ (l ≡ k)) → get l (put k t es) ≡ get l es

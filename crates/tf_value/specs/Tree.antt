@@ -1,0 +1,113 @@
+-- What a value is, as plain data: no pointers, no capacities.
+use Rattle.std.specs.Prelude.{ℕ, ℤ, Bool, true, false, if◌then◌else◌, ◌&&◌, Option, Some, None, List, [], ◌∷◌, map as each, String, string_bytes, FitsSigned, ⊤}
+use Rattle.std.specs.Ordering.{int_eq, nat_cmp, match_ordering}
+use Rattle.std.specs.Cmp.Lexicographic.{slice_cmp}
+use Rattle.std.specs.Int.{w64}
+use Rattle.std.specs.Str.{bytes_eq}
+use mathlib.Core.Bool.{beq}
+use Rattle.std.specs.declared.alloc.Global.{Global}
+use Rattle.tf_value.specs.declared.value.Value.{Value, fold-Value}
+use Rattle.tf_value.specs.declared.value.Value.TheOpen.{Value-F}
+
+-- A value: a scalar, a list of values, a map from texts to values, or one that isn't known yet.
+mutual
+  pub data Tree : Type 0 where
+    null : Tree
+    boolean : Bool → Tree
+    whole : ℤ → Tree
+    text : List ℕ → Tree
+    list : Items → Tree
+    map : Entries → Tree
+    unknown : Tree
+
+  pub data Items : Type 0 where
+    no_items : Items
+    item : Tree → Items → Items
+
+  -- the entries of a map, in byte order of their keys
+  pub data Entries : Type 0 where
+    no_entries : Entries
+    entry : List ℕ → Tree → Entries → Entries
+
+abbrev pub items_of : List Tree → Items
+items_of [] = no_items
+items_of (t ∷ ts) = item t (items_of ts)
+
+abbrev pub entries_of : List (String Global × Tree) → Entries
+entries_of [] = no_entries
+entries_of (e ∷ es) = entry (string_bytes e.0) e.1 (entries_of es)
+
+-- one level, with each value inside already seen as its tree
+abbrev pub level : Value-F Tree → Tree
+level Value-F.Null = null
+level (Value-F.Bool b) = boolean b
+level (Value-F.Int z) = whole z
+level (Value-F.Text s) = text (string_bytes s)
+level (Value-F.List v) = list (items_of v.items)
+level (Value-F.Map m) = map (entries_of m.entries)
+level Value-F.Unknown = unknown
+
+-- the tree that a `Value` stands for
+abbrev pub tree_of : Value → Tree
+tree_of = fold-Value Tree level
+
+-- the items of a `Vec<Value>`
+abbrev pub items_view : List Value → Items
+items_view vs = items_of (each tree_of vs)
+
+-- the entries of a `BTreeMap<String, Value>`
+abbrev pub entries_view : List (String Global × Value) → Entries
+entries_view es = entries_of (each (λ e. (e.0, tree_of e.1)) es)
+
+-- what stands at a key
+abbrev pub get : List ℕ → Entries → Option Tree
+get k no_entries = None
+get k (entry l t es) = if bytes_eq k l then Some t else get k es
+
+-- what stands at a key of a value; only a map has keys
+abbrev pub part_at : List ℕ → Tree → Option Tree
+part_at k (map es) = get k es
+part_at k _ = None
+
+-- the entries with a value at a key, in byte order of the keys
+abbrev pub put : List ℕ → Tree → Entries → Entries
+put k t no_entries = entry k t no_entries
+put k t (entry l u es) = match_ordering (slice_cmp nat_cmp k l) (entry k t (entry l u es)) (entry l t es) (entry l u (put k t es))
+
+-- A tree is held by a `Value` where each whole number in it is one of 64 bits with a sign.
+abbrev mutual
+  pub IsHeld : Tree → Type 0
+  IsHeld (whole z) = FitsSigned w64 z
+  IsHeld (list ts) = AreHeld ts
+  IsHeld (map es) = AreHeldEntries es
+  IsHeld _ = ⊤
+
+  pub AreHeld : Items → Type 0
+  AreHeld no_items = ⊤
+  AreHeld (item t ts) = IsHeld t × AreHeld ts
+
+  pub AreHeldEntries : Entries → Type 0
+  AreHeldEntries no_entries = ⊤
+  AreHeldEntries (entry k t es) = IsHeld t × AreHeldEntries es
+
+-- Two values are the same where their trees are.
+abbrev mutual
+  pub same : Tree → Tree → Bool
+  same null null = true
+  same (boolean b) (boolean c) = beq b c
+  same (whole y) (whole z) = int_eq y z
+  same (text s) (text t) = bytes_eq s t
+  same (list ts) (list us) = same_items ts us
+  same (map ts) (map us) = same_entries ts us
+  same unknown unknown = true
+  same _ _ = false
+
+  pub same_items : Items → Items → Bool
+  same_items no_items no_items = true
+  same_items (item t ts) (item u us) = same t u && same_items ts us
+  same_items _ _ = false
+
+  pub same_entries : Entries → Entries → Bool
+  same_entries no_entries no_entries = true
+  same_entries (entry k t ts) (entry l u us) = bytes_eq k l && (same t u && same_entries ts us)
+  same_entries _ _ = false

@@ -1,0 +1,55 @@
+// `copy` and `clone`, written out since a derived one says nothing of a type that holds itself.
+ghost use Rattle.std.specs.Prelude.{◌≡◌, IfOk};
+ghost use Rattle.tf_value.specs.Tree.{tree_of, items_view, entries_view};
+
+use crate::value::Value;
+use std::alloc::AllocError;
+use std::collections::BTreeMap;
+use std::default::Emptied;
+
+impl Clone for Value {
+    ghost is_clone = { λ v w. tree_of w ≡ tree_of v };
+
+    fn clone(&self) -> Result<Value, AllocError> {
+        copy(self)
+    }
+}
+
+/// An equal value. Refused only where there is no memory.
+#[cycle(copy)]
+pub fn copy(value: &Value) -> Result<Value, AllocError>
+    ensures { IfOk result (λ v. tree_of v ≡ tree_of value.now) }
+{
+    match value {
+        Value::Null => Ok(Value::Null),
+        Value::Bool(b) => Ok(Value::Bool(*b)),
+        Value::Int(number) => Ok(Value::Int(*number)),
+        Value::Text(text) => Ok(Value::Text(text.clone()?)),
+        Value::List(items) => Ok(Value::List(copy_items(items)?)),
+        Value::Map(entries) => Ok(Value::Map(copy_entries(entries)?)),
+        Value::Unknown => Ok(Value::Unknown),
+    }
+}
+
+#[cycle(copy)]
+fn copy_items(items: &Vec<Value>) -> Result<Vec<Value>, AllocError>
+    ensures { IfOk result (λ v. items_view v.items ≡ items_view items.now.items) }
+{
+    let mut copies = Vec::with_capacity(*items.allocator(), items.len())?;
+    for item in items {
+        copies.push(copy(item)?)?;
+    }
+    Ok(copies)
+}
+
+#[cycle(copy)]
+fn copy_entries(entries: &BTreeMap<String, Value>) -> Result<BTreeMap<String, Value>, AllocError>
+    ensures { IfOk result (λ m. entries_view m.entries ≡ entries_view entries.now.entries) }
+{
+    let mut copies = BTreeMap::emptied(entries)?;
+    for (key, value) in entries.iter() {
+        let name = key.clone()?;
+        drop(copies.insert(name, copy(value)?)?);
+    }
+    Ok(copies)
+}

@@ -1,0 +1,53 @@
+// Laws of values, proved for every value: each function's contract is a law, and its body does nothing.
+ghost use Rattle.tf_value.specs.Laws.{RefinementIsReflexive, RefinementIsTransitive, RefinementIsAntisymmetric, KnownStays, PartsRefine, SameIsEquality, FormIsOne, ValueOfFormIsOne, FormedIsKnown, KnownHasForm, ReadsForms, ReadsFormsAlone, FormReadsBack, LimitsDecide, PutIsFound, PutLeavesOthers};
+
+/// Refinement is an order: each value refines to itself, refinements follow one another, and two values that
+/// refine to each other are equal.
+pub fn refinement_is_an_order()
+    ensures reflexive { RefinementIsReflexive }
+    ensures transitive { RefinementIsTransitive }
+    ensures antisymmetric { RefinementIsAntisymmetric }
+{}
+
+/// A known value refines to itself alone.
+pub fn known_values_stay()
+    ensures { KnownStays }
+{}
+
+/// Replacing a part of a value by one that it refines to gives a value that the whole refines to.
+pub fn parts_refine()
+    ensures { PartsRefine }
+{}
+
+/// `==` answers whether two values are the same tree.
+pub fn equality_is_of_trees()
+    ensures { SameIsEquality }
+{}
+
+/// A known value has exactly one JSON form, a JSON tree is the form of at most one value, and what has a form is
+/// known.
+pub fn forms_are_one()
+    ensures one_form { FormIsOne }
+    ensures one_value { ValueOfFormIsOne }
+    ensures known { FormedIsKnown }
+    ensures formed { KnownHasForm }
+{}
+
+/// What is read of a JSON tree is the value whose form it is, nothing is read where it is no value's form, and the
+/// form of a known value reads back as that value.
+pub fn forms_read_back()
+    ensures reads { ReadsForms }
+    ensures reads_nothing_else { ReadsFormsAlone }
+    ensures back { FormReadsBack }
+{}
+
+/// A value is beyond the limits exactly where it isn't within them.
+pub fn limits_decide()
+    ensures { LimitsDecide }
+{}
+
+/// What was put at a key of a map stands there, and the other keys keep what stood at them.
+pub fn puts_are_found()
+    ensures found { PutIsFound }
+    ensures others { PutLeavesOthers }
+{}

@@ -1,0 +1,29 @@
+#![tactic(auto)]
+
+//! Values with parts that aren't known yet, and the form that they have as JSON.
+
+mod copies;
+mod equality;
+mod json;
+mod known;
+mod laws;
+mod measure;
+mod reading;
+mod refinement;
+#[cfg(test)]
+mod tests;
+mod value;
+mod writing;
+
+pub use copies::copy;
+pub use json::JsonFault;
+pub use known::is_known;
+pub use laws::{
+    equality_is_of_trees, forms_are_one, forms_read_back, known_values_stay, limits_decide,
+    parts_refine, puts_are_found, refinement_is_an_order,
+};
+pub use measure::{MAX_DEPTH, MAX_WEIGHT, depth, is_within_limits, weight};
+pub use reading::from_json;
+pub use refinement::refines;
+pub use value::{Value, find};
+pub use writing::{entries_to_json, to_json};

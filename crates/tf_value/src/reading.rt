@@ -1,0 +1,184 @@
+ghost use Rattle.std.specs.Prelude.{◌≡◌, ◌^◌, ◌-◌, min, IfOk, IfErr, Some, true};
+ghost use Rattle.serde_json.specs.View.{view, items_view as json_items, members_view};
+ghost use Rattle.tf_value.specs.Tree.{tree_of, items_view, entries_view};
+ghost use Rattle.tf_value.specs.Known.{known, known_items, known_entries};
+ghost use Rattle.tf_value.specs.Measure.{weight, weight_of_items, weight_of_entries, depth, depth_of_items, depth_of_entries, IsWithinLimits};
+ghost use Rattle.tf_value.specs.Json.{IsUnread, value_from, tree_from, items_from, entries_from};
+
+use crate::json::JsonFault;
+use crate::measure::{MAX_DEPTH, MAX_WEIGHT};
+use crate::value::Value;
+use serde_json::{Map, Value as Json};
+use std::alloc::{AllocError, Global};
+use std::collections::BTreeMap;
+
+/// The value that a JSON tree is the form of. Refused `NotWhole` exactly where it is no value's form, since a
+/// number in it isn't held as a whole number of 64 bits with a sign (`1.0`, `1e3`, `-0`, 2^63); else `TooLarge`
+/// exactly where the value is beyond the limits, `MAX_WEIGHT` and `MAX_DEPTH`; else only where there is no memory.
+///
+/// The tree is measured before the value is built, so nothing beyond the limits is built.
+pub fn from_json(alloc: Global, json: &Json) -> Result<Value, JsonFault>
+    ensures ok { IfOk result (λ v. value_from (view json.now) ≡ Some (tree_of v)) }
+    ensures within { IfOk result (λ v. IsWithinLimits (tree_of v)) }
+    ensures err { IfErr result (λ e. IsUnread (view json.now) e) }
+{
+    if !is_whole(json) {
+        return Err(JsonFault::NotWhole);
+    }
+    if weight_of(json) > MAX_WEIGHT || depth_of(json) > MAX_DEPTH {
+        return Err(JsonFault::TooLarge);
+    }
+    Ok(read(alloc, json)?)
+}
+
+// Whether each number is held as a whole number of 64 bits with a sign.
+#[cycle(whole)]
+fn is_whole(json: &Json) -> bool
+    ensures { result ≡ known (tree_from (view json.now)) }
+{
+    match json {
+        Json::Number(number) => number.as_i64().is_some(),
+        Json::Array(items) => are_whole(items),
+        Json::Object(members) => members_are_whole(members),
+        _ => true,
+    }
+}
+
+#[cycle(whole)]
+fn are_whole(items: &Vec<Json>) -> bool
+    ensures { result ≡ known_items (items_from (json_items items.now.items)) }
+{
+    for item in items {
+        if !is_whole(item) {
+            return false;
+        }
+    }
+    true
+}
+
+#[cycle(whole)]
+fn members_are_whole(members: &Map<String, Json>) -> bool
+    ensures { result ≡ known_entries (entries_from (members_view members.now.entries)) }
+{
+    for (_, member) in members.iter() {
+        if !is_whole(member) {
+            return false;
+        }
+    }
+    true
+}
+
+// The weight of the value that the tree reads as.
+#[cycle(weigh)]
+fn weight_of(json: &Json) -> u64
+    ensures { result ≡ min (weight (tree_from (view json.now))) (2 ^ 64 - 1) }
+{
+    match json {
+        Json::String(text) => (text.len() as u64).saturating_add(1),
+        Json::Array(items) => weigh_items(items).saturating_add(1),
+        Json::Object(members) => weigh_members(members).saturating_add(1),
+        _ => 1,
+    }
+}
+
+#[cycle(weigh)]
+fn weigh_items(items: &Vec<Json>) -> u64
+    ensures { result ≡ min (weight_of_items (items_from (json_items items.now.items))) (2 ^ 64 - 1) }
+{
+    let mut total = 0u64;
+    for item in items {
+        total = total.saturating_add(weight_of(item));
+    }
+    total
+}
+
+#[cycle(weigh)]
+fn weigh_members(members: &Map<String, Json>) -> u64
+    ensures { result ≡ min (weight_of_entries (entries_from (members_view members.now.entries))) (2 ^ 64 - 1) }
+{
+    let mut total = 0u64;
+    for (key, member) in members.iter() {
+        total = total
+            .saturating_add(key.len() as u64)
+            .saturating_add(weight_of(member));
+    }
+    total
+}
+
+// The depth of the value that the tree reads as.
+#[cycle(nest)]
+fn depth_of(json: &Json) -> u32
+    ensures { result ≡ min (depth (tree_from (view json.now))) (2 ^ 32 - 1) }
+{
+    match json {
+        Json::Array(items) => deepest_item(items).saturating_add(1),
+        Json::Object(members) => deepest_member(members).saturating_add(1),
+        _ => 0,
+    }
+}
+
+#[cycle(nest)]
+fn deepest_item(items: &Vec<Json>) -> u32
+    ensures { result ≡ min (depth_of_items (items_from (json_items items.now.items))) (2 ^ 32 - 1) }
+{
+    let mut deepest = 0u32;
+    for item in items {
+        deepest = deepest.max(depth_of(item));
+    }
+    deepest
+}
+
+#[cycle(nest)]
+fn deepest_member(members: &Map<String, Json>) -> u32
+    ensures { result ≡ min (depth_of_entries (entries_from (members_view members.now.entries))) (2 ^ 32 - 1) }
+{
+    let mut deepest = 0u32;
+    for (_, member) in members.iter() {
+        deepest = deepest.max(depth_of(member));
+    }
+    deepest
+}
+
+// The value that the tree reads as, with an unknown part for a number that isn't whole.
+#[cycle(read)]
+fn read(alloc: Global, json: &Json) -> Result<Value, AllocError>
+    ensures { IfOk result (λ v. tree_of v ≡ tree_from (view json.now)) }
+{
+    match json {
+        Json::Null => Ok(Value::Null),
+        Json::Bool(b) => Ok(Value::Bool(*b)),
+        Json::Number(number) => match number.as_i64() {
+            Some(whole) => Ok(Value::Int(whole)),
+            None => Ok(Value::Unknown),
+        },
+        Json::String(text) => Ok(Value::Text(text.clone()?)),
+        Json::Array(items) => Ok(Value::List(read_items(alloc, items)?)),
+        Json::Object(members) => Ok(Value::Map(read_members(alloc, members)?)),
+    }
+}
+
+#[cycle(read)]
+fn read_items(alloc: Global, items: &Vec<Json>) -> Result<Vec<Value>, AllocError>
+    ensures { IfOk result (λ vs. items_view vs.items ≡ items_from (json_items items.now.items)) }
+{
+    let mut values = Vec::with_capacity(alloc, items.len())?;
+    for item in items {
+        values.push(read(alloc, item)?)?;
+    }
+    Ok(values)
+}
+
+#[cycle(read)]
+fn read_members(
+    alloc: Global,
+    members: &Map<String, Json>,
+) -> Result<BTreeMap<String, Value>, AllocError>
+    ensures { IfOk result (λ m. entries_view m.entries ≡ entries_from (members_view members.now.entries)) }
+{
+    let mut entries = BTreeMap::new(alloc);
+    for (key, member) in members.iter() {
+        let name = key.clone()?;
+        drop(entries.insert(name, read(alloc, member)?)?);
+    }
+    Ok(entries)
+}
