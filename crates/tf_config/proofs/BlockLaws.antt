@@ -157,6 +157,6 @@ values_put block (c ∷ cs) h all = values_put_at (address_cmp block c) block c 
 pub blocks_have_values : (tree : Data) (blocks : Blocks) → IsConfiguration tree blocks → AllByRecursion HasValues blocks
 blocks_have_values tree blocks h =
     configuration_keeps (AllByRecursion HasValues)
-      (λ kind name d arguments a body all. values_put (record { kind = kind; name = name; arguments = arguments }) a
-        (λ argument_name argument is. value_of_literal argument (found IsLiteral argument_name arguments argument (literal_arguments d arguments body) is)) all)
-      tree blocks h tt
+    (λ kind name d arguments a body all. values_put (record { kind = kind; name = name; arguments = arguments }) a
+    (λ argument_name argument is. value_of_literal argument (found IsLiteral argument_name arguments argument (literal_arguments d arguments body) is)) all)
+    tree blocks h tt
