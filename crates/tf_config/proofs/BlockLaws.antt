@@ -1,5 +1,5 @@
 -- What blocks keep as they are put in.
-use Rattle.std.proofs.Common.{◌≡◌, ◌∙◌, ℕ, List, [], ◌∷◌, Bool, true, false, ◌&&◌, Option, Some, None, Ordering, Less, Equal, Greater, refl, sym, ap, subst, IsTrue, IsSome, nat_cmp, cond}
+use Rattle.std.proofs.Common.{◌≡◌, ◌∙◌, ℕ, List, [], ◌∷◌, Bool, true, ◌&&◌, Option, Some, Ordering, Less, Equal, Greater, refl, ap, subst, IsSome, nat_cmp}
 use Rattle.std.proofs.lemmas.Cmp.{nat_list_cmp_total, on_total, then_total}
 use Rattle.std.specs.Cmp.{IsTotalOrder}
 use Rattle.std.specs.Cmp.Lexicographic.{slice_cmp}

@@ -1,15 +1,14 @@
 -- One fault is told of a text at most, and none of a configuration.
-use Rattle.std.proofs.Common.{◌≡◌, ◌⊎◌, ◌∙◌, ℕ, ◌<◌, ◌≤◌, List, length, Some, refl, sym, ap, subst, inl, inr, arith}
+use Rattle.std.proofs.Common.{◌≡◌, ◌⊎◌, ◌∙◌, ℕ, ◌≤◌, List, length, Some, sym, ap, subst, inl, inr, arith}
 use Rattle.std.proofs.lemmas.Bool.{cases_order}
 use Rattle.serde_json.specs.Data.{Data}
 use Rattle.tf_text.proofs.Checks.{IsFirst-unmet, IsFirst-same}
-use Rattle.tf_text.specs.Place.{dotted}
 use Rattle.tf_config.proofs.ConfigurationLaws.{configuration_met, configuration_same}
 use Rattle.tf_config.specs.Config.{Blocks}
-use Rattle.tf_config.specs.Configuration.{configuration_checks, whole_file, IsConfiguration}
+use Rattle.tf_config.specs.Configuration.{configuration_checks, IsConfiguration}
 use Rattle.tf_config.specs.Demand.{Demand, nothing_fits, a_name, a_type_name, a_plain_name, a_whole_number, a_template, Way, IsMet, Fails, Refuses, bad_template}
 use Rattle.tf_config.specs.Opening.{IsFirstOpening}
-use Rattle.tf_config.specs.Reading.{IsTree, IsNotJson, IsMisshapen, HasTooManyBlocks, IsRefused, max_bytes, max_blocks, whole_fault}
+use Rattle.tf_config.specs.Reading.{IsTree, IsNotJson, IsMisshapen, HasTooManyBlocks, IsRefused, max_bytes, max_blocks}
 use Rattle.tf_config.specs.Refusal.{DetailView, Told, fault}
 
 apart : (d : Demand) (way : Way) → IsMet d → Fails d way → ⊥

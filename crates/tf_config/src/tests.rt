@@ -19,150 +19,150 @@ fn with_body(alloc: Global, body: &str) -> Result<String, AllocError> {
     format!(in alloc; "{{\"resource\":{{\"sim_net\":{{\"a\":{body}}}}}}}")
 }
 
-static SHAPES: [(&str, &str); N] = [
-        ("{}", "0 blocks"),
-        ("{\"//\": NaN}", "error 1 at configuration: NotJson"),
-        ("", "error 1 at configuration: NotJson"),
-        ("{},", "error 1 at configuration: NotJson"),
-        ("{\"//\": [1,]}", "error 1 at configuration: NotJson"),
-        ("{\"//\": \"\\ud800\"}", "error 1 at configuration: NotJson"),
-        ("{\"//\": 1e400}", "error 1 at configuration: NotJson"),
-        ("[]", "error 2 at configuration: BadShape"),
-        ("null", "error 2 at configuration: BadShape"),
-        ("{\"//\": 1.5, \"resource\": {}}", "0 blocks"),
-        ("{\"resource\": []}", "error 2 at resource: BadShape"),
-        (
-            "{\"variable\": {}, \"output\": {}}",
-            "error 2 at output: BadShape",
-        ),
-        ("{\"\": {}}", "error 2 at : BadShape"),
-        (
-            "{\"resource\": {\"var\": {}}}",
-            "error 2 at resource.var: BadShape",
-        ),
-        (
-            "{\"resource\": {\"null\": {}}}",
-            "error 2 at resource.null: BadShape",
-        ),
-        (
-            "{\"resource\": {\"//\": {}}}",
-            "error 2 at resource.//: BadShape",
-        ),
-        (
-            "{\"resource\": {\"1a\": {}}}",
-            "error 2 at resource.1a: BadShape",
-        ),
-        (
-            "{\"resource\": {\"t\": 1}}",
-            "error 2 at resource.t: BadShape",
-        ),
-        (
-            "{\"resource\": {\"t\": {\"//\": {}}}}",
-            "error 2 at resource.t.//: BadShape",
-        ),
-        (
-            "{\"resource\": {\"t\": {\"a b\": {}}}}",
-            "error 2 at resource.t.a b: BadShape",
-        ),
-        (
-            "{\"resource\": {\"t\": {\"a\": null}}}",
-            "error 2 at resource.t.a: BadShape",
-        ),
-        (
-            "{\"resource\": {\"t\": {\"var\": {}}, \"b\": {\"c\": {}, \"d\": {}}}}",
-            "3 blocks",
-        ),
-        (
-            "{\"zz\": 1, \"resource\": {\"t\": {\"b\": 1, \"a\": {\"x\": 1.5}}}}",
-            "error 2 at resource.t.a.x: BadShape",
-        ),
-    ];
+static SHAPES: [(&str, &str); 23] = [
+    ("{}", "0 blocks"),
+    ("{\"//\": NaN}", "error 1 at configuration: NotJson"),
+    ("", "error 1 at configuration: NotJson"),
+    ("{},", "error 1 at configuration: NotJson"),
+    ("{\"//\": [1,]}", "error 1 at configuration: NotJson"),
+    ("{\"//\": \"\\ud800\"}", "error 1 at configuration: NotJson"),
+    ("{\"//\": 1e400}", "error 1 at configuration: NotJson"),
+    ("[]", "error 2 at configuration: BadShape"),
+    ("null", "error 2 at configuration: BadShape"),
+    ("{\"//\": 1.5, \"resource\": {}}", "0 blocks"),
+    ("{\"resource\": []}", "error 2 at resource: BadShape"),
+    (
+        "{\"variable\": {}, \"output\": {}}",
+        "error 2 at output: BadShape",
+    ),
+    ("{\"\": {}}", "error 2 at : BadShape"),
+    (
+        "{\"resource\": {\"var\": {}}}",
+        "error 2 at resource.var: BadShape",
+    ),
+    (
+        "{\"resource\": {\"null\": {}}}",
+        "error 2 at resource.null: BadShape",
+    ),
+    (
+        "{\"resource\": {\"//\": {}}}",
+        "error 2 at resource.//: BadShape",
+    ),
+    (
+        "{\"resource\": {\"1a\": {}}}",
+        "error 2 at resource.1a: BadShape",
+    ),
+    (
+        "{\"resource\": {\"t\": 1}}",
+        "error 2 at resource.t: BadShape",
+    ),
+    (
+        "{\"resource\": {\"t\": {\"//\": {}}}}",
+        "error 2 at resource.t.//: BadShape",
+    ),
+    (
+        "{\"resource\": {\"t\": {\"a b\": {}}}}",
+        "error 2 at resource.t.a b: BadShape",
+    ),
+    (
+        "{\"resource\": {\"t\": {\"a\": null}}}",
+        "error 2 at resource.t.a: BadShape",
+    ),
+    (
+        "{\"resource\": {\"t\": {\"var\": {}}, \"b\": {\"c\": {}, \"d\": {}}}}",
+        "3 blocks",
+    ),
+    (
+        "{\"zz\": 1, \"resource\": {\"t\": {\"b\": 1, \"a\": {\"x\": 1.5}}}}",
+        "error 2 at resource.t.a.x: BadShape",
+    ),
+];
 
 #[test]
 fn refuses_shapes(rt: HostRuntime) -> Result<(), Fail> {
     for (text, want) in &SHAPES {
         let said = answer(rt.alloc(), text.as_bytes())?;
-        assert_eq!(rt; said.as_str(), want, "{text}");
+        assert_eq!(rt; said.as_str(), *want, "{text}");
     }
     let said = answer(rt.alloc(), b"{\"//\": \"\xff\"}")?;
     assert_eq!(rt; said.as_str(), "error 1 at configuration: NotJson");
     Ok(())
 }
 
-static BODIES: [(&str, &str); N] = [
-        ("{}", "1 blocks"),
-        (
-            "{\"//\": \"${\", \"x\": null, \"y\": [true, {\"k.1\": -5}]}",
-            "1 blocks",
-        ),
-        (
-            "{\"x\": 9223372036854775807, \"y\": -9223372036854775808}",
-            "1 blocks",
-        ),
-        (
-            "{\"count\": 1}",
-            "error 2 at resource.sim_net.a.count: BadShape",
-        ),
-        (
-            "{\"for_each\": {}}",
-            "error 2 at resource.sim_net.a.for_each: BadShape",
-        ),
-        (
-            "{\"depends_on\": []}",
-            "error 2 at resource.sim_net.a.depends_on: BadShape",
-        ),
-        (
-            "{\"lifecycle\": {}}",
-            "error 2 at resource.sim_net.a.lifecycle: BadShape",
-        ),
-        (
-            "{\"provider\": 1}",
-            "error 2 at resource.sim_net.a.provider: BadShape",
-        ),
-        (
-            "{\"provisioner\": 1}",
-            "error 2 at resource.sim_net.a.provisioner: BadShape",
-        ),
-        (
-            "{\"connection\": 1}",
-            "error 2 at resource.sim_net.a.connection: BadShape",
-        ),
-        ("{\"-x\": 1}", "error 2 at resource.sim_net.a.-x: BadShape"),
-        ("{\"x\": 1.0}", "error 2 at resource.sim_net.a.x: BadShape"),
-        ("{\"x\": 1e3}", "error 2 at resource.sim_net.a.x: BadShape"),
-        ("{\"x\": -0}", "error 2 at resource.sim_net.a.x: BadShape"),
-        (
-            "{\"x\": 9223372036854775808}",
-            "error 2 at resource.sim_net.a.x: BadShape",
-        ),
-        (
-            "{\"x\": \"a$b%{\"}",
-            "error 3 at resource.sim_net.a.x: BadTemplate(3)",
-        ),
-        (
-            "{\"x\": \"$${x}\"}",
-            "error 3 at resource.sim_net.a.x: BadTemplate(1)",
-        ),
-        (
-            "{\"x\": \"{$\", \"y\": \"\u{e9}${\"}",
-            "error 3 at resource.sim_net.a.y: BadTemplate(2)",
-        ),
-        (
-            "{\"x\": [0, [\"\", 1, {\"k\": [\"${\"]}]]}",
-            "error 3 at resource.sim_net.a.x.1.2.k.0: BadTemplate(0)",
-        ),
-        (
-            "{\"x\": {\"a\": 1, \"b%{\": \"${\"}}",
-            "error 2 at resource.sim_net.a.x.b%{: BadShape",
-        ),
-    ];
+static BODIES: [(&str, &str); 20] = [
+    ("{}", "1 blocks"),
+    (
+        "{\"//\": \"${\", \"x\": null, \"y\": [true, {\"k.1\": -5}]}",
+        "1 blocks",
+    ),
+    (
+        "{\"x\": 9223372036854775807, \"y\": -9223372036854775808}",
+        "1 blocks",
+    ),
+    (
+        "{\"count\": 1}",
+        "error 2 at resource.sim_net.a.count: BadShape",
+    ),
+    (
+        "{\"for_each\": {}}",
+        "error 2 at resource.sim_net.a.for_each: BadShape",
+    ),
+    (
+        "{\"depends_on\": []}",
+        "error 2 at resource.sim_net.a.depends_on: BadShape",
+    ),
+    (
+        "{\"lifecycle\": {}}",
+        "error 2 at resource.sim_net.a.lifecycle: BadShape",
+    ),
+    (
+        "{\"provider\": 1}",
+        "error 2 at resource.sim_net.a.provider: BadShape",
+    ),
+    (
+        "{\"provisioner\": 1}",
+        "error 2 at resource.sim_net.a.provisioner: BadShape",
+    ),
+    (
+        "{\"connection\": 1}",
+        "error 2 at resource.sim_net.a.connection: BadShape",
+    ),
+    ("{\"-x\": 1}", "error 2 at resource.sim_net.a.-x: BadShape"),
+    ("{\"x\": 1.0}", "error 2 at resource.sim_net.a.x: BadShape"),
+    ("{\"x\": 1e3}", "error 2 at resource.sim_net.a.x: BadShape"),
+    ("{\"x\": -0}", "error 2 at resource.sim_net.a.x: BadShape"),
+    (
+        "{\"x\": 9223372036854775808}",
+        "error 2 at resource.sim_net.a.x: BadShape",
+    ),
+    (
+        "{\"x\": \"a$b%{\"}",
+        "error 3 at resource.sim_net.a.x: BadTemplate(3)",
+    ),
+    (
+        "{\"x\": \"$${x}\"}",
+        "error 3 at resource.sim_net.a.x: BadTemplate(1)",
+    ),
+    (
+        "{\"x\": \"{$\", \"y\": \"\u{e9}${\"}",
+        "error 3 at resource.sim_net.a.y: BadTemplate(2)",
+    ),
+    (
+        "{\"x\": [0, [\"\", 1, {\"k\": [\"${\"]}]]}",
+        "error 3 at resource.sim_net.a.x.1.2.k.0: BadTemplate(0)",
+    ),
+    (
+        "{\"x\": {\"a\": 1, \"b%{\": \"${\"}}",
+        "error 2 at resource.sim_net.a.x.b%{: BadShape",
+    ),
+];
 
 #[test]
 fn refuses_bodies(rt: HostRuntime) -> Result<(), Fail> {
     for (body, want) in &BODIES {
         let text = with_body(rt.alloc(), body)?;
         let said = answer(rt.alloc(), text.as_str().as_bytes())?;
-        assert_eq!(rt; said.as_str(), want, "{body}");
+        assert_eq!(rt; said.as_str(), *want, "{body}");
     }
     Ok(())
 }
@@ -288,8 +288,10 @@ fn says_when_memory_ran_out(rt: HostRuntime) {
     let text = b"{\"resource\": {\"t\": {\"a\": {\"x\": [\"y\"]}, \"b\": {\"z\": {\"k\": 1}}}}}";
     match read(rt.alloc(), text) {
         Ok(config) => {
-            let arguments = config.resources.values().map(|block| block.arguments.len());
-            assert_eq!(rt; arguments.fold(0, |all, n| all * 10 + n), 11);
+            assert_eq!(rt; config.resources.len(), 2);
+            for block in config.resources.values() {
+                assert_eq!(rt; block.arguments.len(), 1);
+            }
         }
         Err(refusal) => assert!(rt; matches!(refusal, Refusal::OutOfMemory)),
     }

@@ -1,13 +1,12 @@
-use Rattle.std.proofs.Common.{◌≡◌, [], ◌∷◌, ◌++◌, string_bytes, sym, ap, ◌∙◌, subst, append_assoc}
+use Rattle.std.proofs.Common.{◌≡◌, [], ◌∷◌, ◌++◌, string_bytes, sym, ap, ◌∙◌, append_assoc}
 use Rattle.std.proofs.lemmas.Result.{err_from_is_err_and}
 use Rattle.serde_json.proofs.Views.{Entry}
-use Rattle.serde_json.specs.View.{view, items_view, members_view}
+use Rattle.serde_json.specs.View.{view}
 use Rattle.tf_config.proofs.Literals.{items_met_more, items_refused, members_met_more, members_refused}
 use Rattle.tf_config.proofs.Refusals.{Refuses-left, Refuses-right}
-use Rattle.tf_config.specs.Demand.{AreMet, Refuses, a_plain_name}
+use Rattle.tf_config.specs.Demand.{a_plain_name}
 use Rattle.tf_text.specs.Check.{demanded}
-use Rattle.tf_config.specs.Literal.{literal_checks, item_checks, member_checks}
-use Rattle.tf_config.specs.Refusal.{told}
+use Rattle.tf_config.specs.Literal.{literal_checks}
 use Rattle.tf_text.proofs.Places.{place_of-Member, place_of-Item}
 use Rattle.tf_text.specs.Place.{place_of}
 use Rattle.tf_config.proofs.literal.+literal.Goals as goal
