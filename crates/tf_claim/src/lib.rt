@@ -5,6 +5,8 @@
 //! finished.
 #![tactic(auto)]
 
+pub mod book;
 pub mod permit;
 
+pub use book::{Book, Stage};
 pub use permit::{Finished, Permit, waive};

@@ -45,6 +45,11 @@ impl Permit {
 }
 
 impl Finished {
+    /// Ends what was reported. Only a book does this, once the action is done.
+    pub(crate) fn close(self) {
+        let Finished { action: _ } = self;
+    }
+
     /// The action whose permit was spent.
     pub fn action(&self) -> usize
         ensures { result ≡ self.now }

@@ -110,6 +110,18 @@ pub passing_below : (ℕ → Bool) → ℕ → ℕ
 passing_below p zero = 0
 passing_below p (suc c) = cond (p c) 1 0 + passing_below p c
 
+pub passing_below-most : (p : ℕ → Bool) (n : ℕ) → passing_below p n ≤ n
+unfolding passing_below
+passing_below-most p zero = omega arith
+passing_below-most p (suc n) =
+    let rest : passing_below p n ≤ n = passing_below-most p n in
+    let here : cond (p n) 1 0 ≤ 1 = one (p n) in
+    omega arith
+  where
+    one : (b : Bool) → cond b 1 0 ≤ 1
+    one true = omega arith
+    one false = omega arith
+
 one_le : (b d : Bool) → (b ≡ true → d ≡ true) → cond b 1 0 ≤ cond d 1 0
 one_le true d h = rw (h refl) (omega arith)
 one_le false d h = omega arith
@@ -134,19 +146,21 @@ passing_below-lt p q zero j h l e f = absurd (omega arith)
 passing_below-lt p q (suc c) j h l e f =
     let weaker : (k : ℕ) → k < c → p k ≡ true → q k ≡ true = λ k m. h k (omega arith) in
     elim (at_or_below j c (omega arith)) [
-      inl here ↦
-        let rest : passing_below p c ≤ passing_below q c = passing_below-le p q c weaker in
-        let one : cond (p c) 1 0 < cond (q c) 1 0 = one_lt (p c) (q c) (rw (← here) e) (rw (← here) f) in
-        omega arith
+      | inl here ↦
+          let rest : passing_below p c ≤ passing_below q c = passing_below-le p q c weaker in
+          let one : cond (p c) 1 0 < cond (q c) 1 0 = one_lt (p c) (q c) (rw (← here) e) (rw (← here) f) in
+          omega arith
       | inr earlier ↦
-        let rest : passing_below p c < passing_below q c = passing_below-lt p q c j weaker earlier e f in
-        let one : cond (p c) 1 0 ≤ cond (q c) 1 0 = one_le (p c) (q c) (h c (omega arith)) in
-        omega arith ]
+          let rest : passing_below p c < passing_below q c = passing_below-lt p q c j weaker earlier e f in
+          let one : cond (p c) 1 0 ≤ cond (q c) 1 0 = one_le (p c) (q c) (h c (omega arith)) in
+          omega arith
+    ]
 
 pub ranked-by_order : OrderedIsRanked
-ranked-by_order count before is_below order =
-    (λ n. passing_below (λ k. is_below k n) count,
-     λ n. all_by_weaker _ _ (before n) (λ a here. passing_below-lt (λ k. is_below k a) (λ k. is_below k n) count a (λ k l e. order.transitive k a n l here.0 e here.1) here.0 (order.irreflexive a here.0) here.1) (order.holds n))
+ranked-by_order count before is_below order = (
+  λ n. passing_below (λ k. is_below k n) count,
+  λ n. all_by_weaker _ _ (before n) (λ a here. passing_below-lt (λ k. is_below k a) (λ k. is_below k n) count a (λ k l e. order.transitive k a n l here.0 e here.1) here.0 (order.irreflexive a here.0) here.1) (order.holds n),
+)
 
 Contains-take : (k i : ℕ) (xs : List ℕ) (x : ℕ) → k ≤ i → Contains (take k xs) x → Contains (take i xs) x
 Contains-take k i xs x h c =
@@ -176,17 +190,20 @@ order-follows_paths before entries order a i h p = follows before entries order 
 
 pub order-grows : OrderGrows
 order-grows before entries n order new all_entered = record {
-    once = λ i j l m.
-        let long = length_push entries n in
-        elim (at_or_below j (length entries) (omega arith)) [
-          inl last ↦
+  once = λ i j l m.
+      let long = length_push entries n in
+      elim (at_or_below j (length entries) (omega arith)) [
+        | inl last ↦
             λ same. new (i, omega arith, get_or_default entries i n 0 (omega arith) ∙ sym (get_or_append_left entries (n ∷ []) 0 i (omega arith)) ∙ same ∙ get_or_push entries n 0 j (sym last))
-          | inr earlier ↦
-            λ same. order.once i j l earlier (sym (get_or_append_left entries (n ∷ []) 0 i (omega arith)) ∙ same ∙ get_or_append_left entries (n ∷ []) 0 j earlier) ];
-    after = λ i l.
-        let long = length_push entries n in
-        elim (at_or_below i (length entries) (omega arith)) [
-          inl last ↦
+        | inr earlier ↦
+            λ same. order.once i j l earlier (sym (get_or_append_left entries (n ∷ []) 0 i (omega arith)) ∙ same ∙ get_or_append_left entries (n ∷ []) 0 j earlier)
+      ];
+  after = λ i l.
+      let long = length_push entries n in
+      elim (at_or_below i (length entries) (omega arith)) [
+        | inl last ↦
             rw (get_or_push entries n 0 i (sym last), take-append-le i entries (n ∷ []) (omega arith), take_all i entries (omega arith)) all_entered
-          | inr earlier ↦
-            rw (get_or_append_left entries (n ∷ []) 0 i earlier, take-append-le i entries (n ∷ []) (omega arith)) (order.after i earlier) ] }
+        | inr earlier ↦
+            rw (get_or_append_left entries (n ∷ []) 0 i earlier, take-append-le i entries (n ∷ []) (omega arith)) (order.after i earlier)
+      ];
+}

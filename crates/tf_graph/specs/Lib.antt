@@ -4,3 +4,11 @@ pub mod Path
 pub mod Solutions
 pub mod Order
 pub mod Laws
+pub mod NodeSet
+pub mod Edges
+pub mod Closure
+pub mod Search
+pub mod Strip
+pub mod Removal
+pub mod Orders
+pub mod GraphLaws

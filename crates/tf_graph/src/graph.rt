@@ -98,6 +98,7 @@ impl Graph {
     pub fn nodes(&self) -> usize
         ensures count { result ≡ self.now.nodes }
         ensures few { result ≤ MAX_NODES }
+        ensures within { IsWithin self.now.nodes self.now.edges }
     {
         self.nodes
     }

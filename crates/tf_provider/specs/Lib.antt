@@ -1,3 +1,4 @@
+pub mod Call
 pub mod Meaning
 pub mod Refined
 pub mod Schema

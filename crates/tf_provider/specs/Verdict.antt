@@ -61,9 +61,13 @@ is_allowed a t = is_of_kind a.kind t
 abbrev pub fits : AttributeView → Tree → Bool
 fits a t = known t && nat_le (weight t) max_weight && nat_le (depth t) max_depth && is_allowed a t
 
+-- an object has a value for the attribute, and it fits
+abbrev pub fits_in : Tree → AttributeView → Bool
+fits_in t a = option_map_or (fits a) (part_at a.name t) false
+
 -- An object is well formed where it has exactly the schema's attributes, and the value of each fits.
 abbrev pub well_formed : SchemaView → Tree → Bool
-well_formed s t = has_attributes s t && list_all (λ a. option_map_or (fits a) (part_at a.name t) false) s.attributes
+well_formed s t = has_attributes s t && list_all (fits_in t) s.attributes
 
 abbrev pub IsWellFormed : SchemaView → Tree → Type 0
 IsWellFormed s t = well_formed s t ≡ true
@@ -73,9 +77,13 @@ abbrev pub contradicts : Option Tree → Option Tree → Bool
 contradicts (Some t) (Some u) = not (refined t u)
 contradicts _ _ = false
 
+-- an attribute's wanted value contradicts the one that is there
+abbrev pub contradicts_at : Tree → Tree → AttributeView → Bool
+contradicts_at wanted there a = contradicts (part_at a.name wanted) (part_at a.name there)
+
 -- the place of the first attribute at which what was asked for contradicts what is there
 abbrev pub contradiction : SchemaView → Tree → Tree → Option ℕ
-contradiction s wanted there = position_from (λ a. contradicts (part_at a.name wanted) (part_at a.name there)) 0 s.attributes
+contradiction s wanted there = position_from (contradicts_at wanted there) 0 s.attributes
 
 abbrev pub is_destroy : Op → Bool
 is_destroy Create = false

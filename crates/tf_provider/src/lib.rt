@@ -5,12 +5,14 @@
 //! called with a permit, which the call spends, so no action is called twice.
 #![tactic(auto)]
 
+pub mod called;
 pub mod provider;
 pub mod request;
 pub mod schema;
 pub mod verdict;
 
+pub use called::{Called, Parts, Recorded, call};
 pub use provider::{Provider, first_provider};
 pub use request::{Op, Reply, Request};
 pub use schema::{Attribute, Kind, Mode, Schema, SchemaFault};
-pub use verdict::Verdict;
+pub use verdict::{Verdict, has_attributes, judge, well_formed};

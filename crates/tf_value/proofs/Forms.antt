@@ -1,5 +1,5 @@
 -- The JSON forms of values: which there are, and that they are one.
-use Rattle.std.proofs.Common.{◌≡◌, ◌<◌, ◌^◌, ◌&&◌, ◌⊎◌, ℕ, ℤ, pos, negsuc, Bool, true, false, Option, Some, None, nat_lt, cond, refl, sym, ap, ◌∙◌, subst, rules, arith}
+use Rattle.std.proofs.Common.{◌≡◌, ◌<◌, ◌^◌, ℕ, ℤ, pos, negsuc, Bool, true, false, Some, None, nat_lt, cond, refl, sym, ap, ◌∙◌, subst, rules, arith}
 use Rattle.std.proofs.lemmas.Bool.{ltb-true, lt-ltb}
 use Rattle.std.proofs.lemmas.Int.{ints}
 use Rattle.std.specs.Prelude.{◌↔◌, FitsSigned}
@@ -9,7 +9,7 @@ use Rattle.serde_json.specs.Find.{of_integer}
 use Rattle.tf_value.specs.Tree.{Tree, null, boolean, whole, text, list, map, unknown, Items, no_items, item, Entries, no_entries, entry, IsHeld, AreHeld, AreHeldEntries}
 use Rattle.tf_value.specs.Known.{known, known_items, known_entries}
 use Rattle.tf_value.specs.Json.{IsJson, IsArray, IsObject, value_data, items_data, entries_data, value_from, whole_from, tree_from, items_from, entries_from}
-use Rattle.tf_value.proofs.Tests.{and-first, and-second, and-both}
+use Rattle.tf_value.proofs.Conjunction.{and-first, and-second, and-both}
 
 -- a known value has a form
 mutual

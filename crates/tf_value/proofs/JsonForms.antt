@@ -1,5 +1,5 @@
 -- Values beside their JSON forms.
-use Rattle.std.proofs.Common.{◌≡◌, ℕ, ◌<◌, ◌≤◌, List, length, take, [], ◌∷◌, ◌++◌, String, Global, Less, Greater, string_bytes, string_cmp, nat_cmp, map as each, refl, ap, ◌∙◌, rules}
+use Rattle.std.proofs.Common.{◌≡◌, ℕ, ◌≤◌, List, length, take, [], ◌∷◌, ◌++◌, String, Global, Greater, string_bytes, string_cmp, nat_cmp, map as each, refl, ap, ◌∙◌}
 use Rattle.std.proofs.lemmas.Cmp.{nat_list_cmp_total}
 use Rattle.std.proofs.lemmas.List.{take_all}
 use Rattle.std.specs.Cmp.Lexicographic.{slice_cmp}
@@ -9,7 +9,7 @@ use Rattle.std.specs.Ordering.{ordering_reverse}
 use Rattle.serde_json.specs.Data as json
 use Rattle.serde_json.specs.View.{view, items_view as json_items, items_of as json_items_of, members_view, members_of}
 use Rattle.serde_json.proofs.Views.{Entry as Member}
-use Rattle.tf_value.specs.Tree.{Tree, Entries, items_of, tree_of, items_view, entries_view}
+use Rattle.tf_value.specs.Tree.{Entries, items_of, tree_of, items_view, entries_view}
 use Rattle.tf_value.specs.Json.{value_data, items_data, entries_data, tree_from, items_from, entries_from}
 use Rattle.tf_value.proofs.Views.{Entry, shown, below_middle}
 use Rattle.tf_value.specs.declared.value.Value.{Value}

@@ -1,5 +1,6 @@
-pub mod Tests
+pub mod Conjunction
 pub mod Views
+pub mod Keys
 pub mod Order
 pub mod JsonForms
 pub mod Forms

@@ -1,5 +1,5 @@
 -- A value, level by level, and a `BTreeMap` beside the entries that it stands for.
-use Rattle.std.proofs.Common.{◌≡◌, ℕ, ◌<◌, List, [], ◌∷◌, ◌++◌, Option, Some, None, option_map, String, Vec, BTreeMap, Global, Bor, Ordering, Less, Equal, Greater, string_bytes, string_cmp, nat_cmp, is_eq, cond, Bool, true, false, map as each, refl, sym, ap, ◌∙◌, rules}
+use Rattle.std.proofs.Common.{◌≡◌, ℕ, List, [], ◌∷◌, ◌++◌, Option, Some, None, option_map, String, Vec, BTreeMap, Global, Bor, Ordering, Less, Equal, Greater, string_bytes, string_cmp, nat_cmp, is_eq, cond, Bool, true, false, map as each, refl, ap, ◌∙◌, rules}
 use Rattle.std.proofs.lemmas.Cmp.{nat_list_cmp_total}
 use Rattle.std.proofs.lemmas.Map.Text.{is_eq-slice_cmp}
 use Rattle.std.specs.Cmp.Lexicographic.{slice_cmp}
@@ -8,7 +8,7 @@ use Rattle.std.specs.List.Sorted.{IsStrictlySortedBy}
 use Rattle.std.specs.Map.{keys_of, lookup}
 use Rattle.std.specs.Ordering.{match_ordering, ordering_reverse}
 use Rattle.std.specs.BTreeMap.{insert_entry, is_at}
-use Rattle.tf_value.specs.Tree.{Tree, list, map, Entries, no_entries, entry, get, put, entries_of, tree_of, items_view, entries_view}
+use Rattle.tf_value.specs.Tree.{Tree, list, map, Entries, entry, get, put, entries_of, tree_of, items_view, entries_view}
 use Rattle.tf_value.specs.declared.value.Value.{Value, List as Listed, Map as Mapped, the_lemmas}
 
 abbrev pub Entry : Type 0

@@ -2,13 +2,10 @@
 use Rattle.std.specs.Prelude.{Bool, true, false, ◌&&◌, ◌≡◌, refl}
 use Rattle.std.specs.Bool.{Decides}
 use Rattle.std.specs.Cmp.{IsPartialEquivalence, IsEquivalence, decided, on_equiv, partial_equiv_from_equiv, booleans_Decides, signed_Decides}
-use Rattle.std.specs.Ordering.{on, int_eq}
-use Rattle.std.specs.Str.{bytes_eq}
-use mathlib.Core.Bool.{beq}
-use Rattle.std.proofs.Common.{ap, rules}
+use Rattle.std.specs.Ordering.{on}
+use Rattle.std.proofs.Common.{ap}
 use Rattle.std.proofs.lemmas.Slice.Eq.{bytes_eq-Decides}
 use Rattle.tf_value.specs.Tree.{Tree, null, boolean, whole, text, list, map, unknown, Items, no_items, item, Entries, no_entries, entry, same, same_items, same_entries, tree_of}
-use Rattle.tf_value.specs.declared.value.Value.{Value}
 
 -- where each of two tests decides its fact, both together decide both facts
 both : {P Q R : Type 0} (b c : Bool) → Decides b P → Decides c Q → (P → Q → R) → (R → P × Q) → Decides (b && c) R

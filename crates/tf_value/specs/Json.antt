@@ -1,5 +1,5 @@
 -- Values and JSON trees.
-use Rattle.std.specs.Prelude.{ℕ, ◌^◌, ℤ, pos, negsuc, ◌≡◌, nat_lt, if◌then◌else◌, true, false, Option, Some, None, FitsSigned, ⊤}
+use Rattle.std.specs.Prelude.{◌^◌, pos, negsuc, ◌≡◌, nat_lt, if◌then◌else◌, true, false, Option, Some, None, FitsSigned, ⊤}
 use Rattle.std.specs.Int.{w64}
 use Rattle.serde_json.specs.Data as json
 use Rattle.serde_json.specs.Find.{of_integer}

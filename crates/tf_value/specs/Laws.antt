@@ -1,7 +1,7 @@
 -- What holds of values and their JSON forms, whatever they are.
-use Rattle.std.specs.Prelude.{ℕ, List, ◌≡◌, ◌↔◌, ◌⊎◌, true, Some, None, Option}
+use Rattle.std.specs.Prelude.{ℕ, List, ◌≡◌, ◌↔◌, true, Some, None}
 use Rattle.serde_json.specs.Data.{Data}
-use Rattle.tf_value.specs.Tree.{Tree, IsHeld, same}
+use Rattle.tf_value.specs.Tree.{Tree, Entries, IsHeld, get, put, same}
 use Rattle.tf_value.specs.Known.{known}
 use Rattle.tf_value.specs.Refinement.{Refines}
 use Rattle.tf_value.specs.Place.{Place, with_part}
@@ -63,3 +63,11 @@ FormReadsBack = (t : Tree) → IsHeld t → known t ≡ true → value_from (val
 -- A value is within the limits or too large.
 abbrev pub LimitsDecide : Type 0
 LimitsDecide = (t : Tree) → IsTooLarge t ↔ (¬ IsWithinLimits t)
+
+-- What was put at a key stands there.
+abbrev pub PutIsFound : Type 0
+PutIsFound = (k : List ℕ) (t : Tree) (es : Entries) → get k (put k t es) ≡ Some t
+
+-- A put at a key leaves what stands at the others.
+abbrev pub PutLeavesOthers : Type 0
+PutLeavesOthers = (k l : List ℕ) (t : Tree) (es : Entries) → (¬ (l ≡ k)) → get l (put k t es) ≡ get l es

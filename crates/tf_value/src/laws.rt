@@ -1,5 +1,5 @@
 // Laws of values, proved for every value: each function's contract is a law, and its body does nothing.
-ghost use Rattle.tf_value.specs.Laws.{RefinementIsReflexive, RefinementIsTransitive, RefinementIsAntisymmetric, KnownStays, PartsRefine, SameIsEquality, FormIsOne, ValueOfFormIsOne, FormedIsKnown, KnownHasForm, ReadsForms, ReadsFormsAlone, FormReadsBack, LimitsDecide};
+ghost use Rattle.tf_value.specs.Laws.{RefinementIsReflexive, RefinementIsTransitive, RefinementIsAntisymmetric, KnownStays, PartsRefine, SameIsEquality, FormIsOne, ValueOfFormIsOne, FormedIsKnown, KnownHasForm, ReadsForms, ReadsFormsAlone, FormReadsBack, LimitsDecide, PutIsFound, PutLeavesOthers};
 
 /// Refinement is an order: each value refines to itself, refinements follow one another, and two values that
 /// refine to each other are equal.
@@ -44,4 +44,10 @@ pub fn forms_read_back()
 /// A value is beyond the limits exactly where it isn't within them.
 pub fn limits_decide()
     ensures { LimitsDecide }
+{}
+
+/// What was put at a key of a map stands there, and the other keys keep what stood at them.
+pub fn puts_are_found()
+    ensures found { PutIsFound }
+    ensures others { PutLeavesOthers }
 {}

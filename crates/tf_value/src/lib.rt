@@ -10,6 +10,8 @@ mod laws;
 mod measure;
 mod reading;
 mod refinement;
+#[cfg(test)]
+mod tests;
 mod value;
 mod writing;
 
@@ -18,9 +20,9 @@ pub use json::JsonFault;
 pub use known::is_known;
 pub use laws::{
     equality_is_of_trees, forms_are_one, forms_read_back, known_values_stay, limits_decide,
-    parts_refine, refinement_is_an_order,
+    parts_refine, puts_are_found, refinement_is_an_order,
 };
-pub use measure::{MAX_DEPTH, MAX_WEIGHT, depth, weight};
+pub use measure::{MAX_DEPTH, MAX_WEIGHT, depth, is_within_limits, weight};
 pub use reading::from_json;
 pub use refinement::refines;
 pub use value::{Value, find};

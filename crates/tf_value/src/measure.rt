@@ -1,6 +1,6 @@
-ghost use Rattle.std.specs.Prelude.{◌≡◌, ◌^◌, ◌-◌, min};
+ghost use Rattle.std.specs.Prelude.{◌≡◌, ◌↔◌, ◌^◌, ◌-◌, min, IsTrue};
 ghost use Rattle.tf_value.specs.Tree.{tree_of, items_view, entries_view};
-ghost use Rattle.tf_value.specs.Measure.{weight as weight_of, weight_of_items, weight_of_entries, depth as depth_of, depth_of_items, depth_of_entries};
+ghost use Rattle.tf_value.specs.Measure.{weight as weight_of, weight_of_items, weight_of_entries, depth as depth_of, depth_of_items, depth_of_entries, IsWithinLimits};
 
 use crate::value::Value;
 use std::collections::BTreeMap;
@@ -10,6 +10,13 @@ pub const MAX_WEIGHT: u64 = 1_000_000;
 
 /// The greatest depth of a value that is taken from outside.
 pub const MAX_DEPTH: u32 = 32;
+
+/// Whether neither a value's weight nor its depth is above the greatest.
+pub fn is_within_limits(value: &Value) -> bool
+    ensures { IsTrue result ↔ IsWithinLimits (tree_of value.now) }
+{
+    weight(value) <= MAX_WEIGHT && depth(value) <= MAX_DEPTH
+}
 
 /// How much a value weighs: one for itself, the bytes of its texts and keys, and the weights of its parts;
 /// 2^64 - 1 where that is more.

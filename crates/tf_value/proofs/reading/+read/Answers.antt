@@ -5,7 +5,7 @@ use Rattle.std.specs.Map.{keys_of}
 use Rattle.std.specs.String.{string_cmp}
 use Rattle.serde_json.specs.View.{view}
 use Rattle.serde_json.proofs.Views.{Entry}
-use Rattle.tf_value.specs.Tree.{tree_of, items_of, entries_view}
+use Rattle.tf_value.specs.Tree.{entries_view}
 use Rattle.tf_value.specs.Json.{tree_from}
 use Rattle.tf_value.proofs.Views.{entries_view-insert_entry, put_last}
 use Rattle.tf_value.proofs.JsonForms.{read_members-is, read_all_items}

@@ -1,4 +1,4 @@
-use Rattle.std.proofs.Common.{◌≡◌, sym, ◌∙◌, rules}
+use Rattle.std.proofs.Common.{sym, ◌∙◌, rules}
 use Rattle.tf_value.proofs.Order.{RefinesItems-length, RefinesEntries-length}
 use Rattle.tf_value.proofs.refinement.+refines.Goals as goal
 

@@ -1,4 +1,4 @@
-use Rattle.std.proofs.Common.{◌≡◌, option_map, ◌∙◌, ap}
+use Rattle.std.proofs.Common.{option_map, ◌∙◌, ap}
 use Rattle.tf_value.specs.Tree.{tree_of}
 use Rattle.tf_value.proofs.Views.{tree_of-lookup, tree_of_ref}
 use Rattle.tf_value.proofs.value.find.Goals as goal

@@ -3,7 +3,7 @@ use Rattle.std.proofs.lemmas.List.{append-nil}
 use Rattle.std.specs.List.Sorted.{IsStrictlySortedBy}
 use Rattle.std.specs.Map.{keys_of}
 use Rattle.std.specs.String.{string_cmp}
-use Rattle.serde_json.specs.View.{view, members_view}
+use Rattle.serde_json.specs.View.{members_view}
 use Rattle.serde_json.proofs.Views.{members_view-insert_entry}
 use Rattle.tf_value.specs.Tree.{AreHeldEntries, tree_of, entries_view}
 use Rattle.tf_value.specs.Json.{value_data}

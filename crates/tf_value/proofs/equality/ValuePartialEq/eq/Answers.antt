@@ -1,4 +1,3 @@
-use Rattle.std.proofs.Common.{◌≡◌}
 use Rattle.tf_value.proofs.Order.{same_from, equal_both, differ_one}
 use Rattle.tf_value.proofs.equality.ValuePartialEq.eq.Goals as goal
 

@@ -1,0 +1,4 @@
+pub mod Attributes
+pub mod Entries
+pub mod Orders
+pub mod Served

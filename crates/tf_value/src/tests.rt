@@ -1,0 +1,220 @@
+use crate::{
+    JsonFault, MAX_DEPTH, MAX_WEIGHT, Value, copy, depth, entries_to_json, find, from_json,
+    is_known, is_within_limits, refines, to_json, weight,
+};
+use serde_json::Value as Json;
+use std::alloc::{AllocError, Global};
+use std::collections::BTreeMap;
+use std::test::Fail;
+
+// What derives above a value rest on.
+#[derive(Debug, Clone, PartialEq, Eq, Drop)]
+struct Attribute {
+    name: String,
+    value: Value,
+    all: Vec<Value>,
+    more: BTreeMap<String, Value>,
+}
+
+// The value of a JSON text, or why there is none; an `Err` where there is no memory.
+fn read(alloc: Global, text: &str) -> Result<Result<Value, JsonFault>, Fail> {
+    let json = Json::from_str(alloc, text)?;
+    match from_json(alloc, &json) {
+        Err(JsonFault::OutOfMemory) => Err(JsonFault::OutOfMemory.into()),
+        found => Ok(found),
+    }
+}
+
+// The text that the value of a JSON text is written as, or the name of the fault.
+fn written(alloc: Global, text: &str) -> Result<String, Fail> {
+    match read(alloc, text)? {
+        Ok(value) => Ok(to_json(alloc, &value)?.to_string(alloc)?),
+        Err(fault) => Ok(format!(in alloc; "{fault:?}")?),
+    }
+}
+
+// A text between as many opening and closing brackets.
+fn nested(alloc: Global, levels: usize, inside: &str) -> Result<String, AllocError> {
+    let mut text = String::new(alloc);
+    for _ in 0..levels {
+        text.push('[')?;
+    }
+    text.push_str(inside)?;
+    for _ in 0..levels {
+        text.push(']')?;
+    }
+    Ok(text)
+}
+
+// A JSON text of so many bytes between its quotes.
+fn long(alloc: Global, bytes: usize) -> Result<String, AllocError> {
+    let mut text = String::with_capacity(alloc, bytes)?;
+    for _ in 0..bytes {
+        text.push('x')?;
+    }
+    format!(in alloc; "\"{text}\"")
+}
+
+#[test]
+fn texts(rt: HostRuntime) -> Result<(), Fail> {
+    let table = [
+        (
+            "{\"b\":1,\"a\":{\"d\":[],\"c\":2}}",
+            "{\"a\":{\"c\":2,\"d\":[]},\"b\":1}",
+        ),
+        ("null", "null"),
+        ("true", "true"),
+        ("0", "0"),
+        ("-1", "-1"),
+        ("9223372036854775807", "9223372036854775807"),
+        ("-9223372036854775808", "-9223372036854775808"),
+        ("9223372036854775808", "NotWhole"),
+        ("-9223372036854775809", "NotWhole"),
+        ("18446744073709551615", "NotWhole"),
+        ("18446744073709551616", "NotWhole"),
+        ("-0", "NotWhole"),
+        ("-0.0", "NotWhole"),
+        ("1.0", "NotWhole"),
+        ("1.5", "NotWhole"),
+        ("1e3", "NotWhole"),
+        ("1E3", "NotWhole"),
+        ("\"\"", "\"\""),
+        ("\"a\\u0062\\n\"", "\"ab\\n\""),
+        ("[]", "[]"),
+        ("{}", "{}"),
+        ("[1,[2.5]]", "NotWhole"),
+        ("{\"a\":{\"b\":1e1}}", "NotWhole"),
+        ("[1, \"a\", [null, {}]]", "[1,\"a\",[null,{}]]"),
+    ];
+    for (text, expected) in table {
+        let found = written(rt.alloc(), text)?;
+        assert_eq!(rt; found.as_str(), expected, "{text}");
+    }
+    Ok(())
+}
+
+#[test]
+fn limits(rt: HostRuntime) -> Result<(), Fail> {
+    let alloc = rt.alloc();
+    for (levels, inside, fault) in [
+        (31, "", None),
+        (32, "", None),
+        (32, "1", None),
+        (33, "", Some(JsonFault::TooLarge)),
+        (33, "1.5", Some(JsonFault::NotWhole)),
+    ] {
+        let text = nested(alloc, levels, inside)?;
+        let found = read(alloc, text.as_str())?;
+        assert_eq!(rt; found.err(), fault, "{levels} levels around {inside}");
+    }
+    for (bytes, fault) in [(999_999, None), (1_000_000, Some(JsonFault::TooLarge))] {
+        let text = long(alloc, bytes)?;
+        let found = read(alloc, text.as_str())?;
+        assert_eq!(rt; found.err(), fault, "{bytes} bytes");
+    }
+    Ok(())
+}
+
+#[test]
+fn measures(rt: HostRuntime) -> Result<(), Fail> {
+    let alloc = rt.alloc();
+    for (text, weighs, nests) in [
+        ("null", 1, 0),
+        ("7", 1, 0),
+        ("\"abc\"", 4, 0),
+        ("[]", 1, 1),
+        ("{}", 1, 1),
+        ("[1,\"ab\",[]]", 6, 2),
+        ("{\"key\":{\"k\":true},\"l\":0}", 9, 2),
+    ] {
+        let value = read(alloc, text)??;
+        assert_eq!(rt; weight(&value), weighs, "the weight of {text}");
+        assert_eq!(rt; depth(&value), nests, "the depth of {text}");
+    }
+    assert_eq!(rt; weight(&Value::Unknown), 1);
+    assert_eq!(rt; depth(&Value::Unknown), 0);
+    assert!(rt; is_within_limits(&Value::Unknown));
+    assert!(rt; MAX_WEIGHT == 1_000_000 && MAX_DEPTH == 32);
+    Ok(())
+}
+
+// A map with one entry.
+fn entry(alloc: Global, key: &str, value: Value) -> Result<Value, AllocError> {
+    let mut entries = BTreeMap::new(alloc);
+    drop(entries.insert(String::from_str(alloc, key)?, value)?);
+    Ok(Value::Map(entries))
+}
+
+// Two items, the second within a map.
+fn pair(alloc: Global, first: Value, second: Value) -> Result<Value, AllocError> {
+    Ok(Value::List(vec![in alloc; first, entry(alloc, "k", second)?]?))
+}
+
+#[test]
+fn refinement(rt: HostRuntime) -> Result<(), Fail> {
+    let alloc = rt.alloc();
+    let planned = pair(alloc, Value::Int(1), Value::Unknown)?;
+    let actual = pair(alloc, Value::Int(1), Value::Bool(true))?;
+    let other = pair(alloc, Value::Int(2), Value::Unknown)?;
+    assert!(rt; refines(&planned, &actual) && !refines(&actual, &planned));
+    assert!(rt; refines(&planned, &planned) && !refines(&planned, &other));
+    assert!(rt; !refines(&planned, &Value::Unknown) && refines(&Value::Unknown, &planned));
+    assert!(rt; is_known(&actual) && !is_known(&planned));
+    assert!(rt; planned != actual && planned != other && Value::Unknown == Value::Unknown);
+    let again = copy(&planned)?;
+    assert!(rt; again == planned && again.clone()? == planned);
+    Ok(())
+}
+
+#[test]
+fn look_up(rt: HostRuntime) -> Result<(), Fail> {
+    let alloc = rt.alloc();
+    let mut entries = BTreeMap::new(alloc);
+    drop(entries.insert(String::from_str(alloc, "b")?, Value::Int(2))?);
+    drop(entries.insert(String::from_str(alloc, "a")?, Value::Null)?);
+    assert!(rt; find(&entries, "b").is_some() && find(&entries, "c").is_none());
+    let object = Json::Object(entries_to_json(alloc, &entries)?);
+    let text = object.to_string(alloc)?;
+    assert_eq!(rt; text.as_str(), "{\"a\":null,\"b\":2}");
+    let value = Value::Map(entries);
+    assert!(rt; matches!(value.get("b"), Some(Value::Int(2))) && value.get("c").is_none());
+    assert!(rt; Value::Null.get("a").is_none());
+    Ok(())
+}
+
+#[test]
+fn unknown_is_not_written(rt: HostRuntime) -> Result<(), Fail> {
+    let alloc = rt.alloc();
+    let planned = pair(alloc, Value::Null, Value::Unknown)?;
+    let found = to_json(alloc, &planned);
+    assert!(rt; matches!(found, Err(JsonFault::UnknownInside)));
+    let message = JsonFault::UnknownInside.to_string(alloc)?;
+    assert_eq!(rt; message.as_str(), "a part of the value is unknown");
+    Ok(())
+}
+
+#[test]
+fn derives(rt: HostRuntime) -> Result<(), Fail> {
+    let alloc = rt.alloc();
+    let attribute = Attribute {
+        name: String::from_str(alloc, "id")?,
+        value: Value::Unknown,
+        all: vec![in alloc; Value::Null, Value::Int(3)]?,
+        more: BTreeMap::new(alloc),
+    };
+    let copied = attribute.clone()?;
+    assert_eq!(rt; copied, attribute);
+    Ok(())
+}
+
+#[test]
+fn laws() {
+    crate::refinement_is_an_order();
+    crate::known_values_stay();
+    crate::parts_refine();
+    crate::equality_is_of_trees();
+    crate::forms_are_one();
+    crate::forms_read_back();
+    crate::limits_decide();
+    crate::puts_are_found();
+}

@@ -1,0 +1,8 @@
+pub mod Ending
+pub mod Entered
+pub mod Judging
+pub mod Seen
+pub mod SoFar
+pub mod Stages
+pub mod Settled
+pub mod Lines

@@ -1,0 +1,40 @@
+-- Values with null in place of what isn't known.
+use Rattle.std.proofs.Common.{◌≡◌, ℕ, Bool, true, ◌&&◌, List, [], ◌∷◌, map as each, String, string_bytes, refl, ap, ap₂, ◌∙◌}
+use Rattle.std.specs.declared.alloc.Global.{Global}
+use Rattle.tf_value.proofs.Views.{Entry, shown}
+use Rattle.tf_value.specs.Known.{known, known_items, known_entries}
+use Rattle.tf_value.specs.Tree.{Tree, null, boolean, whole, text, list, map, unknown, Items, no_items, item, Entries, no_entries, entry, tree_of, items_of, items_view, entries_view}
+use Rattle.tf_value.specs.declared.value.Value.{Value}
+use Rattle.tf_walk.specs.After.{settled, settled_items, settled_entries}
+
+-- item by item
+pub settled_items-each : (vs : List Value) → items_of (each (λ v. settled (tree_of v)) vs) ≡ settled_items (items_view vs)
+settled_items-each [] = refl
+settled_items-each (v ∷ vs) = ap (item (settled (tree_of v))) (settled_items-each vs)
+
+-- entry by entry
+pub settled_shown : (es : List Entry) → shown (λ v. settled (tree_of v)) es ≡ settled_entries (entries_view es)
+settled_shown [] = refl
+settled_shown (e ∷ es) = ap (entry (string_bytes e.0) (settled (tree_of e.1))) (settled_shown es)
+
+both_known : (b c : Bool) → b ≡ true → c ≡ true → (b && c) ≡ true
+both_known b c e f = rw (e, f) refl
+
+mutual
+  -- and then all is known
+  pub settled-known : (t : Tree) → known (settled t) ≡ true
+  settled-known null = refl
+  settled-known (boolean b) = refl
+  settled-known (whole z) = refl
+  settled-known (text s) = refl
+  settled-known (list ts) = settled_items-known ts
+  settled-known (map es) = settled_entries-known es
+  settled-known unknown = refl
+
+  pub settled_items-known : (ts : Items) → known_items (settled_items ts) ≡ true
+  settled_items-known no_items = refl
+  settled_items-known (item t ts) = both_known (known (settled t)) (known_items (settled_items ts)) (settled-known t) (settled_items-known ts)
+
+  pub settled_entries-known : (es : Entries) → known_entries (settled_entries es) ≡ true
+  settled_entries-known no_entries = refl
+  settled_entries-known (entry k t es) = both_known (known (settled t)) (known_entries (settled_entries es)) (settled-known t) (settled_entries-known es)

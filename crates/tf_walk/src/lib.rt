@@ -1,0 +1,18 @@
+//! Carrying out a plan: each action is called once, when all that it depends on is good, and what came of it
+//! is recorded and reported.
+#![tactic(auto)]
+
+mod asking;
+mod calls;
+mod claims;
+mod ended;
+mod furnish;
+mod one_line;
+pub mod report;
+mod requests;
+mod rooms;
+mod settle;
+mod steps;
+mod walk;
+
+pub use report::{Diagnostic, Excuse, Outcome, Report, Walked};
