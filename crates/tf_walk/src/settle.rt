@@ -1,7 +1,7 @@
 //! What is saved of an object whose provider's reply can't be used.
 ghost use Rattle.std.specs.Prelude.{◌≡◌, IfOk};
 ghost use Rattle.tf_value.specs.Tree.{tree_of, items_view, entries_view};
-ghost use Rattle.tf_walk.specs.After.{settled, settled_items, settled_entries};
+ghost use Rattle.tf_walk.specs.Settled.{settled, settled_items, settled_entries};
 
 use std::alloc::{AllocError, Global};
 use std::collections::BTreeMap;

@@ -12,5 +12,5 @@ loop-byte-preserved c =
     let so_far : c.loop-byte.bytes ≡ in_one_line (take i old) ++ drop i old = c.loop-byte.invariant in
     let value : c.blanked.result ≡ blanked (get_or old i 0) = c.blanked.ensures ∙ ap blanked (ap (λ (bs : List ℕ). get_or bs i 0) so_far ∙ next_byte old i within) in
     let more : slice_set c.loop-byte.bytes i c.blanked.result ≡ in_one_line (take (suc i) old) ++ drop (suc i) old =
-      ap₂ (λ (bs : List ℕ) (v : ℕ). slice_set bs i v) so_far value ∙ one_blanked old i within in
+    ap₂ (λ (bs : List ℕ) (v : ℕ). slice_set bs i v) so_far value ∙ one_blanked old i within in
     rw add-one more

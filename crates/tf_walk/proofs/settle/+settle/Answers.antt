@@ -5,8 +5,8 @@ use Rattle.std.specs.String.{string_cmp}
 use Rattle.tf_value.specs.Tree.{tree_of, items_of, entries_view, put}
 use Rattle.std.proofs.lemmas.List.{take_all}
 use Rattle.tf_value.proofs.Views.{Entry, shown, entries_view-insert_entry, put_last}
-use Rattle.tf_walk.specs.After.{settled}
-use Rattle.tf_walk.proofs.Settled.{settled_items-each, settled_shown}
+use Rattle.tf_walk.specs.Settled.{settled}
+use Rattle.tf_walk.proofs.Settling.{settled_items-each, settled_shown}
 use Rattle.tf_walk.proofs.settle.+settle.Goals as goal
 
 pub settle_entries-loop-key-preserved : goal.settle_entries-loop-key-preserved
@@ -20,7 +20,7 @@ settle_entries-loop-key-preserved t c =
     let named : string_bytes c.in_ok-name.name ≡ string_bytes e.0 = c.in_ok-name.ensures.cases in
     let before : entries_view l.copies.entries ≡ shown (λ v. settled (tree_of v)) done = l.invariant.2 ∙ sym (settled_shown done) in
     let inserted : entries_view c.insert.new.self.entries ≡ put (string_bytes c.in_ok-name.name) (tree_of c.in_ok-settle.field-0) (entries_view l.copies.entries) =
-      ap entries_view c.in_ok-insert.ensures.entries ∙ entries_view-insert_entry l.copies.entries c.in_ok-name.name c.in_ok-settle.field-0 in (
+    ap entries_view c.in_ok-insert.ensures.entries ∙ entries_view-insert_entry l.copies.entries c.in_ok-name.name c.in_ok-settle.field-0 in (
       done ++ e ∷ [],
       all ∙ sym (append_assoc done (e ∷ []) left),
       inserted ∙ (rw (named, c.in_ok-settle.ensures, before) last ∙ settled_shown (done ++ e ∷ [])),

@@ -1,7 +1,7 @@
 use Rattle.std.proofs.Common.{◌≡◌, List, ◌++◌, take, map}
 use Rattle.tf_value.specs.Tree.{tree_of, entries_view}
 use Rattle.tf_value.proofs.Views.{Entry}
-use Rattle.tf_walk.specs.After.{settled, settled_entries}
+use Rattle.tf_walk.specs.Settled.{settled, settled_entries}
 use Rattle.tf_walk.proofs.settle.+settle.Given as goal
 
 abbrev pub invariant-settle_items-loop-item : goal.invariant-settle_items-loop-item

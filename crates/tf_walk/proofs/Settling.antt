@@ -1,11 +1,12 @@
 -- Values with null in place of what isn't known.
-use Rattle.std.proofs.Common.{◌≡◌, ℕ, Bool, true, ◌&&◌, List, [], ◌∷◌, map as each, String, string_bytes, refl, ap, ap₂, ◌∙◌}
+use Rattle.std.proofs.Common.{◌≡◌, ℕ, Bool, true, ◌&&◌, List, [], ◌∷◌, map as each, String, string_bytes, Option, Some, None, option_map, refl, sym, ap, ap₂, ◌∙◌}
 use Rattle.std.specs.declared.alloc.Global.{Global}
 use Rattle.tf_value.proofs.Views.{Entry, shown}
 use Rattle.tf_value.specs.Known.{known, known_items, known_entries}
 use Rattle.tf_value.specs.Tree.{Tree, null, boolean, whole, text, list, map, unknown, Items, no_items, item, Entries, no_entries, entry, tree_of, items_of, items_view, entries_view}
 use Rattle.tf_value.specs.declared.value.Value.{Value}
-use Rattle.tf_walk.specs.After.{settled, settled_items, settled_entries}
+use Rattle.tf_value.specs.Equality.{same_Decides}
+use Rattle.tf_walk.specs.Settled.{settled, settled_items, settled_entries, is_settled}
 
 -- item by item
 pub settled_items-each : (vs : List Value) → items_of (each (λ v. settled (tree_of v)) vs) ≡ settled_items (items_view vs)
@@ -38,3 +39,11 @@ mutual
   pub settled_entries-known : (es : Entries) → known_entries (settled_entries es) ≡ true
   settled_entries-known no_entries = refl
   settled_entries-known (entry k t es) = both_known (known (settled t)) (known_entries (settled_entries es)) (settled-known t) (settled_entries-known es)
+
+-- the test for it
+pub is_settled-of : (t fallback : Tree) → fallback ≡ settled t → is_settled (Some t) fallback ≡ true
+is_settled-of t fallback e = (same_Decides (settled t) fallback).1 (sym e)
+
+pub is_settled-is : (o : Option Tree) (fallback : Tree) → is_settled o fallback ≡ true → option_map settled o ≡ Some fallback
+is_settled-is None fallback e = absurd (cc)
+is_settled-is (Some t) fallback e = ap Some ((same_Decides (settled t) fallback).0 e)
