@@ -1,0 +1,26 @@
+-- The type and the name of a resource, and its address.
+use Rattle.std.specs.Prelude.{ℕ, Bool, List, ◌∷◌, ◌++◌, string_bytes}
+use Rattle.std.specs.Cmp.Lexicographic.{slice_cmp}
+use Rattle.std.specs.Ordering.{nat_cmp, ordering_then, is_lt}
+use Rattle.std.specs.declared.cmp.Ordering.{Ordering}
+use Rattle.tf_address.specs.declared.label.Label.{Label}
+
+-- a resource's type and name, as texts
+pub record LabelView : Type 0 where
+  pub kind : List ℕ
+  pub name : List ℕ
+
+abbrev pub label_of : Label → LabelView
+label_of l = record { kind = string_bytes l.kind; name = string_bytes l.name }
+
+-- the address of a resource: its type, a dot, its name
+abbrev pub label_text : LabelView → List ℕ
+label_text l = l.kind ++ 46 ∷ l.name
+
+-- addresses are ordered by type and then by name, byte by byte
+abbrev pub label_cmp : LabelView → LabelView → Ordering
+label_cmp a b = ordering_then (slice_cmp nat_cmp a.kind b.kind) (slice_cmp nat_cmp a.name b.name)
+
+-- one address comes before another
+abbrev pub label_below : LabelView → LabelView → Bool
+label_below a b = is_lt (label_cmp a b)

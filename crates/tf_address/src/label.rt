@@ -1,0 +1,37 @@
+use std::fmt;
+
+/// A resource's type and name, as in `sim_net.a`. The derived order, by type and then by name, is the
+/// order of addresses.
+#[derive(Clone, Debug, PartialEq, Eq, PartialOrd, Ord, Drop)]
+pub struct Label {
+    /// The resource's type, such as `sim_net`.
+    pub kind: String,
+    /// The resource's name within its type, such as `a`.
+    pub name: String,
+}
+
+/// The address `TYPE.NAME` of a resource.
+impl fmt::Display for Label {
+    ghost use Rattle.std.specs.Prelude.{Some};
+    ghost use Rattle.tf_address.specs.Label.{label_of, label_text};
+
+    ghost output = { λ l. Some (label_text (label_of l)) };
+
+    fn fmt<W: fmt::Write>(&self, f: &mut fmt::Formatter<W>) -> fmt::Result {
+        let kind = self.kind.as_str();
+        let name = self.name.as_str();
+        write!(f, "{kind}.{name}")
+    }
+}
+
+impl Label {
+    ghost use Rattle.std.specs.Prelude.{◌≡◌};
+    ghost use Rattle.tf_address.specs.Label.{label_of, label_below};
+
+    /// Whether this address comes before another: by type, and then by name, byte by byte.
+    pub fn is_below(&self, other: &Label) -> bool
+        ensures { result ≡ label_below (label_of self.now) (label_of other.now) }
+    {
+        self < other
+    }
+}

@@ -1,0 +1,11 @@
+//! Names and addresses of resources, which every layer above shares.
+//!
+//! A name is an identifier of Terraform's JSON syntax as this engine reads it. A resource stands at the
+//! address `TYPE.NAME`, and addresses are ordered by type and then by name, byte by byte.
+#![tactic(auto)]
+
+pub mod label;
+pub mod names;
+
+pub use label::Label;
+pub use names::is_name;

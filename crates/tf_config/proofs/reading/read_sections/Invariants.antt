@@ -1,0 +1,12 @@
+use Rattle.std.proofs.Common.{◌≡◌, List, ◌++◌, []}
+use Rattle.serde_json.proofs.Views.{Entry}
+use Rattle.serde_json.specs.View.{members_view}
+use Rattle.tf_config.specs.Config.{blocks_of}
+use Rattle.tf_config.specs.Configuration.{AddsSection}
+use Rattle.tf_text.specs.Walk.{Builds}
+use Rattle.tf_config.proofs.reading.read_sections.Given as goal
+
+-- the members so far lead to the blocks so far
+abbrev pub invariant-loop-key : goal.invariant-loop-key
+invariant-loop-key l =
+    (done : List Entry) × (l.members.entries ≡ done ++ l.key-iterator) × Builds AddsSection (members_view done) [] (blocks_of l.config)

@@ -1,0 +1,78 @@
+-- What the format of a configuration demands, and how a demand fails.
+use Rattle.std.specs.Prelude.{◌≡◌, ℕ, List, IsTrue, MatchResult, Result, false}
+use Rattle.serde_json.specs.Data.{Num}
+use Rattle.tf_address.specs.Name.{is_name}
+use Rattle.tf_text.specs.Check.{Check, AllMet, IsFirst}
+use Rattle.tf_config.specs.Opening.{IsPlain, IsFirstOpening}
+use Rattle.tf_config.specs.Refusal.{DetailView, bare, at, Told, no_memory, workers, fault, told}
+use Rattle.tf_config.specs.Whole.{is_whole}
+use Rattle.tf_config.specs.Words.{is_type_name}
+use Rattle.tf_config.specs.declared.refusal.Refusal.{Refusal}
+
+pub data Demand : Type 0 where
+  -- nothing is allowed at the place
+  nothing_fits : Demand
+  -- the text is a name
+  a_name : List ℕ → Demand
+  -- the text is a name that may be a resource type
+  a_type_name : List ℕ → Demand
+  -- neither `${` nor `%{` stands in the text, which names a property of an object
+  a_plain_name : List ℕ → Demand
+  -- the number is held as a whole number of 64 signed bits
+  a_whole_number : Num → Demand
+  -- the text is a template
+  a_template : List ℕ → Demand
+
+-- Until there are expressions, a template is a text with neither `${` nor `%{` in it.
+abbrev pub IsMet : Demand → Type 0
+IsMet nothing_fits = ⊥
+IsMet (a_name text) = IsTrue (is_name text)
+IsMet (a_type_name text) = IsTrue (is_type_name text)
+IsMet (a_plain_name text) = IsPlain text
+IsMet (a_whole_number number) = IsTrue (is_whole number)
+IsMet (a_template text) = IsPlain text
+
+-- a refusal's code, and what stands behind its name
+abbrev pub Way : Type 0
+Way = ℕ × DetailView
+
+-- 2, BadShape
+abbrev pub bad_shape : Way
+bad_shape = (2, bare)
+
+-- 3, BadTemplate, with the byte offset
+abbrev pub bad_template : ℕ → Way
+bad_template offset = (3, at offset)
+
+-- a demand fails in this way
+abbrev pub Fails : Demand → Way → Type 0
+Fails nothing_fits way = way ≡ bad_shape
+Fails (a_name text) way = (is_name text ≡ false) × (way ≡ bad_shape)
+Fails (a_type_name text) way = (is_type_name text ≡ false) × (way ≡ bad_shape)
+Fails (a_plain_name text) way = (¬ IsPlain text) × (way ≡ bad_shape)
+Fails (a_whole_number number) way = (is_whole number ≡ false) × (way ≡ bad_shape)
+Fails (a_template text) way = (offset : ℕ) × IsFirstOpening text offset × (way ≡ bad_template offset)
+
+-- what there is to check, in walk order
+abbrev pub Checks : Type 0
+Checks = List (Check Demand)
+
+-- nothing is wrong
+abbrev pub AreMet : Checks → Type 0
+AreMet = AllMet IsMet
+
+-- The first fault of the checks is what is told, or there was no memory.
+abbrev pub Refuses : Checks → Told → Type 0
+Refuses checks no_memory = Unit {0}
+Refuses checks workers = ⊥
+Refuses checks (fault code place detail) = IsFirst IsMet Fails place (code, detail) checks
+
+-- An answer that only judges: all checks are met, or the first fault is told.
+abbrev pub Judges : {T : Type 0} → Checks → Result T Refusal → Type 0
+Judges checks answer = MatchResult answer (λ _. AreMet checks) (λ refusal. Refuses checks (told refusal))
+
+-- a fault at the place, or there was no memory to say so
+abbrev pub TellsAt : List ℕ → Way → Told → Type 0
+TellsAt place way no_memory = Unit {0}
+TellsAt place way workers = ⊥
+TellsAt place way (fault code place' detail) = (place' ≡ place) × ((code, detail) ≡ way)

@@ -1,0 +1,94 @@
+ghost use Rattle.serde_json.specs.Data.{no_members};
+ghost use Rattle.serde_json.specs.View.{view, members_view};
+ghost use Rattle.std.specs.Prelude.{IfErr, IfOk, OnOk};
+ghost use Rattle.tf_config.specs.Configuration.{below, argument_checks, AddsArgument, AddsProperty, IsBody, object_checks, property_checks};
+ghost use Rattle.tf_config.specs.Config.{arguments_of};
+ghost use Rattle.tf_config.specs.Demand.{Refuses};
+ghost use Rattle.tf_config.specs.Refusal.{told};
+ghost use Rattle.tf_text.specs.Place.{place_of};
+ghost use Rattle.tf_text.specs.Walk.{each, Builds};
+
+use crate::config::Block;
+use crate::demand::{bad_shape, demand_name};
+use crate::literal::demand_literal;
+use crate::refusal::Refusal;
+use crate::words::{Property, property_named};
+use serde_json::{Map, Value};
+use std::alloc::Global;
+use std::collections::BTreeMap;
+use tf_text::Path;
+
+/// The body of a resource, which stands at the path.
+pub(crate) fn read_body<'a>(
+    alloc: Global,
+    path: &'a Path<'a>,
+    value: &'a Value,
+) -> Result<Block, Refusal>
+    ensures ok { IfOk result (λ block. IsBody (view value.now) (arguments_of block)) }
+    ensures fault { IfErr result (λ refusal.
+        Refuses (object_checks property_checks (place_of path.now) (view value.now)) (told refusal)) }
+{
+    match value {
+        Value::Object(members) => read_properties(alloc, path, members),
+        _ => Err(bad_shape(alloc, path)),
+    }
+}
+
+fn read_properties<'a>(
+    alloc: Global,
+    path: &'a Path<'a>,
+    members: &'a Map<String, Value>,
+) -> Result<Block, Refusal>
+    ensures ok { IfOk result (λ block.
+        Builds AddsProperty (members_view members.now.entries) no_members (arguments_of block)) }
+    ensures fault { IfErr result (λ refusal.
+        Refuses (each (below property_checks (place_of path.now)) (members_view members.now.entries)) (told refusal)) }
+{
+    let mut block = Block {
+        arguments: BTreeMap::new(alloc),
+    };
+    for (key, member) in members.iter() {
+        let name = key.as_str();
+        add_property(alloc, &Path::Member(path, name), name, member, &mut block)?;
+    }
+    Ok(block)
+}
+
+fn add_property<'a>(
+    alloc: Global,
+    path: &'a Path<'a>,
+    name: &'a str,
+    value: &'a Value,
+    block: &mut Block,
+) -> Result<(), Refusal>
+    ensures ok { OnOk result
+        (AddsProperty name.now (view value.now) (arguments_of block.old) (arguments_of block.new)) }
+    ensures fault { IfErr result (λ refusal.
+        Refuses (property_checks (place_of path.now) name.now (view value.now)) (told refusal)) }
+{
+    match property_named(name) {
+        Property::Comment => Ok(()),
+        Property::Reserved => Err(bad_shape(alloc, path)),
+        Property::Argument => add_argument(alloc, path, name, value, block),
+    }
+}
+
+fn add_argument<'a>(
+    alloc: Global,
+    path: &'a Path<'a>,
+    name: &'a str,
+    value: &'a Value,
+    block: &mut Block,
+) -> Result<(), Refusal>
+    ensures ok { OnOk result
+        (AddsArgument name.now (view value.now) (arguments_of block.old) (arguments_of block.new)) }
+    ensures fault { IfErr result (λ refusal.
+        Refuses (argument_checks (place_of path.now) name.now (view value.now)) (told refusal)) }
+{
+    demand_name(alloc, path, name)?;
+    demand_literal(alloc, value, path)?;
+    let name = String::from_str(alloc, name)?;
+    let value = value.clone()?;
+    drop(block.arguments.insert(name, value)?);
+    Ok(())
+}

@@ -1,0 +1,17 @@
+use serde_json::Value;
+use std::collections::BTreeMap;
+use tf_address::Label;
+
+/// A configuration: its resource blocks, by address.
+#[derive(Drop)]
+pub struct Config {
+    /// Each block under its type and name. Labels are ordered by type, then by name.
+    pub resources: BTreeMap<Label, Block>,
+}
+
+/// What a resource block says.
+#[derive(Drop)]
+pub struct Block {
+    /// The arguments by name. Each is a literal.
+    pub arguments: BTreeMap<String, Value>,
+}

@@ -1,0 +1,37 @@
+use Rattle.std.proofs.Common.{◌≡◌, ◌<◌, ◌++◌, ◌∷◌, [], ℕ, List, Bool, true, length, arith, ◌∙◌, sym, inl, inr}
+use Rattle.std.proofs.lemmas.List.{nil_from_length}
+use Rattle.tf_graph.specs.NodeSet.{has}
+use Rattle.tf_graph.specs.Search.{IsSearch}
+use Rattle.tf_graph.proofs.Searches.{pending_inside, pending-less, search-found}
+use Rattle.tf_graph.proofs.closure.reached_from.Goals as goal
+
+pub contains-requires : goal.contains-requires
+contains-requires c =
+    let a = c.args in
+    let l = c.loop-next in
+    let s : IsSearch a.graph.now a.node l.search.row l.search.settled (c.pop.new.self.items ++ c.in-Some.next ∷ []) = rw (← c.in-Some.ensures.items) l.invariant.search in
+    omega (arith, pending_inside a.graph.now a.node c.in-Some.next l.search.row l.search.settled c.pop.new.self.items s c.requires.node l.invariant.row_length, l.invariant.settled_length)
+
+pub visit-requires-clause-node : goal.visit-requires-clause-node
+visit-requires-clause-node c =
+    let a = c.args in
+    let l = c.loop-next in
+    let s : IsSearch a.graph.now a.node l.search.row l.search.settled (c.pop.new.self.items ++ c.in-Some.next ∷ []) = rw (← c.in-Some.ensures.items) l.invariant.search in
+    pending_inside a.graph.now a.node c.in-Some.next l.search.row l.search.settled c.pop.new.self.items s c.requires.node l.invariant.row_length
+
+pub loop-next-preserved : goal.loop-next-preserved
+loop-next-preserved c =
+    let a = c.args in
+    let l = c.loop-next in
+    let s : IsSearch a.graph.now a.node l.search.row l.search.settled (c.pop.new.self.items ++ c.in-Some.next ∷ []) = rw (← c.in-Some.ensures.items) l.invariant.search in
+    record {
+      row_length = l.invariant.row_length;
+      settled_length = l.invariant.settled_length;
+      search = pending-less a.graph.now a.node c.in-Some.next l.search.row l.search.settled c.pop.new.self.items (inl (sym c.contains.ensures ∙ c.if-not-contains.false)) s }
+
+pub returns-clause-found : goal.returns-clause-found
+returns-clause-found c =
+    let a = c.args in
+    let l = c.loop-next in
+    let none : l.search.pending.items ≡ [] = nil_from_length l.search.pending.items (omega (arith, c.in_default.ensures.cases.0)) in
+    search-found a.graph.now a.node l.search.row l.search.settled (rw (← none) l.invariant.search)

@@ -1,0 +1,55 @@
+use Rattle.std.proofs.Common.{◌≡◌, ◌≤◌, ◌<◌, ◌++◌, ◌+◌, ◌∷◌, [], ℕ, List, Bool, true, false, length, set, get_or, ◌∙◌, sym, arith}
+use Rattle.std.specs.Prelude.{slice_index}
+use Rattle.std.proofs.lemmas.List.{get_or_read, nil_from_length}
+use Rattle.std.proofs.lemmas.List.Elements.{Contains-push}
+use Rattle.tf_graph.specs.Digraph.{successors_of, predecessors_of}
+use Rattle.tf_graph.specs.NodeSet.{has}
+use Rattle.tf_graph.specs.Removal.{IsRemoval, times, count_left}
+use Rattle.tf_graph.proofs.Removals.{removal-skip, removal-go, removal-done}
+use Rattle.tf_graph.proofs.graph.Graph.strip.Goals as goal
+
+pub index-requires : goal.index-requires
+index-requires c =
+    let l = c.loop-node in
+    let r : IsRemoval c.args.self.now l.left.items l.removal.remaining.items (c.pop.new.self.items ++ c.in-Some.node ∷ []) [] = rw (← c.in-Some.ensures.items) l.invariant in
+    omega (arith, (r.free_zero c.in-Some.node (Contains-push c.pop.new.self.items c.in-Some.node)).0, r.left_length)
+
+pub release-requires-clause-enough : goal.release-requires-clause-enough
+release-requires-clause-enough c =
+    let g = c.args.self.now in
+    let l = c.loop-node in
+    let node = c.in-Some.node in
+    let r : IsRemoval g l.left.items l.removal.remaining.items (c.pop.new.self.items ++ node ∷ []) [] = rw (← c.in-Some.ensures.items) l.invariant in
+    let inside : node < length l.left.items = omega (arith, (r.free_zero node (Contains-push c.pop.new.self.items node)).0, r.left_length) in
+    let is : has l.left.items node ≡ true = sym (get_or_read l.left.items node c.index.result.now inside c.index.ensures false) ∙ c.if-index.true in
+    let next : IsRemoval g (set l.left.items node false) l.removal.remaining.items c.pop.new.self.items (successors_of g node) =
+        removal-go g l.left.items l.removal.remaining.items c.pop.new.self.items node c.nodes.ensures.within r is in
+    λ s.
+        let counted : slice_index l.removal.remaining.items s ≡ count_left (set l.left.items node false) (predecessors_of g s) + times s (successors_of g node) = next.counts s in
+        omega arith
+
+pub loop-node-preserved-in-Continue-branch-3 : goal.loop-node-preserved-in-Continue-branch-3
+loop-node-preserved-in-Continue-branch-3 c =
+    let g = c.args.self.now in
+    let l = c.loop-node in
+    let node = c.in-Some.node in
+    let r : IsRemoval g l.left.items l.removal.remaining.items (c.pop.new.self.items ++ node ∷ []) [] = rw (← c.in-Some.ensures.items) l.invariant in
+    let inside : node < length l.left.items = omega (arith, (r.free_zero node (Contains-push c.pop.new.self.items node)).0, r.left_length) in
+    let is : has l.left.items node ≡ true = sym (get_or_read l.left.items node c.index.result.now inside c.index.ensures false) ∙ c.if-index.true in
+    c.in_ok-release.ensures.removal (set l.left.items node false) (removal-go g l.left.items l.removal.remaining.items c.pop.new.self.items node c.nodes.ensures.within r is)
+
+pub loop-node-preserved : goal.loop-node-preserved
+loop-node-preserved c =
+    let g = c.args.self.now in
+    let l = c.loop-node in
+    let node = c.in-Some.node in
+    let r : IsRemoval g l.left.items l.removal.remaining.items (c.pop.new.self.items ++ node ∷ []) [] = rw (← c.in-Some.ensures.items) l.invariant in
+    let inside : node < length l.left.items = omega (arith, (r.free_zero node (Contains-push c.pop.new.self.items node)).0, r.left_length) in
+    let gone : has l.left.items node ≡ false = sym (get_or_read l.left.items node c.index.result.now inside c.index.ensures false) ∙ c.if-index.false in
+    removal-skip g l.left.items l.removal.remaining.items c.pop.new.self.items node r gone
+
+pub returns : goal.returns
+returns c =
+    let l = c.loop-node in
+    let none : l.removal.free.items ≡ [] = nil_from_length l.removal.free.items (omega (arith, c.in_default.ensures.cases.0)) in
+    removal-done c.args.self.now l.left.items l.removal.remaining.items (rw none at l.invariant)

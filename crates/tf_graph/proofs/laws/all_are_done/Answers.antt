@@ -1,0 +1,5 @@
+use Rattle.tf_graph.specs.Laws.{all_done}
+use Rattle.tf_graph.proofs.laws.all_are_done.Goals as goal
+
+pub returns : goal.returns
+returns c = all_done

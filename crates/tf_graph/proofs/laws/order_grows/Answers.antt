@@ -1,0 +1,5 @@
+use Rattle.tf_graph.specs.Laws.{order-grows}
+use Rattle.tf_graph.proofs.laws.order_grows.Goals as goal
+
+pub returns : goal.returns
+returns c = order-grows

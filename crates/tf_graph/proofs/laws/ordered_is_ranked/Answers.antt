@@ -1,0 +1,5 @@
+use Rattle.tf_graph.specs.Laws.{ranked-by_order}
+use Rattle.tf_graph.proofs.laws.ordered_is_ranked.Goals as goal
+
+pub returns : goal.returns
+returns c = ranked-by_order

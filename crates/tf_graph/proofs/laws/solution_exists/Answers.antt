@@ -1,0 +1,5 @@
+use Rattle.tf_graph.specs.Laws.{solution-exists}
+use Rattle.tf_graph.proofs.laws.solution_exists.Goals as goal
+
+pub returns : goal.returns
+returns g c = solution-exists

@@ -1,0 +1,5 @@
+use Rattle.tf_graph.specs.Laws.{solution-unique}
+use Rattle.tf_graph.proofs.laws.solution_is_unique.Goals as goal
+
+pub returns : goal.returns
+returns g c = solution-unique

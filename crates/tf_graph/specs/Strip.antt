@@ -1,0 +1,28 @@
+-- The nodes that no order reaches.
+use Rattle.std.specs.Prelude.{◌≡◌, ◌<◌, ◌⊎◌, ◌↔◌, ℕ, Bool, true, false, List, length, Contains}
+use Rattle.tf_graph.specs.Digraph.{Digraph, IsWithin, predecessors_of}
+use Rattle.tf_graph.specs.Path.{Reaches, IsAcyclic}
+use Rattle.tf_graph.specs.NodeSet.{has}
+use Rattle.tf_graph.specs.Order.{IsInOrder}
+
+-- some list in order holds the node
+abbrev pub IsOrdered : Digraph → ℕ → Type 0
+IsOrdered g n = (entries : List ℕ) × IsInOrder (predecessors_of g) entries × Contains entries n
+
+-- the marks say of each node whether it is left: no list in order holds it
+pub record IsStripped (g : Digraph) (left : List Bool) : Type 0 where
+  pub length : length left ≡ g.nodes
+  pub gone : (n : ℕ) → n < g.nodes → has left n ≡ false → IsOrdered g n
+  pub kept : (n : ℕ) → has left n ≡ true → IsOrdered g n → ⊥
+
+-- no node is left exactly where no node reaches itself
+abbrev pub StripIsEmpty : Type 0
+StripIsEmpty =
+    (g : Digraph) (left : List Bool) → IsWithin g.nodes g.edges → IsStripped g left
+    → ((n : ℕ) → has left n ≡ false) ↔ IsAcyclic g
+
+-- a node is left exactly where a node that reaches itself reaches it, or is it
+abbrev pub LeftIsBehindCycle : Type 0
+LeftIsBehindCycle =
+    (g : Digraph) (left : List Bool) → IsWithin g.nodes g.edges → IsStripped g left
+    → (n : ℕ) → (has left n ≡ true) ↔ ((c : ℕ) × Reaches g c c × (Reaches g c n ⊎ (c ≡ n)))

@@ -1,0 +1,301 @@
+//! Which node of a graph reaches which.
+
+ghost use Rattle.std.specs.Prelude.{◌≡◌, ◌≤◌, ◌<◌, ◌+◌, ◌++◌, ◌∷◌, [], ◌⊎◌, ℕ, true, List, length, All, IfOk, OnOk, vec_len};
+ghost use Rattle.tf_graph.specs.Digraph.{Digraph};
+ghost use Rattle.tf_graph.specs.Path.{Reaches};
+ghost use Rattle.tf_graph.specs.NodeSet.{has};
+ghost use Rattle.tf_graph.specs.Closure.{IsClosure, reaches};
+ghost use Rattle.tf_graph.specs.Search.{row_of, missing, AreLong, AreKnown, IsSearch, IsWalk};
+
+use crate::graph::Graph;
+use crate::node_set::NodeSet;
+use std::alloc::{AllocError, Global};
+use std::marker::Model;
+
+/// Which node of a graph reaches which, by one edge or more.
+#[derive(Drop)]
+pub struct Closure {
+    nodes: usize,
+    rows: Vec<NodeSet>,
+}
+
+impl Model for Closure {
+    ghost use Rattle.std.specs.Prelude.{◌≡◌, length};
+    ghost use Rattle.tf_graph.specs.Closure.{Table};
+    ghost use Rattle.tf_graph.specs.Search.{AreLong};
+
+    ghost Value = { Table };
+
+    ghost view = { λ c. record { nodes = c.nodes; rows = c.rows.items } };
+
+    ghost invariant = { λ c. (length c.rows.items ≡ c.nodes) × AreLong c.nodes c.rows.items };
+}
+
+impl Closure {
+    /// How many nodes the graph has.
+    pub fn nodes(&self) -> usize
+        ensures { result ≡ self.now.nodes }
+    {
+        self.nodes
+    }
+
+    /// Whether a path of one edge or more leads from the one node to the other. What is no node
+    /// reaches nothing, and nothing reaches it.
+    pub fn reaches(&self, from: usize, to: usize) -> bool
+        ensures { result ≡ reaches self.now from to }
+    {
+        if from >= self.nodes || to >= self.nodes {
+            return false;
+        }
+        self.rows[from].contains(to)
+    }
+}
+
+impl Graph {
+    /// Which node reaches which, by one edge or more: a search from each node, which takes over the
+    /// rows that are known already. The order of the searches matters for their cost alone.
+    pub fn closure(&self, alloc: Global) -> Result<Closure, AllocError>
+        ensures { IfOk result (λ closure. IsClosure self.now closure) }
+    {
+        let nodes = self.nodes();
+        let mut rows = empty_rows(alloc, nodes)?;
+        let mut known = NodeSet::new(alloc, nodes)?;
+        let order = finishing_order(alloc, self)?;
+        for node in &order {
+            fill(alloc, self, rows.as_mut_slice(), &mut known, *node)?;
+        }
+        for node in 0..nodes {
+            fill(alloc, self, rows.as_mut_slice(), &mut known, node)?;
+        }
+        Ok(Closure { nodes, rows })
+    }
+}
+
+/// An empty set for each node.
+fn empty_rows(alloc: Global, nodes: usize) -> Result<Vec<NodeSet>, AllocError>
+    ensures count { IfOk result (λ rows. length rows.items ≡ nodes) }
+    ensures long { IfOk result (λ rows. AreLong nodes rows.items) }
+{
+    let mut rows = Vec::with_capacity(alloc, nodes)?;
+    for _ in 0..nodes {
+        rows.push(NodeSet::new(alloc, nodes)?)?;
+    }
+    Ok(rows)
+}
+
+/// Makes the row of a node known.
+fn fill(
+    alloc: Global,
+    graph: &Graph,
+    rows: &mut [NodeSet],
+    known: &mut NodeSet,
+    node: usize,
+) -> Result<(), AllocError>
+    requires node { node < graph.now.nodes }
+    requires count { length rows.old ≡ graph.now.nodes }
+    requires long { AreLong graph.now.nodes rows.old }
+    requires known_length { length known.old ≡ graph.now.nodes }
+    requires known { AreKnown graph.now rows.old known.old }
+    ensures long { AreLong graph.now.nodes rows.new }
+    ensures known_length { length known.new ≡ length known.old }
+    ensures known { AreKnown graph.now rows.new known.new }
+    ensures done { OnOk result (has known.new node ≡ true) }
+    ensures kept { (k : ℕ) → has known.old k ≡ true → has known.new k ≡ true }
+{
+    if known.contains(node) {
+        return Ok(());
+    }
+    let row = reached_from(alloc, graph, rows, known, node)?;
+    rows[node] = row;
+    known.insert(node);
+    Ok(())
+}
+
+/// What a search from a node has found.
+#[derive(Drop)]
+struct Search {
+    /// What the node reaches, as far as is known.
+    row: NodeSet,
+    /// Those among them whose own rows are taken over too.
+    settled: NodeSet,
+    /// Those whose successors are still to be looked at.
+    pending: Vec<usize>,
+}
+
+/// The nodes that a node reaches.
+fn reached_from(
+    alloc: Global,
+    graph: &Graph,
+    rows: &[NodeSet],
+    known: &NodeSet,
+    node: usize,
+) -> Result<NodeSet, AllocError>
+    requires node { node < graph.now.nodes }
+    requires count { length rows.now ≡ graph.now.nodes }
+    requires long { AreLong graph.now.nodes rows.now }
+    requires known_length { length known.now ≡ graph.now.nodes }
+    requires known { AreKnown graph.now rows.now known.now }
+    ensures length { IfOk result (λ row. length row ≡ graph.now.nodes) }
+    ensures found { IfOk result (λ row. (b : ℕ) → Reaches graph.now node b → has row b ≡ true) }
+    ensures led { IfOk result (λ row. (b : ℕ) → has row b ≡ true → Reaches graph.now node b) }
+{
+    let nodes = graph.nodes();
+    let row = NodeSet::new(alloc, nodes)?;
+    let settled = NodeSet::new(alloc, nodes)?;
+    let mut search = Search {
+        row,
+        settled,
+        pending: Vec::new(alloc),
+    };
+    search.pending.push(node)?;
+    while let Some(next) = search.pending.pop() {
+        if !search.settled.contains(next) {
+            visit(graph, rows, known, &mut search, next)?;
+        }
+    }
+    Ok(search.row)
+}
+
+/// Looks at the successors of a node.
+fn visit(
+    graph: &Graph,
+    rows: &[NodeSet],
+    known: &NodeSet,
+    search: &mut Search,
+    node: usize,
+) -> Result<(), AllocError>
+    requires node { node < graph.now.nodes }
+    requires count { length rows.now ≡ graph.now.nodes }
+    requires long { AreLong graph.now.nodes rows.now }
+    requires known_length { length known.now ≡ graph.now.nodes }
+    requires known { AreKnown graph.now rows.now known.now }
+    requires row_length { length search.old.row ≡ graph.now.nodes }
+    requires settled_length { length search.old.settled ≡ graph.now.nodes }
+    ensures row_length { length search.new.row ≡ length search.old.row }
+    ensures settled_length { length search.new.settled ≡ length search.old.settled }
+    ensures search { OnOk result ((start : ℕ)
+        → IsSearch graph.now start search.old.row search.old.settled (search.old.pending.items ++ node ∷ [])
+        → IsSearch graph.now start search.new.row search.new.settled search.new.pending.items) }
+    ensures smaller { OnOk result (missing search.new.row graph.now.nodes + vec_len search.new.pending
+        ≤ missing search.old.row graph.now.nodes + vec_len search.old.pending) }
+{
+    for next in graph.successors(node) {
+        reach(graph, rows, known, search, *next)?;
+    }
+    Ok(())
+}
+
+/// Notes that a node is reached.
+fn reach(
+    graph: &Graph,
+    rows: &[NodeSet],
+    known: &NodeSet,
+    search: &mut Search,
+    node: usize,
+) -> Result<(), AllocError>
+    requires node { node < graph.now.nodes }
+    requires count { length rows.now ≡ graph.now.nodes }
+    requires long { AreLong graph.now.nodes rows.now }
+    requires known_length { length known.now ≡ graph.now.nodes }
+    requires known { AreKnown graph.now rows.now known.now }
+    requires row_length { length search.old.row ≡ graph.now.nodes }
+    requires settled_length { length search.old.settled ≡ graph.now.nodes }
+    ensures row_length { length search.new.row ≡ length search.old.row }
+    ensures settled_length { length search.new.settled ≡ length search.old.settled }
+    ensures search { OnOk result ((start : ℕ) (rest : List ℕ) → Reaches graph.now start node
+        → IsSearch graph.now start search.old.row search.old.settled (search.old.pending.items ++ rest)
+        → IsSearch graph.now start search.new.row search.new.settled (search.new.pending.items ++ rest)
+        × (has search.new.row node ≡ true)) }
+    ensures kept { OnOk result ((k : ℕ) → has search.old.row k ≡ true → has search.new.row k ≡ true) }
+    ensures smaller { OnOk result (missing search.new.row graph.now.nodes + vec_len search.new.pending
+        ≤ missing search.old.row graph.now.nodes + vec_len search.old.pending) }
+{
+    if search.settled.contains(node) {
+        return Ok(());
+    }
+    if known.contains(node) {
+        let row = &rows[node];
+        search.row.insert(node);
+        search.row.add_all(row);
+        search.settled.insert(node);
+        search.settled.add_all(row);
+        return Ok(());
+    }
+    if !search.row.contains(node) {
+        search.pending.push(node)?;
+        search.row.insert(node);
+    }
+    Ok(())
+}
+
+/// A walk in depth: its path, and the nodes that it has left for good.
+#[derive(Drop)]
+struct Walk {
+    seen: NodeSet,
+    /// For each node, how many of its successors were looked at.
+    places: Vec<usize>,
+    path: Vec<usize>,
+    order: Vec<usize>,
+}
+
+/// The nodes in the order in which a walk in depth leaves them, so that most come after those that
+/// they reach. What rests on it is how long a closure takes, and no more.
+fn finishing_order(alloc: Global, graph: &Graph) -> Result<Vec<usize>, AllocError>
+    ensures { IfOk result (λ order. All (λ k. k < graph.now.nodes) order.items) }
+{
+    let nodes = graph.nodes();
+    let seen = NodeSet::new(alloc, nodes)?;
+    let places = vec![in alloc; 0; nodes]?;
+    let mut walk = Walk {
+        seen,
+        places,
+        path: Vec::new(alloc),
+        order: Vec::with_capacity(alloc, nodes)?,
+    };
+    let steps = graph.edge_count().saturating_add(nodes);
+    for root in 0..nodes {
+        enter(&mut walk, root)?;
+        for _ in 0..steps {
+            if walk.path.is_empty() {
+                break;
+            }
+            step(graph, &mut walk)?;
+        }
+    }
+    Ok(walk.order)
+}
+
+/// Goes on to a node that was not seen before.
+fn enter(walk: &mut Walk, node: usize) -> Result<(), AllocError>
+    requires { node < length walk.old.seen }
+    ensures walk { (nodes : ℕ) → IsWalk nodes walk.old.seen walk.old.places.items walk.old.path.items walk.old.order.items
+        → IsWalk nodes walk.new.seen walk.new.places.items walk.new.path.items walk.new.order.items }
+{
+    if !walk.seen.contains(node) {
+        walk.path.push(node)?;
+        walk.seen.insert(node);
+    }
+    Ok(())
+}
+
+/// Goes on to the next successor of the last node of the path, or leaves this node.
+fn step(graph: &Graph, walk: &mut Walk) -> Result<(), AllocError>
+    requires { IsWalk graph.now.nodes walk.old.seen walk.old.places.items walk.old.path.items walk.old.order.items }
+    ensures { IsWalk graph.now.nodes walk.new.seen walk.new.places.items walk.new.path.items walk.new.order.items }
+{
+    let Some(node) = walk.path.last().copied() else {
+        return Ok(());
+    };
+    let place = walk.places[node];
+    match graph.successors(node).get(place) {
+        Some(next) => {
+            walk.places[node] = place + 1;
+            enter(walk, *next)
+        }
+        None => {
+            let _ = walk.path.pop();
+            walk.order.push(node)?;
+            Ok(())
+        }
+    }
+}

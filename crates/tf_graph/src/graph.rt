@@ -1,0 +1,209 @@
+//! A finite directed graph, kept as the list of its edges and each node's neighbours.
+
+ghost use Rattle.std.specs.Prelude.{◌≡◌, ◌<◌, ◌≤◌, ◌↔◌, ◌==◌, ◌++◌, ◌∷◌, [], ℕ, length, All, IfOk, OnOk, IsErrOf, MatchBool, if◌then◌else◌};
+ghost use Rattle.tf_graph.specs.Digraph.{Digraph, IsWithin, HasOutside, sources_into, targets_from, predecessors_of, successors_of};
+ghost use Rattle.tf_graph.specs.Lists.{row};
+
+use std::alloc::{AllocError, AllocFailed, Global};
+use std::error::Error;
+use std::fmt;
+use std::marker::Model;
+
+/// The most nodes that a graph may have.
+pub const MAX_NODES: usize = 8000;
+
+/// Why no graph is made.
+#[derive(Clone, Copy, Debug, PartialEq, Eq, Hash)]
+pub enum GraphFault {
+    /// There are more than `MAX_NODES` nodes.
+    TooMany,
+    /// An edge has an end that is no node.
+    OutOfRange,
+    /// Memory ran out.
+    OutOfMemory,
+}
+
+impl fmt::Display for GraphFault {
+    fn fmt<W: fmt::Write>(&self, f: &mut fmt::Formatter<W>) -> fmt::Result {
+        match self {
+            GraphFault::TooMany => write!(f, "more than {MAX_NODES} nodes"),
+            GraphFault::OutOfRange => write!(f, "an edge has an end that is no node"),
+            GraphFault::OutOfMemory => write!(f, "out of memory"),
+        }
+    }
+}
+
+impl Error for GraphFault {}
+
+impl From<AllocError> for GraphFault {
+    ghost use Rattle.std.specs.Prelude.{◌≡◌};
+    ghost use Rattle.tf_graph.specs.declared.graph.GraphFault.TheVariants.{OutOfMemory};
+
+    ghost from_gives = { λ _ fault. fault ≡ OutOfMemory };
+
+    fn from(_error: AllocError) -> GraphFault {
+        GraphFault::OutOfMemory
+    }
+}
+
+/// A finite directed graph: a number of nodes, and a list of edges. An edge `(a, b)` says that `a`
+/// stands before `b`. Self-loops are edges like any other, and an edge may stand more than once.
+#[derive(Drop)]
+pub struct Graph {
+    nodes: usize,
+    edges: Vec<(usize, usize)>,
+    before: Vec<Vec<usize>>,
+    after: Vec<Vec<usize>>,
+}
+
+impl Model for Graph {
+    ghost use Rattle.tf_graph.specs.Digraph.{Digraph};
+    ghost use Rattle.tf_graph.specs.Lists.{IsBuilt};
+
+    ghost Value = { Digraph };
+
+    ghost view = { λ g. record { nodes = g.nodes; edges = g.edges.items } };
+
+    ghost invariant = { λ g. IsBuilt g.nodes g.edges.items g.before.items g.after.items };
+}
+
+impl Graph {
+    /// The graph of `nodes` nodes, named 0 up, with these edges. More than `MAX_NODES` nodes are
+    /// refused first, then an edge with an end that is no node.
+    pub fn new(alloc: Global, nodes: usize, edges: &[(usize, usize)]) -> Result<Graph, GraphFault>
+        ensures graph { IfOk result (λ g. (g.nodes ≡ nodes) × (g.edges ≡ edges.now)) }
+        ensures within { OnOk result (IsWithin nodes edges.now) }
+        ensures too_many { IsErrOf result GraphFault.TooMany ↔ (MAX_NODES < nodes) }
+        ensures out_of_range { IsErrOf result GraphFault.OutOfRange
+            ↔ ((nodes ≤ MAX_NODES) × HasOutside nodes edges.now) }
+    {
+        if nodes > MAX_NODES {
+            return Err(GraphFault::TooMany);
+        }
+        if !is_within(nodes, edges) {
+            return Err(GraphFault::OutOfRange);
+        }
+        let before = sources(alloc, nodes, edges)?;
+        let after = targets(alloc, nodes, edges)?;
+        let edges = Vec::from_slice(alloc, edges)?;
+        Ok(Graph {
+            nodes,
+            edges,
+            before,
+            after,
+        })
+    }
+
+    /// How many nodes there are.
+    pub fn nodes(&self) -> usize
+        ensures count { result ≡ self.now.nodes }
+        ensures few { result ≤ MAX_NODES }
+        ensures within { IsWithin self.now.nodes self.now.edges }
+    {
+        self.nodes
+    }
+
+    /// How many edges there are, each counted as often as it stands.
+    pub fn edge_count(&self) -> usize
+        ensures { result ≡ length self.now.edges }
+    {
+        self.edges.len()
+    }
+
+    /// The edges, as they were handed in.
+    pub fn edges(&self) -> &[(usize, usize)]
+        ensures edges { result.now ≡ self.now.edges }
+        ensures within { IsWithin self.now.nodes self.now.edges }
+    {
+        self.edges.as_slice()
+    }
+
+    /// The nodes that stand directly before a node, as often as the edge stands, in the order of the
+    /// edges.
+    pub fn predecessors(&self, node: usize) -> &[usize]
+        requires { node < self.now.nodes }
+        ensures nodes { result.now ≡ predecessors_of self.now node }
+        ensures within { All (λ k. k < self.now.nodes) result.now }
+    {
+        self.before[node].as_slice()
+    }
+
+    /// The nodes that stand directly after a node, as often as the edge stands, in the order of the
+    /// edges.
+    pub fn successors(&self, node: usize) -> &[usize]
+        requires { node < self.now.nodes }
+        ensures nodes { result.now ≡ successors_of self.now node }
+        ensures within { All (λ k. k < self.now.nodes) result.now }
+    {
+        self.after[node].as_slice()
+    }
+}
+
+/// Whether both ends of each edge are nodes.
+fn is_within(nodes: usize, edges: &[(usize, usize)]) -> bool
+    ensures { MatchBool result (IsWithin nodes edges.now) (HasOutside nodes edges.now) }
+{
+    for (from, to) in edges {
+        if *from >= nodes || *to >= nodes {
+            return false;
+        }
+    }
+    true
+}
+
+/// For each node, where the edges into it come from.
+fn sources(
+    alloc: Global,
+    nodes: usize,
+    edges: &[(usize, usize)],
+) -> Result<Vec<Vec<usize>>, AllocError>
+    requires { IsWithin nodes edges.now }
+    ensures length { IfOk result (λ lists. length lists.items ≡ nodes) }
+    ensures rows { IfOk result (λ lists. (n : ℕ) → row lists.items n ≡ sources_into edges.now n) }
+{
+    let mut lists = empty_lists(alloc, nodes)?;
+    for (from, to) in edges {
+        add(&mut lists, *to, *from)?;
+    }
+    Ok(lists)
+}
+
+/// For each node, where the edges out of it lead.
+fn targets(
+    alloc: Global,
+    nodes: usize,
+    edges: &[(usize, usize)],
+) -> Result<Vec<Vec<usize>>, AllocError>
+    requires { IsWithin nodes edges.now }
+    ensures length { IfOk result (λ lists. length lists.items ≡ nodes) }
+    ensures rows { IfOk result (λ lists. (n : ℕ) → row lists.items n ≡ targets_from edges.now n) }
+{
+    let mut lists = empty_lists(alloc, nodes)?;
+    for (from, to) in edges {
+        add(&mut lists, *from, *to)?;
+    }
+    Ok(lists)
+}
+
+/// An empty list for each node.
+fn empty_lists(alloc: Global, nodes: usize) -> Result<Vec<Vec<usize>>, AllocError>
+    ensures length { IfOk result (λ lists. length lists.items ≡ nodes) }
+    ensures rows { IfOk result (λ lists. (n : ℕ) → row lists.items n ≡ []) }
+{
+    let mut lists = Vec::with_capacity(alloc, nodes)?;
+    for _ in 0..nodes {
+        lists.push(Vec::new(alloc))?;
+    }
+    Ok(lists)
+}
+
+/// Adds a node at the end of one list.
+fn add(lists: &mut [Vec<usize>], at: usize, node: usize) -> Result<(), AllocError>
+    requires { at < length lists.old }
+    ensures { OnOk result ((n : ℕ) → row lists.new n
+        ≡ (if at == n then row lists.old n ++ node ∷ [] else row lists.old n)) }
+{
+    let list = &mut lists[at];
+    list.push(node)?;
+    Ok(())
+}

@@ -1,0 +1,11 @@
+//! Finite directed graphs, and what is recursive over one without cycles.
+#![tactic(auto)]
+
+mod closure;
+mod graph;
+pub mod laws;
+mod node_set;
+mod strip;
+
+pub use closure::Closure;
+pub use graph::{Graph, GraphFault, MAX_NODES};

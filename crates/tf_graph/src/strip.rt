@@ -1,0 +1,97 @@
+//! What is left of a graph when nodes without remaining predecessors are removed again and again.
+
+ghost use Rattle.std.specs.Prelude.{◌≡◌, ◌≤◌, ◌<◌, ◌+◌, ◌-◌, ◌==◌, ◌++◌, ◌∷◌, [], ◌⊎◌, ℕ, Bool, true, List, length, replicate, IfOk, OnOk, vec_len, slice_index, slice_set, if◌then◌else◌};
+ghost use Rattle.tf_graph.specs.Digraph.{predecessors_of, successors_of};
+ghost use Rattle.tf_graph.specs.Strip.{IsStripped};
+ghost use Rattle.tf_graph.specs.Removal.{times, total, IsRemoval};
+
+use std::alloc::{AllocError, Global};
+
+use crate::graph::Graph;
+
+impl Graph {
+    /// Whether each node is left when nodes without remaining predecessors are removed again and
+    /// again: those are left that no order reaches.
+    pub fn strip(&self, alloc: Global) -> Result<Vec<bool>, AllocError>
+        ensures { IfOk result (λ left. IsStripped self.now left.items) }
+    {
+        let mut left = vec![in alloc; true; self.nodes()]?;
+        let mut removal = start(alloc, self)?;
+        while let Some(node) = removal.free.pop() {
+            if left[node] {
+                left[node] = false;
+                release(self, &mut removal, node)?;
+            }
+        }
+        Ok(left)
+    }
+}
+
+/// What remains before each node, and the nodes before which nothing remains.
+#[derive(Drop)]
+struct Removal {
+    remaining: Vec<usize>,
+    free: Vec<usize>,
+}
+
+/// Before any node is removed.
+fn start(alloc: Global, graph: &Graph) -> Result<Removal, AllocError>
+    ensures { IfOk result (λ r. IsRemoval graph.now (replicate graph.now.nodes true) r.remaining.items r.free.items []) }
+{
+    let mut removal = Removal {
+        remaining: Vec::new(alloc),
+        free: Vec::new(alloc),
+    };
+    for node in 0..graph.nodes() {
+        note(&mut removal, node, graph.predecessors(node).len())?;
+    }
+    Ok(removal)
+}
+
+/// Notes how many nodes stand directly before the next one.
+fn note(removal: &mut Removal, node: usize, count: usize) -> Result<(), AllocError>
+    ensures remaining { OnOk result (removal.new.remaining.items ≡ removal.old.remaining.items ++ count ∷ []) }
+    ensures free { OnOk result (removal.new.free.items
+        ≡ (if count == 0 then removal.old.free.items ++ node ∷ [] else removal.old.free.items)) }
+{
+    removal.remaining.push(count)?;
+    if count == 0 {
+        removal.free.push(node)?;
+    }
+    Ok(())
+}
+
+/// Counts a removed node off at each of its successors.
+fn release(graph: &Graph, removal: &mut Removal, node: usize) -> Result<(), AllocError>
+    requires node { node < graph.now.nodes }
+    requires length { length removal.old.remaining.items ≡ graph.now.nodes }
+    requires enough { (s : ℕ) → times s (successors_of graph.now node) ≤ slice_index removal.old.remaining.items s }
+    ensures removal { OnOk result ((left : List Bool)
+        → IsRemoval graph.now left removal.old.remaining.items removal.old.free.items (successors_of graph.now node)
+        → IsRemoval graph.now left removal.new.remaining.items removal.new.free.items []) }
+    ensures smaller { OnOk result (total removal.new.remaining.items + vec_len removal.new.free
+        ≤ total removal.old.remaining.items + vec_len removal.old.free) }
+{
+    for next in graph.successors(node) {
+        count_off(removal, *next)?;
+    }
+    Ok(())
+}
+
+/// Counts one node off before another.
+fn count_off(removal: &mut Removal, node: usize) -> Result<(), AllocError>
+    requires inside { node < length removal.old.remaining.items }
+    requires some { 0 < slice_index removal.old.remaining.items node }
+    ensures remaining { OnOk result (removal.new.remaining.items
+        ≡ slice_set removal.old.remaining.items node (slice_index removal.old.remaining.items node - 1)) }
+    ensures free { OnOk result (removal.new.free.items
+        ≡ (if slice_index removal.old.remaining.items node == 1
+        then removal.old.free.items ++ node ∷ [] else removal.old.free.items)) }
+{
+    let count = removal.remaining[node] - 1;
+    removal.remaining[node] = count;
+    if count == 0 {
+        removal.free.push(node)?;
+    }
+    Ok(())
+}

@@ -1,0 +1,10 @@
+pub mod Argument
+pub mod Gives
+pub mod Object
+pub mod Order
+pub mod Plan
+pub mod Planned
+pub mod PlansBlock
+pub mod Refused
+pub mod Shown
+pub mod Stepped

@@ -1,0 +1,156 @@
+//! What an argument gives the attribute that it names.
+
+ghost use Rattle.std.specs.Prelude.{option_map};
+ghost use Rattle.serde_json.specs.View.{view};
+ghost use Rattle.tf_value.specs.Tree.{tree_of};
+ghost use Rattle.tf_plan.specs.Argument.{literal_value, unset_value, set_value, given_value, attribute_value, converted, or_bad_argument};
+ghost use Rattle.tf_provider.specs.declared.schema.Kind.TheVariants as kinds;
+ghost use Rattle.tf_plan.specs.Gives.{Gives};
+ghost use Rattle.tf_provider.specs.Schema.{attribute_of};
+
+use serde_json::Value as Json;
+use std::alloc::{AllocError, AllocFailed, Global};
+use tf_config::EvalFault;
+use tf_provider::{Attribute, Kind, Mode};
+use tf_value::{JsonFault, Value};
+
+/// What is wrong with an argument, or with an attribute that no argument sets.
+#[derive(Clone, Copy, Debug, PartialEq, Eq)]
+pub enum ArgumentFault {
+    /// Its expression has no value.
+    Evaluation(EvalFault),
+    /// It is missing, names no attribute, sets a computed one, or is of the wrong kind.
+    BadArgument,
+}
+
+/// Why an argument gives no value: a fault, or want of memory.
+#[derive(Clone, Copy, Debug, PartialEq, Eq)]
+pub enum ValueFault {
+    /// There was no memory.
+    OutOfMemory,
+    /// The argument has a fault.
+    Argument(ArgumentFault),
+}
+
+impl From<AllocError> for ValueFault {
+    ghost use Rattle.std.specs.Prelude.{◌≡◌};
+    ghost use Rattle.tf_plan.specs.declared.argument.ValueFault.TheVariants.{OutOfMemory};
+
+    ghost from_gives = { λ _ e. e ≡ OutOfMemory };
+
+    fn from(_error: AllocError) -> ValueFault {
+        ValueFault::OutOfMemory
+    }
+}
+
+/// An attribute's planned value in a create, with the argument that names it, if there is one.
+pub fn attribute_value(
+    alloc: Global,
+    attribute: &Attribute,
+    argument: Option<&Json>,
+) -> Result<Value, ValueFault>
+    ensures { Gives tree_of result
+        (attribute_value (attribute_of attribute.now) (option_map (λ json. view json.now) argument.entry)) }
+{
+    match argument {
+        None => unset_value(attribute.mode),
+        Some(json) => {
+            let value = literal_value(alloc, json)?;
+            given_value(alloc, attribute.mode, attribute.kind, value)
+        }
+    }
+}
+
+/// The value that a literal stands for.
+fn literal_value(alloc: Global, json: &Json) -> Result<Value, ValueFault>
+    ensures { Gives tree_of result (literal_value (view json.now)) }
+{
+    match tf_value::from_json(alloc, json) {
+        Ok(value) => Ok(value),
+        Err(JsonFault::OutOfMemory) => Err(ValueFault::OutOfMemory),
+        Err(_) => Err(ValueFault::Argument(ArgumentFault::Evaluation(
+            EvalFault::TooLarge,
+        ))),
+    }
+}
+
+/// The value of an attribute that isn't set.
+fn unset_value(mode: Mode) -> Result<Value, ValueFault>
+    ensures { Gives tree_of result (unset_value mode) }
+{
+    match mode {
+        Mode::Required => Err(BAD_ARGUMENT),
+        Mode::Optional => Ok(Value::Null),
+        Mode::Computed => Ok(Value::Unknown),
+    }
+}
+
+/// The value of an attribute whose argument has this value; null means that it isn't set.
+fn given_value(alloc: Global, mode: Mode, kind: Kind, value: Value) -> Result<Value, ValueFault>
+    ensures { Gives tree_of result (given_value mode kind (tree_of value)) }
+{
+    match value {
+        Value::Null => unset_value(mode),
+        value => set_value(alloc, mode, kind, value),
+    }
+}
+
+/// The value of an attribute that is set.
+fn set_value(alloc: Global, mode: Mode, kind: Kind, value: Value) -> Result<Value, ValueFault>
+    ensures { Gives tree_of result (set_value mode kind (tree_of value)) }
+{
+    match mode {
+        Mode::Computed => Err(BAD_ARGUMENT),
+        Mode::Required => converted(alloc, kind, value),
+        Mode::Optional => converted(alloc, kind, value),
+    }
+}
+
+/// A value as one of this kind.
+fn converted(alloc: Global, kind: Kind, value: Value) -> Result<Value, ValueFault>
+    ensures { Gives tree_of result (or_bad_argument (converted kind (tree_of value))) }
+{
+    match kind {
+        Kind::Any => Ok(value),
+        Kind::String => as_text(alloc, value),
+        Kind::Number => as_number(value),
+        Kind::Bool => as_truth_value(value),
+    }
+}
+
+fn as_text(alloc: Global, value: Value) -> Result<Value, ValueFault>
+    ensures { Gives tree_of result (or_bad_argument (converted kinds.String (tree_of value))) }
+{
+    match value {
+        Value::Unknown => Ok(Value::Unknown),
+        Value::Text(text) => Ok(Value::Text(text)),
+        Value::Int(number) => Ok(Value::Text(number.to_string(alloc)?)),
+        Value::Bool(true) => Ok(Value::Text(String::from_str(alloc, "true")?)),
+        Value::Bool(false) => Ok(Value::Text(String::from_str(alloc, "false")?)),
+        Value::Null => Err(BAD_ARGUMENT),
+        Value::List(_) => Err(BAD_ARGUMENT),
+        Value::Map(_) => Err(BAD_ARGUMENT),
+    }
+}
+
+fn as_number(value: Value) -> Result<Value, ValueFault>
+    ensures { Gives tree_of result (or_bad_argument (converted kinds.Number (tree_of value))) }
+{
+    match value {
+        Value::Unknown => Ok(Value::Unknown),
+        Value::Int(number) => Ok(Value::Int(number)),
+        _ => Err(BAD_ARGUMENT),
+    }
+}
+
+fn as_truth_value(value: Value) -> Result<Value, ValueFault>
+    ensures { Gives tree_of result (or_bad_argument (converted kinds.Bool (tree_of value))) }
+{
+    match value {
+        Value::Unknown => Ok(Value::Unknown),
+        Value::Bool(truth) => Ok(Value::Bool(truth)),
+        _ => Err(BAD_ARGUMENT),
+    }
+}
+
+const BAD_ARGUMENT: ValueFault = ValueFault::Argument(ArgumentFault::BadArgument);

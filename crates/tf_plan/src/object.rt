@@ -1,0 +1,163 @@
+//! The object that is planned for a block, or the first thing that is wrong with its arguments.
+
+ghost use Rattle.std.specs.Prelude.{◌≡◌, true, Result, IfOk, fold, map, option_map};
+ghost use Rattle.serde_json.specs.Find.{get_member};
+ghost use Rattle.serde_json.specs.View.{view, members_view};
+ghost use Rattle.tf_provider.specs.Schema.{ascends, attribute_of};
+ghost use Rattle.tf_value.specs.Tree.{Tree, tree_of, entries_view};
+ghost use Rattle.tf_plan.specs.declared.argument.ArgumentFault.{ArgumentFault};
+ghost use Rattle.tf_plan.specs.Gives.{Gives};
+ghost use Rattle.tf_plan.specs.Stepped.{put_value};
+ghost use Rattle.tf_plan.specs.Object.{Plans, named_of};
+ghost use Rattle.tf_plan.specs.Planned.{fault_at, attribute_faults, first_of_faults, stray_faults, planned_entries, sooner};
+
+use crate::argument::{ArgumentFault, ValueFault, attribute_value};
+use serde_json::Value as Json;
+use std::alloc::{AllocError, Global};
+use std::collections::BTreeMap;
+use tf_provider::{Attribute, Schema};
+use tf_value::Value;
+
+/// A fault, with the name of the attribute that has it.
+#[derive(Debug, Drop)]
+pub struct Named {
+    /// The attribute, or the argument that names none.
+    pub name: String,
+    /// What is wrong with it.
+    pub fault: ArgumentFault,
+}
+
+/// What comes of planning a block's object.
+#[derive(Debug, Drop)]
+pub enum Planned {
+    /// The object, with unknown values where the provider decides.
+    Object(Value),
+    /// The fault of the attribute whose name is first in byte order among those with a fault.
+    Fault(Named),
+}
+
+/// Plans the object of a block by its type's schema. Refused only where there is no memory.
+pub fn plan_object(
+    alloc: Global,
+    schema: &Schema,
+    arguments: &BTreeMap<String, Json>,
+) -> Result<Planned, AllocError>
+    ensures { IfOk result (Plans schema.now (members_view arguments.now.entries)) }
+{
+    let Tried { object, fault } = try_attributes(alloc, schema.attributes(), arguments)?;
+    match add_strays(alloc, fault, schema, arguments)? {
+        Some(fault) => Ok(Planned::Fault(fault)),
+        None => Ok(Planned::Object(Value::Map(object))),
+    }
+}
+
+/// The planned values of some attributes, and the first fault among them.
+#[derive(Drop)]
+struct Tried {
+    object: BTreeMap<String, Value>,
+    fault: Option<Named>,
+}
+
+fn try_attributes(
+    alloc: Global,
+    attributes: &[Attribute],
+    arguments: &BTreeMap<String, Json>,
+) -> Result<Tried, AllocError>
+    requires { ascends (map attribute_of attributes.now) ≡ true }
+    ensures object { IfOk result (λ t. entries_view t.object.entries
+        ≡ planned_entries (map attribute_of attributes.now) (members_view arguments.now.entries)) }
+    ensures fault { IfOk result (λ t. option_map named_of t.fault
+        ≡ first_of_faults (attribute_faults (map attribute_of attributes.now) (members_view arguments.now.entries))) }
+{
+    let mut tried = Tried {
+        object: BTreeMap::new(alloc),
+        fault: None,
+    };
+    for attribute in attributes {
+        let argument = argument_named(arguments, attribute.name.as_str());
+        let value = attribute_value(alloc, attribute, argument);
+        tried = add_value(alloc, tried, attribute.name.as_str(), value)?;
+    }
+    Ok(tried)
+}
+
+/// The argument of a name, if there is one.
+fn argument_named<'a>(arguments: &'a BTreeMap<String, Json>, name: &str) -> Option<&'a Json>
+    ensures { option_map (λ json. view json.now) result ≡ get_member name.now (members_view arguments.now.entries) }
+{
+    arguments.get(name)
+}
+
+/// Adds an attribute's planned value to the object, or its fault to the faults.
+fn add_value(
+    alloc: Global,
+    tried: Tried,
+    name: &str,
+    value: Result<Value, ValueFault>,
+) -> Result<Tried, AllocError>
+    ensures { IfOk result (λ t. (planned : Result Tree ArgumentFault) → Gives tree_of value planned →
+        (entries_view t.object.entries ≡ put_value name.now planned (entries_view tried.object.entries))
+        × (option_map named_of t.fault ≡ fold sooner (option_map named_of tried.fault) (fault_at name.now planned))) }
+{
+    let Tried { mut object, fault } = tried;
+    match value {
+        Ok(value) => {
+            object.insert(String::from_str(alloc, name)?, value)?;
+            Ok(Tried { object, fault })
+        }
+        Err(ValueFault::Argument(new)) => {
+            let fault = first_of(alloc, fault, name, new)?;
+            Ok(Tried { object, fault })
+        }
+        Err(ValueFault::OutOfMemory) => Err(AllocError),
+    }
+}
+
+/// The first fault, with those of the arguments that name no attribute.
+fn add_strays(
+    alloc: Global,
+    first: Option<Named>,
+    schema: &Schema,
+    arguments: &BTreeMap<String, Json>,
+) -> Result<Option<Named>, AllocError>
+    ensures { IfOk result (λ found. option_map named_of found
+        ≡ fold sooner (option_map named_of first) (stray_faults schema.now (members_view arguments.now.entries))) }
+{
+    let mut fault = first;
+    for (name, _) in arguments.iter() {
+        if schema.attribute(name.as_str()).is_none() {
+            fault = first_of(alloc, fault, name.as_str(), ArgumentFault::BadArgument)?;
+        }
+    }
+    Ok(fault)
+}
+
+/// The one of two faults whose name is first in byte order.
+fn first_of(
+    alloc: Global,
+    old: Option<Named>,
+    name: &str,
+    fault: ArgumentFault,
+) -> Result<Option<Named>, AllocError>
+    ensures { IfOk result (λ first. option_map named_of first ≡ sooner (option_map named_of old) (name.now, fault)) }
+{
+    match old {
+        None => Ok(Some(with_name(alloc, name, fault)?)),
+        Some(old) => {
+            if name < old.name.as_str() {
+                Ok(Some(with_name(alloc, name, fault)?))
+            } else {
+                Ok(Some(old))
+            }
+        }
+    }
+}
+
+fn with_name(alloc: Global, name: &str, fault: ArgumentFault) -> Result<Named, AllocError>
+    ensures { IfOk result (λ n. named_of n ≡ (name.now, fault)) }
+{
+    Ok(Named {
+        name: String::from_str(alloc, name)?,
+        fault,
+    })
+}

@@ -1,0 +1,162 @@
+//! The planner.
+
+ghost use Rattle.std.specs.Prelude.{◌≡◌, ◌≤◌, [], None, Some, length, map, IfOk, IfErr, option_map, string_bytes};
+ghost use Rattle.serde_json.specs.View.{members_view};
+ghost use Rattle.tf_address.specs.Label.{label_of, label_text};
+ghost use Rattle.tf_config.specs.Config.{block_of, blocks_of};
+ghost use Rattle.tf_config.specs.Refusal.{told, fault, bare};
+ghost use Rattle.tf_plan.specs.Plan.{action_of, plan_of, planned, planned_actions};
+ghost use Rattle.tf_plan.specs.PlansBlock.{PlansBlock};
+ghost use Rattle.tf_plan.specs.Refused.{Tells, argument_refusal, block_refusal, plan_refusals};
+ghost use Rattle.tf_provider.specs.Meaning.{schema_in};
+ghost use Rattle.tf_plan.specs.Object.{named_of};
+
+use crate::argument::ArgumentFault;
+use crate::object::{Named, Planned, plan_object};
+use crate::order::Order;
+use crate::plan::{Action, Plan};
+use crate::refused::Refused;
+use std::alloc::{AllocError, Global};
+use tf_address::Label;
+use tf_config::{Block, Config, Detail, Refusal};
+use tf_provider::{Provider, Schema};
+
+/// Plans a configuration, before anything exists: one create for each resource block, in address order. The
+/// provider of a type is the first in the list with a schema for it.
+///
+/// Refused, each block for one thing at most, in address order: 11 at the address where no provider has the
+/// type; else, for the attribute whose name is first in byte order, 9 where its value is beyond the limits,
+/// and 10 where it is missing, not in the schema, computed, or of the wrong kind.
+pub fn plan_for(
+    alloc: Global,
+    config: &Config,
+    lineage: &str,
+    providers: &[Box<dyn Provider + Sync>],
+) -> Result<Plan, Refused>
+    requires { length (blocks_of config.now) ≤ 8000 }
+    ensures planned { IfOk result (λ plan. plan_of plan
+        ≡ planned (map (λ b. meaning b) providers.now) (blocks_of config.now) lineage.now) }
+    ensures nothing { IfOk result (λ _. plan_refusals (map (λ b. meaning b) providers.now) (blocks_of config.now) ≡ []) }
+    ensures refused { IfErr result (Tells (plan_refusals (map (λ b. meaning b) providers.now) (blocks_of config.now))) }
+{
+    let planned = plan_blocks(alloc, config, providers)?;
+    let PlannedBlocks { actions, refusals } = planned;
+    if !refusals.is_empty() {
+        return Err(Refused::These(refusals));
+    }
+    let order = Order::unordered(alloc, actions.len())?;
+    let lineage = String::from_str(alloc, lineage)?;
+    Ok(Plan {
+        lineage,
+        actions,
+        order,
+    })
+}
+
+/// What is planned and what is refused of a configuration's blocks.
+#[derive(Drop)]
+struct PlannedBlocks {
+    actions: Vec<Action>,
+    refusals: Vec<Refusal>,
+}
+
+fn plan_blocks(
+    alloc: Global,
+    config: &Config,
+    providers: &[Box<dyn Provider + Sync>],
+) -> Result<PlannedBlocks, AllocError>
+    ensures actions { IfOk result (λ p. map action_of p.actions.items
+        ≡ planned_actions (map (λ b. meaning b) providers.now) (blocks_of config.now)) }
+    ensures few { IfOk result (λ p. length p.actions.items ≤ length (blocks_of config.now)) }
+    ensures refusals { IfOk result (λ p. map told p.refusals.items
+        ≡ plan_refusals (map (λ b. meaning b) providers.now) (blocks_of config.now)) }
+{
+    let mut planned = PlannedBlocks {
+        actions: Vec::new(alloc),
+        refusals: Vec::new(alloc),
+    };
+    for (label, block) in config.resources.iter() {
+        match plan_block(alloc, label, block, providers)? {
+            PlannedBlock::Create(action) => planned.actions.push(action)?,
+            PlannedBlock::Refuse(refusal) => planned.refusals.push(refusal)?,
+        }
+    }
+    Ok(planned)
+}
+
+/// What comes of planning a block.
+#[derive(Drop)]
+enum PlannedBlock {
+    Create(Action),
+    Refuse(Refusal),
+}
+
+fn plan_block(
+    alloc: Global,
+    label: &Label,
+    block: &Block,
+    providers: &[Box<dyn Provider + Sync>],
+) -> Result<PlannedBlock, AllocError>
+    ensures { IfOk result (PlansBlock (map (λ b. meaning b) providers.now) (block_of (label.now, block.now))) }
+{
+    let Some(schema) = schema_for(providers, label.kind.as_str()) else {
+        let place = label.to_string(alloc)?;
+        return Ok(PlannedBlock::Refuse(bare(11, place)));
+    };
+    match plan_object(alloc, schema, &block.arguments)? {
+        Planned::Object(object) => Ok(PlannedBlock::Create(Action {
+            label: label.clone()?,
+            object,
+            version: schema.version(),
+        })),
+        Planned::Fault(named) => Ok(PlannedBlock::Refuse(refusal_of(alloc, label, named)?)),
+    }
+}
+
+/// The refusal that a fault of an argument gives.
+fn refusal_of(alloc: Global, label: &Label, named: Named) -> Result<Refusal, AllocError>
+    ensures { IfOk result (λ refusal. told refusal ≡ argument_refusal (label_of label.now) (named_of named)) }
+{
+    let Named { name, fault } = named;
+    let place = format!(in alloc; "{label}.{name}")?;
+    match fault {
+        ArgumentFault::Evaluation(kind) => Ok(Refusal::Fault {
+            code: 9,
+            place,
+            detail: Detail::Kind(kind),
+        }),
+        ArgumentFault::BadArgument => Ok(bare(10, place)),
+    }
+}
+
+fn bare(code: u8, place: String) -> Refusal
+    ensures { told result ≡ fault code (string_bytes place) bare }
+{
+    Refusal::Fault {
+        code,
+        place,
+        detail: Detail::Bare,
+    }
+}
+
+/// The schema of a type: that of the first provider that has one.
+fn schema_for<'a>(
+    providers: &'a [Box<dyn Provider + Sync>],
+    type_name: &str,
+) -> Option<&'a Schema>
+    ensures { option_map (λ s. s.now) result ≡ schema_in type_name.now (map (λ b. meaning b) providers.now) }
+{
+    for provider in providers {
+        if let Some(schema) = schema_of(provider, type_name) {
+            return Some(schema);
+        }
+    }
+    None
+}
+
+/// The schema that one provider has for a type.
+fn schema_of<'a>(provider: &'a Box<dyn Provider + Sync>, type_name: &str) -> Option<&'a Schema>
+    ensures { option_map (λ s. s.now) result ≡ (meaning provider.now).schema_of type_name.now }
+{
+    provider.schema(type_name)
+}

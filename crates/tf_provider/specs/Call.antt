@@ -1,0 +1,19 @@
+-- A call of a provider.
+use Rattle.std.specs.Prelude.{◌≡◌, ℕ, IsTrue, IsSomeAnd}
+use Rattle.tf_provider.specs.Meaning.{Asked, Meaning}
+use Rattle.tf_provider.specs.Verdict.{asks_fully}
+use Rattle.tf_provider.specs.declared.request.Request.{Request}
+use Rattle.tf_provider.specs.declared.request.Reply.{Reply}
+use Rattle.tf_provider.specs.declared.verdict.Verdict.{Verdict}
+
+-- the action that a call was made for, what was asked and replied, and the verdict on the reply
+pub record Call : Type 0 where
+  pub action : ℕ
+  pub request : Request
+  pub reply : Reply
+  pub verdict : Verdict
+
+-- A provider may be asked where it has a schema for the request's type, and the object of a create or an
+-- update has exactly the schema's attributes.
+abbrev pub IsServed : Meaning → Asked → Type 0
+IsServed m r = IsSomeAnd (m.schema_of r.type_name) (λ s. IsTrue (asks_fully r s))

@@ -1,0 +1,5 @@
+pub mod Call
+pub mod Meaning
+pub mod Refined
+pub mod Schema
+pub mod Verdict

@@ -1,0 +1,18 @@
+//! Providers: what they are asked, what they answer, and whether an answer keeps what was promised.
+//!
+//! A provider has a schema for each of its types, and answers requests to create, update or destroy an
+//! object of a type. A reply is judged by the request, the reply and the schema alone. A provider is
+//! called with a permit, which the call spends, so no action is called twice.
+#![tactic(auto)]
+
+pub mod called;
+pub mod provider;
+pub mod request;
+pub mod schema;
+pub mod verdict;
+
+pub use called::{Called, Parts, Recorded, call};
+pub use provider::{Provider, first_provider};
+pub use request::{Op, Reply, Request};
+pub use schema::{Attribute, Kind, Mode, Schema, SchemaFault};
+pub use verdict::{Verdict, has_attributes, judge, well_formed};

@@ -1,0 +1,107 @@
+-- No number of a state's text is a float.
+use Rattle.std.proofs.Common.{◌≡◌, ℕ, pos, negsuc, ℤ, Bool, true, false, ◌||◌, cond, List, [], ◌∷◌, codes, refl, map as each, Ordering, Less, Equal, Greater}
+use Rattle.std.specs.Cmp.Lexicographic.{slice_cmp}
+use Rattle.std.specs.Ordering.{nat_cmp, match_ordering}
+use Rattle.serde_json.specs.Data as json
+use Rattle.serde_json.specs.Find.{of_integer, is_float}
+use Rattle.serde_json.specs.View.{items_of}
+use Rattle.serde_json.specs.Written.{has_float, items_have_float, members_have_float}
+use Rattle.tf_value.specs.Json.{value_data, items_data, entries_data}
+use Rattle.tf_value.specs.Tree.{Tree, null, boolean, whole as whole_number, text, list, map, unknown, Items, no_items, item, Entries, no_entries, entry}
+use Rattle.tf_state.specs.State.{RecordView, ResourceView, StateView}
+use Rattle.tf_state.specs.Text.{put_if, record_data, resource_data, state_data}
+
+neither : (b c : Bool) → b ≡ false → c ≡ false → (b || c) ≡ false
+neither b c e f = rw (e, f) refl
+
+of_integer-whole : (z : ℤ) → is_float (of_integer z) ≡ false
+of_integer-whole (pos n) = refl
+of_integer-whole (negsuc n) = refl
+
+mutual
+  value_data-whole : (t : Tree) → has_float (value_data t) ≡ false
+  value_data-whole null = refl
+  value_data-whole (boolean b) = refl
+  value_data-whole (whole_number z) = of_integer-whole z
+  value_data-whole (text s) = refl
+  value_data-whole (list ts) = items_data-whole ts
+  value_data-whole (map es) = entries_data-whole es
+  value_data-whole unknown = refl
+
+  items_data-whole : (ts : Items) → items_have_float (items_data ts) ≡ false
+  items_data-whole no_items = refl
+  items_data-whole (item t ts) = neither _ _ (value_data-whole t) (items_data-whole ts)
+
+  entries_data-whole : (es : Entries) → members_have_float (entries_data es) ≡ false
+  entries_data-whole no_entries = refl
+  entries_data-whole (entry k t es) = neither _ _ (value_data-whole t) (entries_data-whole es)
+
+put_at : (o : Ordering) (a b c : json.Members) → members_have_float a ≡ false → members_have_float b ≡ false → members_have_float c ≡ false → members_have_float (match_ordering o a b c) ≡ false
+put_at Less a b c e f g = e
+put_at Equal a b c e f g = f
+put_at Greater a b c e f g = g
+
+first_part : (b c : Bool) → (b || c) ≡ false → b ≡ false
+first_part false c e = refl
+first_part true c e = e
+
+later_part : (b c : Bool) → (b || c) ≡ false → c ≡ false
+later_part false c e = e
+later_part true c e = absurd (cc)
+
+-- no number in the value, or in the members, is a float
+record IsWhole (d : json.Data) : Type 0 where
+  fact : has_float d ≡ false
+
+record AreWhole (ms : json.Members) : Type 0 where
+  fact : members_have_float ms ≡ false
+
+whole : (d : json.Data) → has_float d ≡ false → IsWhole d
+whole d e = record { fact = e }
+
+no_members-whole : AreWhole json.no_members
+no_members-whole = record { fact = refl }
+
+put_false : (k : List ℕ) (d : json.Data) (ms : json.Members) → has_float d ≡ false → members_have_float ms ≡ false → members_have_float (json.put k d ms) ≡ false
+put_false k d json.no_members e f = neither _ _ e refl
+put_false k d (json.member l x ms) e f =
+    let first = first_part (has_float x) _ f in
+    let later = later_part (has_float x) _ f in
+    put_at (slice_cmp nat_cmp k l) (json.member k d (json.member l x ms)) (json.member l d ms) (json.member l x (json.put k d ms)) (neither _ _ e f) (neither _ _ e later) (neither _ _ first (put_false k d ms e later))
+
+put-whole : (k : List ℕ) (d : json.Data) (ms : json.Members) → IsWhole d → AreWhole ms → AreWhole (json.put k d ms)
+put-whole k d ms e f = record { fact = put_false k d ms e.fact f.fact }
+
+put_if-whole : (b : Bool) (k : List ℕ) (d : json.Data) (ms : json.Members) → IsWhole d → AreWhole ms → AreWhole (put_if b k d ms)
+put_if-whole true k d ms e f = put-whole k d ms e f
+put_if-whole false k d ms e f = f
+
+text-whole : (s : List ℕ) → IsWhole (json.string s)
+text-whole s = whole (json.string s) refl
+
+number-whole : (n : ℕ) → IsWhole (json.number (json.unsigned n))
+number-whole n = whole (json.number (json.unsigned n)) refl
+
+record_data-whole : (r : RecordView) → has_float (record_data r) ≡ false
+record_data-whole r =
+    (put-whole (codes "attributes") _ _ (whole (value_data r.attributes) (value_data-whole r.attributes)) (put-whole (codes "schema_version") _ _ (number-whole r.schema_version)
+    (put_if-whole r.tainted (codes "status") _ _ (text-whole (codes "tainted")) no_members-whole))).fact
+
+records-whole : (rs : List RecordView) → items_have_float (items_of (each record_data rs)) ≡ false
+records-whole [] = refl
+records-whole (r ∷ rs) = neither _ _ (record_data-whole r) (records-whole rs)
+
+resource_data-whole : (r : ResourceView) → has_float (resource_data r) ≡ false
+resource_data-whole r =
+    (put-whole (codes "instances") _ _ (whole (json.array (items_of (each record_data r.records))) (records-whole r.records)) (put-whole (codes "mode") _ _ (text-whole (codes "managed"))
+    (put-whole (codes "name") _ _ (text-whole r.label.name) (put-whole (codes "provider") _ _ (text-whole r.provider) (put-whole (codes "type") _ _ (text-whole r.label.kind) no_members-whole))))).fact
+
+resources-whole : (rs : List ResourceView) → items_have_float (items_of (each resource_data rs)) ≡ false
+resources-whole [] = refl
+resources-whole (r ∷ rs) = neither _ _ (resource_data-whole r) (resources-whole rs)
+
+pub state_data-whole : (s : StateView) → has_float (state_data s) ≡ false
+state_data-whole s =
+    (put-whole (codes "lineage") _ _ (text-whole s.lineage) (put-whole (codes "outputs") _ _ (whole (json.object json.no_members) refl)
+    (put-whole (codes "resources") _ _ (whole (json.array (items_of (each resource_data s.resources))) (resources-whole s.resources)) (put-whole (codes "serial") _ _ (number-whole s.serial)
+    (put-whole (codes "terraform_version") _ _ (text-whole s.terraform_version) (put-whole (codes "version") _ _ (number-whole 4) no_members-whole)))))).fact

@@ -1,0 +1,3 @@
+pub mod Provider
+pub mod State
+pub mod Text

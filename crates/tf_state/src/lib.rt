@@ -1,0 +1,12 @@
+//! The state of what was created, and its text in Terraform's state file format, version 4.
+#![tactic(auto)]
+
+mod object;
+mod provider;
+mod state;
+mod writing;
+
+pub use object::Object;
+pub use provider::provider_address;
+pub use state::{Record, Resource, State};
+pub use writing::write;

@@ -1,0 +1,16 @@
+//! The attributes of a resource's object.
+
+ghost use Rattle.std.specs.Prelude.{◌≡◌, true};
+ghost use Rattle.tf_value.specs.Known.{known};
+ghost use Rattle.tf_value.specs.Tree.{tree_of};
+
+use tf_value::Value;
+
+/// A value without an unknown part: the attributes of an object that exists. That no part of it is unknown
+/// is part of the type, so that a state always has a text.
+#[derive(Debug, Drop)]
+pub struct Object {
+    /// The attributes by name.
+    pub value: Value,
+    pub ghost known: { known (tree_of value) ≡ true },
+}

@@ -1,0 +1,3 @@
+pub mod Checks
+pub mod Places
+pub mod Walks

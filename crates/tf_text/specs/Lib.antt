@@ -1,0 +1,3 @@
+pub mod Check
+pub mod Place
+pub mod Walk

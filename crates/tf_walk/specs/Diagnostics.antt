@@ -1,0 +1,60 @@
+-- What an apply tells of actions that aren't good.
+use Rattle.std.specs.Prelude.{◌≡◌, ℕ, Bool, nat_lt, if◌then◌else◌, List, [], ◌∷◌, ◌++◌, map, codes, Option, Some, None, string_bytes, slice_index_or}
+use Rattle.std.specs.Option.{option_map_or}
+use Rattle.tf_address.specs.Label.{label_text}
+use Rattle.tf_plan.specs.Plan.{ActionView}
+use Rattle.tf_provider.specs.Meaning.{Asked, Answer, object, gone, failed}
+use Rattle.tf_provider.specs.Verdict.{keys_of}
+use Rattle.tf_provider.specs.declared.request.Op.{Op}
+use Rattle.tf_provider.specs.declared.request.Op.TheVariants.{Create}
+use Rattle.tf_provider.specs.declared.verdict.Verdict.{Verdict}
+use Rattle.tf_provider.specs.declared.verdict.Verdict.TheVariants as verdict
+use Rattle.tf_value.specs.Tree as tree
+use Rattle.tf_walk.specs.Outcome.{Done, skipped, excused, called}
+use Rattle.tf_walk.specs.declared.report.Diagnostic.{Diagnostic}
+
+-- a diagnostic: its code, the address that it speaks of, what was to be done there, and its message
+pub record DiagnosticView : Type 0 where
+  pub code : ℕ
+  pub place : List ℕ
+  pub verb : Option Op
+  pub message : List ℕ
+
+abbrev pub diagnostic_of : Diagnostic → DiagnosticView
+diagnostic_of d = record { code = d.code; place = string_bytes d.place; verb = d.verb; message = string_bytes d.message }
+
+-- a message with a space for each character below U+0020
+abbrev pub in_one_line : List ℕ → List ℕ
+in_one_line message = map (λ c. if nat_lt c 32 then 32 else c) message
+
+abbrev pub failure_message : Option Answer → List ℕ
+failure_message (Some (failed message there)) = in_one_line message
+failure_message _ = []
+
+-- the name of the attribute at a place of an object
+abbrev pub name_at : Option tree.Tree → ℕ → List ℕ
+name_at (Some (tree.map es)) place = slice_index_or (keys_of es) place []
+name_at _ place = []
+
+-- the diagnostic of an address, for a create
+abbrev pub at_create : ActionView → ℕ → List ℕ → List DiagnosticView
+at_create a code message = record { code = code; place = label_text a.label; verb = Some Create; message = message } ∷ []
+
+-- A failure is 21 with the provider's message, a contradiction 22 with the first attribute in byte order, a
+-- malformed reply 23.
+abbrev pub diagnostics_of_verdict : ActionView → Asked → Option Answer → Verdict → List DiagnosticView
+diagnostics_of_verdict a asked answer verdict.Failed = at_create a 21 (failure_message answer)
+diagnostics_of_verdict a asked answer (verdict.Contradicted place) = at_create a 22 (codes "contradicts " ++ name_at asked.object place)
+diagnostics_of_verdict a asked answer verdict.Malformed = at_create a 23 (codes "malformed reply")
+diagnostics_of_verdict a asked answer _ = []
+
+-- want of memory is 26; a skipped action has none
+abbrev pub diagnostics_at : ActionView → Done → List DiagnosticView
+diagnostics_at a skipped = []
+diagnostics_at a (excused moment) = at_create a 26 (codes "no memory")
+diagnostics_at a (called asked answer v) = diagnostics_of_verdict a asked answer v
+
+-- the diagnostics in action order
+abbrev pub diagnostics : List ActionView → List Done → List DiagnosticView
+diagnostics (a ∷ actions) (d ∷ done) = diagnostics_at a d ++ diagnostics actions done
+diagnostics _ _ = []

@@ -1,0 +1,18 @@
+-- What came of an action, as the walk keeps it.
+use Rattle.std.specs.Prelude.{ℕ, List, Option, Some, None, map, slice_index_or}
+use Rattle.tf_provider.specs.Meaning.{asked, answered}
+use Rattle.tf_walk.specs.Excuse.{before_call, during_call}
+use Rattle.tf_walk.specs.Outcome.{Done, skipped, excused, called}
+use Rattle.tf_walk.specs.declared.ended.Ended.{Ended}
+use Rattle.tf_walk.specs.declared.ended.Ended.TheVariants as ended
+
+abbrev pub done_of : Ended → Done
+done_of ended.Skipped = skipped
+done_of ended.NotAsked = excused before_call
+done_of ended.NotServed = excused during_call
+done_of (ended.Called j) = called (asked j.request) (answered j.reply) j.verdict
+
+-- what came of an action, where that is known; else it counts as skipped
+abbrev pub done_or_skipped : Option Ended → Done
+done_or_skipped None = skipped
+done_or_skipped (Some e) = done_of e

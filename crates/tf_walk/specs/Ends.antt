@@ -1,0 +1,53 @@
+-- How one action ends, whatever is excused later.
+use Rattle.std.specs.Prelude.{◌≡◌, ℕ, ◌<◌, Bool, true, List, length, Option, Some, None, is_some, unwrap_or, slice_index_or, IsTrue, IsSomeAnd, MatchBool, option_and_then, if◌then◌else◌}
+use Rattle.std.specs.List.{list_all, AllByRecursion}
+use Rattle.tf_claim.specs.Ledger.{stage_in}
+use Rattle.tf_claim.specs.declared.book.Stage.{Stage}
+use Rattle.tf_claim.specs.declared.book.Stage.TheVariants as stage
+use Rattle.tf_graph.specs.Digraph.{predecessors_of}
+use Rattle.tf_graph.specs.Solutions.{seen_by}
+use Rattle.tf_journal.specs.declared.journal.Entry.{Entry}
+use Rattle.tf_plan.specs.Plan.{ActionView, PlanView}
+use Rattle.tf_provider.specs.Meaning.{Meaning, schema_in}
+use Rattle.tf_provider.specs.Verdict.{has_attributes}
+use Rattle.tf_walk.specs.Outcome.{Done, skipped, excused, called, all_good, call_at}
+use Rattle.tf_walk.specs.Report.{verdict_in, entered_verdict}
+
+-- an action that may be called has what comes of the call, or is excused
+abbrev pub IsRun : Done → Done → Type 0
+IsRun call (excused moment) = Unit {0}
+IsRun call d = d ≡ call
+
+-- An action is skipped where one directly before it isn't good, and else it is called or excused.
+abbrev pub IsEnd : List Meaning → List ActionView → ℕ → List (ℕ × Done) → Done → Type 0
+IsEnd ms actions n seen d = MatchBool (all_good seen) (IsRun (call_at ms actions n) d) (d ≡ skipped)
+
+-- A provider in the list has an action's type, and the action's object has the attributes of its schema.
+abbrev pub IsServedBy : List Meaning → ActionView → Type 0
+IsServedBy ms a = IsSomeAnd (schema_in a.label.kind ms) (λ s. IsTrue (has_attributes s a.object))
+
+-- each action of a plan is served
+abbrev pub AreServed : List Meaning → List ActionView → Type 0
+AreServed ms actions = AllByRecursion (IsServedBy ms) actions
+
+-- what came of an action so far
+abbrev pub end_at : List (Option Done) → ℕ → Option Done
+end_at ends n = slice_index_or ends n None
+
+-- what came of an action; one that hasn't ended counts as skipped
+abbrev pub done_in : List (Option Done) → ℕ → Done
+done_in ends n = unwrap_or (end_at ends n) skipped
+
+-- how far an action is
+abbrev pub stage_of : Option Done → Stage
+stage_of None = stage.Free
+stage_of (Some d) = stage.Done
+
+-- What a walk has done so far: an action that has ended is done in the book, and the others are free; each
+-- ended as it has to, after all that stands before it; and the journal has the calls that were made.
+pub record IsSoFar (ms : List Meaning) (plan : PlanView) (stages : List Stage) (ends : List (Option Done)) (entries : List Entry) : Type 0 where
+  pub sized : length ends ≡ length plan.actions
+  pub staged : (n : ℕ) → stage_in stages n ≡ stage_of (end_at ends n)
+  pub closed : (n : ℕ) → is_some (end_at ends n) ≡ true → list_all (λ m. is_some (end_at ends m)) (predecessors_of plan.order n) ≡ true
+  pub ended : (n : ℕ) (d : Done) → end_at ends n ≡ Some d → IsEnd ms plan.actions n (seen_by (done_in ends) (predecessors_of plan.order n)) d
+  pub entered : (n : ℕ) → verdict_in entries n ≡ option_and_then entered_verdict (end_at ends n)

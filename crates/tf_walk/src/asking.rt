@@ -1,0 +1,15 @@
+//! What is had before a call: the request, and room for a message about its reply.
+
+ghost use Rattle.std.specs.Prelude.{◌≡◌, [], true, option_map, string_bytes, string_capacity};
+ghost use Rattle.tf_value.specs.Tree.{tree_of};
+ghost use Rattle.tf_walk.specs.Room.{message_fits};
+
+use tf_provider::Request;
+
+/// A request, and room for a message about its reply.
+pub struct Asking {
+    pub request: Request,
+    pub message: String,
+    pub ghost blank: { string_bytes message ≡ [] },
+    pub ghost fits: { message_fits (string_capacity message) (option_map tree_of request.object) ≡ true },
+}

@@ -1,0 +1,14 @@
+//! Carrying out a plan: each action is called once, when all that it depends on is good, and what came of it
+//! is recorded and reported.
+#![tactic(auto)]
+
+mod asking;
+mod calls;
+mod claims;
+mod ended;
+mod furnish;
+pub mod report;
+mod requests;
+mod rooms;
+
+pub use report::{Diagnostic, Excuse, Outcome, Report, Walked};

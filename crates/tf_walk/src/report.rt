@@ -1,0 +1,65 @@
+//! What an apply reports.
+
+use tf_journal::Journal;
+use tf_provider::{Op, Verdict};
+use tf_state::State;
+
+/// How an action ended.
+#[derive(Clone, Copy, Debug, PartialEq, Eq)]
+pub enum Outcome {
+    /// An action before it isn't good, so nothing was called.
+    Skipped,
+    /// Memory was refused before the call or during it, so nothing was done.
+    Excused,
+    /// The provider was called, and its reply has this verdict.
+    Judged(Verdict),
+}
+
+/// An action that is excused, by its place in the plan's list of actions.
+#[derive(Clone, Copy, Debug, PartialEq, Eq)]
+pub enum Excuse {
+    /// Memory for the request was refused, before the provider was called.
+    Before(usize),
+    /// The provider was called, and answered that it had no memory.
+    During(usize),
+}
+
+/// What went wrong at an address.
+#[derive(Debug, Drop)]
+pub struct Diagnostic {
+    /// 21 where the provider failed, 22 where its reply contradicts the plan, 23 where its reply is malformed,
+    /// 26 where there was no memory.
+    pub code: u8,
+    /// The address.
+    pub place: String,
+    /// What was to be done there.
+    pub verb: Option<Op>,
+    /// What happened, in one line.
+    pub message: String,
+}
+
+/// What came of carrying out a plan.
+#[derive(Drop)]
+pub struct Report {
+    /// The state after the apply.
+    pub state: State,
+    /// How each action ended, in action order.
+    pub outcomes: Vec<Outcome>,
+    /// What went wrong, in action order.
+    pub diagnostics: Vec<Diagnostic>,
+    /// The calls that were made, in their order.
+    pub journal: Journal,
+    /// The actions for which memory was refused, in action order.
+    pub excused: Vec<Excuse>,
+    /// How many creates, updates and destroys are good.
+    pub good: (u32, u32, u32),
+}
+
+/// A report, with or without a journal that can be relied on.
+#[derive(Drop)]
+pub enum Walked {
+    /// The journal holds exactly the calls that were made, each once, none before one that it depends on.
+    Whole(Report),
+    /// State, outcomes and diagnostics hold, and the journal is withheld.
+    Torn(Report),
+}
