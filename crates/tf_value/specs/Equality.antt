@@ -37,8 +37,10 @@ mutual
       both _ _ (bytes_eq-Decides k l) rest (λ p q. let a = q.0 in let b = q.1 in cc) (λ r. (cc, (cc, cc)))
   same_entries_Decides _ _ = (λ e. cc, λ e. cc)
 
+-- `same` is an equivalence of values, as `Eq` asks
 pub same_values : IsEquivalence (on tree_of same)
 same_values = on_equiv tree_of (decided same same_Decides)
 
+-- and a partial one, as `PartialEq` asks
 pub same_values_part : IsPartialEquivalence (on tree_of same)
 same_values_part = partial_equiv_from_equiv same_values

@@ -9,10 +9,12 @@ pub data Place : Type 0 where
   in_item : Items → Place → Items → Place
   at_key : Entries → List ℕ → Place → Entries → Place
 
+-- the items of a list, with one between those before and those after
 abbrev pub items_around : Items → Tree → Items → Items
 items_around no_items t after = item t after
 items_around (item u before) t after = item u (items_around before t after)
 
+-- the entries of a map, with one between those before and those after
 abbrev pub entries_around : Entries → List ℕ → Tree → Entries → Entries
 entries_around no_entries k t after = entry k t after
 entries_around (entry l u before) k t after = entry l u (entries_around before k t after)

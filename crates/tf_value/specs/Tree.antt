@@ -29,10 +29,12 @@ mutual
     no_entries : Entries
     entry : List ℕ → Tree → Entries → Entries
 
+-- the trees of a list, as items
 abbrev pub items_of : List Tree → Items
 items_of [] = no_items
 items_of (t ∷ ts) = item t (items_of ts)
 
+-- the trees of a list under their keys, as entries
 abbrev pub entries_of : List (String Global × Tree) → Entries
 entries_of [] = no_entries
 entries_of (e ∷ es) = entry (string_bytes e.0) e.1 (entries_of es)

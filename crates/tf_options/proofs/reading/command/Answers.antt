@@ -1,0 +1,16 @@
+-- Each argument that is added adds its rule.
+use Rattle.std.proofs.Common.{◌∙◌, ap₂}
+use Rattle.std.proofs.lemmas.Result.{IfOk-weaker}
+use Rattle.clap.specs.Words.{with_rule}
+use Rattle.tf_options.specs.Command.{options_app}
+use Rattle.tf_options.proofs.reading.command.Goals as goal
+
+pub returns : goal.returns
+unfolding options_app
+returns c = IfOk-weaker c.arg-4.result _ _
+    (λ r adds. adds.shape c.workers_option.ensures.local
+    ∙ ap₂ with_rule (c.in_ok-arg-3.ensures.shape c.option-3.ensures.local
+    ∙ ap₂ with_rule (c.in_ok-arg-2.ensures.shape c.option-2.ensures.local
+    ∙ ap₂ with_rule (c.in_ok-arg.ensures.shape c.option.ensures.local
+    ∙ ap₂ with_rule c.new.ensures.app c.option.ensures.rule) c.option-2.ensures.rule) c.option-3.ensures.rule) c.workers_option.ensures.rule)
+    c.arg-4.ensures

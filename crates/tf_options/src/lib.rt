@@ -1,0 +1,18 @@
+//! The words of the programs' command line.
+//!
+//! | Option | What it says | Default |
+//! |---|---|---|
+//! | `--config FILE` | the configuration | `main.tf.json` |
+//! | `--state FILE` | the state; a file that isn't there is no state | `terraform.tfstate` |
+//! | `--lineage TEXT` | the lineage of a new state | `00000000-0000-0000-0000-000000000000` |
+//! | `--parallelism N` | how many workers, 1 to 64 | 10 |
+#![tactic(auto)]
+
+mod reading;
+pub mod words;
+
+pub use reading::options;
+pub use words::Options;
+
+#[cfg(test)]
+mod tests;

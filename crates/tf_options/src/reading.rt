@@ -1,0 +1,111 @@
+//! Reading the words of a command line.
+
+ghost use Rattle.std.specs.Prelude.{◌≡◌, ◌≤◌, false, IfOk, codes, map, string_bytes};
+ghost use Rattle.clap.specs.Words.{FailsBy, app_of, fault_of, found_of, matches_of, one_of, rows_of, rule_of};
+ghost use Rattle.tf_options.specs.Command.{option_rule, options_app, workers_rule};
+ghost use Rattle.tf_options.specs.Reads.{IsWorkers, Reads, given_or};
+
+use crate::words::Options;
+use clap::{Arg, ArgMatches, Command, Error};
+use std::alloc::{AllocError, Global};
+
+const CONFIG: &str = "main.tf.json";
+
+const STATE: &str = "terraform.tfstate";
+
+const LINEAGE: &str = "00000000-0000-0000-0000-000000000000";
+
+/// Reads the words of a command line, the program's name first. An error is `clap`'s: words that it refuses,
+/// a wish for help, or no memory.
+pub fn options(alloc: Global, words: &[String]) -> Result<Options, Error>
+    ensures reads { IfOk result (λ o. Reads o (matches_of options_app (map (λ w. string_bytes w) words.now))) }
+    ensures workers { IfOk result (λ o. (1 ≤ o.parallelism) × (o.parallelism ≤ 64)) }
+    ensures refuses { FailsBy (fault_of options_app (map (λ w. string_bytes w) words.now)) result }
+{
+    let matches = parsed(alloc, words)?;
+    Ok(options_in(alloc, &matches)?)
+}
+
+fn parsed<'a>(alloc: Global, words: &'a [String]) -> Result<ArgMatches<'a>, Error>
+    ensures reads { IfOk result (λ m. rows_of (found_of m) ≡ matches_of options_app (map (λ w. string_bytes w) words.now)) }
+    ensures refuses { FailsBy (fault_of options_app (map (λ w. string_bytes w) words.now)) result }
+{
+    command(alloc)?.try_get_matches_from(words)
+}
+
+/// The command that the programs share.
+fn command<'a>(alloc: Global) -> Result<Command<'a>, AllocError>
+    ensures { IfOk result (λ c. app_of c ≡ options_app) }
+{
+    Command::new(alloc, "bixundor")
+        .arg(option(alloc, "config", "FILE", CONFIG, "The configuration"))?
+        .arg(option(alloc, "state", "FILE", STATE, "The state"))?
+        .arg(option(
+            alloc,
+            "lineage",
+            "TEXT",
+            LINEAGE,
+            "The lineage of a new state",
+        ))?
+        .arg(workers_option(alloc))
+}
+
+fn workers_option<'a>(alloc: Global) -> Arg<'a>
+    ensures rule { rule_of result ≡ workers_rule }
+    ensures local { result.global ≡ false }
+{
+    option(alloc, "parallelism", "N", "10", "How many workers, 1 to 64").value_parser(
+        clap::value_parser!(u64).range(1..=64),
+    )
+}
+
+fn option<'a>(
+    alloc: Global,
+    name: &'a str,
+    value: &'a str,
+    default: &'a str,
+    help: &'a str,
+) -> Arg<'a>
+    ensures rule { rule_of result ≡ option_rule name.now default.now }
+    ensures local { result.global ≡ false }
+{
+    Arg::new(alloc, name)
+        .long(name)
+        .value_name(value)
+        .default_value(default)
+        .help(help)
+}
+
+fn options_in(alloc: Global, matches: &ArgMatches<'_>) -> Result<Options, AllocError>
+    ensures reads { IfOk result (λ o. Reads o (rows_of (found_of matches.now))) }
+    ensures workers { IfOk result (λ o. (1 ≤ o.parallelism) × (o.parallelism ≤ 64)) }
+{
+    Ok(Options {
+        config: value_or(alloc, matches, "config", CONFIG)?,
+        vars: None,
+        state: value_or(alloc, matches, "state", STATE)?,
+        lineage: value_or(alloc, matches, "lineage", LINEAGE)?,
+        parallelism: workers_in(matches),
+    })
+}
+
+fn value_or(
+    alloc: Global,
+    matches: &ArgMatches<'_>,
+    name: &str,
+    default: &str,
+) -> Result<String, AllocError>
+    ensures { IfOk result (λ text. string_bytes text ≡ given_or name.now default.now (rows_of (found_of matches.now))) }
+{
+    String::from_str(alloc, matches.get_str(name).unwrap_or(default))
+}
+
+fn workers_in(matches: &ArgMatches<'_>) -> usize
+    ensures within { (1 ≤ result) × (result ≤ 64) }
+    ensures reads { IsWorkers (one_of (codes "parallelism") (rows_of (found_of matches.now))) result }
+{
+    match matches.get_one::<usize>("parallelism") {
+        Some(workers) if workers >= 1 && workers <= 64 => workers,
+        _ => 10,
+    }
+}

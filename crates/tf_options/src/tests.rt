@@ -1,0 +1,61 @@
+use crate::options;
+use crate::words::Options;
+use std::alloc::Global;
+use std::test::Fail;
+
+fn read(alloc: Global, words: &[&str]) -> Result<Options, clap::Error> {
+    let mut owned = Vec::new(alloc);
+    for word in words {
+        owned.push(String::from_str(alloc, *word)?)?;
+    }
+    options(alloc, &owned)
+}
+
+#[test]
+fn reads_defaults(rt: HostRuntime) -> Result<(), Fail> {
+    let read = read(rt.alloc(), &["apply"])?;
+    assert_eq!(rt; read.config.as_str(), "main.tf.json");
+    assert_eq!(rt; read.state.as_str(), "terraform.tfstate");
+    assert_eq!(rt;
+        read.lineage.as_str(),
+        "00000000-0000-0000-0000-000000000000"
+    );
+    assert_eq!(rt; read.parallelism, 10);
+    Ok(())
+}
+
+#[test]
+fn reads_all(rt: HostRuntime) -> Result<(), Fail> {
+    let words = [
+        "apply",
+        "--parallelism=64",
+        "--config",
+        "a",
+        "--state",
+        "b",
+        "--lineage",
+        "L",
+    ];
+    let read = read(rt.alloc(), &words)?;
+    assert_eq!(rt; read.config.as_str(), "a");
+    assert_eq!(rt; read.state.as_str(), "b");
+    assert_eq!(rt; read.lineage.as_str(), "L");
+    assert_eq!(rt; read.parallelism, 64);
+    Ok(())
+}
+
+#[test]
+fn refuses_words(rt: HostRuntime) -> Result<(), Fail> {
+    for number in ["0", "65", "x", "-1"] {
+        match read(rt.alloc(), &["apply", "--parallelism", number]) {
+            Ok(_) => assert!(rt; false, "{number} was read"),
+            Err(error) => assert!(rt; error.use_stderr(), "{number}"),
+        }
+    }
+    assert!(rt; read(rt.alloc(), &["apply", "--vars", "v"]).is_err());
+    match read(rt.alloc(), &["apply", "--help"]) {
+        Ok(_) => assert!(rt; false, "help was read"),
+        Err(error) => assert!(rt; !error.use_stderr()),
+    }
+    Ok(())
+}

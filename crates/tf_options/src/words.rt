@@ -1,0 +1,16 @@
+//! What the user asks for on the command line.
+
+/// The options of the programs.
+#[derive(Debug, Drop)]
+pub struct Options {
+    /// The file of the configuration.
+    pub config: String,
+    /// The file of the variables' values, which can't be given yet.
+    pub vars: Option<String>,
+    /// The file of the state, which is read, and written where it changes.
+    pub state: String,
+    /// The lineage of a new state.
+    pub lineage: String,
+    /// How many workers carry out a plan, 1 to 64.
+    pub parallelism: usize,
+}
