@@ -68,9 +68,7 @@ fn literal_value(alloc: Global, json: &Json) -> Result<Value, ValueFault>
     match tf_value::from_json(alloc, json) {
         Ok(value) => Ok(value),
         Err(JsonFault::OutOfMemory) => Err(ValueFault::OutOfMemory),
-        Err(_) => Err(ValueFault::Argument(ArgumentFault::Evaluation(
-            EvalFault::TooLarge,
-        ))),
+        Err(_) => Err(ValueFault::Argument(ArgumentFault::Evaluation(EvalFault::TooLarge))),
     }
 }
 

@@ -142,10 +142,7 @@ fn bare(code: u8, place: String) -> Refusal
 }
 
 /// The schema of a type: that of the first provider that has one.
-fn schema_for<'a>(
-    providers: &'a [Box<dyn Provider + Sync>],
-    type_name: &str,
-) -> Option<&'a Schema>
+fn schema_for<'a>(providers: &'a [Box<dyn Provider + Sync>], type_name: &str) -> Option<&'a Schema>
     ensures { option_map (λ s. s.now) result ≡ schema_in type_name.now (map (λ b. meaning b) providers.now) }
 {
     for provider in providers {

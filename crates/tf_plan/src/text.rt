@@ -73,13 +73,11 @@ fn show_attribute(
     }
 }
 
-fn summarize(
-    text: &mut String,
-    add: usize,
-    change: usize,
-    destroy: usize,
-) -> Result<(), AllocError>
+fn summarize(text: &mut String, add: usize, change: usize, destroy: usize) -> Result<(), AllocError>
     ensures { OnOk result (string_bytes text.new ≡ string_bytes text.old ++ summary_line add change destroy) }
 {
-    write!(text, "Plan: {add} to add, {change} to change, {destroy} to destroy.\n")
+    write!(
+        text,
+        "Plan: {add} to add, {change} to change, {destroy} to destroy.\n"
+    )
 }

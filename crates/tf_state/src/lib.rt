@@ -4,6 +4,8 @@
 mod object;
 mod provider;
 mod state;
+#[cfg(test)]
+mod tests;
 mod writing;
 
 pub use object::Object;

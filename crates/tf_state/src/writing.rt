@@ -28,10 +28,30 @@ fn state_json(alloc: Global, state: &State) -> Result<Json, AllocError>
 {
     let mut members = Map::new(alloc);
     put(&mut members, alloc, "version", Json::from(4u64))?;
-    put(&mut members, alloc, "terraform_version", text(alloc, &state.terraform_version)?)?;
-    put(&mut members, alloc, "serial", Json::from(u64::from(state.serial)))?;
-    put(&mut members, alloc, "resources", Json::Array(resources_json(alloc, &state.resources)?))?;
-    put(&mut members, alloc, "outputs", Json::Object(Map::new(alloc)))?;
+    put(
+        &mut members,
+        alloc,
+        "terraform_version",
+        text(alloc, &state.terraform_version)?,
+    )?;
+    put(
+        &mut members,
+        alloc,
+        "serial",
+        Json::from(u64::from(state.serial)),
+    )?;
+    put(
+        &mut members,
+        alloc,
+        "resources",
+        Json::Array(resources_json(alloc, &state.resources)?),
+    )?;
+    put(
+        &mut members,
+        alloc,
+        "outputs",
+        Json::Object(Map::new(alloc)),
+    )?;
     put(&mut members, alloc, "lineage", text(alloc, &state.lineage)?)?;
     Ok(Json::Object(members))
 }
@@ -50,11 +70,31 @@ fn resource_json(alloc: Global, resource: &Resource) -> Result<Json, AllocError>
     ensures { IfOk result (λ json. view json ≡ resource_data (resource_of resource.now)) }
 {
     let mut members = Map::new(alloc);
-    put(&mut members, alloc, "type", text(alloc, &resource.label.kind)?)?;
-    put(&mut members, alloc, "provider", text(alloc, &resource.provider)?)?;
-    put(&mut members, alloc, "name", text(alloc, &resource.label.name)?)?;
+    put(
+        &mut members,
+        alloc,
+        "type",
+        text(alloc, &resource.label.kind)?,
+    )?;
+    put(
+        &mut members,
+        alloc,
+        "provider",
+        text(alloc, &resource.provider)?,
+    )?;
+    put(
+        &mut members,
+        alloc,
+        "name",
+        text(alloc, &resource.label.name)?,
+    )?;
     put(&mut members, alloc, "mode", text(alloc, "managed")?)?;
-    put(&mut members, alloc, "instances", Json::Array(records_json(alloc, &resource.records)?))?;
+    put(
+        &mut members,
+        alloc,
+        "instances",
+        Json::Array(records_json(alloc, &resource.records)?),
+    )?;
     Ok(Json::Object(members))
 }
 
@@ -75,8 +115,18 @@ fn record_json(alloc: Global, record: &Record) -> Result<Json, AllocError>
     if record.tainted {
         put(&mut members, alloc, "status", text(alloc, "tainted")?)?;
     }
-    put(&mut members, alloc, "schema_version", Json::from(u64::from(record.schema_version)))?;
-    put(&mut members, alloc, "attributes", object_json(alloc, &record.attributes)?)?;
+    put(
+        &mut members,
+        alloc,
+        "schema_version",
+        Json::from(u64::from(record.schema_version)),
+    )?;
+    put(
+        &mut members,
+        alloc,
+        "attributes",
+        object_json(alloc, &record.attributes)?,
+    )?;
     Ok(Json::Object(members))
 }
 

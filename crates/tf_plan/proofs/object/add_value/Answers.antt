@@ -8,6 +8,6 @@ returns-in_ok-insert-in-Ok c = λ planned h.
     let is : planned ≡ Ok (tree_of c.in-Ok.value) = rw c.in-Ok.is at h in
     let old = c.args.tried.object.entries in
     let inserted : entries_view c.insert.new.self.entries ≡ put c.args.name.now (tree_of c.in-Ok.value) (entries_view old) =
-      ap entries_view c.in_ok-insert-in-Ok.ensures.entries
-      ∙ (entries_view-insert_entry old c.in_ok-from_str-in-Ok.field-0 c.in-Ok.value ∙ ap (λ k. put k (tree_of c.in-Ok.value) (entries_view old)) c.in_ok-from_str-in-Ok.ensures.ok) in
+    ap entries_view c.in_ok-insert-in-Ok.ensures.entries
+    ∙ (entries_view-insert_entry old c.in_ok-from_str-in-Ok.field-0 c.in-Ok.value ∙ ap (λ k. put k (tree_of c.in-Ok.value) (entries_view old)) c.in_ok-from_str-in-Ok.ensures.ok) in
     rw is (inserted, refl)

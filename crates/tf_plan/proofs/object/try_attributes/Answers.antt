@@ -20,7 +20,7 @@ loop-attribute-preserved c =
     let left : map attribute_of (drop i xs) ≡ attribute_of a ∷ map attribute_of (drop (i + 1) xs) = ap (map attribute_of) (drop-item xs i a c.loop-attribute-test.true c.attribute-item.is) in
     let before = rw left at c.loop-attribute.invariant in
     let argument : option_map (λ json. view json.now) c.argument_named-argument.result ≡ get_member (attribute_of a).name arguments =
-      c.argument_named-argument.ensures ∙ ap (λ (k : List ℕ). get_member k arguments) c.as_str.ensures.value in
+    c.argument_named-argument.ensures ∙ ap (λ (k : List ℕ). get_member k arguments) c.as_str.ensures.value in
     let planned = attribute_value (attribute_of a) (get_member (attribute_of a).name arguments) in
     let gives : Gives tree_of c.attribute_value-value.result planned = rw argument at c.attribute_value-value.ensures in
     let both = rw c.as_str-in-loop-attribute.ensures.value at (c.in_ok-tried.ensures planned gives) in

@@ -1,0 +1,132 @@
+use crate::{Order, Refused, plan_for};
+use std::alloc::{AllocError, Global};
+use std::test::Fail;
+use tf_config::read;
+use tf_provider::{Attribute, Kind, Mode, Provider, Reply, Request, Schema};
+
+// A provider of nets that does nothing.
+#[derive(Drop)]
+struct Nets {
+    schema: Schema,
+}
+
+impl Provider for Nets {
+    ghost use Rattle.std.specs.Prelude.{Some, None, codes, if◌then◌else◌};
+    ghost use Rattle.std.specs.Str.{bytes_eq};
+    ghost use Rattle.tf_provider.specs.Meaning.{gone};
+
+    ghost meaning = { λ nets. record { answer = λ _. gone; schema_of = λ name. if bytes_eq name (codes "net") then Some nets.schema else None } };
+
+    fn schema(&self, type_name: &str) -> Option<&Schema> {
+        if type_name == "net" {
+            Some(&self.schema)
+        } else {
+            None
+        }
+    }
+
+    fn apply(&self, _request: &Request) -> Reply {
+        Reply::NoMemory
+    }
+}
+
+// The provider, whose nets have an attribute of each kind and of each mode.
+fn net_provider(alloc: Global) -> Result<Nets, Fail> {
+    let mut attributes = Vec::new(alloc);
+    for (name, kind, mode) in [
+        ("cidr", Kind::String, Mode::Required),
+        ("id", Kind::String, Mode::Computed),
+        ("more", Kind::Any, Mode::Optional),
+        ("on", Kind::Bool, Mode::Optional),
+        ("size", Kind::Number, Mode::Optional),
+    ] {
+        attributes.push(Attribute {
+            name: String::from_str(alloc, name)?,
+            kind,
+            mode,
+            force_new: false,
+        })?;
+    }
+    let schema = Schema::new(alloc, 0, attributes)?;
+    Ok(Nets { schema })
+}
+
+// The text of the plan for these resources, or a line for each refusal.
+fn answer(alloc: Global, resources: &str) -> Result<String, Fail> {
+    let text = format!(in alloc; "{{\"resource\": {resources}}}")?;
+    let config = read(alloc, text.as_str().as_bytes()).map_err(|_| "no configuration")?;
+    let nets = net_provider(alloc)?;
+    let mut providers: Vec<Box<dyn Provider + Sync>> = Vec::new(alloc);
+    providers.push(Box::new(alloc, nets)?)?;
+    match plan_for(alloc, &config, "L", &providers) {
+        Ok(plan) => Ok(plan.text(alloc)?),
+        Err(Refused::These(refusals)) => {
+            let mut lines = String::new(alloc);
+            for refusal in &refusals {
+                write!(lines, "{refusal}\n")?;
+            }
+            Ok(lines)
+        }
+        Err(Refused::NoMemory) => Err(AllocError.into()),
+    }
+}
+
+static ANSWERS: [(&str, &str); 12] = [
+    ("{}", "No changes.\n"),
+    (
+        "{\"net\": {\"a\": {\"cidr\": \"x\"}}}",
+        "+ net.a\n    cidr = \"x\"\n    id = (known after apply)\nPlan: 1 to add, 0 to change, 0 to destroy.\n",
+    ),
+    (
+        "{\"net\": {\"a\": {\"cidr\": -5, \"size\": 7, \"on\": true, \"more\": [\"\\\"\", {\"k\": null}]}}}",
+        "+ net.a\n    cidr = \"-5\"\n    id = (known after apply)\n    more = [\"\\\"\",{\"k\":null}]\n    on = true\n    size = 7\nPlan: 1 to add, 0 to change, 0 to destroy.\n",
+    ),
+    (
+        "{\"host\": {\"a\": {}}}",
+        "error 11 at host.a: NoProvider\n",
+    ),
+    (
+        "{\"net\": {\"a\": {}}}",
+        "error 10 at net.a.cidr: BadArgument\n",
+    ),
+    (
+        "{\"net\": {\"a\": {\"cidr\": null}}}",
+        "error 10 at net.a.cidr: BadArgument\n",
+    ),
+    (
+        "{\"net\": {\"a\": {\"cidr\": \"x\", \"tag\": null}}}",
+        "error 10 at net.a.tag: BadArgument\n",
+    ),
+    (
+        "{\"net\": {\"a\": {\"cidr\": \"x\", \"id\": \"y\"}}}",
+        "error 10 at net.a.id: BadArgument\n",
+    ),
+    (
+        "{\"net\": {\"a\": {\"cidr\": \"x\", \"size\": \"7\"}}}",
+        "error 10 at net.a.size: BadArgument\n",
+    ),
+    (
+        "{\"net\": {\"a\": {\"cidr\": \"x\", \"more\": [[[[[[[[[[[[[[[[[[[[[[[[[[[[[[[[[]]]]]]]]]]]]]]]]]]]]]]]]]]]]]]]]]}}}",
+        "error 9 at net.a.more: Evaluate(TooLarge)\n",
+    ),
+    (
+        "{\"net\": {\"a\": {\"aa\": 1, \"more\": [], \"size\": \"7\"}}}",
+        "error 10 at net.a.aa: BadArgument\n",
+    ),
+    (
+        "{\"net\": {\"b\": {\"cidr\": \"x\"}, \"a\": {}}, \"host\": {\"z\": {}}}",
+        "error 11 at host.z: NoProvider\nerror 10 at net.a.cidr: BadArgument\n",
+    ),
+];
+
+#[test]
+fn plans_and_refuses(rt: HostRuntime) -> Result<(), Fail> {
+    for (resources, want) in &ANSWERS {
+        let said = answer(rt.alloc(), resources)?;
+        assert_eq!(rt; said.as_str(), *want, "{resources}");
+    }
+    let order = Order::unordered(rt.alloc(), 3)?;
+    assert_eq!(rt; order.graph().nodes(), 3);
+    assert_eq!(rt; order.graph().edge_count(), 0);
+    Ok(())
+}

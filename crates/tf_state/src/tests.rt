@@ -1,0 +1,86 @@
+use crate::{Object, Record, Resource, State, provider_address, write};
+use serde_json::Value as Json;
+use std::alloc::Global;
+use std::test::Fail;
+use tf_address::Label;
+use tf_value::{from_json, is_known};
+
+// Puts a net of this name, with the cidr `x`, into a state.
+fn put_net(alloc: Global, state: &mut State, name: &str, tainted: bool) -> Result<(), Fail> {
+    let json = Json::from_str(alloc, "{\"cidr\": \"x\", \"id\": \"net-x\", \"tag\": null}")?;
+    let value = from_json(alloc, &json)?;
+    if !is_known(&value) {
+        return Err("an unknown part".into());
+    }
+    let mut records = Vec::new(alloc);
+    records.push(Record {
+        attributes: Object { value },
+        schema_version: 0,
+        tainted,
+    })?;
+    let resource = Resource {
+        label: Label {
+            kind: String::from_str(alloc, "sim_net")?,
+            name: String::from_str(alloc, name)?,
+        },
+        provider: provider_address(alloc, "sim_net")?,
+        records,
+    };
+    state.reserve(1)?;
+    state.put(resource);
+    Ok(())
+}
+
+#[test]
+fn writes_states(rt: HostRuntime) -> Result<(), Fail> {
+    let mut state = State::empty(rt.alloc(), "L")?;
+    assert_eq!(rt;
+        write(rt.alloc(), &state)?.as_str(),
+        "{\n  \"lineage\": \"L\",\n  \"outputs\": {},\n  \"resources\": [],\n  \"serial\": 0,\n  \"terraform_version\": \"1.0.0\",\n  \"version\": 4\n}\n"
+    );
+    put_net(rt.alloc(), &mut state, "a", false)?;
+    state.serial = 1;
+    assert_eq!(rt;
+        write(rt.alloc(), &state)?.as_str(),
+        "{\n  \"lineage\": \"L\",\n  \"outputs\": {},\n  \"resources\": [\n    {\n      \"instances\": [\n        {\n          \"attributes\": {\n            \"cidr\": \"x\",\n            \"id\": \"net-x\",\n            \"tag\": null\n          },\n          \"schema_version\": 0\n        }\n      ],\n      \"mode\": \"managed\",\n      \"name\": \"a\",\n      \"provider\": \"provider[\\\"registry.terraform.io/hashicorp/sim\\\"]\",\n      \"type\": \"sim_net\"\n    }\n  ],\n  \"serial\": 1,\n  \"terraform_version\": \"1.0.0\",\n  \"version\": 4\n}\n"
+    );
+    Ok(())
+}
+
+#[test]
+fn keeps_resources_in_order(rt: HostRuntime) -> Result<(), Fail> {
+    let mut state = State::empty(rt.alloc(), "L")?;
+    for name in ["b", "a", "c"] {
+        put_net(rt.alloc(), &mut state, name, false)?;
+    }
+    let mut seen = String::new(rt.alloc());
+    for resource in &state.resources {
+        seen.push_str(resource.label.name.as_str())?;
+    }
+    assert_eq!(rt; seen.as_str(), "abc");
+    Ok(())
+}
+
+#[test]
+fn writes_that_an_object_is_tainted(rt: HostRuntime) -> Result<(), Fail> {
+    let mut state = State::empty(rt.alloc(), "L")?;
+    put_net(rt.alloc(), &mut state, "a", true)?;
+    let text = write(rt.alloc(), &state)?;
+    let record = "\"schema_version\": 0,\n          \"status\": \"tainted\"\n        }";
+    assert!(rt; text.contains(record), "{text}");
+    Ok(())
+}
+
+#[test]
+fn names_providers(rt: HostRuntime) -> Result<(), Fail> {
+    for (kind, name) in [
+        ("sim_net", "sim"),
+        ("a_b_c", "a"),
+        ("null", "null"),
+        ("_x", ""),
+    ] {
+        let want = format!(in rt.alloc(); "provider[\"registry.terraform.io/hashicorp/{name}\"]")?;
+        assert_eq!(rt; provider_address(rt.alloc(), kind)?.as_str(), want.as_str());
+    }
+    Ok(())
+}
