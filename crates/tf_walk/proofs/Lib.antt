@@ -1,1 +1,6 @@
+pub mod Ending
+pub mod Entered
 pub mod Judging
+pub mod Seen
+pub mod SoFar
+pub mod Stages

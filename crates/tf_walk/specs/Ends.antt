@@ -1,5 +1,5 @@
 -- How one action ends, whatever is excused later.
-use Rattle.std.specs.Prelude.{◌≡◌, ℕ, ◌<◌, Bool, true, List, length, Option, Some, None, is_some, unwrap_or, slice_index_or, IsTrue, IsSomeAnd, MatchBool, option_and_then, if◌then◌else◌}
+use Rattle.std.specs.Prelude.{◌≡◌, ℕ, ◌<◌, Bool, true, List, [], ◌∷◌, ◌++◌, length, Option, Some, None, is_some, unwrap_or, slice_index_or, IsTrue, IsSomeAnd, MatchBool, MatchOption, option_and_then, if◌then◌else◌}
 use Rattle.std.specs.List.{list_all, AllByRecursion}
 use Rattle.tf_claim.specs.Ledger.{stage_in}
 use Rattle.tf_claim.specs.declared.book.Stage.{Stage}
@@ -43,11 +43,22 @@ abbrev pub stage_of : Option Done → Stage
 stage_of None = stage.Free
 stage_of (Some d) = stage.Done
 
--- What a walk has done so far: an action that has ended is done in the book, and the others are free; each
--- ended as it has to, after all that stands before it; and the journal has the calls that were made.
-pub record IsSoFar (ms : List Meaning) (plan : PlanView) (stages : List Stage) (ends : List (Option Done)) (entries : List Entry) : Type 0 where
+-- an action that has ended is done in a book, and the others are free
+abbrev pub IsStaged : List Stage → List (Option Done) → Type 0
+IsStaged stages ends = (n : ℕ) → stage_in stages n ≡ stage_of (end_at ends n)
+
+-- What a walk has done so far: each action that has ended did so as it has to, after all that stands before it,
+-- and the journal has the calls that were made.
+pub record IsSoFar (ms : List Meaning) (plan : PlanView) (ends : List (Option Done)) (entries : List Entry) : Type 0 where
   pub sized : length ends ≡ length plan.actions
-  pub staged : (n : ℕ) → stage_in stages n ≡ stage_of (end_at ends n)
   pub closed : (n : ℕ) → is_some (end_at ends n) ≡ true → list_all (λ m. is_some (end_at ends m)) (predecessors_of plan.order n) ≡ true
   pub ended : (n : ℕ) (d : Done) → end_at ends n ≡ Some d → IsEnd ms plan.actions n (seen_by (done_in ends) (predecessors_of plan.order n)) d
   pub entered : (n : ℕ) → verdict_in entries n ≡ option_and_then entered_verdict (end_at ends n)
+
+-- an action's entry is added to a journal where its end calls for one
+abbrev pub Enters : ℕ → Done → List Entry → List Entry → Type 0
+Enters n d old new = MatchOption (entered_verdict d) (new ≡ old) (λ v. (e : Entry) × (e.action ≡ n) × (e.verdict ≡ v) × (new ≡ old ++ e ∷ []))
+
+-- where nothing is left to do, each action has ended
+abbrev pub AllHaveEnded : PlanView → List (Option Done) → Type 0
+AllHaveEnded plan ends = (n : ℕ) → n < length plan.actions → is_some (end_at ends n) ≡ true

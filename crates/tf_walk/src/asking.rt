@@ -7,6 +7,7 @@ ghost use Rattle.tf_walk.specs.Room.{message_fits};
 use tf_provider::Request;
 
 /// A request, and room for a message about its reply.
+#[derive(Drop)]
 pub struct Asking {
     pub request: Request,
     pub message: String,

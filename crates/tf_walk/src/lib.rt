@@ -10,5 +10,7 @@ mod furnish;
 pub mod report;
 mod requests;
 mod rooms;
+mod steps;
+mod walk;
 
 pub use report::{Diagnostic, Excuse, Outcome, Report, Walked};

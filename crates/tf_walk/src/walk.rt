@@ -1,0 +1,50 @@
+//! The walk of one thread.
+
+ghost use Rattle.std.specs.Prelude.{◌≡◌, ◌<◌, Some, map, option_map, length, slice_set};
+ghost use Rattle.tf_plan.specs.Plan.{action_of, plan_of};
+ghost use Rattle.tf_walk.specs.Ended.{done_of};
+ghost use Rattle.tf_walk.specs.Ends.{AllHaveEnded, AreServed, IsSoFar, IsStaged};
+
+use crate::claims::{close, next_permit};
+use crate::ended::Ended;
+use crate::steps::end_action;
+use std::alloc::Global;
+use tf_claim::Book;
+use tf_journal::Journal;
+use tf_plan::Plan;
+use tf_provider::Provider;
+
+/// Takes every action of a plan to its end.
+pub fn walk(
+    alloc: Global,
+    plan: &Plan,
+    providers: &[Box<dyn Provider + Sync>],
+    book: &mut Book,
+    journal: &mut Journal,
+    results: &mut [Option<Ended>],
+)
+    requires served { AreServed (map (λ b. meaning b) providers.now) (map action_of plan.now.actions.items) }
+    requires so_far { IsSoFar (map (λ b. meaning b) providers.now) (plan_of plan.now) (map (option_map done_of) results.old) journal.old.entries }
+    requires staged { IsStaged book.old.stages (map (option_map done_of) results.old) }
+    requires book { book.old.graph ≡ plan.now.order }
+    requires graph { journal.old.graph ≡ plan.now.order }
+    ensures so_far { IsSoFar (map (λ b. meaning b) providers.now) (plan_of plan.now) (map (option_map done_of) results.new) journal.new.entries }
+    ensures all { AllHaveEnded (plan_of plan.now) (map (option_map done_of) results.new) }
+    ensures graph { journal.new.graph ≡ plan.now.order }
+{
+    let _order = plan.order.graph();
+    while let Some(permit) = next_permit(book) {
+        let action = permit.action();
+        let (ended, finished) = end_action(alloc, plan, providers, journal, results, permit);
+        keep(results, action, ended);
+        close(book, finished);
+    }
+}
+
+/// Keeps what came of an action.
+fn keep(results: &mut [Option<Ended>], action: usize, ended: Ended)
+    requires { action < length results.old }
+    ensures { results.new ≡ slice_set results.old action (Some ended) }
+{
+    results[action] = Some(ended);
+}
