@@ -1,5 +1,5 @@
 -- The first test that refuses.
-use Rattle.std.proofs.Common.{◌≡◌, ℕ, List, [], ◌∷◌, Option, inl, inr}
+use Rattle.std.proofs.Common.{◌≡◌, ℕ, List, Option, inl, inr}
 use Rattle.tf_provider.specs.Meaning.{Meaning}
 use Rattle.tf_config.specs.Reading.{IsRefused}
 use Rattle.tf_config.specs.Refusal.{Told, fault, bare}

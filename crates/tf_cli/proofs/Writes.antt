@@ -1,5 +1,8 @@
 -- Texts that are written one after another.
-use Rattle.std.proofs.Common.{◌≡◌, ◌≤◌, ◌<◌, ◌+◌, ◌∙◌, ℕ, List, [], ◌∷◌, ◌++◌, length, take, drop, Option, Some, None, sym, ap, append_assoc, refl, rules, arith}
+use Rattle.std.proofs.Common.{◌≡◌, ◌≤◌, ◌+◌, ◌-◌, ◌∙◌, ℕ, List, [], ◌++◌, length, take, drop, Option, Some, None, sym, ap, append_assoc, rules, arith}
+use Rattle.std.proofs.Common.{ap₂}
+use Rattle.std.proofs.lemmas.List.{take-append-drop, take_all, length-drop}
+use Rattle.std.proofs.Math.Seq.{take-append-add}
 use Rattle.std.specs.Io.KnownBytes.{Appends, Keeps}
 
 pub appends_then : (u v w : Option (List ℕ)) (a b : List ℕ) → Appends u v a → Appends v w b → Appends u w (a ++ b)
@@ -21,5 +24,12 @@ appends_none (Some xs) = search rules
 pub appends_as : (u v : Option (List ℕ)) (a b : List ℕ) → a ≡ b → Appends u v a → Appends u v b
 appends_as u v a b e x = rw (← e) x
 
-pub take_further : (xs : List ℕ) (i n : ℕ) → i ≤ length xs → take i xs ++ take n (drop i xs) ≡ take (i + n) xs
-take_further xs i n le = search rules
+-- the part of a text from some place on is all that is left
+all_left : (xs : List ℕ) (i : ℕ) → take (length xs - i) (drop i xs) ≡ drop i xs
+all_left xs i = take_all (length xs - i) (drop i xs) (omega (arith, length-drop i xs))
+
+pub take_further : (xs : List ℕ) (i n : ℕ) → i ≤ length xs → take i xs ++ take n (take (length xs - i) (drop i xs)) ≡ take (i + n) xs
+take_further xs i n le =
+    let len : length (take i xs) ≡ i = search rules in
+    ap (λ (t : List ℕ). take i xs ++ take n t) (all_left xs i)
+    ∙ sym (take-append-add (take i xs) (drop i xs) n) ∙ ap₂ take (ap (λ k. k + n) len) (take-append-drop i xs)

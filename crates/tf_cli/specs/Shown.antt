@@ -1,5 +1,5 @@
 -- What an apply prints before it writes the state, and its status.
-use Rattle.std.specs.Prelude.{ℕ, Bool, true, false, not, ◌&&◌, ◌||◌, if◌then◌else◌, List, [], ◌∷◌, ◌++◌, map, codes, decimal, Option, Some, None, Result, Ok, Err, is_err, string_bytes}
+use Rattle.std.specs.Prelude.{ℕ, Bool, true, false, not, ◌&&◌, if◌then◌else◌, List, [], ◌∷◌, ◌++◌, codes, decimal, Option, Some, None, Result, Ok, Err, is_err, string_bytes}
 use Rattle.std.specs.List.{flat_map, list_all}
 use Rattle.tf_config.specs.Refusal.{Told, no_memory, told}
 use Rattle.tf_config.specs.RefusalText.{refusal_text}
@@ -64,10 +64,18 @@ is_good_outcome _ = false
 abbrev pub all_good : Report → Bool
 all_good report = list_all is_good_outcome report.outcomes.items
 
--- whether the apply is complete, and how many objects were added, changed and destroyed
-abbrev pub summary : Bool → ℕ × ℕ × ℕ → List ℕ
-summary complete good =
-    codes "Apply " ++ (if complete then codes "complete!" else codes "incomplete.") ++ codes " Resources: " ++ decimal good.0 ++ codes " added, " ++ decimal good.1 ++ codes " changed, " ++ decimal good.2 ++ codes " destroyed.\n"
+-- how the summary begins
+abbrev pub summary_opening : Bool → List ℕ
+summary_opening complete = if complete then codes "Apply complete! Resources: " else codes "Apply incomplete. Resources: "
+
+-- how many objects were added, changed and destroyed
+abbrev pub counts : List ℕ → ℕ → ℕ → ℕ → List ℕ
+counts opening added changed destroyed =
+    opening ++ (decimal added ++ (codes " added, " ++ (decimal changed ++ (codes " changed, " ++ (decimal destroyed ++ codes " destroyed.\n")))))
+
+-- the summary of a report: whether each action is good, and how many of each kind are
+abbrev pub report_summary : Report → List ℕ
+report_summary report = counts (summary_opening (all_good report)) report.good.0 report.good.1 report.good.2
 
 -- ---- all that is printed
 
@@ -84,7 +92,7 @@ unwritten_error unwritten = if unwritten then codes "error: state not written\n"
 
 -- on standard output: the plan and the summary
 abbrev pub applied_output : Applied → List ℕ
-applied_output a = string_bytes a.plan ++ summary (all_good (report_of a.walked)) (report_of a.walked).good
+applied_output a = string_bytes a.plan ++ report_summary (report_of a.walked)
 
 -- on standard error: the diagnostics, the warning of a torn report, and that the state isn't written
 abbrev pub applied_errors : Applied → List ℕ

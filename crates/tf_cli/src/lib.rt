@@ -9,7 +9,7 @@ pub mod saving;
 
 pub use applied::Applied;
 pub use planning::plan_text;
-pub use printing::{print, show};
+pub use printing::{print, print_refused, show};
 pub use saving::{SaveFault, save};
 pub use tf_config::Refusal;
 pub use tf_options::{Options, options};

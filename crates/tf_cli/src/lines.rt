@@ -63,34 +63,3 @@ fn verb_text(verb: &Option<Op>) -> &'static str
         Some(Op::Destroy) => " destroy",
     }
 }
-
-/// Whether an apply is complete, and how many creates, updates and destroys were good, in a line.
-#[derive(Clone, Copy)]
-pub struct Summary {
-    pub complete: bool,
-    pub good: (u32, u32, u32),
-}
-
-impl fmt::Display for Summary {
-    ghost use Rattle.std.specs.Prelude.{Some};
-    ghost use Rattle.tf_cli.specs.Shown.{summary};
-
-    ghost output = { λ s. Some (summary s.complete s.good) };
-
-    fn fmt<W: fmt::Write>(&self, f: &mut fmt::Formatter<W>) -> fmt::Result {
-        let ending = ending(self.complete);
-        let (added, changed, destroyed) = self.good;
-        write!(
-            f,
-            "Apply {ending} Resources: {added} added, {changed} changed, {destroyed} destroyed.\n"
-        )
-    }
-}
-
-ghost use Rattle.std.specs.Prelude.{if◌then◌else◌, codes};
-
-fn ending(complete: bool) -> &'static str
-    ensures { result.now ≡ (if complete then codes "complete!" else codes "incomplete.") }
-{
-    if complete { "complete!" } else { "incomplete." }
-}

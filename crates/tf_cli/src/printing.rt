@@ -3,12 +3,13 @@
 ghost use Rattle.std.specs.Io.KnownBytes.{Appends};
 ghost use Rattle.std.specs.List.{flat_map};
 ghost use Rattle.std.specs.Prelude.{◌≡◌, OnOk};
-ghost use Rattle.tf_cli.specs.Shown.{all_good, applied_errors, applied_output, applied_status, cant_write, diagnostic_lines, errors_of, is_good_outcome, is_torn, output_of, refusal_line, refused_errors, report_of, status_of, summary, torn_warning, unwritten_error};
+ghost use Rattle.tf_cli.specs.Shown.{all_good, counts, summary_opening, applied_errors, applied_output, applied_status, cant_write, diagnostic_lines, errors_of, is_good_outcome, is_torn, output_of, refusal_line, refused_errors, report_of, report_summary, status_of, torn_warning, unwritten_error};
 ghost use Rattle.tf_config.specs.Refusal.{told};
 
 use crate::applied::Applied;
-use crate::lines::{DiagnosticLine, RefusalLine, Summary};
+use crate::lines::{DiagnosticLine, RefusalLine};
 use crate::saving::{SaveFault, save};
+use std::io;
 use std::io::Write;
 use tf_config::Refusal;
 use tf_plan::Refused;
@@ -27,6 +28,7 @@ pub fn show<O: Write, E: Write>(answer: &Result<Applied, Refused>, out: &mut O, 
 
 /// Prints all that `apply` prints before it writes the state file. Where a write fails, the other lines are
 /// still printed.
+#[tactic(auto, using(crate::proofs::Writes::appends_none))]
 pub fn print<O: Write, E: Write>(
     answer: &Result<Applied, Refused>,
     out: &mut O,
@@ -62,6 +64,7 @@ fn status_of_applied(applied: &Applied) -> u8
     }
 }
 
+#[tactic(auto, using(crate::proofs::Writes::appends_then))]
 fn print_applied<O: Write, E: Write>(
     applied: &Applied,
     out: &mut O,
@@ -84,13 +87,11 @@ fn print_applied<O: Write, E: Write>(
 }
 
 fn print_summary<O: Write>(report: &Report, out: &mut O) -> Result<(), SaveFault>
-    ensures { OnOk result (Appends (O.contents out.old) (O.contents out.new) (summary (all_good report.now) report.now.good)) }
+    ensures { OnOk result (Appends (O.contents out.old) (O.contents out.new) (report_summary report.now)) }
 {
-    let summary = Summary {
-        complete: is_complete(report),
-        good: report.good,
-    };
-    write!(out, "{summary}")?;
+    let opening = opening(is_complete(report));
+    let (added, changed, destroyed) = report.good;
+    write_counts(out, opening, added, changed, destroyed)?;
     Ok(())
 }
 
@@ -187,5 +188,31 @@ fn unwritten_error(unwritten: bool) -> &'static str
         "error: state not written\n"
     } else {
         ""
+    }
+}
+
+fn write_counts<O: Write>(
+    out: &mut O,
+    opening: &str,
+    added: u32,
+    changed: u32,
+    destroyed: u32,
+) -> io::Result<()>
+    ensures { OnOk result (Appends (O.contents out.old) (O.contents out.new) (counts opening.now added changed destroyed)) }
+{
+    write!(
+        out,
+        "{opening}{added} added, {changed} changed, {destroyed} destroyed.\n"
+    )
+}
+
+/// How the summary begins.
+fn opening(complete: bool) -> &'static str
+    ensures { result.now ≡ summary_opening complete }
+{
+    if complete {
+        "Apply complete! Resources: "
+    } else {
+        "Apply incomplete. Resources: "
     }
 }
