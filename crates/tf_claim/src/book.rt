@@ -143,3 +143,64 @@ fn all_done(stages: &[Stage], actions: &[usize]) -> bool
     }
     true
 }
+
+#[cfg(test)]
+mod tests {
+    use super::*;
+    use crate::permit::waive;
+    use std::test::Fail;
+
+    /// Claims an action, waives its permit and reports it as done.
+    fn is_claimed(book: &mut Book, action: usize) -> bool
+        requires { action < book.old.graph.nodes }
+        ensures { book.new.graph ≡ book.old.graph }
+    {
+        match book.claim(action) {
+            Some(permit) => match book.finish(waive(permit)) {
+                Ok(()) => true,
+                Err(finished) => {
+                    finished.close();
+                    false
+                }
+            },
+            None => false,
+        }
+    }
+
+    #[test]
+    fn claims_follow_the_graph(rt: HostRuntime) -> Result<(), Fail> {
+        let graph = Graph::new(rt.alloc(), 3, &[(0, 1), (1, 2)])?;
+        let mut book = Book::new(rt.alloc(), &graph)?;
+        assert_eq!(rt; book.graph().edges(), [(0, 1), (1, 2)].as_slice());
+        assert!(rt; !book.see(0));
+        assert!(rt; !is_claimed(&mut book, 1), "0 isn't done");
+        assert!(rt; is_claimed(&mut book, 0));
+        assert!(rt; book.see(0));
+        assert!(rt; !is_claimed(&mut book, 0), "0 is done");
+        assert!(rt; is_claimed(&mut book, 1));
+        assert!(rt; is_claimed(&mut book, 2));
+        Ok(())
+    }
+
+    #[test]
+    fn a_report_needs_a_claim(rt: HostRuntime) -> Result<(), Fail> {
+        let graph = Graph::new(rt.alloc(), 1, &[])?;
+        let mut book = Book::new(rt.alloc(), &graph)?;
+        let mut other = Book::new(rt.alloc(), &graph)?;
+        let Some(permit) = book.claim(0) else {
+            return Err("not claimed")?;
+        };
+        assert_eq!(rt; permit.action(), 0);
+        let Err(finished) = other.finish(waive(permit)) else {
+            return Err("finished without a claim")?;
+        };
+        assert_eq!(rt; finished.action(), 0);
+        match book.finish(finished) {
+            Ok(()) => Ok(()),
+            Err(finished) => {
+                finished.close();
+                Err("not finished")?
+            }
+        }
+    }
+}

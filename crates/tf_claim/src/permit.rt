@@ -19,13 +19,13 @@ impl Model for Permit {
 /// What is left of a permit that was spent: the right to report its action as done, once. Contracts
 /// see the action's number.
 pub struct Finished {
-    action: usize,
+    spent: usize,
 }
 
 impl Model for Finished {
     ghost Value = { ℕ };
 
-    ghost view = { λ finished. finished.action };
+    ghost view = { λ finished. finished.spent };
 }
 
 impl Permit {
@@ -47,14 +47,14 @@ impl Permit {
 impl Finished {
     /// Ends what was reported. Only a book does this, once the action is done.
     pub(crate) fn close(self) {
-        let Finished { action: _ } = self;
+        let Finished { spent: _ } = self;
     }
 
     /// The action whose permit was spent.
     pub fn action(&self) -> usize
         ensures { result ≡ self.now }
     {
-        self.action
+        self.spent
     }
 }
 
@@ -63,5 +63,5 @@ pub fn waive(permit: Permit) -> Finished
     ensures { result ≡ permit }
 {
     let Permit { action } = permit;
-    Finished { action }
+    Finished { spent: action }
 }

@@ -1,5 +1,5 @@
 -- What blocks keep as they are put in.
-use Rattle.std.proofs.Common.{◌≡◌, ◌∙◌, ℕ, List, [], ◌∷◌, Bool, true, false, ◌&&◌, Option, Some, None, Ordering, Less, Equal, Greater, refl, sym, ap, subst, IsTrue, IsSome, nat_cmp, cond}
+use Rattle.std.proofs.Common.{◌≡◌, ◌∙◌, ℕ, List, [], ◌∷◌, Bool, true, ◌&&◌, Option, Some, Ordering, Less, Equal, Greater, refl, ap, subst, IsSome, nat_cmp}
 use Rattle.std.proofs.lemmas.Cmp.{nat_list_cmp_total, on_total, then_total}
 use Rattle.std.specs.Cmp.{IsTotalOrder}
 use Rattle.std.specs.Cmp.Lexicographic.{slice_cmp}
@@ -157,6 +157,6 @@ values_put block (c ∷ cs) h all = values_put_at (address_cmp block c) block c 
 pub blocks_have_values : (tree : Data) (blocks : Blocks) → IsConfiguration tree blocks → AllByRecursion HasValues blocks
 blocks_have_values tree blocks h =
     configuration_keeps (AllByRecursion HasValues)
-      (λ kind name d arguments a body all. values_put (record { kind = kind; name = name; arguments = arguments }) a
-        (λ argument_name argument is. value_of_literal argument (found IsLiteral argument_name arguments argument (literal_arguments d arguments body) is)) all)
-      tree blocks h tt
+    (λ kind name d arguments a body all. values_put (record { kind = kind; name = name; arguments = arguments }) a
+    (λ argument_name argument is. value_of_literal argument (found IsLiteral argument_name arguments argument (literal_arguments d arguments body) is)) all)
+    tree blocks h tt

@@ -1,9 +1,9 @@
 -- A `BTreeMap` of blocks beside the list of blocks that it stands for.
-use Rattle.std.proofs.Common.{◌≡◌, List, [], ◌∷◌, Ordering, Less, Equal, Greater, map, refl, ◌∙◌, ap, string_cmp}
+use Rattle.std.proofs.Common.{◌≡◌, List, [], ◌∷◌, Ordering, Less, Equal, Greater, map, refl, ◌∙◌, string_cmp}
 use Rattle.std.specs.BTreeMap.{insert_entry}
 use Rattle.std.specs.Ordering.{match_ordering, ordering_then}
 use Rattle.tf_address.specs.declared.label.Label.{Label}
-use Rattle.tf_config.specs.Config.{BlockView, Blocks, block_of, put_block}
+use Rattle.tf_config.specs.Config.{block_of, put_block}
 use Rattle.tf_config.specs.declared.config.Block.{Block}
 
 -- the derived order of labels

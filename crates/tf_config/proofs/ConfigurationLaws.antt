@@ -1,16 +1,15 @@
 -- What is read and what is demanded fit together: a tree stands for blocks exactly where all checks are
 -- met, and for one list of blocks at most.
-use Rattle.std.proofs.Common.{◌≡◌, ℕ, ◌+◌, List, [], ◌∷◌, ◌++◌, refl, sym, ap, ◌∙◌, subst, Bool, IsTrue}
+use Rattle.std.proofs.Common.{◌≡◌, ℕ, ◌+◌, List, [], ◌∷◌, refl, sym, ap, ◌∙◌}
 use Rattle.std.specs.Fmt.{decimal}
 use Rattle.serde_json.specs.Data.{Data, null, boolean, number, string, array, object, Items, no_items, item, Members, no_members, member, put}
-use Rattle.tf_address.specs.Name.{is_name}
 use Rattle.tf_text.proofs.Checks.{AllMet-append, AllMet-left, AllMet-right}
 use Rattle.tf_text.proofs.Walks.{Builds-met, Builds-from_met, Builds-same}
-use Rattle.tf_config.specs.Config.{BlockView, Blocks, put_block}
-use Rattle.tf_config.specs.Configuration.{PropertyChecks, below, object_checks, argument_checks, checks_of_property, property_checks, resource_checks, type_checks, checks_of_section, section_checks, configuration_checks, BuildsFrom, AddsArgument, AddsAs, AddsProperty, IsBody, AddsResource, AddsType, AddsTypes, AddsSection, IsConfiguration}
-use Rattle.tf_config.specs.Demand.{Checks, AreMet, IsMet}
+use Rattle.tf_config.specs.Config.{Blocks, put_block}
+use Rattle.tf_config.specs.Configuration.{PropertyChecks, below, object_checks, checks_of_property, property_checks, resource_checks, type_checks, checks_of_section, section_checks, configuration_checks, BuildsFrom, AddsAs, AddsProperty, IsBody, AddsResource, AddsType, AddsTypes, AddsSection, IsConfiguration}
+use Rattle.tf_config.specs.Demand.{AreMet, IsMet}
 use Rattle.tf_config.specs.Literal.{literal_checks, item_checks, member_checks, IsLiteral, AreLiterals, HoldsLiterals}
-use Rattle.tf_config.specs.Words.{section_of, property_of, is_type_name}
+use Rattle.tf_config.specs.Words.{section_of, property_of}
 use Rattle.tf_config.specs.declared.words.Section.{Section}
 use Rattle.tf_config.specs.declared.words.Section.TheVariants as sections
 use Rattle.tf_config.specs.declared.words.Property.{Property}

@@ -53,7 +53,7 @@ module _ (place : List (List ℕ)) (done : List Entry) (e : Entry) (met : AreMet
       → AreMet (member_checks place (members_view (done ++ e ∷ [])))
   members_met_more named more =
       rw member_checks-each (met_more IsMet (one_member place) done e (subst AreMet (member_checks-each place (members_view done)) met)
-        (AllMet-append IsMet (demanded (string_bytes e.0 ∷ place) (a_plain_name (string_bytes e.0))) (literal_checks (string_bytes e.0 ∷ place) (view e.1)) named more))
+      (AllMet-append IsMet (demanded (string_bytes e.0 ∷ place) (a_plain_name (string_bytes e.0))) (literal_checks (string_bytes e.0 ∷ place) (view e.1)) named more))
 
   pub members_refused : (more : List Entry) (t : Told) → Refuses (one_member place (string_bytes e.0) (view e.1)) t → Refuses (member_checks place (members_view (done ++ e ∷ more))) t
   members_refused more t first =

@@ -1,15 +1,14 @@
 -- One fault is told of a text at most, and none of a configuration.
-use Rattle.std.proofs.Common.{◌≡◌, ◌⊎◌, ◌∙◌, ℕ, ◌<◌, ◌≤◌, List, length, Some, refl, sym, ap, subst, inl, inr, arith}
+use Rattle.std.proofs.Common.{◌≡◌, ◌⊎◌, ◌∙◌, ℕ, ◌≤◌, List, length, Some, sym, ap, subst, inl, inr, arith}
 use Rattle.std.proofs.lemmas.Bool.{cases_order}
 use Rattle.serde_json.specs.Data.{Data}
 use Rattle.tf_text.proofs.Checks.{IsFirst-unmet, IsFirst-same}
-use Rattle.tf_text.specs.Place.{dotted}
 use Rattle.tf_config.proofs.ConfigurationLaws.{configuration_met, configuration_same}
 use Rattle.tf_config.specs.Config.{Blocks}
-use Rattle.tf_config.specs.Configuration.{configuration_checks, whole_file, IsConfiguration}
+use Rattle.tf_config.specs.Configuration.{configuration_checks, IsConfiguration}
 use Rattle.tf_config.specs.Demand.{Demand, nothing_fits, a_name, a_type_name, a_plain_name, a_whole_number, a_template, Way, IsMet, Fails, Refuses, bad_template}
 use Rattle.tf_config.specs.Opening.{IsFirstOpening}
-use Rattle.tf_config.specs.Reading.{IsTree, IsNotJson, IsMisshapen, HasTooManyBlocks, IsRefused, max_bytes, max_blocks, whole_fault}
+use Rattle.tf_config.specs.Reading.{IsTree, IsNotJson, IsMisshapen, HasTooManyBlocks, IsRefused, max_bytes, max_blocks}
 use Rattle.tf_config.specs.Refusal.{DetailView, Told, fault}
 
 apart : (d : Demand) (way : Way) → IsMet d → Fails d way → ⊥
@@ -23,8 +22,9 @@ apart (a_template s) way met fails = met fails.0 fails.1.0
 first_same : (s : List ℕ) (n m : ℕ) → IsFirstOpening s n → IsFirstOpening s m → n ≡ m
 first_same s n m h k =
     elim (cases_order n m) [
-      inl same ↦ same
-    | inr apart ↦ elim apart [ inl below ↦ absurd (k.1 n below h.0) | inr above ↦ absurd (h.1 m above k.0) ] ]
+      | inl same ↦ same
+      | inr apart ↦ elim apart [ inl below ↦ absurd (k.1 n below h.0) | inr above ↦ absurd (h.1 m above k.0) ]
+    ]
 
 one_way : (d : Demand) (way other : Way) → Fails d way → Fails d other → way ≡ other
 one_way nothing_fits way other h k = h ∙ sym k
@@ -46,7 +46,7 @@ standing : (bytes : List ℕ) (code : ℕ) (place : List ℕ) (detail : DetailVi
 standing bytes code place detail tree blocks text stands h =
     let same : h.0 ≡ tree = one_tree bytes h.0 tree h.1 text in
     IsFirst-unmet IsMet Fails apart (configuration_checks tree) place (code, detail) (configuration_met tree blocks stands)
-      (subst (λ t. Refuses (configuration_checks t) (fault code place detail)) same h.2)
+    (subst (λ t. Refuses (configuration_checks t) (fault code place detail)) same h.2)
 
 module _ (bytes : List ℕ) (code code' : ℕ) (place place' : List ℕ) (detail detail' : DetailView) where
   both_misshapen : IsMisshapen bytes (fault code place detail) → IsMisshapen bytes (fault code' place' detail') → fault code place detail ≡ fault code' place' detail'
@@ -59,35 +59,45 @@ module _ (bytes : List ℕ) (code code' : ℕ) (place place' : List ℕ) (detail
   shape_once : IsShape bytes (fault code place detail) → IsShape bytes (fault code' place' detail') → fault code place detail ≡ fault code' place' detail'
   shape_once h k =
       elim h [
-        inl no_json ↦ elim k [
-          inl other ↦ no_json.1 ∙ sym other.1
-        | inr shape ↦ elim shape [ inl misshapen ↦ absurd (no_json.0 misshapen.0 misshapen.1) | inr many ↦ absurd (no_json.0 many.0 many.1) ] ]
-      | inr shape ↦ elim k [
-          inl no_json ↦ elim shape [ inl misshapen ↦ absurd (no_json.0 misshapen.0 misshapen.1) | inr many ↦ absurd (no_json.0 many.0 many.1) ]
-        | inr other ↦ elim shape [
-            inl misshapen ↦ elim other [
-              inl other_misshapen ↦ both_misshapen misshapen other_misshapen
-            | inr many ↦ absurd (standing bytes code place detail many.0 many.2 many.1 many.3 misshapen) ]
-          | inr many ↦ elim other [
-              inl other_misshapen ↦ absurd (standing bytes code' place' detail' many.0 many.2 many.1 many.3 other_misshapen)
-            | inr other_many ↦ many.5 ∙ sym other_many.5 ] ] ] ]
+        | inl no_json ↦ elim k [
+          | inl other ↦ no_json.1 ∙ sym other.1
+          | inr shape ↦ elim shape [ inl misshapen ↦ absurd (no_json.0 misshapen.0 misshapen.1) | inr many ↦ absurd (no_json.0 many.0 many.1) ]
+        ]
+        | inr shape ↦ elim k [
+          | inl no_json ↦ elim shape [ inl misshapen ↦ absurd (no_json.0 misshapen.0 misshapen.1) | inr many ↦ absurd (no_json.0 many.0 many.1) ]
+          | inr other ↦ elim shape [
+            | inl misshapen ↦ elim other [
+              | inl other_misshapen ↦ both_misshapen misshapen other_misshapen
+              | inr many ↦ absurd (standing bytes code place detail many.0 many.2 many.1 many.3 misshapen)
+            ]
+            | inr many ↦ elim other [
+              | inl other_misshapen ↦ absurd (standing bytes code' place' detail' many.0 many.2 many.1 many.3 other_misshapen)
+              | inr other_many ↦ many.5 ∙ sym other_many.5
+            ]
+          ]
+        ]
+      ]
 
   pub refused_once : IsRefused bytes (fault code place detail) → IsRefused bytes (fault code' place' detail') → fault code place detail ≡ fault code' place' detail'
   refused_once h k =
       elim h [
-        inl long ↦ elim k [ inl other ↦ long.1 ∙ sym other.1 | inr small ↦ absurd (omega (arith, long.0, small.0)) ]
-      | inr small ↦ elim k [ inl long ↦ absurd (omega (arith, long.0, small.0)) | inr other ↦ shape_once small.1 other.1 ] ]
+        | inl long ↦ elim k [ inl other ↦ long.1 ∙ sym other.1 | inr small ↦ absurd (omega (arith, long.0, small.0)) ]
+        | inr small ↦ elim k [ inl long ↦ absurd (omega (arith, long.0, small.0)) | inr other ↦ shape_once small.1 other.1 ]
+      ]
 
 pub refused_not_read : (bytes : List ℕ) (code : ℕ) (place : List ℕ) (detail : DetailView) (tree : Data) (blocks : Blocks) → IsRefused bytes (fault code place detail)
     → length bytes ≤ max_bytes → IsTree bytes tree → IsConfiguration tree blocks → length blocks ≤ max_blocks → ⊥
 refused_not_read bytes code place detail tree blocks h small text stands few =
     elim h [
-      inl long ↦ absurd (omega (arith, long.0))
-    | inr within ↦ elim within.1 [
-        inl no_json ↦ no_json.0 tree text
-      | inr shape ↦ elim shape [
-          inl misshapen ↦ standing bytes code place detail tree blocks text stands misshapen
-        | inr many ↦
-            let same_tree : many.0 ≡ tree = one_tree bytes many.0 tree many.1 text in
-            let same : many.2 ≡ blocks = configuration_same tree many.2 blocks (subst (λ t. IsConfiguration t many.2) same_tree many.3) stands in
-            omega (arith, many.4, ap length same) ] ] ]
+      | inl long ↦ absurd (omega (arith, long.0))
+      | inr within ↦ elim within.1 [
+        | inl no_json ↦ no_json.0 tree text
+        | inr shape ↦ elim shape [
+          | inl misshapen ↦ standing bytes code place detail tree blocks text stands misshapen
+          | inr many ↦
+              let same_tree : many.0 ≡ tree = one_tree bytes many.0 tree many.1 text in
+              let same : many.2 ≡ blocks = configuration_same tree many.2 blocks (subst (λ t. IsConfiguration t many.2) same_tree many.3) stands in
+              omega (arith, many.4, ap length same)
+        ]
+      ]
+    ]

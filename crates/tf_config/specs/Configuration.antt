@@ -4,7 +4,7 @@ use Rattle.serde_json.specs.Data.{Data, object, Members, no_members, put}
 use Rattle.tf_address.specs.Name.{is_name}
 use Rattle.tf_text.specs.Check.{demanded}
 use Rattle.tf_text.specs.Walk.{each, Builds}
-use Rattle.tf_config.specs.Config.{BlockView, Blocks, put_block}
+use Rattle.tf_config.specs.Config.{Blocks, put_block}
 use Rattle.tf_config.specs.Demand.{Checks, nothing_fits, a_name, a_type_name}
 use Rattle.tf_config.specs.Literal.{literal_checks, IsLiteral}
 use Rattle.tf_config.specs.Words.{section_of, property_of, is_type_name}

@@ -2,14 +2,14 @@
 use Rattle.std.specs.Prelude.{◌≡◌, ℕ, ◌≤◌, List, length, Some, IsSome}
 use Rattle.std.specs.List.{AllByRecursion}
 use Rattle.std.specs.List.Sorted.{IsStrictlySortedBy}
-use Rattle.serde_json.specs.Data.{Data, Members}
+use Rattle.serde_json.specs.Data.{Data}
 use Rattle.serde_json.specs.Find.{get_member}
 use Rattle.tf_value.specs.Json.{value_from}
 use Rattle.tf_config.specs.Config.{BlockView, Blocks, address_cmp}
 use Rattle.tf_config.specs.Configuration.{configuration_checks, IsConfiguration}
 use Rattle.tf_config.specs.Demand.{AreMet}
 use Rattle.tf_config.specs.Reading.{IsTree, IsRefused, max_bytes, max_blocks}
-use Rattle.tf_config.specs.Refusal.{DetailView, Told, fault}
+use Rattle.tf_config.specs.Refusal.{DetailView, fault}
 
 -- All checks of a tree that stands for blocks are met.
 abbrev pub StandingIsFaultless : Type 0

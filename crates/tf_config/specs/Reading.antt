@@ -6,7 +6,7 @@ use Rattle.tf_text.specs.Place.{dotted}
 use Rattle.tf_config.specs.Config.{Blocks}
 use Rattle.tf_config.specs.Configuration.{configuration_checks, whole_file, IsConfiguration}
 use Rattle.tf_config.specs.Demand.{Refuses}
-use Rattle.tf_config.specs.Refusal.{DetailView, bare, Told, no_memory, workers, fault}
+use Rattle.tf_config.specs.Refusal.{bare, Told, no_memory, workers, fault}
 
 -- the text is UTF-8, and is this tree as `serde_json` reads it
 abbrev pub IsTree : List ℕ → Data → Type 0

@@ -1,5 +1,5 @@
 -- What a refusal tells, without where it lies in memory.
-use Rattle.std.specs.Prelude.{ℕ, List, map, codes, string_bytes}
+use Rattle.std.specs.Prelude.{ℕ, List, map, string_bytes}
 use Rattle.tf_config.specs.declared.refusal.Detail.{Detail}
 use Rattle.tf_config.specs.declared.refusal.Detail.TheVariants as details
 use Rattle.tf_config.specs.declared.refusal.Refusal.{Refusal}

@@ -42,7 +42,8 @@ fn read_properties<'a>(
     ensures ok { IfOk result (λ block.
         Builds AddsProperty (members_view members.now.entries) no_members (arguments_of block)) }
     ensures fault { IfErr result (λ refusal.
-        Refuses (each (below property_checks (place_of path.now)) (members_view members.now.entries)) (told refusal)) }
+        Refuses (each (below property_checks (place_of path.now)) (members_view members.now.entries))
+        (told refusal)) }
 {
     let mut block = Block {
         arguments: BTreeMap::new(alloc),

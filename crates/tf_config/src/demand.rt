@@ -14,8 +14,11 @@ use tf_address::is_name;
 use tf_text::Path;
 
 pub(crate) const NOT_JSON: u8 = 1;
+
 pub(crate) const BAD_SHAPE: u8 = 2;
+
 const BAD_TEMPLATE: u8 = 3;
+
 pub(crate) const LIMIT: u8 = 14;
 
 /// A fault at a place, or that there is no memory to write the place out.
@@ -57,11 +60,7 @@ pub(crate) fn demand_name(alloc: Global, path: &Path<'_>, text: &str) -> Result<
     }
 }
 
-pub(crate) fn demand_type_name(
-    alloc: Global,
-    path: &Path<'_>,
-    text: &str,
-) -> Result<(), Refusal>
+pub(crate) fn demand_type_name(alloc: Global, path: &Path<'_>, text: &str) -> Result<(), Refusal>
     ensures { Judges (demanded (place_of path.now) (a_type_name text.now)) result }
 {
     if words::is_type_name(text) {
@@ -71,11 +70,7 @@ pub(crate) fn demand_type_name(
     }
 }
 
-pub(crate) fn demand_plain_name(
-    alloc: Global,
-    path: &Path<'_>,
-    text: &str,
-) -> Result<(), Refusal>
+pub(crate) fn demand_plain_name(alloc: Global, path: &Path<'_>, text: &str) -> Result<(), Refusal>
     ensures { Judges (demanded (place_of path.now) (a_plain_name text.now)) result }
 {
     match words::first_opening(text) {
@@ -97,11 +92,7 @@ pub(crate) fn demand_whole_number(
     }
 }
 
-pub(crate) fn demand_template(
-    alloc: Global,
-    path: &Path<'_>,
-    text: &str,
-) -> Result<(), Refusal>
+pub(crate) fn demand_template(alloc: Global, path: &Path<'_>, text: &str) -> Result<(), Refusal>
     ensures { Judges (demanded (place_of path.now) (a_template text.now)) result }
 {
     match words::first_opening(text) {

@@ -13,6 +13,8 @@ mod literal;
 mod names;
 mod reading;
 pub mod refusal;
+#[cfg(test)]
+mod tests;
 pub mod tf_expr;
 mod words;
 

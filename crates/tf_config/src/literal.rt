@@ -29,11 +29,7 @@ pub(crate) fn demand_literal<'a>(
 }
 
 #[cycle(literal)]
-fn demand_items<'a>(
-    alloc: Global,
-    items: &'a Vec<Value>,
-    path: &'a Path<'a>,
-) -> Result<(), Refusal>
+fn demand_items<'a>(alloc: Global, items: &'a Vec<Value>, path: &'a Path<'a>) -> Result<(), Refusal>
     ensures { Judges (item_checks (place_of path.now) 0 (items_view items.now.items)) result }
 {
     for (position, item) in items.iter().enumerate() {

@@ -28,10 +28,30 @@ const MAX_BYTES: usize = 4_194_304;
 /// How many resource blocks a configuration may have.
 const MAX_BLOCKS: usize = 2_000;
 
-/// Reads a configuration.
+/// Reads a configuration: the bytes of one JSON object, whose property `resource` has types, below them
+/// names, and below those bodies. A body's properties are arguments, each a literal. `//` is ignored at the
+/// top and in a body.
+///
+/// # Errors
+///
+/// The first of these in the order of tests, or `OutOfMemory`.
+/// - 14 at `configuration`: more than 4,194,304 bytes.
+/// - 1 at `configuration`: no JSON as `serde_json` reads it, which takes UTF-8 alone.
+/// - 2 or 3, at the first fault in a walk that takes properties in byte order, depth first, and a block's own
+///   shape before its parts. The place is the path of names and positions, joined by dots, or `configuration`
+///   where the top is no object. 2 is a property, a block, a name or a number that the format doesn't allow.
+///   3 is a text in which `${` or `%{` stands, with the byte offset of the first of them.
+/// - 14 at `configuration`: more than 2,000 resource blocks.
 pub fn read(alloc: Global, bytes: &[u8]) -> Result<Config, Refusal>
-    ensures ok { IfOk result (λ config. (tree : Data) × IsTree bytes.now tree × IsConfiguration tree (blocks_of config)) }
-    ensures small { IfOk result (λ config. (length bytes.now ≤ max_bytes) × (length (blocks_of config) ≤ max_blocks)) }
+    // The text is a tree, and the tree stands for these blocks.
+    ensures ok { IfOk result (λ config. (tree : Data) × IsTree bytes.now tree
+        × IsConfiguration tree (blocks_of config)) }
+
+    // No limit is passed.
+    ensures small { IfOk result (λ config. (length bytes.now ≤ max_bytes)
+        × (length (blocks_of config) ≤ max_blocks)) }
+
+    // What is told is the first fault, or that there was no memory.
     ensures fault { IfErr result (λ refusal. IsRefused bytes.now (told refusal)) }
 {
     if bytes.len() > MAX_BYTES {
@@ -58,7 +78,8 @@ fn read_tree(alloc: Global, bytes: &[u8]) -> Result<Value, Refusal>
 
 fn read_configuration(alloc: Global, tree: &Value) -> Result<Config, Refusal>
     ensures ok { IfOk result (λ config. IsConfiguration (view tree.now) (blocks_of config)) }
-    ensures fault { IfErr result (λ refusal. Refuses (configuration_checks (view tree.now)) (told refusal)) }
+    ensures fault { IfErr result (λ refusal.
+        Refuses (configuration_checks (view tree.now)) (told refusal)) }
 {
     match tree {
         Value::Object(members) => read_sections(alloc, &Path::Root, members),
@@ -74,7 +95,8 @@ fn read_sections<'a>(
     ensures ok { IfOk result (λ config.
         Builds AddsSection (members_view members.now.entries) [] (blocks_of config)) }
     ensures fault { IfErr result (λ refusal.
-        Refuses (each (below section_checks (place_of path.now)) (members_view members.now.entries)) (told refusal)) }
+        Refuses (each (below section_checks (place_of path.now)) (members_view members.now.entries))
+        (told refusal)) }
 {
     let mut config = Config {
         resources: BTreeMap::new(alloc),
@@ -131,7 +153,8 @@ fn add_each_type<'a>(
     ensures ok { OnOk result (Builds AddsType (members_view members.now.entries)
         (blocks_of config.old) (blocks_of config.new)) }
     ensures fault { IfErr result (λ refusal.
-        Refuses (each (below type_checks (place_of path.now)) (members_view members.now.entries)) (told refusal)) }
+        Refuses (each (below type_checks (place_of path.now)) (members_view members.now.entries))
+        (told refusal)) }
 {
     for (key, member) in members.iter() {
         let kind = key.as_str();
@@ -164,7 +187,8 @@ fn add_resources<'a>(
     config: &mut Config,
 ) -> Result<(), Refusal>
     ensures ok { OnOk result
-        (BuildsFrom (AddsResource kind.now) (view value.now) (blocks_of config.old) (blocks_of config.new)) }
+        (BuildsFrom (AddsResource kind.now) (view value.now)
+        (blocks_of config.old) (blocks_of config.new)) }
     ensures fault { IfErr result (λ refusal.
         Refuses (object_checks resource_checks (place_of path.now) (view value.now)) (told refusal)) }
 {
@@ -184,7 +208,8 @@ fn add_each_resource<'a>(
     ensures ok { OnOk result (Builds (AddsResource kind.now) (members_view members.now.entries)
         (blocks_of config.old) (blocks_of config.new)) }
     ensures fault { IfErr result (λ refusal.
-        Refuses (each (below resource_checks (place_of path.now)) (members_view members.now.entries)) (told refusal)) }
+        Refuses (each (below resource_checks (place_of path.now)) (members_view members.now.entries))
+        (told refusal)) }
 {
     for (key, member) in members.iter() {
         let name = key.as_str();
@@ -202,7 +227,8 @@ fn add_resource<'a>(
     config: &mut Config,
 ) -> Result<(), Refusal>
     ensures ok { OnOk result
-        (AddsResource kind.now name.now (view value.now) (blocks_of config.old) (blocks_of config.new)) }
+        (AddsResource kind.now name.now (view value.now)
+        (blocks_of config.old) (blocks_of config.new)) }
     ensures fault { IfErr result (λ refusal.
         Refuses (resource_checks (place_of path.now) name.now (view value.now)) (told refusal)) }
 {

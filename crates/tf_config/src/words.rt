@@ -57,7 +57,13 @@ fn is_reserved_property(name: &str) -> bool
 {
     matches!(
         name,
-        "connection" | "count" | "depends_on" | "for_each" | "lifecycle" | "provider" | "provisioner"
+        "connection"
+            | "count"
+            | "depends_on"
+            | "for_each"
+            | "lifecycle"
+            | "provider"
+            | "provisioner"
     )
 }
 

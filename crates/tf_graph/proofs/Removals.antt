@@ -1,20 +1,17 @@
 -- A removal: at its start, one node on, and at its end.
-use Rattle.std.proofs.Common.{◌≡◌, ◌≢◌, ◌==◌, ◌+◌, ◌-◌, ◌<◌, ◌≤◌, ◌⊎◌, ◌∷◌, ◌++◌, [], ℕ, zero, suc, List, Bool, true, false, cond, length, set, get_or, take, drop, map, filter, replicate, refl, sym, ap, ◌∙◌, arith, eqb, inl, inr}
+use Rattle.std.proofs.Common.{◌≡◌, ◌==◌, ◌+◌, ◌-◌, ◌<◌, ◌≤◌, ◌∷◌, ◌++◌, [], ℕ, zero, suc, List, Bool, true, false, cond, length, set, take, map, filter, replicate, refl, sym, ap, ◌∙◌, arith, eqb, inl, inr}
 use Rattle.std.specs.Prelude.{Contains, slice_index}
-use Rattle.std.specs.List.{All}
-use Rattle.std.proofs.lemmas.Bool.{cases_eq, cases_lt, cases_Bool, eq-eqb, ne_eqb, eqb-true, eqb-false, both_ways, false≢true}
-use Rattle.std.proofs.lemmas.Bool.Decides.{nat_tests}
-use Rattle.std.proofs.lemmas.List.{get_or-set_same, get_or-set_other, get_or_past, get_or_append_left, get_or_push, get_or_default, get_or-take, length-set, length-take, length_push, length-replicate, get_or-replicate, length-append, take_all}
+use Rattle.std.proofs.lemmas.Bool.{cases_eq, cases_lt, cases_Bool, eq-eqb, ne_eqb, eqb-true, both_ways}
+use Rattle.std.proofs.lemmas.List.{get_or-set_same, get_or-set_other, get_or_past, get_or_append_left, get_or_push, get_or_default, get_or-take, length-set, length-take, length_push, length-replicate, get_or-replicate}
 use Rattle.std.proofs.lemmas.List.Elements.{Contains-append_left, Contains-push, Contains-push_cases}
 use Rattle.tf_graph.specs.Digraph.{Digraph, IsWithin, sources_into, targets_from, predecessors_of, successors_of}
-use Rattle.tf_graph.specs.Path.{HasEdge}
-use Rattle.tf_graph.specs.Edges.{edge-from_source, source-from_edge, source_inside, target_inside, contains_head, contains_tail, contains_cases}
+use Rattle.tf_graph.specs.Edges.{edge-from_source, source_inside, target_inside, contains_head, contains_tail, contains_cases}
 use Rattle.tf_graph.specs.NodeSet.{has}
 use Rattle.tf_graph.specs.Order.{IsInOrder}
 use Rattle.tf_graph.specs.Laws.{all_by_at}
 use Rattle.tf_graph.specs.Orders.{ordered-next}
 use Rattle.tf_graph.specs.GraphLaws.{has_below}
-use Rattle.tf_graph.specs.Strip.{IsOrdered, IsStripped}
+use Rattle.tf_graph.specs.Strip.{IsStripped}
 use Rattle.tf_graph.specs.Removal.{times, count_left, total, IsRemoval}
 
 -- one less at a place, one less in all
@@ -43,8 +40,9 @@ times-some n xs = omega (arith, times-head n xs)
 
 pub times-less : (n x : ℕ) (xs : List ℕ) → times n xs ≤ times n (x ∷ xs)
 times-less n x xs = elim (cases_eq x n) [
-    inl here ↦ rw here (omega (arith, times-head n xs))
-  | inr other ↦ omega (arith, times-tail n x xs other) ]
+  | inl here ↦ rw here (omega (arith, times-head n xs))
+  | inr other ↦ omega (arith, times-tail n x xs other)
+]
 
 -- an edge stands as often before its target as after its source
 pub times-swapped : (edges : List (ℕ × ℕ)) (n s : ℕ) → times n (sources_into edges s) ≡ times s (targets_from edges n)
@@ -67,36 +65,39 @@ count_left-set left n [] h below = refl
 count_left-set left n (x ∷ xs) h below =
     let rest : count_left left xs ≡ count_left (set left n false) xs + times n xs = count_left-set left n xs h below in
     elim (cases_eq x n) [
-      inl here ↦
-        let now : has (set left n false) x ≡ false = rw here (get_or-set_same left n false false below) in
-        let was : has left x ≡ true = rw here h in
-        let test : eqb x n ≡ true = eq-eqb x n here in
-        rw (now, was, test) (omega arith)
-    | inr other ↦
-        let same : has (set left n false) x ≡ has left x = get_or-set_other left n x false false other in
-        let test : eqb x n ≡ false = ne_eqb x n other in
-        rw (same, test) (omega arith) ]
+      | inl here ↦
+          let now : has (set left n false) x ≡ false = rw here (get_or-set_same left n false false below) in
+          let was : has left x ≡ true = rw here h in
+          let test : eqb x n ≡ true = eq-eqb x n here in
+          rw (now, was, test) (omega arith)
+      | inr other ↦
+          let same : has (set left n false) x ≡ has left x = get_or-set_other left n x false false other in
+          let test : eqb x n ≡ false = ne_eqb x n other in
+          rw (same, test) (omega arith)
+    ]
 
 -- none left, none counted
 pub none-from_count : (left : List Bool) (xs : List ℕ) → count_left left xs ≡ 0 → (a : ℕ) → Contains xs a → has left a ≡ false
 unfolding count_left
 none-from_count left [] h a c = absurd (omega (arith, c.1))
 none-from_count left (x ∷ xs) h a c = elim (cases_Bool (has left x)) [
-    inl here ↦ absurd (let one : 1 + count_left left xs ≡ 0 = rw here at h in omega arith)
+  | inl here ↦ absurd (let one : 1 + count_left left xs ≡ 0 = rw here at h in omega arith)
   | inr gone ↦
       let counted : 0 + count_left left xs ≡ 0 = rw gone at h in
       let rest : count_left left xs ≡ 0 = omega arith in
-      elim (contains_cases a x xs c) [ inl first ↦ rw (← first) gone | inr late ↦ none-from_count left xs rest a late ] ]
+      elim (contains_cases a x xs c) [ inl first ↦ rw (← first) gone | inr late ↦ none-from_count left xs rest a late ]
+]
 
 -- some counted, some left
 pub some-from_count : (left : List Bool) (xs : List ℕ) → (count_left left xs ≡ 0 → ⊥) → (a : ℕ) × Contains xs a × (has left a ≡ true)
 unfolding count_left
 some-from_count left [] h = absurd (h refl)
 some-from_count left (x ∷ xs) h = elim (cases_Bool (has left x)) [
-    inl here ↦ (x, contains_head x x xs refl, here)
+  | inl here ↦ (x, contains_head x x xs refl, here)
   | inr gone ↦
       let found = some-from_count left xs (λ z. h (rw gone (let e : 0 + count_left left xs ≡ 0 = omega arith in e))) in
-      (found.0, contains_tail found.0 x xs found.1, found.2) ]
+      (found.0, contains_tail found.0 x xs found.1, found.2)
+]
 
 -- all left, all counted
 pub all-counted : (left : List Bool) (xs : List ℕ) → ((a : ℕ) → Contains xs a → has left a ≡ true) → count_left left xs ≡ length xs
@@ -116,31 +117,39 @@ pub record IsStart (g : Digraph) (remaining free : List ℕ) (upto : ℕ) : Type
 
 pub start-more : (g : Digraph) (remaining free more_free : List ℕ) (node count : ℕ) → IsStart g remaining free node → count ≡ length (predecessors_of g node) → more_free ≡ cond (eqb count 0) (free ++ node ∷ []) free → IsStart g (remaining ++ count ∷ []) more_free (node + 1)
 start-more g remaining free more_free node count s is free_is = record {
-    long = omega (arith, length_push remaining count, s.long);
-    counts = λ k h. elim (cases_eq k node) [
-        inl here ↦ rw here (last ∙ is)
-      | inr other ↦ early k (omega arith) ∙ s.counts k (omega arith) ];
-    free_zero = λ k c. by_test (eqb count 0) refl k (rw free_is at c);
-    ready = λ k h z. elim (cases_eq k node) [
-        inl here ↦
-          let zero_count : count ≡ 0 = sym last ∙ (rw here at z) in
-          let test : eqb count 0 ≡ true = eq-eqb count 0 zero_count in
-          rw (free_is, test, here) (Contains-push free node)
-      | inr other ↦ rw free_is (kept (eqb count 0) k (s.ready k (omega arith) (sym (early k (omega arith)) ∙ z))) ] }
+  long = omega (arith, length_push remaining count, s.long);
+  counts = λ k h. elim (cases_eq k node) [
+    | inl here ↦ rw here (last ∙ is)
+    | inr other ↦ early k (omega arith) ∙ s.counts k (omega arith)
+  ];
+  free_zero = λ k c. by_test (eqb count 0) refl k (rw free_is at c);
+  ready = λ k h z. elim (cases_eq k node) [
+    | inl here ↦
+        let zero_count : count ≡ 0 = sym last ∙ (rw here at z) in
+        let test : eqb count 0 ≡ true = eq-eqb count 0 zero_count in
+        rw (free_is, test, here) (Contains-push free node)
+    | inr other ↦ rw free_is (kept (eqb count 0) k (s.ready k (omega arith) (sym (early k (omega arith)) ∙ z)))
+  ];
+}
   where
     last : slice_index (remaining ++ count ∷ []) node ≡ count
     last = get_or_push remaining count 0 node s.long
+
     early : (k : ℕ) → k < node → slice_index (remaining ++ count ∷ []) k ≡ slice_index remaining k
     early k h = get_or_append_left remaining (count ∷ []) 0 k (omega (arith, s.long))
+
     kept : (b : Bool) (k : ℕ) → Contains free k → Contains (cond b (free ++ node ∷ []) free) k
     kept true k c = Contains-append_left free (node ∷ []) k c
     kept false k c = c
+
     old : (k : ℕ) → Contains free k → (k < node + 1) × (slice_index (remaining ++ count ∷ []) k ≡ 0)
     old k c = let below : k < node = (s.free_zero k c).0 in (omega arith, early k below ∙ (s.free_zero k c).1)
+
     by_test : (b : Bool) → eqb count 0 ≡ b → (k : ℕ) → Contains (cond b (free ++ node ∷ []) free) k → (k < node + 1) × (slice_index (remaining ++ count ∷ []) k ≡ 0)
     by_test true test k c = elim (Contains-push_cases free node k c) [
-        inl early_one ↦ old k early_one
-      | inr here ↦ (omega arith, rw (← here) (last ∙ eqb-true count 0 test)) ]
+      | inl early_one ↦ old k early_one
+      | inr here ↦ (omega arith, rw (← here) (last ∙ eqb-true count 0 test))
+    ]
     by_test false test k c = old k c
 
 no_predecessors : (g : Digraph) (s : ℕ) → IsWithin g.nodes g.edges → g.nodes ≤ s → (xs : List ℕ) → xs ≡ predecessors_of g s → xs ≡ []
@@ -152,112 +161,135 @@ no_predecessors g s w h (x ∷ xs) e =
 pub start-done : (g : Digraph) (remaining free : List ℕ) → IsWithin g.nodes g.edges → IsStart g remaining free g.nodes → IsRemoval g (replicate g.nodes true) remaining free []
 unfolding count_left times
 start-done g remaining free w s = record {
-    left_length = length-replicate g.nodes true;
-    remaining_length = s.long;
-    counts = λ k. elim (cases_lt k g.nodes) [
-        inl below ↦
-          let all : count_left (replicate g.nodes true) (predecessors_of g k) ≡ length (predecessors_of g k) =
-              all-counted (replicate g.nodes true) (predecessors_of g k) (λ a c. get_or-replicate g.nodes a true false (source_inside g a k w (edge-from_source g.edges k a c))) in
-          let is : slice_index remaining k ≡ length (predecessors_of g k) = s.counts k below in
-          omega arith
-      | inr past ↦
-          let none : predecessors_of g k ≡ [] = no_predecessors g k w past (predecessors_of g k) refl in
-          let zero_count : slice_index remaining k ≡ 0 = get_or_past remaining k 0 (omega (arith, s.long)) in
-          rw none zero_count ];
-    gone = λ n h no. absurd (both_ways _ no (get_or-replicate g.nodes n true false h));
-    free_zero = s.free_zero;
-    ready = λ k h z. inr (s.ready k h z) }
+  left_length = length-replicate g.nodes true;
+  remaining_length = s.long;
+  counts = λ k. elim (cases_lt k g.nodes) [
+    | inl below ↦
+        let all : count_left (replicate g.nodes true) (predecessors_of g k) ≡ length (predecessors_of g k) =
+        all-counted (replicate g.nodes true) (predecessors_of g k) (λ a c. get_or-replicate g.nodes a true false (source_inside g a k w (edge-from_source g.edges k a c))) in
+        let is : slice_index remaining k ≡ length (predecessors_of g k) = s.counts k below in
+        omega arith
+    | inr past ↦
+        let none : predecessors_of g k ≡ [] = no_predecessors g k w past (predecessors_of g k) refl in
+        let zero_count : slice_index remaining k ≡ 0 = get_or_past remaining k 0 (omega (arith, s.long)) in
+        rw none zero_count
+  ];
+  gone = λ n h no. absurd (both_ways _ no (get_or-replicate g.nodes n true false h));
+  free_zero = s.free_zero;
+  ready = λ k h z. inr (s.ready k h z);
+}
 
 -- a free node that is gone already
 pub removal-skip : (g : Digraph) (left : List Bool) (remaining free : List ℕ) (n : ℕ) → IsRemoval g left remaining (free ++ n ∷ []) [] → has left n ≡ false → IsRemoval g left remaining free []
 removal-skip g left remaining free n r gone = record {
-    left_length = r.left_length;
-    remaining_length = r.remaining_length;
-    counts = r.counts;
-    gone = r.gone;
-    free_zero = λ s c. r.free_zero s (Contains-append_left free (n ∷ []) s c);
-    ready = λ s h z. elim (r.ready s h z) [
-        inl away ↦ inl away
-      | inr c ↦ elim (Contains-push_cases free n s c) [ inl old ↦ inr old | inr here ↦ inl (rw (← here) gone) ] ] }
+  left_length = r.left_length;
+  remaining_length = r.remaining_length;
+  counts = r.counts;
+  gone = r.gone;
+  free_zero = λ s c. r.free_zero s (Contains-append_left free (n ∷ []) s c);
+  ready = λ s h z. elim (r.ready s h z) [
+    | inl away ↦ inl away
+    | inr c ↦ elim (Contains-push_cases free n s c) [ inl old ↦ inr old | inr here ↦ inl (rw (← here) gone) ]
+  ];
+}
 
 -- a free node goes
 pub removal-go : (g : Digraph) (left : List Bool) (remaining free : List ℕ) (n : ℕ) → IsWithin g.nodes g.edges → IsRemoval g left remaining (free ++ n ∷ []) [] → has left n ≡ true → IsRemoval g (set left n false) remaining free (successors_of g n)
 removal-go g left remaining free n w r is = record {
-    left_length = omega (arith, length-set left n false, r.left_length);
-    remaining_length = r.remaining_length;
-    counts = λ s.
-        let old : slice_index remaining s ≡ count_left left (predecessors_of g s) + times s [] = r.counts s in
-        let split : count_left left (predecessors_of g s) ≡ count_left (set left n false) (predecessors_of g s) + times n (predecessors_of g s) =
-            count_left-set left n (predecessors_of g s) is below in
-        let swapped : times n (predecessors_of g s) ≡ times s (successors_of g n) = times-swapped g.edges n s in
-        let none : times s [] ≡ 0 = nothing s in
-        omega arith;
-    gone = λ k h no. elim (cases_eq k n) [
-        inl here ↦ rw here (ordered-next g n (λ a c. r.gone a (inside a c) (none-from_count left (predecessors_of g n) zero_left a c)))
-      | inr other ↦ r.gone k h (sym (get_or-set_other left n k false false other) ∙ no) ];
-    free_zero = λ s c. r.free_zero s (Contains-append_left free (n ∷ []) s c);
-    ready = λ s h z. elim (cases_eq s n) [
-        inl here ↦ inl (rw here (get_or-set_same left n false false below))
-      | inr other ↦ elim (r.ready s h z) [
-          inl away ↦ inl (get_or-set_other left n s false false other ∙ away)
-        | inr c ↦ elim (Contains-push_cases free n s c) [ inl old ↦ inr old | inr here ↦ absurd (other (sym here)) ] ] ] }
+  left_length = omega (arith, length-set left n false, r.left_length);
+  remaining_length = r.remaining_length;
+  counts = λ s.
+      let old : slice_index remaining s ≡ count_left left (predecessors_of g s) + times s [] = r.counts s in
+      let split : count_left left (predecessors_of g s) ≡ count_left (set left n false) (predecessors_of g s) + times n (predecessors_of g s) =
+      count_left-set left n (predecessors_of g s) is below in
+      let swapped : times n (predecessors_of g s) ≡ times s (successors_of g n) = times-swapped g.edges n s in
+      let none : times s [] ≡ 0 = nothing s in
+      omega arith;
+  gone = λ k h no. elim (cases_eq k n) [
+    | inl here ↦ rw here (ordered-next g n (λ a c. r.gone a (inside a c) (none-from_count left (predecessors_of g n) zero_left a c)))
+    | inr other ↦ r.gone k h (sym (get_or-set_other left n k false false other) ∙ no)
+  ];
+  free_zero = λ s c. r.free_zero s (Contains-append_left free (n ∷ []) s c);
+  ready = λ s h z. elim (cases_eq s n) [
+    | inl here ↦ inl (rw here (get_or-set_same left n false false below))
+    | inr other ↦ elim (r.ready s h z) [
+      | inl away ↦ inl (get_or-set_other left n s false false other ∙ away)
+      | inr c ↦ elim (Contains-push_cases free n s c) [ inl old ↦ inr old | inr here ↦ absurd (other (sym here)) ]
+    ]
+  ];
+}
   where
     nothing : (s : ℕ) → times s [] ≡ 0
     nothing s = times-nil s
+
     free_n : (n < g.nodes) × (slice_index remaining n ≡ 0)
     free_n = r.free_zero n (Contains-push free n)
+
     below : n < length left
     below = omega (arith, free_n.0, r.left_length)
+
     zero_left : count_left left (predecessors_of g n) ≡ 0
     zero_left = let counted : slice_index remaining n ≡ count_left left (predecessors_of g n) + times n [] = r.counts n in omega (arith, free_n.1)
+
     inside : (a : ℕ) → Contains (predecessors_of g n) a → a < g.nodes
     inside a c = source_inside g a n w (edge-from_source g.edges n a c)
 
 -- one successor is counted off
 pub removal-step : (g : Digraph) (left : List Bool) (remaining more_remaining free more_free due : List ℕ) (s : ℕ) → IsRemoval g left remaining free (s ∷ due) → s < g.nodes → more_remaining ≡ set remaining s (slice_index remaining s - 1) → more_free ≡ cond (eqb (slice_index remaining s) 1) (free ++ s ∷ []) free → IsRemoval g left more_remaining more_free due
 removal-step g left remaining more_remaining free more_free due s r inside remaining_is free_is = record {
-    left_length = r.left_length;
-    remaining_length = rw remaining_is (omega (arith, length-set remaining s (slice_index remaining s - 1), r.remaining_length));
-    counts = λ k. elim (cases_eq k s) [
-        inl here ↦
-          let head : times s (s ∷ due) ≡ times s due + 1 = times-head s due in
-          let counted : slice_index remaining s ≡ count_left left (predecessors_of g s) + times s (s ∷ due) = r.counts s in
-          rw (here) (less ∙ (let e : slice_index remaining s - 1 ≡ count_left left (predecessors_of g s) + times s due = omega arith in e))
-      | inr other ↦
-          let tail : times k (s ∷ due) ≡ times k due = times-tail k s due (λ e. other (sym e)) in
-          let counted : slice_index remaining k ≡ count_left left (predecessors_of g k) + times k (s ∷ due) = r.counts k in
-          same k other ∙ (let e : slice_index remaining k ≡ count_left left (predecessors_of g k) + times k due = omega arith in e) ];
-    gone = r.gone;
-    free_zero = λ k c. by_test (eqb (slice_index remaining s) 1) refl k (rw free_is at c);
-    ready = λ k h z. elim (cases_eq k s) [
-        inl here ↦
-          let zero_now : slice_index more_remaining s ≡ 0 = rw here at z in
-          let one : slice_index remaining s ≡ 1 = omega (arith, less, some, zero_now) in
-          let test : eqb (slice_index remaining s) 1 ≡ true = eq-eqb (slice_index remaining s) 1 one in
-          inr (rw (free_is, test, here) (Contains-push free s))
-      | inr other ↦ elim (r.ready k h (sym (same k other) ∙ z)) [
-          inl away ↦ inl away
-        | inr c ↦ inr (rw free_is (kept (eqb (slice_index remaining s) 1) k c)) ] ] }
+  left_length = r.left_length;
+  remaining_length = rw remaining_is (omega (arith, length-set remaining s (slice_index remaining s - 1), r.remaining_length));
+  counts = λ k. elim (cases_eq k s) [
+    | inl here ↦
+        let head : times s (s ∷ due) ≡ times s due + 1 = times-head s due in
+        let counted : slice_index remaining s ≡ count_left left (predecessors_of g s) + times s (s ∷ due) = r.counts s in
+        rw (here) (less ∙ (let e : slice_index remaining s - 1 ≡ count_left left (predecessors_of g s) + times s due = omega arith in e))
+    | inr other ↦
+        let tail : times k (s ∷ due) ≡ times k due = times-tail k s due (λ e. other (sym e)) in
+        let counted : slice_index remaining k ≡ count_left left (predecessors_of g k) + times k (s ∷ due) = r.counts k in
+        same k other ∙ (let e : slice_index remaining k ≡ count_left left (predecessors_of g k) + times k due = omega arith in e)
+  ];
+  gone = r.gone;
+  free_zero = λ k c. by_test (eqb (slice_index remaining s) 1) refl k (rw free_is at c);
+  ready = λ k h z. elim (cases_eq k s) [
+    | inl here ↦
+        let zero_now : slice_index more_remaining s ≡ 0 = rw here at z in
+        let one : slice_index remaining s ≡ 1 = omega (arith, less, some, zero_now) in
+        let test : eqb (slice_index remaining s) 1 ≡ true = eq-eqb (slice_index remaining s) 1 one in
+        inr (rw (free_is, test, here) (Contains-push free s))
+    | inr other ↦ elim (r.ready k h (sym (same k other) ∙ z)) [
+      | inl away ↦ inl away
+      | inr c ↦ inr (rw free_is (kept (eqb (slice_index remaining s) 1) k c))
+    ]
+  ];
+}
   where
     some : 0 < slice_index remaining s
     some = let counted : slice_index remaining s ≡ count_left left (predecessors_of g s) + times s (s ∷ due) = r.counts s in omega (arith, times-some s due)
+
     less : slice_index more_remaining s ≡ slice_index remaining s - 1
     less = rw remaining_is (get_or-set_same remaining s (slice_index remaining s - 1) 0 (omega (arith, r.remaining_length, inside)))
+
     same : (k : ℕ) → (k ≡ s → ⊥) → slice_index more_remaining k ≡ slice_index remaining k
     same k other = rw remaining_is (get_or-set_other remaining s k (slice_index remaining s - 1) 0 other)
+
     kept : (b : Bool) (k : ℕ) → Contains free k → Contains (cond b (free ++ s ∷ []) free) k
     kept true k c = Contains-append_left free (s ∷ []) k c
     kept false k c = c
+
     old : (k : ℕ) → Contains free k → (k < g.nodes) × (slice_index more_remaining k ≡ 0)
     old k c = elim (cases_eq k s) [
-        inl here ↦ let z : slice_index remaining s ≡ 0 = rw here at (r.free_zero k c).1 in absurd (omega (arith, some, z))
-      | inr other ↦ ((r.free_zero k c).0, same k other ∙ (r.free_zero k c).1) ]
+      | inl here ↦ let z : slice_index remaining s ≡ 0 = rw here at (r.free_zero k c).1 in absurd (omega (arith, some, z))
+      | inr other ↦ ((r.free_zero k c).0, same k other ∙ (r.free_zero k c).1)
+    ]
+
     by_test : (b : Bool) → eqb (slice_index remaining s) 1 ≡ b → (k : ℕ) → Contains (cond b (free ++ s ∷ []) free) k → (k < g.nodes) × (slice_index more_remaining k ≡ 0)
     by_test true test k c = elim (Contains-push_cases free s k c) [
-        inl early_one ↦ old k early_one
+      | inl early_one ↦ old k early_one
       | inr here ↦
           let one : slice_index remaining s ≡ 1 = eqb-true (slice_index remaining s) 1 test in
-          rw (← here) (inside, less ∙ (let z : slice_index remaining s - 1 ≡ 0 = omega arith in z)) ]
+          rw (← here) (inside, less ∙ (let z : slice_index remaining s - 1 ≡ 0 = omega arith in z))
+    ]
     by_test false test k c = old k c
 
 left_not_ordered : (g : Digraph) (left : List Bool) (remaining : List ℕ) → IsRemoval g left remaining [] [] → (entries : List ℕ) → IsInOrder (predecessors_of g) entries → (bound i : ℕ) → i < bound → i < length entries → has left (slice_index entries i) ≡ true → ⊥
@@ -268,33 +300,35 @@ left_not_ordered g left remaining r entries order (suc bound) i below inside h =
     let counted : slice_index remaining n ≡ count_left left (predecessors_of g n) + times n [] = r.counts n in
     let none : times n [] ≡ 0 = times-nil n in
     let some : count_left left (predecessors_of g n) ≡ 0 → ⊥ =
-        λ z. elim (r.ready n member (let e : slice_index remaining n ≡ 0 = omega arith in e)) [
-            inl away ↦ both_ways (has left n) away h
-          | inr c ↦ omega (arith, c.1) ] in
+    λ z. elim (r.ready n member (let e : slice_index remaining n ≡ 0 = omega arith in e)) [
+      | inl away ↦ both_ways (has left n) away h
+      | inr c ↦ omega (arith, c.1)
+    ] in
     let before_n = some-from_count left (predecessors_of g n) some in
     let a : ℕ = before_n.0 in
     let earlier : Contains (take i entries) a = all_by_at (λ x. Contains (take i entries) x) (predecessors_of g n) a (order.after i inside) before_n.1 in
     let short = length-take i entries in
     let before_i : earlier.0 < i = omega (arith, earlier.1, short) in
     let at : slice_index entries earlier.0 ≡ a =
-        get_or_default entries earlier.0 0 a (omega arith) ∙ sym (get_or-take i entries earlier.0 a before_i) ∙ earlier.2 in
+    get_or_default entries earlier.0 0 a (omega arith) ∙ sym (get_or-take i entries earlier.0 a before_i) ∙ earlier.2 in
     left_not_ordered g left remaining r entries order bound earlier.0 (omega arith) (omega arith) (rw at before_n.2)
 
 -- nothing is free: what is left is in no order
 pub removal-done : (g : Digraph) (left : List Bool) (remaining : List ℕ) → IsRemoval g left remaining [] [] → IsStripped g left
 removal-done g left remaining r = record {
-    length = r.left_length;
-    gone = r.gone;
-    kept = λ n h o.
-        let entries : List ℕ = o.0 in
-        let i : ℕ = o.2.0 in
-        let at : slice_index entries i ≡ n = get_or_default entries i 0 n o.2.1 ∙ o.2.2 in
-        left_not_ordered g left remaining r entries o.1 (i + 1) i (omega arith) o.2.1 (rw at h) }
+  length = r.left_length;
+  gone = r.gone;
+  kept = λ n h o.
+      let entries : List ℕ = o.0 in
+      let i : ℕ = o.2.0 in
+      let at : slice_index entries i ≡ n = get_or_default entries i 0 n o.2.1 ∙ o.2.2 in
+      left_not_ordered g left remaining r entries o.1 (i + 1) i (omega arith) o.2.1 (rw at h);
+}
 
 -- what is enough before a step is enough after it
 pub enough-step : (remaining more_remaining due : List ℕ) (n : ℕ) → ((s : ℕ) → times s (n ∷ due) ≤ slice_index remaining s) → n < length remaining → more_remaining ≡ set remaining n (slice_index remaining n - 1) → (s : ℕ) → times s due ≤ slice_index more_remaining s
 enough-step remaining more_remaining due n enough inside is s = elim (cases_eq s n) [
-    inl here ↦
+  | inl here ↦
       let head : times n (n ∷ due) ≡ times n due + 1 = times-head n due in
       let had : times n (n ∷ due) ≤ slice_index remaining n = enough n in
       let less : slice_index more_remaining n ≡ slice_index remaining n - 1 = rw is (get_or-set_same remaining n (slice_index remaining n - 1) 0 inside) in
@@ -303,7 +337,8 @@ enough-step remaining more_remaining due n enough inside is s = elim (cases_eq s
       let tail : times s (n ∷ due) ≡ times s due = times-tail s n due (λ e. other (sym e)) in
       let had : times s (n ∷ due) ≤ slice_index remaining s = enough s in
       let same : slice_index more_remaining s ≡ slice_index remaining s = rw is (get_or-set_other remaining n s (slice_index remaining n - 1) 0 other) in
-      omega arith ]
+      omega arith
+]
 
 -- a step makes no more free than it counts off
 pub smaller-step : (remaining more_remaining free more_free : List ℕ) (n : ℕ) → n < length remaining → 0 < slice_index remaining n → more_remaining ≡ set remaining n (slice_index remaining n - 1) → more_free ≡ cond (eqb (slice_index remaining n) 1) (free ++ n ∷ []) free → total more_remaining + length more_free ≤ total remaining + length free

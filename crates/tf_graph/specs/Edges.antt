@@ -1,10 +1,10 @@
 -- The edges of a graph, and the neighbours of its nodes: each says the same as the other.
-use Rattle.std.proofs.Common.{◌≡◌, ◌≢◌, ◌==◌, ◌<◌, ◌≤◌, ◌⊎◌, ◌∷◌, [], ℕ, zero, suc, List, Bool, true, false, cond, length, map, filter, get_or, refl, sym, ap, ◌∙◌, arith, eqb, inl, inr}
+use Rattle.std.proofs.Common.{◌≡◌, ◌==◌, ◌<◌, ◌⊎◌, ◌∷◌, [], ℕ, zero, suc, List, Bool, true, false, cond, map, filter, refl, ap, ◌∙◌, arith, eqb, inl, inr}
 use Rattle.std.specs.Prelude.{Contains}
-use Rattle.std.specs.List.{AllByRecursion, All}
+use Rattle.std.specs.List.{AllByRecursion}
 use Rattle.std.proofs.lemmas.Bool.{eqb-true, eq-eqb}
 use Rattle.std.proofs.lemmas.List.{get_or_default}
-use Rattle.tf_graph.specs.Digraph.{Digraph, IsWithin, edge_at, sources_into, targets_from, predecessors_of, successors_of}
+use Rattle.tf_graph.specs.Digraph.{Digraph, IsWithin, edge_at, sources_into, targets_from, predecessors_of}
 use Rattle.tf_graph.specs.Path.{Path, direct, onward, HasEdge, Reaches, StandsBefore}
 use Rattle.tf_graph.specs.Solutions.{StaysBelow}
 
@@ -27,8 +27,9 @@ edge-from_target (e ∷ edges) n t c = by_test (edge-from_target edges n t) (eqb
   where
     by_test : (Contains (targets_from edges n) t → Contains edges (n, t)) → (b : Bool) → eqb e.0 n ≡ b → Contains (map (λ (x : ℕ × ℕ). x.1) (cond b (e ∷ filter (λ (x : ℕ × ℕ). x.0 == n) edges) (filter (λ (x : ℕ × ℕ). x.0 == n) edges))) t → Contains (e ∷ edges) (n, t)
     by_test again true is d = elim (contains_cases t e.1 (targets_from edges n) d) [
-        inl here ↦ contains_head (n, t) e edges (pair_is e n t (eqb-true e.0 n is) here)
-      | inr rest ↦ contains_tail (n, t) e edges (again rest) ]
+      | inl here ↦ contains_head (n, t) e edges (pair_is e n t (eqb-true e.0 n is) here)
+      | inr rest ↦ contains_tail (n, t) e edges (again rest)
+    ]
     by_test again false is d = contains_tail (n, t) e edges (again d)
 
 pub target-from_edge : (edges : List (ℕ × ℕ)) (n t : ℕ) → Contains edges (n, t) → Contains (targets_from edges n) t
@@ -47,8 +48,9 @@ edge-from_source (e ∷ edges) n s c = by_test (edge-from_source edges n s) (eqb
   where
     by_test : (Contains (sources_into edges n) s → Contains edges (s, n)) → (b : Bool) → eqb e.1 n ≡ b → Contains (map (λ (x : ℕ × ℕ). x.0) (cond b (e ∷ filter (λ (x : ℕ × ℕ). x.1 == n) edges) (filter (λ (x : ℕ × ℕ). x.1 == n) edges))) s → Contains (e ∷ edges) (s, n)
     by_test again true is d = elim (contains_cases s e.0 (sources_into edges n) d) [
-        inl here ↦ contains_head (s, n) e edges (pair_is e s n here (eqb-true e.1 n is))
-      | inr rest ↦ contains_tail (s, n) e edges (again rest) ]
+      | inl here ↦ contains_head (s, n) e edges (pair_is e s n here (eqb-true e.1 n is))
+      | inr rest ↦ contains_tail (s, n) e edges (again rest)
+    ]
     by_test again false is d = contains_tail (s, n) e edges (again d)
 
 pub source-from_edge : (edges : List (ℕ × ℕ)) (n s : ℕ) → Contains edges (s, n) → Contains (sources_into edges n) s

@@ -1,12 +1,12 @@
 -- The proofs of the laws on solutions, ranks and orders, for other proofs to cite.
-use Rattle.std.proofs.Common.{◌≡◌, ◌≢◌, ◌<◌, ◌≤◌, ◌+◌, ◌-◌, ◌∷◌, ◌++◌, ◌&&◌, ℕ, zero, suc, Bool, true, false, not, List, [], map, refl, sym, ap, ◌∙◌, subst, arith, cond, length, get_or, take, inl, inr, ◌⊎◌}
+use Rattle.std.proofs.Common.{◌≡◌, ◌<◌, ◌≤◌, ◌+◌, ◌∷◌, ◌&&◌, ℕ, zero, suc, Bool, true, false, not, List, [], refl, sym, ap, ◌∙◌, arith, cond, length, get_or, take, inl, inr, ◌⊎◌}
 use Rattle.std.specs.Prelude.{Contains, slice_index}
 use Rattle.std.specs.List.{list_all, AllByRecursion}
-use Rattle.std.proofs.lemmas.List.Elements.{All-from_recursion, All-contains, recursion_from_All, Contains-append_left}
-use Rattle.std.proofs.lemmas.List.{get_or-take, get_or_append_left, get_or_push, take-append-le, length-append, length_push, length-take, take_all, get_or_default}
+use Rattle.std.proofs.lemmas.List.Elements.{All-from_recursion, All-contains}
+use Rattle.std.proofs.lemmas.List.{get_or-take, get_or_append_left, get_or_push, take-append-le, length_push, length-take, take_all, get_or_default}
 use Rattle.std.proofs.lemmas.Bool.{cases_eq}
 use Rattle.tf_graph.specs.Path.{Path, direct, onward, StandsBefore}
-use Rattle.tf_graph.specs.Solutions.{seen_by, Solves, Ranked, StaysBelow, is_ready, IsOrderOf, SolutionIsUnique, SolutionExists, AllAreDone, RankedHasNoCycle, OrderedIsRanked}
+use Rattle.tf_graph.specs.Solutions.{seen_by, Solves, Ranked, StaysBelow, is_ready, SolutionIsUnique, SolutionExists, AllAreDone, RankedHasNoCycle, OrderedIsRanked}
 use Rattle.tf_graph.specs.Order.{IsInOrder, OrderGrows, OrderFollowsPaths}
 
 -- where two results agree at each node, a rule sees the same

@@ -12,3 +12,4 @@ pub mod Strip
 pub mod Removal
 pub mod Orders
 pub mod GraphLaws
+pub mod Fault

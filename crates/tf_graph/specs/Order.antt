@@ -1,5 +1,5 @@
 -- The order of a journal: what it may hold, entry after entry.
-use Rattle.std.specs.Prelude.{◌≡◌, ◌≢◌, ◌<◌, ◌++◌, ◌∷◌, [], ℕ, List, length, take, slice_index, Contains}
+use Rattle.std.specs.Prelude.{◌≢◌, ◌<◌, ◌++◌, ◌∷◌, [], ℕ, List, length, take, slice_index, Contains}
 use Rattle.std.specs.List.{AllByRecursion}
 use Rattle.tf_graph.specs.Path.{Path, StandsBefore}
 

@@ -1,14 +1,14 @@
 -- Lists in order: two of them are one, and a node whose predecessors are in order is in order.
-use Rattle.std.proofs.Common.{◌≡◌, ◌≢◌, ◌<◌, ◌≤◌, ◌+◌, ◌∷◌, ◌++◌, ◌⊎◌, ◌||◌, ℕ, zero, suc, Bool, true, false, List, [], refl, sym, ap, ◌∙◌, arith, cond, length, get_or, take, inl, inr, eqb, add-one}
+use Rattle.std.proofs.Common.{◌≡◌, ◌<◌, ◌≤◌, ◌∷◌, ◌++◌, ◌⊎◌, ◌||◌, ℕ, zero, suc, Bool, true, false, List, [], refl, arith, length, take, inl, inr, eqb, add-one}
 use Rattle.std.specs.Prelude.{Contains, slice_index}
 use Rattle.std.specs.List.{AllByRecursion}
-use Rattle.std.proofs.lemmas.Bool.{cases_eq, cases_lt, cases_Bool, both_ways, eqb-true, eq-eqb, or_cases, or_left, or_right}
-use Rattle.std.proofs.lemmas.List.{take_more, take_all, get_or_default, length-take}
+use Rattle.std.proofs.lemmas.Bool.{cases_Bool, both_ways, eqb-true, eq-eqb, or_cases, or_left, or_right}
+use Rattle.std.proofs.lemmas.List.{take_more, take_all}
 use Rattle.std.proofs.lemmas.List.Elements.{Contains-push_cases, Contains-append_left, Contains-push}
 use Rattle.tf_graph.specs.Digraph.{Digraph, predecessors_of}
 use Rattle.tf_graph.specs.Edges.{contains_head, contains_tail, contains_cases}
 use Rattle.tf_graph.specs.Order.{IsInOrder}
-use Rattle.tf_graph.specs.Laws.{order-grows, all_by_at, all_by_weaker, passing_below, passing_below-lt, passing_below-most}
+use Rattle.tf_graph.specs.Laws.{order-grows, all_by_weaker, passing_below, passing_below-lt, passing_below-most}
 use Rattle.tf_graph.specs.Strip.{IsOrdered}
 
 -- whether a list holds a number
@@ -20,21 +20,24 @@ pub contains-from_holds : (xs : List ℕ) (n : ℕ) → holds xs n ≡ true → 
 unfolding holds
 contains-from_holds [] n h = absurd (both_ways false refl h)
 contains-from_holds (x ∷ xs) n h = elim (or_cases (eqb x n) (holds xs n) h) [
-    inl here ↦ contains_head n x xs (eqb-true x n here)
-  | inr rest ↦ contains_tail n x xs (contains-from_holds xs n rest) ]
+  | inl here ↦ contains_head n x xs (eqb-true x n here)
+  | inr rest ↦ contains_tail n x xs (contains-from_holds xs n rest)
+]
 
 pub holds-from_contains : (xs : List ℕ) (n : ℕ) → Contains xs n → holds xs n ≡ true
 unfolding holds
 holds-from_contains [] n c = absurd (omega (arith, c.1))
 holds-from_contains (x ∷ xs) n c = elim (contains_cases n x xs c) [
-    inl here ↦ or_left (eqb x n) (holds xs n) (eq-eqb x n here)
-  | inr rest ↦ or_right (eqb x n) (holds xs n) (holds-from_contains xs n rest) ]
+  | inl here ↦ or_left (eqb x n) (holds xs n) (eq-eqb x n here)
+  | inr rest ↦ or_right (eqb x n) (holds xs n) (holds-from_contains xs n rest)
+]
 
 -- a list holds a number, or it doesn't
 pub contains_or_not : (xs : List ℕ) (n : ℕ) → Contains xs n ⊎ (Contains xs n → ⊥)
 contains_or_not xs n = elim (cases_Bool (holds xs n)) [
-    inl held ↦ inl (contains-from_holds xs n held)
-  | inr absent ↦ inr (λ c. both_ways (holds xs n) absent (holds-from_contains xs n c)) ]
+  | inl held ↦ inl (contains-from_holds xs n held)
+  | inr absent ↦ inr (λ c. both_ways (holds xs n) absent (holds-from_contains xs n c))
+]
 
 -- no element stands in the list again
 abbrev pub IsApart : List ℕ → Type 0
@@ -48,7 +51,7 @@ held_below n (x ∷ xs) h a =
     let rest : length xs ≤ passing_below (holds xs) n = held_below n xs h.1 a.1 in
     let new : holds xs x ≡ false = absent (holds xs x) (λ yes. a.0 (contains-from_holds xs x yes)) in
     let more : passing_below (holds xs) n < passing_below (holds (x ∷ xs)) n =
-        passing_below-lt (holds xs) (holds (x ∷ xs)) n x (λ k l e. or_right (eqb x k) (holds xs k) e) h.0 new (or_left (eqb x x) (holds xs x) (eq-eqb x x refl)) in
+    passing_below-lt (holds xs) (holds (x ∷ xs)) n x (λ k l e. or_right (eqb x k) (holds xs k) e) h.0 new (or_left (eqb x x) (holds xs x) (eq-eqb x x refl)) in
     omega arith
   where
     absent : (b : Bool) → (b ≡ true → ⊥) → b ≡ false
@@ -74,12 +77,17 @@ merged_so_far before xs ys p q (suc k) h =
     let next : take (suc k) ys ≡ take k ys ++ y ∷ [] = rw (← add-one k) (take_more ys k 0 (omega arith)) in
     let all_earlier : AllByRecursion (λ a. Contains m.0 a) (before y) = all_by_weaker _ (λ a. Contains m.0 a) (before y) (λ a c. m.3 a c) (q.after k (omega arith)) in
     elim (contains_or_not m.0 y) [
-      inl there ↦ (m.0, m.1, m.2, λ n c. elim (Contains-push_cases (take k ys) y n (rw next at c)) [ inl old ↦ m.3 n old | inr here ↦ rw (← here) there ])
-    | inr new ↦
-        (m.0 ++ y ∷ [], order-grows before m.0 y m.1 new all_earlier, λ n c. Contains-append_left m.0 (y ∷ []) n (m.2 n c),
-         λ n c. elim (Contains-push_cases (take k ys) y n (rw next at c)) [
-             inl old ↦ Contains-append_left m.0 (y ∷ []) n (m.3 n old)
-           | inr here ↦ rw (← here) (Contains-push m.0 y) ]) ]
+      | inl there ↦ (m.0, m.1, m.2, λ n c. elim (Contains-push_cases (take k ys) y n (rw next at c)) [ inl old ↦ m.3 n old | inr here ↦ rw (← here) there ])
+      | inr new ↦ (
+        m.0 ++ y ∷ [],
+        order-grows before m.0 y m.1 new all_earlier,
+        λ n c. Contains-append_left m.0 (y ∷ []) n (m.2 n c),
+        λ n c. elim (Contains-push_cases (take k ys) y n (rw next at c)) [
+          | inl old ↦ Contains-append_left m.0 (y ∷ []) n (m.3 n old)
+          | inr here ↦ rw (← here) (Contains-push m.0 y)
+        ],
+      )
+    ]
 
 -- two lists in order are one
 pub order-merged : (before : ℕ → List ℕ) (xs ys : List ℕ) → IsInOrder before xs → IsInOrder before ys → IsMerged before xs ys
@@ -104,8 +112,9 @@ pub ordered-next : (g : Digraph) (n : ℕ) → ((a : ℕ) → Contains (predeces
 ordered-next g n f =
     let all = all_in_one g (predecessors_of g n) f in
     elim (contains_or_not all.0 n) [
-      inl there ↦ (all.0, all.1, there)
-    | inr new ↦ (all.0 ++ n ∷ [], order-grows (predecessors_of g) all.0 n all.1 new (all_here all.0 (predecessors_of g n) all.2), Contains-push all.0 n) ]
+      | inl there ↦ (all.0, all.1, there)
+      | inr new ↦ (all.0 ++ n ∷ [], order-grows (predecessors_of g) all.0 n all.1 new (all_here all.0 (predecessors_of g n) all.2), Contains-push all.0 n)
+    ]
   where
     all_here : (entries nodes : List ℕ) → ((a : ℕ) → Contains nodes a → Contains entries a) → AllByRecursion (λ a. Contains entries a) nodes
     all_here entries [] h = tt

@@ -1,5 +1,5 @@
 -- A search for what a node reaches, which takes over what is known of other nodes.
-use Rattle.std.specs.Prelude.{◌≡◌, ◌≤◌, ◌<◌, ◌+◌, ◌⊎◌, ℕ, zero, suc, Bool, true, cond, not, List, [], length, slice_index_or, Contains}
+use Rattle.std.specs.Prelude.{◌≡◌, ◌<◌, ◌+◌, ◌⊎◌, ℕ, zero, suc, Bool, true, cond, List, [], length, slice_index_or, Contains}
 use Rattle.std.specs.List.{All}
 use Rattle.tf_graph.specs.Digraph.{Digraph}
 use Rattle.tf_graph.specs.Path.{HasEdge, Reaches}

@@ -15,20 +15,19 @@ use std::marker::Model;
 /// Which node of a graph reaches which, by one edge or more.
 #[derive(Drop)]
 pub struct Closure {
-    nodes: usize,
     rows: Vec<NodeSet>,
 }
 
 impl Model for Closure {
-    ghost use Rattle.std.specs.Prelude.{◌≡◌, length};
+    ghost use Rattle.std.specs.Prelude.{length};
     ghost use Rattle.tf_graph.specs.Closure.{Table};
     ghost use Rattle.tf_graph.specs.Search.{AreLong};
 
     ghost Value = { Table };
 
-    ghost view = { λ c. record { nodes = c.nodes; rows = c.rows.items } };
+    ghost view = { λ c. record { nodes = length c.rows.items; rows = c.rows.items } };
 
-    ghost invariant = { λ c. (length c.rows.items ≡ c.nodes) × AreLong c.nodes c.rows.items };
+    ghost invariant = { λ c. AreLong (length c.rows.items) c.rows.items };
 }
 
 impl Closure {
@@ -36,7 +35,7 @@ impl Closure {
     pub fn nodes(&self) -> usize
         ensures { result ≡ self.now.nodes }
     {
-        self.nodes
+        self.rows.len()
     }
 
     /// Whether a path of one edge or more leads from the one node to the other. What is no node
@@ -44,10 +43,8 @@ impl Closure {
     pub fn reaches(&self, from: usize, to: usize) -> bool
         ensures { result ≡ reaches self.now from to }
     {
-        if from >= self.nodes || to >= self.nodes {
-            return false;
-        }
-        self.rows[from].contains(to)
+        let rows = &self.rows;
+        from < rows.len() && to < rows.len() && rows[from].contains(to)
     }
 }
 
@@ -67,7 +64,7 @@ impl Graph {
         for node in 0..nodes {
             fill(alloc, self, rows.as_mut_slice(), &mut known, node)?;
         }
-        Ok(Closure { nodes, rows })
+        Ok(Closure { rows })
     }
 }
 

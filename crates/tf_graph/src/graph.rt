@@ -24,9 +24,14 @@ pub enum GraphFault {
 }
 
 impl fmt::Display for GraphFault {
+    ghost use Rattle.std.specs.Prelude.{Some};
+    ghost use Rattle.tf_graph.specs.Fault.{text_of};
+
+    ghost output = { λ fault. Some (text_of fault) };
+
     fn fmt<W: fmt::Write>(&self, f: &mut fmt::Formatter<W>) -> fmt::Result {
         match self {
-            GraphFault::TooMany => write!(f, "more than {MAX_NODES} nodes"),
+            GraphFault::TooMany => write!(f, "more than 8000 nodes"),
             GraphFault::OutOfRange => write!(f, "an edge has an end that is no node"),
             GraphFault::OutOfMemory => write!(f, "out of memory"),
         }

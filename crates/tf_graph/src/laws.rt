@@ -45,23 +45,19 @@ pub fn order_follows_paths()
 /// A closure holds the edges, is transitive, and is the least such relation.
 pub fn closure_is_least()
     ensures { ClosureIsLeast }
-{
-}
+{}
 
 /// Where no node reaches itself by a closure, what stands directly before a node has a rank.
 pub fn acyclic_is_ranked()
     ensures { AcyclicIsRanked }
-{
-}
+{}
 
 /// No node is left of a graph exactly where none reaches itself.
 pub fn strip_is_empty()
     ensures { StripIsEmpty }
-{
-}
+{}
 
 /// A node is left exactly where one that reaches itself reaches it, or is it.
 pub fn left_is_behind_cycle()
     ensures { LeftIsBehindCycle }
-{
-}
+{}

@@ -5,9 +5,8 @@ ghost use Rattle.tf_graph.specs.Digraph.{predecessors_of, successors_of};
 ghost use Rattle.tf_graph.specs.Strip.{IsStripped};
 ghost use Rattle.tf_graph.specs.Removal.{times, total, IsRemoval};
 
-use std::alloc::{AllocError, Global};
-
 use crate::graph::Graph;
+use std::alloc::{AllocError, Global};
 
 impl Graph {
     /// Whether each node is left when nodes without remaining predecessors are removed again and
@@ -18,10 +17,11 @@ impl Graph {
         let mut left = vec![in alloc; true; self.nodes()]?;
         let mut removal = start(alloc, self)?;
         while let Some(node) = removal.free.pop() {
-            if left[node] {
-                left[node] = false;
-                release(self, &mut removal, node)?;
+            if !left[node] {
+                continue;
             }
+            left[node] = false;
+            release(self, &mut removal, node)?;
         }
         Ok(left)
     }
@@ -88,9 +88,9 @@ fn count_off(removal: &mut Removal, node: usize) -> Result<(), AllocError>
         ≡ (if slice_index removal.old.remaining.items node == 1
         then removal.old.free.items ++ node ∷ [] else removal.old.free.items)) }
 {
-    let count = removal.remaining[node] - 1;
-    removal.remaining[node] = count;
-    if count == 0 {
+    let still = removal.remaining[node] - 1;
+    removal.remaining[node] = still;
+    if still == 0 {
         removal.free.push(node)?;
     }
     Ok(())

@@ -7,3 +7,6 @@
 pub mod journal;
 
 pub use journal::{Entry, Journal, RecordFault};
+
+#[cfg(test)]
+mod tests;

@@ -1,3 +1,4 @@
 pub mod Attributes
 pub mod Entries
 pub mod Orders
+pub mod Served

@@ -6,5 +6,6 @@ pub mod Plan
 pub mod Planned
 pub mod PlansBlock
 pub mod Refused
+pub mod Served
 pub mod Shown
 pub mod Stepped

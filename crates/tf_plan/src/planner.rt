@@ -7,6 +7,7 @@ ghost use Rattle.tf_config.specs.Config.{block_of, blocks_of};
 ghost use Rattle.tf_config.specs.Refusal.{told, fault, bare};
 ghost use Rattle.tf_plan.specs.Plan.{action_of, plan_of, planned, planned_actions};
 ghost use Rattle.tf_plan.specs.PlansBlock.{PlansBlock};
+ghost use Rattle.tf_plan.specs.Served.{AreServed};
 ghost use Rattle.tf_plan.specs.Refused.{Tells, argument_refusal, block_refusal, plan_refusals};
 ghost use Rattle.tf_provider.specs.Meaning.{schema_in};
 ghost use Rattle.tf_plan.specs.Object.{named_of};
@@ -37,6 +38,7 @@ pub fn plan_for(
     ensures planned { IfOk result (λ plan. plan_of plan
         ≡ planned (map (λ b. meaning b) providers.now) (blocks_of config.now) lineage.now) }
     ensures nothing { IfOk result (λ _. plan_refusals (map (λ b. meaning b) providers.now) (blocks_of config.now) ≡ []) }
+    ensures served { IfOk result (λ plan. AreServed (map (λ b. meaning b) providers.now) (map action_of plan.actions.items)) }
     ensures refused { IfErr result (Tells (plan_refusals (map (λ b. meaning b) providers.now) (blocks_of config.now))) }
 {
     let planned = plan_blocks(alloc, config, providers)?;

@@ -15,4 +15,7 @@ pub use called::{Called, Parts, Recorded, call};
 pub use provider::{Provider, first_provider};
 pub use request::{Op, Reply, Request};
 pub use schema::{Attribute, Kind, Mode, Schema, SchemaFault};
-pub use verdict::{Verdict, has_attributes, judge, well_formed};
+pub use verdict::{Verdict, asks_fully, has_attributes, judge, well_formed};
+
+#[cfg(test)]
+mod tests;

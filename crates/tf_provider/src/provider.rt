@@ -1,7 +1,8 @@
 //! The interface of providers, and the law that each keeps.
 
 ghost use Rattle.std.specs.List.{position_from};
-ghost use Rattle.std.specs.Prelude.{◌≡◌, map, is_some};
+ghost use Rattle.std.specs.Prelude.{◌≡◌, map, is_some, option_and_then, slice_get};
+ghost use Rattle.tf_provider.specs.Meaning.{first_with};
 
 use crate::request::{Reply, Request};
 use crate::schema::Schema;
@@ -28,6 +29,15 @@ pub trait Provider: Drop {
 
 /// The place of the first provider that has a schema for a type.
 pub fn first_provider(providers: &[Box<dyn Provider + Sync>], type_name: &str) -> Option<usize>
+    ensures place { result ≡ position_from (λ m. is_some (m.schema_of type_name.now)) 0 (map (λ b. meaning b) providers.now) }
+    ensures provider { option_and_then (slice_get (map (λ b. meaning b) providers.now)) result
+        ≡ first_with type_name.now (map (λ b. meaning b) providers.now) }
+{
+    first_place(providers, type_name)
+}
+
+/// The place of the first provider that has a schema for a type.
+fn first_place(providers: &[Box<dyn Provider + Sync>], type_name: &str) -> Option<usize>
     ensures { result ≡ position_from (λ m. is_some (m.schema_of type_name.now)) 0 (map (λ b. meaning b) providers.now) }
 {
     for (place, provider) in providers.iter().enumerate() {

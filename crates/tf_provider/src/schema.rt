@@ -1,6 +1,6 @@
 //! Schemas: which attributes the objects of a type have, and the rule of each.
 
-ghost use Rattle.std.specs.Prelude.{◌≡◌, map, find, MatchOption, MatchResult, option_map};
+ghost use Rattle.std.specs.Prelude.{◌≡◌, map, find, MatchOption, MatchResult, IfOk, IfErr, OnOk, option_map};
 ghost use Rattle.std.specs.List.{list_all, list_any};
 ghost use Rattle.tf_address.specs.Name.{is_name};
 ghost use Rattle.tf_provider.specs.Schema.{AttributeView, SchemaView, IsSchema, attribute_of, attribute_named, fault_of, in_order, placed, is_reserved, names_differ, name_is_in, place_in};
@@ -128,10 +128,10 @@ impl Schema {
         version: u32,
         attributes: Vec<Attribute>,
     ) -> Result<Schema, SchemaFault>
-        ensures schema { MatchResult result
-            (λ s. (s.version ≡ version) × (s.attributes ≡ in_order (map attribute_of attributes.items))
-            × (fault_of (map attribute_of attributes.items) ≡ None))
-            (λ fault. MatchOption (fault_of (map attribute_of attributes.items)) (fault ≡ SchemaFault.OutOfMemory) (λ first. fault ≡ first)) }
+        ensures schema { IfOk result (λ s. s ≡ record { version = version; attributes = in_order (map attribute_of attributes.items) }) }
+        ensures faultless { OnOk result (fault_of (map attribute_of attributes.items) ≡ None) }
+        ensures refused { IfErr result (λ fault. MatchOption (fault_of (map attribute_of attributes.items))
+            (fault ≡ SchemaFault.OutOfMemory) (λ first. fault ≡ first)) }
     {
         match first_fault(&attributes) {
             Some(fault) => Err(fault),

@@ -48,6 +48,17 @@ pub fn judge(request: &Request, reply: &Reply, schema: &Schema) -> Verdict
     }
 }
 
+/// Whether a request asks for what its op takes: a destroy asks for no object, and the object of a create or
+/// an update is a map with exactly the schema's attributes.
+pub fn asks_fully(request: &Request, schema: &Schema) -> bool
+    ensures { result ≡ asks_fully (asked request.now) schema.now }
+{
+    match &request.object {
+        Some(object) => request.op == Op::Destroy || has_attributes(object, schema),
+        None => request.op == Op::Destroy,
+    }
+}
+
 /// The verdict on an object that answers a create or an update.
 fn judge_object(wanted: &Option<Value>, there: &Value, schema: &Schema) -> Verdict
     ensures { result ≡ verdict_on_object schema.now (option_map tree_of wanted.now) (tree_of there.now) }

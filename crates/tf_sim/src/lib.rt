@@ -15,3 +15,6 @@ pub mod answers;
 pub mod sim;
 
 pub use sim::Sim;
+
+#[cfg(test)]
+mod tests;

@@ -57,3 +57,20 @@ fn continued(mut text: String, at_root: bool) -> Result<String, AllocError>
     }
     Ok(text)
 }
+
+#[cfg(test)]
+mod tests {
+    use super::*;
+    use std::test::Fail;
+
+    #[test]
+    fn joins_steps(rt: HostRuntime) -> Result<(), Fail> {
+        let root = Path::Root;
+        let top = Path::Member(&root, "a.b c");
+        let item = Path::Item(&top, 10);
+        let nameless = Path::Member(&item, "");
+        assert_eq!(rt; root.text(rt.alloc())?.as_str(), "");
+        assert_eq!(rt; nameless.text(rt.alloc())?.as_str(), "a.b c.10.");
+        Ok(())
+    }
+}

@@ -69,6 +69,6 @@ pub may_record : (log : Log) (ends : List (Option Done)) (n : ℕ) → ((m : ℕ
     → list_all (λ m. is_good (done_in ends m)) (predecessors_of log.graph n) ≡ true → fault_of log n ≡ None
 may_record log ends n entered free good =
     let before : list_all (is_entered log.entries) (predecessors_of log.graph n) ≡ true =
-      list_all-weaker (λ m. is_good (done_in ends m)) (is_entered log.entries) (predecessors_of log.graph n) (λ m h. is_entered-verdict log.entries m ∙ (ap is_some (entered m) ∙ good_entered (end_at ends m) h)) good in
+    list_all-weaker (λ m. is_good (done_in ends m)) (is_entered log.entries) (predecessors_of log.graph n) (λ m h. is_entered-verdict log.entries m ∙ (ap is_some (entered m) ∙ good_entered (end_at ends m) h)) good in
     let here : is_entered log.entries n ≡ false = is_entered-verdict log.entries n ∙ (ap is_some (entered n) ∙ ap (λ (o : Option Done). is_some (option_and_then entered_verdict o)) free) in
     rw (before, here) refl

@@ -4,3 +4,5 @@ pub mod Judging
 pub mod Seen
 pub mod SoFar
 pub mod Stages
+pub mod Settling
+pub mod Lines

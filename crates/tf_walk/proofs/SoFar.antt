@@ -106,6 +106,7 @@ so_far-more ms plan ends es es' n d s h free before end enters =
     cases : (b : Bool) → (b ≡ true) ⊎ (b ≡ false)
     cases true = inl refl
     cases false = inr refl
+
     some_is : {x y : Done} → Some x ≡ Some y → x ≡ y
     some_is e = cc
 
@@ -119,7 +120,7 @@ pub staged-more : (stages : List Stage) (ends : List (Option Done)) (n : ℕ) (d
 staged-more stages ends n d h k staged = λ m.
     let long : n < length (slice_set stages n stage.Taken) = rw (length-set stages n stage.Taken) k in
     let outer : stage_in (slice_set (slice_set stages n stage.Taken) n stage.Done) m ≡ cond (eqb n m) stage.Done (stage_in (slice_set stages n stage.Taken) m) =
-      get_or-set_test (slice_set stages n stage.Taken) n stage.Done stage.Free m long in
+    get_or-set_test (slice_set stages n stage.Taken) n stage.Done stage.Free m long in
     let inner : stage_in (slice_set stages n stage.Taken) m ≡ cond (eqb n m) stage.Taken (stage_in stages m) = get_or-set_test stages n stage.Taken stage.Free m k in
     outer ∙ (rw inner (twice (eqb n m) (stage_in stages m)) ∙ (stage_at (eqb n m) stage.Free (stage_in stages m) d (end_at ends m) (staged m) ∙ sym (ap stage_of (end_at-set ends n d m h))))
   where
@@ -145,7 +146,7 @@ pub claimable_is : (l : Ledger) (ends : List (Option Done)) (n : ℕ) → IsStag
 claimable_is l ends n staged e =
     let parts = both_parts (is_free (stage_in l.stages n)) (is_ready l n) e in
     let same : is_ready l n ≡ list_all (λ m. is_some (end_at ends m)) (predecessors_of l.graph n) =
-      list_all-same (λ m. is_done (stage_in l.stages m)) (λ m. is_some (end_at ends m)) (predecessors_of l.graph n) (λ m. ap is_done (staged m) ∙ is_done-stage (end_at ends m)) in
+    list_all-same (λ m. is_done (stage_in l.stages m)) (λ m. is_some (end_at ends m)) (predecessors_of l.graph n) (λ m. ap is_done (staged m) ∙ is_done-stage (end_at ends m)) in
     (free_is (end_at ends n) (sym (ap is_free (staged n)) ∙ parts.0), sym same ∙ parts.1)
 
 not_ready_is : (o : Option Done) (b : Bool) → (is_free (stage_of o) && b) ≡ false → (not (is_some o) && b) ≡ false
@@ -158,10 +159,10 @@ pub all_ended : (l : Ledger) (plan : PlanView) (ends : List (Option Done)) → R
 all_ended l plan ends ranked below count same staged none = λ n h.
     all_done plan.order.nodes (predecessors_of plan.order) (λ m. is_some (end_at ends m)) ranked below
     (λ m k.
-      let here : is_claimable l m ≡ false = none m (rw same k) in
-      let ready : is_ready l m ≡ list_all (λ j. is_some (end_at ends j)) (predecessors_of plan.order m) =
-        list_all-same (λ j. is_done (stage_in l.stages j)) (λ j. is_some (end_at ends j)) (predecessors_of l.graph m) (λ j. ap is_done (staged j) ∙ is_done-stage (end_at ends j))
-        ∙ ap (λ (gr : Digraph). list_all (λ j. is_some (end_at ends j)) (predecessors_of gr m)) same in
-      let at : (is_free (stage_of (end_at ends m)) && list_all (λ j. is_some (end_at ends j)) (predecessors_of plan.order m)) ≡ false = rw (← staged m, ← ready) here in
-      not_ready_is (end_at ends m) (list_all (λ j. is_some (end_at ends j)) (predecessors_of plan.order m)) at)
+    let here : is_claimable l m ≡ false = none m (rw same k) in
+    let ready : is_ready l m ≡ list_all (λ j. is_some (end_at ends j)) (predecessors_of plan.order m) =
+    list_all-same (λ j. is_done (stage_in l.stages j)) (λ j. is_some (end_at ends j)) (predecessors_of l.graph m) (λ j. ap is_done (staged j) ∙ is_done-stage (end_at ends j))
+    ∙ ap (λ (gr : Digraph). list_all (λ j. is_some (end_at ends j)) (predecessors_of gr m)) same in
+    let at : (is_free (stage_of (end_at ends m)) && list_all (λ j. is_some (end_at ends j)) (predecessors_of plan.order m)) ≡ false = rw (← staged m, ← ready) here in
+    not_ready_is (end_at ends m) (list_all (λ j. is_some (end_at ends j)) (predecessors_of plan.order m)) at)
     n (rw count h)

@@ -10,23 +10,9 @@ use Rattle.tf_provider.specs.declared.verdict.Verdict.TheVariants as verdict
 use Rattle.tf_state.specs.Provider.{provider_text}
 use Rattle.tf_state.specs.State.{ResourceView, StateView, with_resource}
 use Rattle.tf_value.specs.Tree as tree
+use Rattle.tf_walk.specs.Room.{Head, head_of}
+use Rattle.tf_walk.specs.Settled.{settled}
 use Rattle.tf_walk.specs.Outcome.{Done, skipped, excused, called}
-
--- a value with null in place of each part that isn't known
-abbrev mutual
-  pub settled : tree.Tree → tree.Tree
-  settled tree.unknown = tree.null
-  settled (tree.list ts) = tree.list (settled_items ts)
-  settled (tree.map es) = tree.map (settled_entries es)
-  settled t = t
-
-  pub settled_items : tree.Items → tree.Items
-  settled_items tree.no_items = tree.no_items
-  settled_items (tree.item t ts) = tree.item (settled t) (settled_items ts)
-
-  pub settled_entries : tree.Entries → tree.Entries
-  settled_entries tree.no_entries = tree.no_entries
-  settled_entries (tree.entry k t es) = tree.entry k (settled t) (settled_entries es)
 
 -- an object that is saved, and whether it is tainted
 abbrev pub Saved : Type 0
@@ -56,12 +42,12 @@ saved ms (called asked answer v) = option_map_or (λ schema. saved_by schema ask
 saved ms _ = None
 
 -- the resource that an action leaves, with the one object that was saved
-abbrev pub resource_after : ActionView → Saved → ResourceView
-resource_after a s =
-    record { label = a.label; provider = provider_text a.label.kind; records = record { attributes = s.0; schema_version = a.version; tainted = s.1 } ∷ [] }
+abbrev pub resource_after : Head → Saved → ResourceView
+resource_after h s =
+    record { label = h.label; provider = provider_text h.label.kind; records = record { attributes = s.0; schema_version = h.version; tainted = s.1 } ∷ [] }
 
 abbrev pub saved_resource : List Meaning → ActionView → Done → Option ResourceView
-saved_resource ms a d = option_map (resource_after a) (saved ms d)
+saved_resource ms a d = option_map (resource_after (head_of a)) (saved ms d)
 
 abbrev pub saved_one : Option ResourceView → List ResourceView → List ResourceView
 saved_one None rs = rs

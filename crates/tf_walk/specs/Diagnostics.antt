@@ -10,6 +10,7 @@ use Rattle.tf_provider.specs.declared.request.Op.TheVariants.{Create}
 use Rattle.tf_provider.specs.declared.verdict.Verdict.{Verdict}
 use Rattle.tf_provider.specs.declared.verdict.Verdict.TheVariants as verdict
 use Rattle.tf_value.specs.Tree as tree
+use Rattle.tf_walk.specs.Room.{Head, head_of}
 use Rattle.tf_walk.specs.Outcome.{Done, skipped, excused, called}
 use Rattle.tf_walk.specs.declared.report.Diagnostic.{Diagnostic}
 
@@ -23,9 +24,12 @@ pub record DiagnosticView : Type 0 where
 abbrev pub diagnostic_of : Diagnostic → DiagnosticView
 diagnostic_of d = record { code = d.code; place = string_bytes d.place; verb = d.verb; message = string_bytes d.message }
 
+abbrev pub blanked : ℕ → ℕ
+blanked c = if nat_lt c 32 then 32 else c
+
 -- a message with a space for each character below U+0020
 abbrev pub in_one_line : List ℕ → List ℕ
-in_one_line message = map (λ c. if nat_lt c 32 then 32 else c) message
+in_one_line message = map blanked message
 
 abbrev pub failure_message : Option Answer → List ℕ
 failure_message (Some (failed message there)) = in_one_line message
@@ -37,24 +41,24 @@ name_at (Some (tree.map es)) place = slice_index_or (keys_of es) place []
 name_at _ place = []
 
 -- the diagnostic of an address, for a create
-abbrev pub at_create : ActionView → ℕ → List ℕ → List DiagnosticView
-at_create a code message = record { code = code; place = label_text a.label; verb = Some Create; message = message } ∷ []
+abbrev pub at_create : Head → ℕ → List ℕ → List DiagnosticView
+at_create h code message = record { code = code; place = label_text h.label; verb = Some Create; message = message } ∷ []
 
 -- A failure is 21 with the provider's message, a contradiction 22 with the first attribute in byte order, a
 -- malformed reply 23.
-abbrev pub diagnostics_of_verdict : ActionView → Asked → Option Answer → Verdict → List DiagnosticView
-diagnostics_of_verdict a asked answer verdict.Failed = at_create a 21 (failure_message answer)
-diagnostics_of_verdict a asked answer (verdict.Contradicted place) = at_create a 22 (codes "contradicts " ++ name_at asked.object place)
-diagnostics_of_verdict a asked answer verdict.Malformed = at_create a 23 (codes "malformed reply")
-diagnostics_of_verdict a asked answer _ = []
+abbrev pub diagnostics_of_verdict : Head → Asked → Option Answer → Verdict → List DiagnosticView
+diagnostics_of_verdict h asked answer verdict.Failed = at_create h 21 (failure_message answer)
+diagnostics_of_verdict h asked answer (verdict.Contradicted place) = at_create h 22 (codes "contradicts " ++ name_at asked.object place)
+diagnostics_of_verdict h asked answer verdict.Malformed = at_create h 23 (codes "malformed reply")
+diagnostics_of_verdict h asked answer _ = []
 
 -- want of memory is 26; a skipped action has none
-abbrev pub diagnostics_at : ActionView → Done → List DiagnosticView
-diagnostics_at a skipped = []
-diagnostics_at a (excused moment) = at_create a 26 (codes "no memory")
-diagnostics_at a (called asked answer v) = diagnostics_of_verdict a asked answer v
+abbrev pub diagnostics_at : Head → Done → List DiagnosticView
+diagnostics_at h skipped = []
+diagnostics_at h (excused moment) = at_create h 26 (codes "no memory")
+diagnostics_at h (called asked answer v) = diagnostics_of_verdict h asked answer v
 
 -- the diagnostics in action order
 abbrev pub diagnostics : List ActionView → List Done → List DiagnosticView
-diagnostics (a ∷ actions) (d ∷ done) = diagnostics_at a d ++ diagnostics actions done
+diagnostics (a ∷ actions) (d ∷ done) = diagnostics_at (head_of a) d ++ diagnostics actions done
 diagnostics _ _ = []

@@ -8,8 +8,7 @@ use Rattle.tf_graph.specs.Digraph.{predecessors_of}
 use Rattle.tf_graph.specs.Solutions.{seen_by}
 use Rattle.tf_journal.specs.declared.journal.Entry.{Entry}
 use Rattle.tf_plan.specs.Plan.{ActionView, PlanView}
-use Rattle.tf_provider.specs.Meaning.{Meaning, schema_in}
-use Rattle.tf_provider.specs.Verdict.{has_attributes}
+use Rattle.tf_provider.specs.Meaning.{Meaning}
 use Rattle.tf_walk.specs.Outcome.{Done, skipped, excused, called, all_good, call_at}
 use Rattle.tf_walk.specs.Report.{verdict_in, entered_verdict}
 
@@ -21,14 +20,6 @@ IsRun call d = d ≡ call
 -- An action is skipped where one directly before it isn't good, and else it is called or excused.
 abbrev pub IsEnd : List Meaning → List ActionView → ℕ → List (ℕ × Done) → Done → Type 0
 IsEnd ms actions n seen d = MatchBool (all_good seen) (IsRun (call_at ms actions n) d) (d ≡ skipped)
-
--- A provider in the list has an action's type, and the action's object has the attributes of its schema.
-abbrev pub IsServedBy : List Meaning → ActionView → Type 0
-IsServedBy ms a = IsSomeAnd (schema_in a.label.kind ms) (λ s. IsTrue (has_attributes s a.object))
-
--- each action of a plan is served
-abbrev pub AreServed : List Meaning → List ActionView → Type 0
-AreServed ms actions = AllByRecursion (IsServedBy ms) actions
 
 -- what came of an action so far
 abbrev pub end_at : List (Option Done) → ℕ → Option Done

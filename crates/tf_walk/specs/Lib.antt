@@ -7,3 +7,4 @@ pub mod Ended
 pub mod Room
 pub mod RoomHead
 pub mod Ends
+pub mod Settled

@@ -33,7 +33,11 @@ pub fn make_call(
         × (journal.new.entries ≡ journal.old.entries ++ e ∷ []) }
     ensures graph { journal.new.graph ≡ journal.old.graph }
 {
-    let Asking { request, message } = asking;
+    let Asking {
+        request,
+        message,
+        fallback,
+    } = asking;
     let called = call(provider, permit, request);
     match journal.record(called) {
         Ok(recorded) => {
@@ -51,6 +55,7 @@ pub fn make_call(
                         reply,
                         verdict,
                         message,
+                        fallback,
                     };
                     (Ended::Called(judged), finished)
                 }

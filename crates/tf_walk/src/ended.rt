@@ -3,8 +3,10 @@
 ghost use Rattle.std.specs.Prelude.{◌≡◌, [], true, option_map, string_bytes, string_capacity};
 ghost use Rattle.tf_value.specs.Tree.{tree_of};
 ghost use Rattle.tf_walk.specs.Room.{message_fits};
+ghost use Rattle.tf_walk.specs.Settled.{is_settled};
 
 use tf_provider::{Reply, Request, Verdict};
+use tf_state::Object;
 
 /// A call that was judged, with room for a message about it.
 #[derive(Drop)]
@@ -13,8 +15,10 @@ pub struct Judged {
     pub reply: Reply,
     pub verdict: Verdict,
     pub message: String,
+    pub fallback: Object,
     pub ghost blank: { string_bytes message ≡ [] },
     pub ghost fits: { message_fits (string_capacity message) (option_map tree_of request.object) ≡ true },
+    pub ghost settled: { is_settled (option_map tree_of request.object) (tree_of fallback.value) ≡ true },
 }
 
 /// What came of an action.

@@ -7,9 +7,11 @@ mod calls;
 mod claims;
 mod ended;
 mod furnish;
+mod one_line;
 pub mod report;
 mod requests;
 mod rooms;
+mod settle;
 mod steps;
 mod walk;
 

@@ -8,12 +8,15 @@ ghost use Rattle.tf_provider.specs.Verdict.{keys_of};
 ghost use Rattle.tf_value.specs.Tree.{tree_of, entries_view};
 ghost use Rattle.tf_walk.specs.Outcome.{request_of};
 ghost use Rattle.tf_walk.specs.Room.{message_fits};
+ghost use Rattle.tf_walk.specs.Settled.{settled};
 
 use crate::asking::Asking;
+use crate::settle::settle;
 use std::alloc::{AllocError, Global};
 use std::collections::BTreeMap;
 use tf_plan::Action;
 use tf_provider::{Op, Request};
+use tf_state::Object;
 use tf_value::{Value, copy};
 
 /// The request of an action. Refused only where there is no memory.
@@ -21,6 +24,7 @@ pub fn ask(alloc: Global, action: &Action) -> Result<Asking, AllocError>
     ensures { IfOk result (λ asking. asked asking.request ≡ request_of (action_of action.now)) }
 {
     let message = message_room(alloc, &action.object)?;
+    let fallback = settled_object(alloc, &action.object)?;
     let request = Request {
         op: Op::Create,
         address: action.label.to_string(alloc)?,
@@ -29,7 +33,19 @@ pub fn ask(alloc: Global, action: &Action) -> Result<Asking, AllocError>
         prior: None,
         object: Some(copy(&action.object)?),
     };
-    Ok(Asking { request, message })
+    Ok(Asking {
+        request,
+        message,
+        fallback,
+    })
+}
+
+/// What is saved of an object whose provider's reply can't be used.
+fn settled_object(alloc: Global, object: &Value) -> Result<Object, AllocError>
+    ensures { IfOk result (λ o. tree_of o.value ≡ settled (tree_of object.now)) }
+{
+    let value = settle(alloc, object)?;
+    Ok(Object { value })
 }
 
 /// An empty text with room for each message about a reply to a request for this object.

@@ -8,8 +8,9 @@ ghost use Rattle.tf_journal.specs.Entries.{fault_of};
 ghost use Rattle.tf_plan.specs.Plan.{action_of, plan_of};
 ghost use Rattle.tf_provider.specs.Meaning.{asked, schema_in};
 ghost use Rattle.tf_provider.specs.Verdict.{asks_fully};
+ghost use Rattle.tf_plan.specs.Served.{AreServed};
 ghost use Rattle.tf_walk.specs.Ended.{done_of};
-ghost use Rattle.tf_walk.specs.Ends.{AreServed, Enters, IsEnd, IsRun, IsSoFar, done_in, end_at};
+ghost use Rattle.tf_walk.specs.Ends.{Enters, IsEnd, IsRun, IsSoFar, done_in, end_at};
 ghost use Rattle.tf_walk.specs.Outcome.{call_of};
 
 use crate::asking::Asking;

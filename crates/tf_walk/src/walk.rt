@@ -2,8 +2,9 @@
 
 ghost use Rattle.std.specs.Prelude.{◌≡◌, ◌<◌, Some, map, option_map, length, slice_set};
 ghost use Rattle.tf_plan.specs.Plan.{action_of, plan_of};
+ghost use Rattle.tf_plan.specs.Served.{AreServed};
 ghost use Rattle.tf_walk.specs.Ended.{done_of};
-ghost use Rattle.tf_walk.specs.Ends.{AllHaveEnded, AreServed, IsSoFar, IsStaged};
+ghost use Rattle.tf_walk.specs.Ends.{AllHaveEnded, IsSoFar, IsStaged};
 
 use crate::claims::{close, next_permit};
 use crate::ended::Ended;

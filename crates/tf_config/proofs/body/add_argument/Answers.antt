@@ -1,4 +1,4 @@
-use Rattle.std.proofs.Common.{◌≡◌, refl, sym, ap, ◌∙◌}
+use Rattle.std.proofs.Common.{sym, ap, ◌∙◌}
 use Rattle.serde_json.proofs.Views.{members_view-insert_entry}
 use Rattle.serde_json.specs.View.{members_view}
 use Rattle.tf_config.proofs.ConfigurationLaws.{literal_from_met}

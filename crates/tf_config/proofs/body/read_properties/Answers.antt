@@ -4,7 +4,6 @@ use Rattle.serde_json.proofs.Views.{Entry}
 use Rattle.serde_json.specs.Data.{no_members}
 use Rattle.tf_config.proofs.ConfigurationLaws.{property_met}
 use Rattle.tf_config.proofs.Members.{refused_at}
-use Rattle.tf_config.specs.Config.{arguments_of}
 use Rattle.tf_config.specs.Configuration.{AddsProperty, property_checks}
 use Rattle.tf_text.proofs.Places.{place_of-Member}
 use Rattle.tf_text.proofs.Walks.{builds_more}

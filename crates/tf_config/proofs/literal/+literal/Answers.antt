@@ -1,13 +1,12 @@
-use Rattle.std.proofs.Common.{◌≡◌, [], ◌∷◌, ◌++◌, string_bytes, sym, ap, ◌∙◌, subst, append_assoc}
+use Rattle.std.proofs.Common.{◌≡◌, [], ◌∷◌, ◌++◌, string_bytes, sym, ap, ◌∙◌, append_assoc}
 use Rattle.std.proofs.lemmas.Result.{err_from_is_err_and}
 use Rattle.serde_json.proofs.Views.{Entry}
-use Rattle.serde_json.specs.View.{view, items_view, members_view}
+use Rattle.serde_json.specs.View.{view}
 use Rattle.tf_config.proofs.Literals.{items_met_more, items_refused, members_met_more, members_refused}
 use Rattle.tf_config.proofs.Refusals.{Refuses-left, Refuses-right}
-use Rattle.tf_config.specs.Demand.{AreMet, Refuses, a_plain_name}
+use Rattle.tf_config.specs.Demand.{a_plain_name}
 use Rattle.tf_text.specs.Check.{demanded}
-use Rattle.tf_config.specs.Literal.{literal_checks, item_checks, member_checks}
-use Rattle.tf_config.specs.Refusal.{told}
+use Rattle.tf_config.specs.Literal.{literal_checks}
 use Rattle.tf_text.proofs.Places.{place_of-Member, place_of-Item}
 use Rattle.tf_text.specs.Place.{place_of}
 use Rattle.tf_config.proofs.literal.+literal.Goals as goal
@@ -18,13 +17,13 @@ demand_items-returns-in_err-demand_literal t c =
     let p = err_from_is_err_and c.from_residual.result c.from_residual.ensures.1 in
     let first = rw place_of-Item at c.in_err-demand_literal.ensures in
     rw (p.1, p.2, ← c.deref-item-items.ensures.value)
-      (items_refused (place_of c.args.path.now) c.deref-item-items.result.now c.loop-position.position c.item-item.result c.loop-position-test.true c.item-item.is c.loop-position.invariant _ first)
+    (items_refused (place_of c.args.path.now) c.deref-item-items.result.now c.loop-position.position c.item-item.result c.loop-position-test.true c.item-item.is c.loop-position.invariant _ first)
 
 -- src/literal.rt:39:5
 pub demand_items-loop-position-preserved : goal.demand_items-loop-position-preserved
 demand_items-loop-position-preserved t c =
     items_met_more (place_of c.args.path.now) c.deref-item-items.result.now c.loop-position.position c.item-item.result c.loop-position-test.true c.item-item.is c.loop-position.invariant
-      (rw place_of-Item at c.in_ok-demand_literal.ensures)
+    (rw place_of-Item at c.in_ok-demand_literal.ensures)
 
 -- src/literal.rt:55:9
 pub demand_members-returns-in_err-demand_plain_name :
@@ -37,7 +36,7 @@ demand_members-returns-in_err-demand_plain_name t c =
     let all : c.args.members.now.entries ≡ done ++ e ∷ c.next.new.self = c.loop-key.invariant.1 ∙ ap (λ es. done ++ es) c.in-Some.ensures.steps in
     let first = rw (place_of-Member, c.as_str.ensures.value, c.as_str-in-loop-key.ensures.value) at c.in_err-demand_plain_name.ensures in
     rw (p.1, p.2, all) (members_refused place done e c.loop-key.invariant.2 c.next.new.self _
-      (Refuses-left (demanded (string_bytes e.0 ∷ place) (a_plain_name (string_bytes e.0))) (literal_checks (string_bytes e.0 ∷ place) (view e.1)) _ first))
+    (Refuses-left (demanded (string_bytes e.0 ∷ place) (a_plain_name (string_bytes e.0))) (literal_checks (string_bytes e.0 ∷ place) (view e.1)) _ first))
 
 -- src/literal.rt:53:5
 pub demand_members-loop-key-preserved : goal.demand_members-loop-key-preserved
@@ -62,4 +61,4 @@ demand_members-returns-in_err-demand_literal t c =
     let named = rw c.as_str-in-loop-key.ensures.value at c.in_ok-demand_plain_name.ensures in
     let first = rw (place_of-Member, c.as_str.ensures.value) at c.in_err-demand_literal.ensures in
     rw (p.1, p.2, all) (members_refused place done e c.loop-key.invariant.2 c.next.new.self _
-      (Refuses-right (demanded (string_bytes e.0 ∷ place) (a_plain_name (string_bytes e.0))) (literal_checks (string_bytes e.0 ∷ place) (view e.1)) _ named first))
+    (Refuses-right (demanded (string_bytes e.0 ∷ place) (a_plain_name (string_bytes e.0))) (literal_checks (string_bytes e.0 ∷ place) (view e.1)) _ named first))

@@ -1,4 +1,4 @@
-use Rattle.std.proofs.Common.{◌≡◌, map, sym, ap, ◌∙◌}
+use Rattle.std.proofs.Common.{map, sym, ap, ◌∙◌}
 use Rattle.tf_config.proofs.Blocks.{blocks-insert_entry}
 use Rattle.tf_config.specs.Config.{arguments_of, block_of}
 use Rattle.tf_config.proofs.reading.add_resource.Goals as goal

@@ -3,7 +3,6 @@ use Rattle.std.proofs.lemmas.Result.{err_from_is_err_and}
 use Rattle.serde_json.proofs.Views.{Entry}
 use Rattle.tf_config.proofs.ConfigurationLaws.{section_met}
 use Rattle.tf_config.proofs.Members.{refused_at}
-use Rattle.tf_config.specs.Config.{blocks_of}
 use Rattle.tf_config.specs.Configuration.{AddsSection, section_checks}
 use Rattle.tf_text.proofs.Places.{place_of-Member}
 use Rattle.tf_text.proofs.Walks.{builds_more}

@@ -1,4 +1,3 @@
-use Rattle.std.proofs.Common.{◌≡◌}
 use Rattle.tf_graph.specs.Search.{IsWalk}
 use Rattle.tf_graph.proofs.closure.finishing_order.Given as goal
 

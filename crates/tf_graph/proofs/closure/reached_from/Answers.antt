@@ -1,6 +1,5 @@
-use Rattle.std.proofs.Common.{◌≡◌, ◌<◌, ◌++◌, ◌∷◌, [], ℕ, List, Bool, true, length, arith, ◌∙◌, sym, inl, inr}
+use Rattle.std.proofs.Common.{◌≡◌, ◌++◌, ◌∷◌, [], arith, ◌∙◌, sym, inl}
 use Rattle.std.proofs.lemmas.List.{nil_from_length}
-use Rattle.tf_graph.specs.NodeSet.{has}
 use Rattle.tf_graph.specs.Search.{IsSearch}
 use Rattle.tf_graph.proofs.Searches.{pending_inside, pending-less, search-found}
 use Rattle.tf_graph.proofs.closure.reached_from.Goals as goal
@@ -27,7 +26,8 @@ loop-next-preserved c =
     record {
       row_length = l.invariant.row_length;
       settled_length = l.invariant.settled_length;
-      search = pending-less a.graph.now a.node c.in-Some.next l.search.row l.search.settled c.pop.new.self.items (inl (sym c.contains.ensures ∙ c.if-not-contains.false)) s }
+      search = pending-less a.graph.now a.node c.in-Some.next l.search.row l.search.settled c.pop.new.self.items (inl (sym c.contains.ensures ∙ c.if-not-contains.false)) s;
+    }
 
 pub returns-clause-found : goal.returns-clause-found
 returns-clause-found c =

@@ -1,4 +1,4 @@
-use Rattle.std.proofs.Common.{◌≡◌, ◌<◌, ◌≤◌, ℕ, length, bit_or, get_or}
+use Rattle.std.proofs.Common.{◌≡◌, ◌<◌, ◌≤◌, ℕ, bit_or, get_or}
 use Rattle.tf_graph.proofs.node_set.add_bits.Given as goal
 
 abbrev pub invariant-loop-i : goal.invariant-loop-i

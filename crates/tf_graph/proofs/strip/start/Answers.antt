@@ -1,5 +1,5 @@
-use Rattle.std.proofs.Common.{◌≡◌, ap, ◌∙◌, arith, length}
-use Rattle.tf_graph.proofs.Removals.{IsStart, start-more, start-done}
+use Rattle.std.proofs.Common.{◌≡◌, ap, arith, length}
+use Rattle.tf_graph.proofs.Removals.{start-more, start-done}
 use Rattle.tf_graph.proofs.strip.start.Goals as goal
 
 pub loop-node-preserved : goal.loop-node-preserved

@@ -6,7 +6,8 @@ use Rattle.tf_plan.specs.Plan.{action_of}
 use Rattle.tf_provider.specs.Meaning.{Asked, asked, schema_in}
 use Rattle.tf_provider.specs.Verdict.{asks_fully}
 use Rattle.tf_walk.specs.Ended.{done_of}
-use Rattle.tf_walk.specs.Ends.{IsServedBy, done_in}
+use Rattle.tf_plan.specs.Served.{IsServedBy}
+use Rattle.tf_walk.specs.Ends.{done_in}
 use Rattle.tf_walk.specs.Excuse.{before_call}
 use Rattle.tf_walk.specs.Outcome.{excused, is_good, request_of}
 use Rattle.tf_walk.proofs.Ending.{ends_skipped, ends_run, slice_get-map, all_at, run_of_action}

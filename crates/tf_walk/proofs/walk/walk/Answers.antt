@@ -50,10 +50,10 @@ loop-permit-preserved g c =
     let parts = claimable_is old ends p c.loop-permit.invariant.staged claimed.1 in
     let before = rw c.loop-permit.invariant.book at parts.1 in
     let written : map (option_map done_of) c.keep.new.results ≡ set ends p (Some d) =
-      ap (map (option_map done_of)) (c.keep.ensures ∙ ap (λ (k : ℕ). set results k (Some c.end_action-ended.result.0)) c.action-action.ensures) ∙ map-set (option_map done_of) results p (Some c.end_action-ended.result.0) in
+    ap (map (option_map done_of)) (c.keep.ensures ∙ ap (λ (k : ℕ). set results k (Some c.end_action-ended.result.0)) c.action-action.ensures) ∙ map-set (option_map done_of) results p (Some c.end_action-ended.result.0) in
     let more = so_far-more ms (plan_of c.args.plan.now) ends c.loop-permit.journal.entries c.end_action-ended.new.journal.entries p d c.loop-permit.invariant.so_far inside parts.0 before c.end_action-ended.ensures.ended c.end_action-ended.ensures.entered in
     let book : c.close.new.book ≡ moved (moved old p stage.Taken) p stage.Done =
-      c.close.ensures ∙ (ap (λ (l : Ledger). moved l c.end_action-ended.result.1 stage.Done) claimed.2 ∙ ap (λ (k : ℕ). moved (moved old p stage.Taken) k stage.Done) c.end_action-ended.ensures.finished) in
+    c.close.ensures ∙ (ap (λ (l : Ledger). moved l c.end_action-ended.result.1 stage.Done) claimed.2 ∙ ap (λ (k : ℕ). moved (moved old p stage.Taken) k stage.Done) c.end_action-ended.ensures.finished) in
     record {
       so_far = rw written more;
       staged = rw (written, book) (staged-more old.stages ends p d inside within c.loop-permit.invariant.staged);

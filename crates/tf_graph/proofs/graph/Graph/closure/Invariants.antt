@@ -8,7 +8,8 @@ invariant-loop-node l = record {
   count : length l.rows.items ≡ l.self.nodes;
   long : AreLong l.self.nodes l.rows.items;
   known_length : length l.known ≡ l.self.nodes;
-  known : AreKnown l.self l.rows.items l.known }
+  known : AreKnown l.self l.rows.items l.known;
+}
 
 abbrev pub invariant-loop-node-2 : goal.invariant-loop-node-2
 invariant-loop-node-2 l = record {
@@ -16,4 +17,5 @@ invariant-loop-node-2 l = record {
   long : AreLong l.self.nodes l.rows.items;
   known_length : length l.known ≡ l.self.nodes;
   known : AreKnown l.self l.rows.items l.known;
-  done : (k : ℕ) → k < l.node → has l.known k ≡ true }
+  done : (k : ℕ) → k < l.node → has l.known k ≡ true;
+}

@@ -1,4 +1,4 @@
-use Rattle.std.proofs.Common.{◌≡◌, ◌≤◌, ◌<◌, ◌++◌, ◌+◌, ◌∷◌, [], ℕ, List, Bool, true, false, length, set, get_or, ◌∙◌, sym, arith}
+use Rattle.std.proofs.Common.{◌≡◌, ◌<◌, ◌++◌, ◌+◌, ◌∷◌, [], true, false, length, set, ◌∙◌, sym, arith}
 use Rattle.std.specs.Prelude.{slice_index}
 use Rattle.std.proofs.lemmas.List.{get_or_read, nil_from_length}
 use Rattle.std.proofs.lemmas.List.Elements.{Contains-push}
@@ -21,22 +21,12 @@ release-requires-clause-enough c =
     let node = c.in-Some.node in
     let r : IsRemoval g l.left.items l.removal.remaining.items (c.pop.new.self.items ++ node ∷ []) [] = rw (← c.in-Some.ensures.items) l.invariant in
     let inside : node < length l.left.items = omega (arith, (r.free_zero node (Contains-push c.pop.new.self.items node)).0, r.left_length) in
-    let is : has l.left.items node ≡ true = sym (get_or_read l.left.items node c.index.result.now inside c.index.ensures false) ∙ c.if-index.true in
+    let is : has l.left.items node ≡ true = sym (get_or_read l.left.items node c.index.result.now inside c.index.ensures false) ∙ c.if-not-index.false in
     let next : IsRemoval g (set l.left.items node false) l.removal.remaining.items c.pop.new.self.items (successors_of g node) =
-        removal-go g l.left.items l.removal.remaining.items c.pop.new.self.items node c.nodes.ensures.within r is in
+    removal-go g l.left.items l.removal.remaining.items c.pop.new.self.items node c.nodes.ensures.within r is in
     λ s.
-        let counted : slice_index l.removal.remaining.items s ≡ count_left (set l.left.items node false) (predecessors_of g s) + times s (successors_of g node) = next.counts s in
-        omega arith
-
-pub loop-node-preserved-in-Continue-branch-3 : goal.loop-node-preserved-in-Continue-branch-3
-loop-node-preserved-in-Continue-branch-3 c =
-    let g = c.args.self.now in
-    let l = c.loop-node in
-    let node = c.in-Some.node in
-    let r : IsRemoval g l.left.items l.removal.remaining.items (c.pop.new.self.items ++ node ∷ []) [] = rw (← c.in-Some.ensures.items) l.invariant in
-    let inside : node < length l.left.items = omega (arith, (r.free_zero node (Contains-push c.pop.new.self.items node)).0, r.left_length) in
-    let is : has l.left.items node ≡ true = sym (get_or_read l.left.items node c.index.result.now inside c.index.ensures false) ∙ c.if-index.true in
-    c.in_ok-release.ensures.removal (set l.left.items node false) (removal-go g l.left.items l.removal.remaining.items c.pop.new.self.items node c.nodes.ensures.within r is)
+    let counted : slice_index l.removal.remaining.items s ≡ count_left (set l.left.items node false) (predecessors_of g s) + times s (successors_of g node) = next.counts s in
+    omega arith
 
 pub loop-node-preserved : goal.loop-node-preserved
 loop-node-preserved c =
@@ -45,7 +35,17 @@ loop-node-preserved c =
     let node = c.in-Some.node in
     let r : IsRemoval g l.left.items l.removal.remaining.items (c.pop.new.self.items ++ node ∷ []) [] = rw (← c.in-Some.ensures.items) l.invariant in
     let inside : node < length l.left.items = omega (arith, (r.free_zero node (Contains-push c.pop.new.self.items node)).0, r.left_length) in
-    let gone : has l.left.items node ≡ false = sym (get_or_read l.left.items node c.index.result.now inside c.index.ensures false) ∙ c.if-index.false in
+    let is : has l.left.items node ≡ true = sym (get_or_read l.left.items node c.index.result.now inside c.index.ensures false) ∙ c.if-not-index.false in
+    c.in_ok-release.ensures.removal (set l.left.items node false) (removal-go g l.left.items l.removal.remaining.items c.pop.new.self.items node c.nodes.ensures.within r is)
+
+pub loop-node-preserved-then-not-index : goal.loop-node-preserved-then-not-index
+loop-node-preserved-then-not-index c =
+    let g = c.args.self.now in
+    let l = c.loop-node in
+    let node = c.in-Some.node in
+    let r : IsRemoval g l.left.items l.removal.remaining.items (c.pop.new.self.items ++ node ∷ []) [] = rw (← c.in-Some.ensures.items) l.invariant in
+    let inside : node < length l.left.items = omega (arith, (r.free_zero node (Contains-push c.pop.new.self.items node)).0, r.left_length) in
+    let gone : has l.left.items node ≡ false = sym (get_or_read l.left.items node c.index.result.now inside c.index.ensures false) ∙ c.if-not-index.true in
     removal-skip g l.left.items l.removal.remaining.items c.pop.new.self.items node r gone
 
 pub returns : goal.returns

@@ -1,0 +1,289 @@
+//! Schemas that are refused, verdicts on a table of replies, and a call of a boxed provider.
+
+ghost use Rattle.std.specs.Prelude.{◌≡◌, IsTrue, MatchResult};
+ghost use Rattle.tf_claim.specs.Ledger.{is_taken, stage_in};
+
+use crate::{
+    Attribute, Called, Kind, Mode, Op, Parts, Provider, Reply, Request, Schema, SchemaFault,
+    Verdict, asks_fully, call, first_provider, judge, well_formed,
+};
+use std::alloc::{AllocError, Global};
+use std::collections::BTreeMap;
+use std::test::Fail;
+use tf_claim::{Book, Finished, Permit, waive};
+use tf_graph::Graph;
+use tf_value::Value;
+
+/// An attribute that forces nothing.
+fn attribute(alloc: Global, name: &str, kind: Kind, mode: Mode) -> Result<Attribute, AllocError> {
+    Ok(Attribute {
+        name: String::from_str(alloc, name)?,
+        kind,
+        mode,
+        force_new: false,
+    })
+}
+
+/// Why no schema is made of attributes with these names.
+fn fault_of(alloc: Global, names: &[&str]) -> Result<Option<SchemaFault>, AllocError> {
+    let mut attributes = Vec::new(alloc);
+    for name in names {
+        attributes.push(attribute(alloc, *name, Kind::Any, Mode::Optional)?)?;
+    }
+    Ok(Schema::new(alloc, 0, attributes).err())
+}
+
+/// The schema of a net: a required `cidr`, an optional `tag` and a computed `id`, all texts.
+fn net_schema(alloc: Global) -> Result<Schema, SchemaFault> {
+    let mut attributes = Vec::new(alloc);
+    attributes.push(attribute(alloc, "cidr", Kind::String, Mode::Required)?)?;
+    attributes.push(attribute(alloc, "tag", Kind::String, Mode::Optional)?)?;
+    attributes.push(attribute(alloc, "id", Kind::String, Mode::Computed)?)?;
+    Schema::new(alloc, 7, attributes)
+}
+
+/// What a reply says: a net's `cidr`, `tag` and `id`, a map without keys, or no object.
+#[derive(Clone, Copy, Debug)]
+enum Said {
+    Net(&'static str, &'static str, &'static str),
+    Bare,
+    Gone,
+    Failed,
+    NoMemory,
+}
+
+/// The value of a word: nothing is null, `?` isn't known, `5` is the number, and any other word is a text.
+fn value(alloc: Global, word: &str) -> Result<Value, AllocError> {
+    match word {
+        "" => Ok(Value::Null),
+        "?" => Ok(Value::Unknown),
+        "5" => Ok(Value::Int(5)),
+        _ => Ok(Value::Text(String::from_str(alloc, word)?)),
+    }
+}
+
+/// Adds the value of a word to an object.
+fn add(
+    alloc: Global,
+    entries: &mut BTreeMap<String, Value>,
+    key: &str,
+    word: &str,
+) -> Result<(), AllocError> {
+    drop(entries.insert(String::from_str(alloc, key)?, value(alloc, word)?)?);
+    Ok(())
+}
+
+/// A net's object.
+fn net(alloc: Global, cidr: &str, tag: &str, id: &str) -> Result<Value, AllocError> {
+    let mut entries = BTreeMap::new(alloc);
+    add(alloc, &mut entries, "cidr", cidr)?;
+    add(alloc, &mut entries, "tag", tag)?;
+    add(alloc, &mut entries, "id", id)?;
+    Ok(Value::Map(entries))
+}
+
+fn reply(alloc: Global, said: Said) -> Result<Reply, AllocError> {
+    match said {
+        Said::Net(cidr, tag, id) => Ok(Reply::Object(net(alloc, cidr, tag, id)?)),
+        Said::Bare => Ok(Reply::Object(Value::Map(BTreeMap::new(alloc)))),
+        Said::Gone => Ok(Reply::Gone),
+        Said::Failed => Ok(Reply::Failed {
+            message: String::from_str(alloc, "no")?,
+            object: None,
+        }),
+        Said::NoMemory => Ok(Reply::NoMemory),
+    }
+}
+
+/// The create of the net with cidr `x` and an id that isn't known, or a destroy.
+fn request(alloc: Global, op: Op) -> Result<Request, AllocError> {
+    let object = match op {
+        Op::Destroy => None,
+        _ => Some(net(alloc, "x", "", "?")?),
+    };
+    Ok(Request {
+        op,
+        address: String::from_str(alloc, "net.a")?,
+        type_name: String::from_str(alloc, "net")?,
+        deposed: None,
+        prior: None,
+        object,
+    })
+}
+
+/// The verdict on a reply; none where the request's object hasn't the schema's attributes.
+fn verdict_on(
+    alloc: Global,
+    schema: &Schema,
+    op: Op,
+    said: Said,
+) -> Result<Option<Verdict>, AllocError> {
+    let request = request(alloc, op)?;
+    let reply = reply(alloc, said)?;
+    if asks_fully(&request, schema) {
+        Ok(Some(judge(&request, &reply, schema)))
+    } else {
+        Ok(None)
+    }
+}
+
+#[test]
+fn replies_are_judged(rt: HostRuntime) -> Result<(), Fail> {
+    let schema = net_schema(rt.alloc())?;
+    for (op, said, verdict) in [
+        (Op::Create, Said::Net("x", "", "net-x"), Verdict::Good),
+        (
+            Op::Create,
+            Said::Net("y", "", "net-y"),
+            Verdict::Contradicted(0),
+        ),
+        (
+            Op::Create,
+            Said::Net("x", "t", "net-x"),
+            Verdict::Contradicted(2),
+        ),
+        (Op::Update, Said::Net("x", "", "?"), Verdict::Malformed),
+        (Op::Create, Said::Net("", "", "net-x"), Verdict::Malformed),
+        (Op::Create, Said::Net("x", "", "5"), Verdict::Malformed),
+        (Op::Create, Said::Bare, Verdict::Malformed),
+        (Op::Create, Said::Gone, Verdict::Malformed),
+        (Op::Create, Said::Failed, Verdict::Failed),
+        (Op::Create, Said::NoMemory, Verdict::Excused),
+        (Op::Destroy, Said::Gone, Verdict::Good),
+        (Op::Destroy, Said::Net("x", "", "net-x"), Verdict::Malformed),
+        (Op::Destroy, Said::Failed, Verdict::Failed),
+        (Op::Destroy, Said::NoMemory, Verdict::Excused),
+    ] {
+        assert_eq!(rt;
+            verdict_on(rt.alloc(), &schema, op, said)?,
+            Some(verdict),
+            "{said:?}"
+        );
+    }
+    assert!(rt; well_formed(&net(rt.alloc(), "x", "", "")?, &schema));
+    assert!(rt; !well_formed(&net(rt.alloc(), "", "", "")?, &schema));
+    Ok(())
+}
+
+#[test]
+fn schemas_are_refused(rt: HostRuntime) -> Result<(), Fail> {
+    let alloc = rt.alloc();
+    assert_eq!(rt; fault_of(alloc, &["b", "a"])?, None);
+    assert_eq!(rt;
+        fault_of(alloc, &["a", "b", "a"])?,
+        Some(SchemaFault::Repeated)
+    );
+    assert_eq!(rt;
+        fault_of(alloc, &["a", "a", "count"])?,
+        Some(SchemaFault::Reserved)
+    );
+    assert_eq!(rt;
+        fault_of(alloc, &["count", "1"])?,
+        Some(SchemaFault::NotAName)
+    );
+    assert_eq!(rt; fault_of(alloc, &["1"; 201])?, Some(SchemaFault::TooMany));
+    Ok(())
+}
+
+#[test]
+fn schemas_are_in_byte_order(rt: HostRuntime) -> Result<(), Fail> {
+    let schema = net_schema(rt.alloc())?;
+    assert_eq!(rt; schema.version(), 7);
+    let attributes = schema.attributes();
+    assert_eq!(rt; attributes.len(), 3);
+    assert_eq!(rt; attributes[0].name.as_str(), "cidr");
+    assert_eq!(rt; attributes[1].name.as_str(), "id");
+    assert_eq!(rt; attributes[2].name.as_str(), "tag");
+    assert!(rt;
+        schema
+            .attribute("tag")
+            .is_some_and(|a| a.mode == Mode::Optional)
+    );
+    assert!(rt; schema.attribute("net").is_none());
+    Ok(())
+}
+
+/// A provider that has the net's schema for each type, and says of each object that it is gone.
+#[derive(Drop)]
+struct Mute {
+    schema: Schema,
+}
+
+impl Provider for Mute {
+    ghost use Rattle.std.specs.Prelude.{Some};
+    ghost use Rattle.tf_provider.specs.Meaning.{gone};
+
+    ghost meaning = { λ mute. record { answer = λ _. gone; schema_of = λ _. Some mute.schema } };
+
+    fn schema(&self, _type_name: &str) -> Option<&Schema> {
+        Some(&self.schema)
+    }
+
+    fn apply(&self, _request: &Request) -> Reply {
+        Reply::Gone
+    }
+}
+
+/// Reports an action as done that was claimed from this book.
+fn finish(book: &mut Book, finished: Finished)
+    requires { IsTrue (is_taken (stage_in book.old.stages finished)) }
+{
+    match book.finish(finished) {
+        Ok(()) => {}
+        Err(_back) => unreachable!(),
+    }
+}
+
+/// Calls a provider where it may be asked; the permit comes back otherwise.
+fn try_call(
+    provider: &Box<dyn Provider + Sync>,
+    permit: Permit,
+    request: Request,
+) -> Result<Called, Permit>
+    ensures { MatchResult result (λ called. called.action ≡ permit) (λ back. back ≡ permit) }
+{
+    match provider.schema(request.type_name.as_str()) {
+        Some(schema) if asks_fully(&request, schema) => Ok(call(provider, permit, request)),
+        _ => Err(permit),
+    }
+}
+
+/// Takes a call apart, reports its action as done, and gives what was judged.
+fn settle(book: &mut Book, called: Called) -> Verdict
+    requires { IsTrue (is_taken (stage_in book.old.stages called.action)) }
+    ensures { result ≡ called.verdict }
+{
+    let Parts {
+        finished,
+        request: _,
+        reply: _,
+        verdict,
+    } = called.into_recorded().into_parts();
+    finish(book, finished);
+    verdict
+}
+
+#[test]
+fn a_call_spends_its_permit(rt: HostRuntime) -> Result<(), Fail> {
+    let alloc = rt.alloc();
+    let mut providers: Vec<Box<dyn Provider + Sync>> = Vec::new(alloc);
+    let schema = net_schema(alloc)?;
+    providers.push(Box::new(alloc, Mute { schema })?)?;
+    assert_eq!(rt; first_provider(&providers, "net"), Some(0));
+    let mut book = Book::new(alloc, &Graph::new(alloc, 1, &[])?)?;
+    let request = request(alloc, Op::Destroy)?;
+    let Some(permit) = book.claim(0) else {
+        return Err("not claimed")?;
+    };
+    match try_call(&providers[0], permit, request) {
+        Ok(called) => {
+            let verdict = settle(&mut book, called);
+            assert_eq!(rt; verdict, Verdict::Good);
+            Ok(())
+        }
+        Err(permit) => {
+            finish(&mut book, waive(permit));
+            Err("the provider hasn't the type")?
+        }
+    }
+}
