@@ -1,0 +1,118 @@
+-- What an apply prints before it writes the state, and its status.
+use Rattle.std.specs.Prelude.{ℕ, Bool, true, false, not, ◌&&◌, if◌then◌else◌, List, [], ◌∷◌, ◌++◌, codes, decimal, Option, Some, None, Result, Ok, Err, is_err, string_bytes}
+use Rattle.std.specs.List.{flat_map, list_all}
+use Rattle.tf_config.specs.Refusal.{Told, no_memory, told}
+use Rattle.tf_config.specs.RefusalText.{refusal_text}
+use Rattle.tf_provider.specs.declared.request.Op.{Op}
+use Rattle.tf_provider.specs.declared.request.Op.TheVariants as op
+use Rattle.tf_plan.specs.declared.refused.Refused.{Refused}
+use Rattle.tf_plan.specs.declared.refused.Refused.TheVariants.{NoMemory, These}
+use Rattle.tf_walk.specs.Diagnostics.{DiagnosticView, diagnostic_of}
+use Rattle.tf_walk.specs.Outcome.{is_good_verdict}
+use Rattle.tf_walk.specs.declared.report.Diagnostic.{Diagnostic}
+use Rattle.tf_walk.specs.declared.report.Outcome.{Outcome}
+use Rattle.tf_walk.specs.declared.report.Outcome.TheVariants as outcome
+use Rattle.tf_walk.specs.declared.report.Report.{Report}
+use Rattle.tf_walk.specs.declared.report.Walked.{Walked}
+use Rattle.tf_walk.specs.declared.report.Walked.TheVariants.{Whole, Torn}
+use Rattle.tf_cli.specs.declared.applied.Applied.{Applied}
+
+-- the report of a walk, torn or not
+abbrev pub report_of : Walked → Report
+report_of (Whole report) = report
+report_of (Torn report) = report
+
+abbrev pub is_torn : Walked → Bool
+is_torn (Whole report) = false
+is_torn (Torn report) = true
+
+-- ---- refusals
+
+-- a refusal has a line
+abbrev pub refusal_line : Told → List ℕ
+refusal_line t = refusal_text t ++ 10 ∷ []
+
+-- each refusal in a line, in order
+abbrev pub refused_errors : Refused → List ℕ
+refused_errors NoMemory = refusal_line no_memory
+refused_errors (These refusals) = flat_map (λ r. refusal_line (told r)) refusals.items
+
+-- ---- diagnostics
+
+-- a space and what was to be done, where something was
+abbrev pub verb_text : Option Op → List ℕ
+verb_text None = []
+verb_text (Some op.Create) = codes " create"
+verb_text (Some op.Update) = codes " update"
+verb_text (Some op.Destroy) = codes " destroy"
+
+-- `error CODE at ADDRESS VERB: MESSAGE`
+abbrev pub diagnostic_line : DiagnosticView → List ℕ
+diagnostic_line d = codes "error " ++ decimal d.code ++ codes " at " ++ d.place ++ verb_text d.verb ++ codes ": " ++ d.message ++ 10 ∷ []
+
+-- each diagnostic in a line, in order
+abbrev pub diagnostic_lines : List Diagnostic → List ℕ
+diagnostic_lines ds = flat_map (λ d. diagnostic_line (diagnostic_of d)) ds
+
+-- ---- the summary
+
+abbrev pub is_good_outcome : Outcome → Bool
+is_good_outcome (outcome.Judged v) = is_good_verdict v
+is_good_outcome _ = false
+
+-- each action is good
+abbrev pub all_good : Report → Bool
+all_good report = list_all is_good_outcome report.outcomes.items
+
+-- how the summary begins
+abbrev pub summary_opening : Bool → List ℕ
+summary_opening complete = if complete then codes "Apply complete! Resources: " else codes "Apply incomplete. Resources: "
+
+-- how many objects were added, changed and destroyed
+abbrev pub counts : List ℕ → ℕ → ℕ → ℕ → List ℕ
+counts opening added changed destroyed =
+    opening ++ (decimal added ++ (codes " added, " ++ (decimal changed ++ (codes " changed, " ++ (decimal destroyed ++ codes " destroyed.\n")))))
+
+-- the summary of a report: whether each action is good, and how many of each kind are
+abbrev pub report_summary : Report → List ℕ
+report_summary report = counts (summary_opening (all_good report)) report.good.0 report.good.1 report.good.2
+
+-- ---- all that is printed
+
+-- the state changed, and there is no text of it to write
+abbrev pub cant_write : Applied → Bool
+cant_write a = a.changed && is_err a.state
+
+-- a torn report is told
+abbrev pub torn_warning : Bool → List ℕ
+torn_warning torn = if torn then codes "warning: the journal is withheld\n" else []
+
+abbrev pub unwritten_error : Bool → List ℕ
+unwritten_error unwritten = if unwritten then codes "error: state not written\n" else []
+
+-- on standard output: the plan and the summary
+abbrev pub applied_output : Applied → List ℕ
+applied_output a = string_bytes a.plan ++ report_summary (report_of a.walked)
+
+-- on standard error: the diagnostics, the warning of a torn report, and that the state isn't written
+abbrev pub applied_errors : Applied → List ℕ
+applied_errors a =
+    diagnostic_lines (report_of a.walked).diagnostics.items ++ torn_warning (is_torn a.walked) ++ unwritten_error (cant_write a)
+
+abbrev pub output_of : Result Applied Refused → List ℕ
+output_of (Ok a) = applied_output a
+output_of (Err refused) = []
+
+abbrev pub errors_of : Result Applied Refused → List ℕ
+errors_of (Ok a) = applied_errors a
+errors_of (Err refused) = refused_errors refused
+
+-- 3 where the state isn't written, else 2 where some action isn't good or the report is torn, else 0
+abbrev pub applied_status : Applied → ℕ
+applied_status a =
+    if cant_write a then 3 else (if all_good (report_of a.walked) && not (is_torn a.walked) then 0 else 2)
+
+-- 1 where something is refused
+abbrev pub status_of : Result Applied Refused → ℕ
+status_of (Ok a) = applied_status a
+status_of (Err refused) = 1

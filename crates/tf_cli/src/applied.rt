@@ -1,0 +1,17 @@
+//! What an apply answers.
+
+use std::alloc::AllocError;
+use tf_walk::Walked;
+
+/// What came of an apply.
+#[derive(Drop)]
+pub struct Applied {
+    /// The plan's text.
+    pub plan: String,
+    /// The report of the walk.
+    pub walked: Walked,
+    /// The text of the state after, where there was memory for it.
+    pub state: Result<String, AllocError>,
+    /// Whether the state after isn't the prior one, so that its text has to be written.
+    pub changed: bool,
+}

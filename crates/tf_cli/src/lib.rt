@@ -1,0 +1,16 @@
+//! The engine as a library call: texts in, texts out; and what the programs `plan` and `apply` share.
+#![tactic(auto)]
+
+pub mod applied;
+mod lines;
+mod planning;
+mod printing;
+pub mod saving;
+
+pub use applied::Applied;
+pub use planning::plan_text;
+pub use printing::{print, print_refused, show};
+pub use saving::{SaveFault, save};
+pub use tf_config::Refusal;
+pub use tf_options::{Options, options};
+pub use tf_plan::Refused;
