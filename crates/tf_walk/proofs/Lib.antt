@@ -6,3 +6,6 @@ pub mod SoFar
 pub mod Stages
 pub mod Settling
 pub mod Lines
+pub mod Formed
+pub mod Named
+pub mod Saving

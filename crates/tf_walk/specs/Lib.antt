@@ -8,3 +8,4 @@ pub mod Room
 pub mod RoomHead
 pub mod Ends
 pub mod Settled
+pub mod Slice

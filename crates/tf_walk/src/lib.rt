@@ -5,6 +5,7 @@
 mod asking;
 mod calls;
 mod claims;
+mod conclude;
 mod ended;
 mod furnish;
 mod one_line;
@@ -12,6 +13,7 @@ pub mod report;
 mod requests;
 mod rooms;
 mod settle;
+mod slice;
 mod steps;
 mod walk;
 

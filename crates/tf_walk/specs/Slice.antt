@@ -1,0 +1,41 @@
+-- What one action adds to the report.
+use Rattle.std.specs.Prelude.{◌≡◌, ℕ, List, [], ◌∷◌, Option, Some, None, option_map, if◌then◌else◌}
+use Rattle.tf_provider.specs.Meaning.{Asked, Answer, Meaning, object, gone, failed}
+use Rattle.tf_provider.specs.Schema.{SchemaView}
+use Rattle.tf_provider.specs.Verdict.{well_formed, verdict_on}
+use Rattle.tf_provider.specs.declared.verdict.Verdict.{Verdict}
+use Rattle.tf_state.specs.State.{ResourceView, resource_of}
+use Rattle.tf_value.specs.Tree as tree
+use Rattle.tf_walk.specs.After.{resource_after, saved}
+use Rattle.tf_walk.specs.Diagnostics.{DiagnosticView, diagnostic_of, diagnostics_at}
+use Rattle.tf_walk.specs.Outcome.{Done, skipped, excused, called, call_of}
+use Rattle.tf_walk.specs.Room.{Head}
+use Rattle.tf_walk.specs.declared.slice.Slice.{Slice}
+
+-- an object, where it is well formed
+abbrev pub if_formed : SchemaView → tree.Tree → Option tree.Tree
+if_formed schema t = if well_formed schema t then Some t else None
+
+-- the object of an answer, where it is well formed
+abbrev pub formed_reply : SchemaView → Option Answer → Option tree.Tree
+formed_reply schema (Some (object t)) = if_formed schema t
+formed_reply schema _ = None
+
+-- the object of a failure, where it is well formed
+abbrev pub formed_failure : SchemaView → Option Answer → Option tree.Tree
+formed_failure schema (Some (failed message (Some t))) = if_formed schema t
+formed_failure schema _ = None
+
+abbrev pub listed : {A : Type 0} → Option A → List A
+listed None = []
+listed (Some a) = a ∷ []
+
+-- a slice of the report is what came of an action
+pub record IsSliceOf (ms : List Meaning) (h : Head) (d : Done) (slice : Slice) : Type 0 where
+  pub resource : option_map resource_of slice.resource ≡ option_map (resource_after h) (saved ms d)
+  pub told : listed (option_map diagnostic_of slice.diagnostic) ≡ diagnostics_at h d
+
+-- a call's answer is that of the provider that has the type
+abbrev pub IsJudged : List Meaning → Done → Type 0
+IsJudged ms (called asked answer v) = called asked answer v ≡ call_of ms asked
+IsJudged ms _ = Unit {0}

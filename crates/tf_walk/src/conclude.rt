@@ -1,0 +1,155 @@
+//! What came of an action becomes a part of the report, without taking memory.
+
+ghost use Rattle.std.specs.Prelude.{◌≡◌, ◌<◌, ◌++◌, ℕ, [], true, false, Some, None, codes, option_map, option_and_then, string_bytes, string_capacity};
+ghost use Rattle.tf_address.specs.Label.{label_text};
+ghost use Rattle.tf_provider.specs.Meaning.{asked, answered, schema_in};
+ghost use Rattle.tf_provider.specs.Verdict.{verdict_on};
+ghost use Rattle.tf_provider.specs.declared.request.Op.TheVariants.{Create};
+ghost use Rattle.tf_state.specs.State.{resource_of};
+ghost use Rattle.tf_value.specs.Tree.{tree_of};
+ghost use Rattle.tf_walk.specs.After.{resource_after, saved_by};
+ghost use Rattle.tf_walk.specs.Diagnostics.{diagnostic_of, diagnostics_of_verdict, name_at};
+ghost use Rattle.tf_walk.specs.Ended.{done_of};
+ghost use Rattle.tf_walk.specs.Room.{message_fits};
+ghost use Rattle.tf_walk.specs.RoomHead.{room_head};
+ghost use Rattle.tf_walk.specs.Slice.{IsJudged, IsSliceOf, formed_reply, if_formed, listed};
+
+use crate::calls::provider_for;
+use crate::ended::{Ended, Judged};
+use crate::one_line::one_line;
+use crate::report::Diagnostic;
+use crate::rooms::Room;
+use crate::slice::Slice;
+use tf_provider::{Op, Provider, Reply, Schema, Verdict, well_formed};
+use tf_state::{Object, Record, Resource};
+use tf_value::Value;
+
+/// What a call adds to the report.
+pub fn conclude_call(room: Room, judged: Judged, schema: &Schema) -> Slice
+    requires { judged.verdict ≡ verdict_on (asked judged.request) (answered judged.reply) schema.now }
+    ensures saves { option_map resource_of result.resource
+        ≡ option_map (resource_after (room_head room)) (saved_by schema.now (asked judged.request) (answered judged.reply) judged.verdict) }
+    ensures tells { listed (option_map diagnostic_of result.diagnostic)
+        ≡ diagnostics_of_verdict (room_head room) (asked judged.request) (answered judged.reply) judged.verdict }
+{
+    let Judged {
+        request,
+        reply,
+        verdict,
+        mut message,
+        fallback,
+    } = judged;
+    match verdict {
+        Verdict::Good => fill(room, object_in(reply, schema), false, None),
+        Verdict::Contradicted(place) => {
+            let message = contradiction(message, &request.object, place);
+            fill(room, object_in(reply, schema), true, Some((22, message)))
+        }
+        Verdict::Malformed => {
+            message.push_str("malformed reply").unwrap();
+            fill(room, Some(fallback), true, Some((23, message)))
+        }
+        Verdict::Failed => match reply {
+            Reply::Failed { message, object } => {
+                let object = object_there(object, schema);
+                fill(room, object, true, Some((21, one_line(message))))
+            }
+            _ => fill(room, None, true, Some((21, message))),
+        },
+        Verdict::Excused => fill(room, None, true, None),
+    }
+}
+
+/// The object that a provider answered, where it did and it is well formed.
+fn object_in(reply: Reply, schema: &Schema) -> Option<Object>
+    ensures { option_map (λ o. tree_of o.value) result ≡ formed_reply schema.now (answered reply) }
+{
+    match reply {
+        Reply::Object(value) => formed_object(value, schema),
+        _ => None,
+    }
+}
+
+/// The object that is there in spite of a failure, where there is one and it is well formed.
+fn object_there(object: Option<Value>, schema: &Schema) -> Option<Object>
+    ensures { option_map (λ o. tree_of o.value) result ≡ option_and_then (if_formed schema.now) (option_map tree_of object) }
+{
+    match object {
+        Some(value) => formed_object(value, schema),
+        None => None,
+    }
+}
+
+/// An object that a provider answered, where it is well formed.
+fn formed_object(value: Value, schema: &Schema) -> Option<Object>
+    ensures { option_map (λ o. tree_of o.value) result ≡ if_formed schema.now (tree_of value) }
+{
+    let _attributes = schema.attributes();
+    if well_formed(&value, schema) {
+        Some(Object { value })
+    } else {
+        None
+    }
+}
+
+/// The message about a reply that contradicts what was planned, in the room that was made for it.
+fn contradiction(mut message: String, object: &Option<Value>, place: usize) -> String
+    requires blank { string_bytes message ≡ [] }
+    requires fits { message_fits (string_capacity message) (option_map tree_of object.now) ≡ true }
+    ensures { string_bytes result ≡ codes "contradicts " ++ name_at (option_map tree_of object.now) place }
+{
+    message.push_str("contradicts ").unwrap();
+    if let Some(object) = object {
+        if let Value::Map(attributes) = object {
+            if let Some((name, _)) = attributes.iter().nth(place) {
+                message.push_str(name.as_str()).unwrap();
+            }
+        }
+    }
+    message
+}
+
+/// What is saved and told, in the room that was made for it.
+fn fill(room: Room, object: Option<Object>, tainted: bool, telling: Option<(u8, String)>) -> Slice
+    ensures saves { option_map resource_of result.resource ≡ option_map (λ o. resource_after (room_head room) (tree_of o.value, tainted)) object }
+    ensures tells { option_map diagnostic_of result.diagnostic
+        ≡ option_map (λ t. record { code = t.0; place = label_text (room_head room).label; verb = Some Create; message = string_bytes t.1 }) telling }
+{
+    let Room {
+        label,
+        version,
+        address,
+        provider,
+        message: _,
+        mut records,
+    } = room;
+    let diagnostic = match telling {
+        Some((code, message)) => Some(Diagnostic {
+            code,
+            place: address,
+            verb: Some(Op::Create),
+            message,
+        }),
+        None => None,
+    };
+    let resource = match object {
+        Some(attributes) => {
+            let record = Record {
+                attributes,
+                schema_version: version,
+                tainted,
+            };
+            records.push(record).unwrap();
+            Some(Resource {
+                label,
+                provider,
+                records,
+            })
+        }
+        None => None,
+    };
+    Slice {
+        resource,
+        diagnostic,
+    }
+}

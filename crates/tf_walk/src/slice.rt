@@ -1,0 +1,11 @@
+//! What one action adds to the report.
+
+use crate::report::Diagnostic;
+use tf_state::Resource;
+
+/// What one action adds to the report: the resource that it saves, and what it tells.
+#[derive(Drop)]
+pub struct Slice {
+    pub resource: Option<Resource>,
+    pub diagnostic: Option<Diagnostic>,
+}
