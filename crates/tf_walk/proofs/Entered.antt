@@ -1,11 +1,10 @@
 -- The entries of a journal.
-use Rattle.std.proofs.Common.{◌≡◌, ◌≢◌, ℕ, Bool, true, false, ◌||◌, cond, eqb, List, [], ◌∷◌, ◌++◌, Option, Some, None, option_map, refl, ap, ap₂, ◌∙◌, sym}
-use Rattle.std.specs.Prelude.{is_some, unwrap_or, find, not, if◌then◌else◌, option_and_then}
-use Rattle.std.specs.List.{list_all, list_any}
-use Rattle.tf_graph.specs.Digraph.{Digraph, predecessors_of}
+use Rattle.std.proofs.Common.{◌≡◌, ℕ, Bool, true, false, ◌||◌, cond, eqb, List, [], ◌∷◌, ◌++◌, Option, Some, None, option_map, refl, ap, ◌∙◌}
+use Rattle.std.specs.Prelude.{is_some, unwrap_or, find, option_and_then}
+use Rattle.std.specs.List.{list_all}
+use Rattle.tf_graph.specs.Digraph.{predecessors_of}
 use Rattle.tf_journal.specs.declared.journal.Entry.{Entry}
 use Rattle.tf_journal.specs.Entries.{Log, is_entered, fault_of}
-use Rattle.tf_provider.specs.declared.verdict.Verdict.{Verdict}
 use Rattle.tf_walk.specs.Ends.{end_at, done_in}
 use Rattle.tf_walk.specs.Outcome.{Done, skipped, excused, called, is_good}
 use Rattle.tf_walk.specs.Report.{verdict_in, entered_verdict}

@@ -1,5 +1,5 @@
 -- What comes of a call is what comes of the provider's answer.
-use Rattle.std.proofs.Common.{◌≡◌, Bool, Option, Some, None, IfSome, refl, ap}
+use Rattle.std.proofs.Common.{◌≡◌, Option, Some, None, IfSome, refl}
 use Rattle.std.specs.Prelude.{IsSomeAnd, IsTrue}
 use Rattle.std.specs.Option.{option_map_or}
 use Rattle.tf_provider.specs.Call.{IsServed}
@@ -8,7 +8,7 @@ use Rattle.tf_provider.specs.Schema.{SchemaView}
 use Rattle.tf_provider.specs.Verdict.{verdict_on, asks_fully}
 use Rattle.tf_provider.specs.declared.verdict.Verdict.{Verdict}
 use Rattle.tf_provider.specs.declared.verdict.Verdict.TheVariants as verdict
-use Rattle.tf_walk.specs.Outcome.{Done, called, skipped, call_of_provider}
+use Rattle.tf_walk.specs.Outcome.{called, skipped, call_of_provider}
 
 by_answer : (m : Meaning) (r : Asked) (s : SchemaView) (answer : Option Answer) (v : Verdict) → IfSome answer (λ a. a ≡ m.answer r) → v ≡ verdict_on r answer s → (v ≡ verdict.Excused → ⊥)
     → called r answer v ≡ called r (Some (m.answer r)) (verdict_on r (Some (m.answer r)) s)

@@ -1,10 +1,10 @@
 -- What a call saves.
-use Rattle.std.proofs.Common.{◌≡◌, Bool, true, false, not, refl, sym, ap, ◌∙◌, ℕ}
+use Rattle.std.proofs.Common.{◌≡◌, Bool, true, false, not, refl, sym, ap, ℕ}
 use Rattle.std.specs.Prelude.{Option, Some, None, option_map, option_and_then, if◌then◌else◌}
 use Rattle.std.specs.Option.{option_map_or}
 use Rattle.tf_provider.specs.Meaning.{Asked, Answer, object, gone, failed}
 use Rattle.tf_provider.specs.Schema.{SchemaView}
-use Rattle.tf_provider.specs.Verdict.{verdict_on, verdict_on_object, well_formed, contradiction, is_destroy}
+use Rattle.tf_provider.specs.Verdict.{verdict_on, well_formed, contradiction, is_destroy}
 use Rattle.tf_provider.specs.declared.verdict.Verdict.{Verdict}
 use Rattle.tf_provider.specs.declared.verdict.Verdict.TheVariants as verdict
 use Rattle.tf_value.specs.Tree as tree
@@ -14,7 +14,7 @@ use Rattle.tf_state.specs.State.{ResourceView}
 use Rattle.tf_walk.specs.After.{Saved, saved_reply, resource_after}
 use Rattle.tf_walk.specs.Room.{Head}
 use Rattle.tf_walk.specs.Settled.{settled}
-use Rattle.tf_walk.specs.Slice.{if_formed, formed_reply}
+use Rattle.tf_walk.specs.Slice.{formed_reply}
 
 -- a verdict by which a reply is saved
 abbrev saves_reply : Verdict → Bool

@@ -1,5 +1,5 @@
 -- Tests of each node of a list.
-use Rattle.std.proofs.Common.{◌≡◌, ℕ, Bool, true, false, ◌&&◌, cond, List, [], ◌∷◌, Option, Some, None, refl, ap, ap₂, ◌∙◌, sym}
+use Rattle.std.proofs.Common.{◌≡◌, ℕ, Bool, true, false, ◌&&◌, List, [], ◌∷◌, refl, ap, ap₂}
 use Rattle.std.specs.List.{list_all, AllByRecursion}
 use Rattle.tf_graph.specs.Solutions.{seen_by}
 use Rattle.tf_walk.specs.Outcome.{Done, is_good, all_good}

@@ -1,6 +1,5 @@
 -- Values with null in place of what isn't known.
-use Rattle.std.proofs.Common.{◌≡◌, ℕ, Bool, true, ◌&&◌, List, [], ◌∷◌, map as each, String, string_bytes, Option, Some, None, option_map, refl, sym, ap, ap₂, ◌∙◌}
-use Rattle.std.specs.declared.alloc.Global.{Global}
+use Rattle.std.proofs.Common.{◌≡◌, Bool, true, ◌&&◌, List, [], ◌∷◌, map as each, string_bytes, Option, Some, None, option_map, refl, sym, ap}
 use Rattle.tf_value.proofs.Views.{Entry, shown}
 use Rattle.tf_value.specs.Known.{known, known_items, known_entries}
 use Rattle.tf_value.specs.Tree.{Tree, null, boolean, whole, text, list, map, unknown, Items, no_items, item, Entries, no_entries, entry, tree_of, items_of, items_view, entries_view}

@@ -1,8 +1,8 @@
 -- The state after an apply.
-use Rattle.std.specs.Prelude.{◌≡◌, ℕ, ◌+◌, Bool, true, false, if◌then◌else◌, List, [], ◌∷◌, Option, Some, None, option_map, is_some}
+use Rattle.std.specs.Prelude.{◌+◌, Bool, true, false, if◌then◌else◌, List, [], ◌∷◌, Option, Some, None, option_map}
 use Rattle.std.specs.Option.{option_map_or}
 use Rattle.tf_plan.specs.Plan.{ActionView}
-use Rattle.tf_provider.specs.Meaning.{Asked, Answer, Meaning, object, gone, failed, schema_in}
+use Rattle.tf_provider.specs.Meaning.{Asked, Answer, Meaning, object, failed, schema_in}
 use Rattle.tf_provider.specs.Schema.{SchemaView}
 use Rattle.tf_provider.specs.Verdict.{well_formed}
 use Rattle.tf_provider.specs.declared.verdict.Verdict.{Verdict}
@@ -12,7 +12,7 @@ use Rattle.tf_state.specs.State.{ResourceView, StateView, with_resource}
 use Rattle.tf_value.specs.Tree as tree
 use Rattle.tf_walk.specs.Room.{Head, head_of}
 use Rattle.tf_walk.specs.Settled.{settled}
-use Rattle.tf_walk.specs.Outcome.{Done, skipped, excused, called}
+use Rattle.tf_walk.specs.Outcome.{Done, called}
 
 -- an object that is saved, and whether it is tainted
 abbrev pub Saved : Type 0

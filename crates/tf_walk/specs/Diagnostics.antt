@@ -1,9 +1,8 @@
 -- What an apply tells of actions that aren't good.
-use Rattle.std.specs.Prelude.{◌≡◌, ℕ, Bool, nat_lt, if◌then◌else◌, List, [], ◌∷◌, ◌++◌, map, codes, Option, Some, None, string_bytes, slice_index_or}
-use Rattle.std.specs.Option.{option_map_or}
+use Rattle.std.specs.Prelude.{ℕ, nat_lt, if◌then◌else◌, List, [], ◌∷◌, ◌++◌, map, codes, Option, Some, string_bytes, slice_index_or}
 use Rattle.tf_address.specs.Label.{label_text}
 use Rattle.tf_plan.specs.Plan.{ActionView}
-use Rattle.tf_provider.specs.Meaning.{Asked, Answer, object, gone, failed}
+use Rattle.tf_provider.specs.Meaning.{Asked, Answer, failed}
 use Rattle.tf_provider.specs.Verdict.{keys_of}
 use Rattle.tf_provider.specs.declared.request.Op.{Op}
 use Rattle.tf_provider.specs.declared.request.Op.TheVariants.{Create}

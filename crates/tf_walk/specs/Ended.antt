@@ -1,5 +1,5 @@
 -- What came of an action, as the walk keeps it.
-use Rattle.std.specs.Prelude.{ℕ, List, Option, Some, None, map, slice_index_or}
+use Rattle.std.specs.Prelude.{Option, Some, None}
 use Rattle.tf_provider.specs.Meaning.{asked, answered}
 use Rattle.tf_walk.specs.Excuse.{before_call, during_call}
 use Rattle.tf_walk.specs.Outcome.{Done, skipped, excused, called}

@@ -1,6 +1,6 @@
 -- How one action ends, whatever is excused later.
-use Rattle.std.specs.Prelude.{◌≡◌, ℕ, ◌<◌, Bool, true, List, [], ◌∷◌, ◌++◌, length, Option, Some, None, is_some, unwrap_or, slice_index_or, IsTrue, IsSomeAnd, MatchBool, MatchOption, option_and_then, if◌then◌else◌}
-use Rattle.std.specs.List.{list_all, AllByRecursion}
+use Rattle.std.specs.Prelude.{◌≡◌, ℕ, ◌<◌, true, List, [], ◌∷◌, ◌++◌, length, Option, Some, None, is_some, unwrap_or, slice_index_or, MatchBool, MatchOption, option_and_then}
+use Rattle.std.specs.List.{list_all}
 use Rattle.tf_claim.specs.Ledger.{stage_in}
 use Rattle.tf_claim.specs.declared.book.Stage.{Stage}
 use Rattle.tf_claim.specs.declared.book.Stage.TheVariants as stage
@@ -9,7 +9,7 @@ use Rattle.tf_graph.specs.Solutions.{seen_by}
 use Rattle.tf_journal.specs.declared.journal.Entry.{Entry}
 use Rattle.tf_plan.specs.Plan.{ActionView, PlanView}
 use Rattle.tf_provider.specs.Meaning.{Meaning}
-use Rattle.tf_walk.specs.Outcome.{Done, skipped, excused, called, all_good, call_at}
+use Rattle.tf_walk.specs.Outcome.{Done, skipped, excused, all_good, call_at}
 use Rattle.tf_walk.specs.Report.{verdict_in, entered_verdict}
 
 -- an action that may be called has what comes of the call, or is excused

@@ -1,5 +1,5 @@
 -- Which actions a report excuses.
-use Rattle.std.specs.Prelude.{ℕ, Bool, true, false, ◌==◌, List, [], ◌∷◌, Option, Some, None, if◌then◌else◌}
+use Rattle.std.specs.Prelude.{ℕ, ◌==◌, List, [], ◌∷◌, Option, Some, None, if◌then◌else◌}
 use Rattle.tf_walk.specs.declared.report.Excuse.{Excuse}
 use Rattle.tf_walk.specs.declared.report.Excuse.TheVariants.{Before, During}
 

@@ -3,7 +3,7 @@ use Rattle.std.specs.Prelude.{◌≡◌, ℕ, Bool, true, false, if◌then◌els
 use Rattle.std.specs.List.{list_all}
 use Rattle.std.specs.Option.{option_map_or}
 use Rattle.tf_address.specs.Label.{label_text}
-use Rattle.tf_graph.specs.Digraph.{Digraph, predecessors_of}
+use Rattle.tf_graph.specs.Digraph.{predecessors_of}
 use Rattle.tf_graph.specs.Solutions.{Solves}
 use Rattle.tf_plan.specs.Plan.{ActionView, PlanView}
 use Rattle.tf_provider.specs.Meaning.{Asked, Answer, Meaning, first_with}

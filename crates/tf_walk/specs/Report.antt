@@ -1,5 +1,5 @@
 -- What a report says of a plan that was carried out.
-use Rattle.std.specs.Prelude.{◌≡◌, ℕ, ◌+◌, List, [], ◌∷◌, ◌++◌, length, map, count_by, find, ◌==◌, Option, Some, None, option_map}
+use Rattle.std.specs.Prelude.{◌≡◌, ℕ, ◌+◌, List, [], ◌∷◌, ◌++◌, map, count_by, find, ◌==◌, Option, Some, None, option_map}
 use Rattle.tf_graph.specs.Digraph.{predecessors_of}
 use Rattle.tf_graph.specs.Order.{IsInOrder}
 use Rattle.tf_journal.specs.declared.journal.Entry.{Entry}
@@ -8,7 +8,7 @@ use Rattle.tf_plan.specs.Plan.{PlanView}
 use Rattle.tf_provider.specs.Meaning.{Meaning}
 use Rattle.tf_provider.specs.declared.verdict.Verdict.{Verdict}
 use Rattle.tf_provider.specs.declared.verdict.Verdict.TheVariants as verdict
-use Rattle.tf_state.specs.State.{StateView, empty_state, state_of}
+use Rattle.tf_state.specs.State.{empty_state, state_of}
 use Rattle.tf_walk.specs.After.{state_after}
 use Rattle.tf_walk.specs.Diagnostics.{diagnostic_of, diagnostics}
 use Rattle.tf_walk.specs.Excuse.{before_call, during_call}

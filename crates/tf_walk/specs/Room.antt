@@ -1,5 +1,5 @@
 -- What is had before a call, so that what comes of it is reported without taking memory.
-use Rattle.std.specs.Prelude.{ℕ, ◌+◌, Bool, true, ◌&&◌, nat_le, List, length, Option, Some, None}
+use Rattle.std.specs.Prelude.{ℕ, ◌+◌, Bool, true, ◌&&◌, nat_le, length, Option, Some}
 use Rattle.std.specs.List.{list_all}
 use Rattle.tf_address.specs.Label.{LabelView}
 use Rattle.tf_plan.specs.Plan.{ActionView}

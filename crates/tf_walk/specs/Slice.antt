@@ -1,14 +1,13 @@
 -- What one action adds to the report.
-use Rattle.std.specs.Prelude.{◌≡◌, ℕ, List, [], ◌∷◌, Option, Some, None, option_map, if◌then◌else◌}
-use Rattle.tf_provider.specs.Meaning.{Asked, Answer, Meaning, object, gone, failed}
+use Rattle.std.specs.Prelude.{◌≡◌, List, [], ◌∷◌, Option, Some, None, option_map, if◌then◌else◌}
+use Rattle.tf_provider.specs.Meaning.{Answer, Meaning, object, failed}
 use Rattle.tf_provider.specs.Schema.{SchemaView}
-use Rattle.tf_provider.specs.Verdict.{well_formed, verdict_on}
-use Rattle.tf_provider.specs.declared.verdict.Verdict.{Verdict}
-use Rattle.tf_state.specs.State.{ResourceView, resource_of}
+use Rattle.tf_provider.specs.Verdict.{well_formed}
+use Rattle.tf_state.specs.State.{resource_of}
 use Rattle.tf_value.specs.Tree as tree
 use Rattle.tf_walk.specs.After.{resource_after, saved}
-use Rattle.tf_walk.specs.Diagnostics.{DiagnosticView, diagnostic_of, diagnostics_at}
-use Rattle.tf_walk.specs.Outcome.{Done, skipped, excused, called, call_of}
+use Rattle.tf_walk.specs.Diagnostics.{diagnostic_of, diagnostics_at}
+use Rattle.tf_walk.specs.Outcome.{Done, called, call_of}
 use Rattle.tf_walk.specs.Room.{Head}
 use Rattle.tf_walk.specs.declared.slice.Slice.{Slice}
 

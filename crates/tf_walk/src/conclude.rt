@@ -1,26 +1,24 @@
 //! What came of an action becomes a part of the report, without taking memory.
 
-ghost use Rattle.std.specs.Prelude.{◌≡◌, ◌<◌, ◌++◌, ℕ, [], true, false, Some, None, codes, option_map, option_and_then, string_bytes, string_capacity};
+ghost use Rattle.std.specs.Prelude.{◌≡◌, ◌++◌, [], true, Some, codes, option_map, option_and_then, string_bytes, string_capacity};
 ghost use Rattle.tf_address.specs.Label.{label_text};
-ghost use Rattle.tf_provider.specs.Meaning.{asked, answered, schema_in};
+ghost use Rattle.tf_provider.specs.Meaning.{asked, answered};
 ghost use Rattle.tf_provider.specs.Verdict.{verdict_on};
 ghost use Rattle.tf_provider.specs.declared.request.Op.TheVariants.{Create};
 ghost use Rattle.tf_state.specs.State.{resource_of};
 ghost use Rattle.tf_value.specs.Tree.{tree_of};
 ghost use Rattle.tf_walk.specs.After.{resource_after, saved_by};
 ghost use Rattle.tf_walk.specs.Diagnostics.{diagnostic_of, diagnostics_of_verdict, name_at};
-ghost use Rattle.tf_walk.specs.Ended.{done_of};
 ghost use Rattle.tf_walk.specs.Room.{message_fits};
 ghost use Rattle.tf_walk.specs.RoomHead.{room_head};
-ghost use Rattle.tf_walk.specs.Slice.{IsJudged, IsSliceOf, formed_reply, if_formed, listed};
+ghost use Rattle.tf_walk.specs.Slice.{formed_reply, if_formed, listed};
 
-use crate::calls::provider_for;
-use crate::ended::{Ended, Judged};
+use crate::ended::Judged;
 use crate::one_line::one_line;
 use crate::report::Diagnostic;
 use crate::rooms::Room;
 use crate::slice::Slice;
-use tf_provider::{Op, Provider, Reply, Schema, Verdict, well_formed};
+use tf_provider::{Op, Reply, Schema, Verdict, well_formed};
 use tf_state::{Object, Record, Resource};
 use tf_value::Value;
 

@@ -1,8 +1,7 @@
-use Rattle.std.proofs.Common.{rules, ◌≡◌, ◌∙◌, sym, ap, Bool, true, false, option_map}
-use Rattle.std.specs.Prelude.{Some, None}
+use Rattle.std.proofs.Common.{◌∙◌, sym, ap, true, false, option_map}
 use Rattle.tf_provider.specs.Meaning.{asked, answered}
 use Rattle.tf_value.specs.Tree.{tree_of}
-use Rattle.tf_walk.specs.After.{resource_after, saved_by, saved_reply, Saved}
+use Rattle.tf_walk.specs.After.{resource_after, saved_by, Saved}
 use Rattle.tf_walk.specs.RoomHead.{room_head}
 use Rattle.tf_walk.proofs.Saving.{good-saved, contradicted-saved, settled-saved, kept}
 use Rattle.tf_walk.proofs.Settling.{is_settled-is}

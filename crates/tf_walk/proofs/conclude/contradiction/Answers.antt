@@ -1,4 +1,4 @@
-use Rattle.std.proofs.Common.{rules, ◌≡◌, ◌∙◌, sym, ap, ap₂, ℕ, ◌+◌, ◌≤◌, Bool, true, length, string_bytes, option_map, arith}
+use Rattle.std.proofs.Common.{◌≡◌, ◌∙◌, sym, ap, ap₂, ◌+◌, true, length, string_bytes, option_map, arith}
 use Rattle.std.proofs.lemmas.Bool.Decides.{nat_tests}
 use Rattle.std.specs.Prelude.{Some, nat_le, ◌++◌, codes, string_len, string_capacity, slice_index_or, []}
 use Rattle.std.specs.List.{list_all}
@@ -17,9 +17,9 @@ unwrap-requires-in-Some-nth c =
     let ran = c.in-Some-nth.ensures.ran in
     let seen : option_map tree_of c.args.object.now ≡ Some (tree.map (entries_view c.in-Map.attributes.entries)) = ap (option_map tree_of) c.in-Some.is ∙ ap Some (ap tree_of c.in-Map.is ∙ tree_of-Map c.in-Map.attributes) in
     let names : list_all (λ k. nat_le (12 + length k) (string_capacity c.args.message)) (keys_of (entries_view c.iter.result)) ≡ true
-    = ap (λ e. list_all (λ k. nat_le (12 + length k) (string_capacity c.args.message)) (keys_of (entries_view e))) c.iter.ensures.rest ∙ later_true _ _ (ap (message_fits (string_capacity c.args.message)) (sym seen) ∙ c.requires.fits) in
+    = ap (λ e. list_all (λ k. nat_le (12 + length k) (string_capacity c.args.message)) (keys_of (entries_view e))) c.iter.ensures.rest ∙ later_true (nat_le 15 (string_capacity c.args.message)) (list_all (λ k. nat_le (12 + length k) (string_capacity c.args.message)) (keys_of (entries_view c.in-Map.attributes.entries))) (ap (message_fits (string_capacity c.args.message)) (sym seen) ∙ c.requires.fits) in
     let room : nat_le (12 + length (string_bytes c.in-Some-nth.name.now)) (string_capacity c.args.message) ≡ true
-    = holds-there (λ k. nat_le (12 + length k) (string_capacity c.args.message)) c.iter.result _ _ ran.0 _ ran.1.1 ran.1.2 names in
+    = holds-there (λ k. nat_le (12 + length k) (string_capacity c.args.message)) c.iter.result ran.1.0 c.nth.new.self ran.0 (c.in-Some-nth.name.now, c.in-Some-nth.field-0-1.now) ran.1.1 ran.1.2 names in
     let first : string_bytes c.push_str.new.self ≡ codes "contradicts " = pushed c.push_str.result c.unwrap.result (string_bytes c.push_str.new.self) (string_bytes c.args.message) (codes "contradicts ") c.push_str.ensures.bytes c.unwrap.ensures ∙ ap (λ b. b ++ codes "contradicts ") c.requires.blank in
     let len : string_len c.push_str.new.self ≡ 12 = search in
     let kept = c.push_str.ensures.capacity in

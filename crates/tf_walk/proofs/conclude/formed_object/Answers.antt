@@ -1,4 +1,4 @@
-use Rattle.std.proofs.Common.{◌≡◌, sym, ◌∙◌}
+use Rattle.std.proofs.Common.{sym, ◌∙◌}
 use Rattle.tf_walk.proofs.Formed.{well_formed-known}
 use Rattle.tf_walk.proofs.conclude.formed_object.Goals as goal
 

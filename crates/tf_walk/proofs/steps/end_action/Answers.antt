@@ -1,6 +1,5 @@
-use Rattle.std.proofs.Common.{◌≡◌, ℕ, true, false, Some, map, option_map, sym, subst, ◌∙◌}
+use Rattle.std.proofs.Common.{◌≡◌, Some, map, option_map, sym, subst}
 use Rattle.std.specs.Prelude.{slice_get, IsSomeAnd, IsTrue}
-use Rattle.std.specs.List.{list_all}
 use Rattle.tf_graph.specs.Digraph.{predecessors_of}
 use Rattle.tf_plan.specs.Plan.{action_of}
 use Rattle.tf_provider.specs.Meaning.{Asked, asked, schema_in}
@@ -9,7 +8,7 @@ use Rattle.tf_walk.specs.Ended.{done_of}
 use Rattle.tf_plan.specs.Served.{IsServedBy}
 use Rattle.tf_walk.specs.Ends.{done_in}
 use Rattle.tf_walk.specs.Excuse.{before_call}
-use Rattle.tf_walk.specs.Outcome.{excused, is_good, request_of}
+use Rattle.tf_walk.specs.Outcome.{excused}
 use Rattle.tf_walk.proofs.Ending.{ends_skipped, ends_run, slice_get-map, all_at, run_of_action}
 use Rattle.tf_walk.proofs.Entered.{may_record}
 use Rattle.tf_walk.proofs.steps.end_action.Goals as goal

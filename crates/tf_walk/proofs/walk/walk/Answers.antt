@@ -1,15 +1,12 @@
 use Rattle.std.proofs.Common.{◌≡◌, ◌<◌, ℕ, true, length, Some, map, option_map, set, ap, sym, ◌∙◌, arith}
-use Rattle.std.specs.Prelude.{slice_set}
 use Rattle.std.proofs.lemmas.List.{length-map}
 use Rattle.std.proofs.Math.ListN.{length-set}
 use Rattle.tf_walk.proofs.Seen.{first_true}
-use Rattle.tf_claim.specs.Ledger.{Ledger, is_free, stage_in, is_taken, moved}
-use Rattle.tf_claim.specs.declared.book.Stage.{Stage}
+use Rattle.tf_claim.specs.Ledger.{Ledger, is_free, stage_in, moved}
 use Rattle.tf_claim.specs.declared.book.Stage.TheVariants as stage
 use Rattle.tf_graph.specs.Digraph.{Digraph}
 use Rattle.tf_plan.specs.Plan.{action_of, plan_of}
 use Rattle.tf_walk.specs.Ended.{done_of}
-use Rattle.tf_walk.specs.Ends.{IsSoFar, IsStaged}
 use Rattle.tf_walk.proofs.SoFar.{so_far-more, staged-more, claimable_is, all_ended}
 use Rattle.tf_walk.proofs.Stages.{taken_there, fewer_free, map-set}
 use Rattle.tf_walk.proofs.walk.walk.Goals as goal

@@ -1,5 +1,5 @@
 -- What was done so far; the free actions are left.
-use Rattle.std.proofs.Common.{◌≡◌, ℕ, cond, map, option_map}
+use Rattle.std.proofs.Common.{◌≡◌, cond, map, option_map}
 use Rattle.std.specs.Prelude.{sum_by}
 use Rattle.tf_claim.specs.Ledger.{is_free}
 use Rattle.tf_plan.specs.Plan.{plan_of}
