@@ -108,24 +108,24 @@ fn records_json(alloc: Global, records: &[Record]) -> Result<Vec<Json>, AllocErr
     Ok(items)
 }
 
-fn record_json(alloc: Global, record: &Record) -> Result<Json, AllocError>
-    ensures { IfOk result (λ json. view json ≡ record_data (record_of record.now)) }
+fn record_json(alloc: Global, instance: &Record) -> Result<Json, AllocError>
+    ensures { IfOk result (λ json. view json ≡ record_data (record_of instance.now)) }
 {
     let mut members = Map::new(alloc);
-    if record.tainted {
+    if instance.tainted {
         put(&mut members, alloc, "status", text(alloc, "tainted")?)?;
     }
     put(
         &mut members,
         alloc,
         "schema_version",
-        Json::from(u64::from(record.schema_version)),
+        Json::from(u64::from(instance.schema_version)),
     )?;
     put(
         &mut members,
         alloc,
         "attributes",
-        object_json(alloc, &record.attributes)?,
+        object_json(alloc, &instance.attributes)?,
     )?;
     Ok(Json::Object(members))
 }
