@@ -7,7 +7,7 @@ ghost use Rattle.tf_claim.specs.Ledger.{IsKept, stage_in, is_done, is_taken, is_
 use crate::permit::{Finished, Permit};
 use std::alloc::{AllocError, Global};
 use std::marker::Model;
-use tf_graph::{Graph, GraphFault};
+use tf_graph::Graph;
 
 /// How far an action is.
 #[derive(Clone, Copy, Debug, PartialEq, Eq)]
@@ -45,7 +45,7 @@ impl Book {
         ensures free { IfOk result (λ book. book.stages ≡ replicate graph.now.nodes Stage.Free) }
     {
         let stages = all_free(alloc, graph.nodes())?;
-        let graph = copy(alloc, graph)?;
+        let graph = graph.copy(alloc)?;
         Ok(Book { graph, stages })
     }
 
@@ -110,17 +110,6 @@ fn all_free(alloc: Global, count: usize) -> Result<Vec<Stage>, AllocError>
     ensures { IfOk result (λ stages. stages.items ≡ replicate count Stage.Free) }
 {
     vec![in alloc; Stage::Free; count]
-}
-
-/// A graph equal to this one.
-fn copy(alloc: Global, graph: &Graph) -> Result<Graph, AllocError>
-    ensures { IfOk result (λ copy. copy ≡ graph.now) }
-{
-    match Graph::new(alloc, graph.nodes(), graph.edges()) {
-        Ok(copy) => Ok(copy),
-        Err(GraphFault::OutOfMemory) => Err(AllocError),
-        Err(GraphFault::TooMany | GraphFault::OutOfRange) => unreachable!(),
-    }
 }
 
 /// Whether an action is taken; one that isn't there isn't.

@@ -99,6 +99,17 @@ impl Graph {
         })
     }
 
+    /// A graph equal to this one. Refused only where there is no memory.
+    pub fn copy(&self, alloc: Global) -> Result<Graph, AllocError>
+        ensures { IfOk result (λ copy. copy ≡ self.now) }
+    {
+        match Graph::new(alloc, self.nodes(), self.edges()) {
+            Ok(copy) => Ok(copy),
+            Err(GraphFault::OutOfMemory) => Err(AllocError),
+            Err(GraphFault::TooMany | GraphFault::OutOfRange) => unreachable!(),
+        }
+    }
+
     /// How many nodes there are.
     pub fn nodes(&self) -> usize
         ensures count { result ≡ self.now.nodes }

@@ -6,7 +6,7 @@ ghost use Rattle.tf_journal.specs.Entries.{IsAllowed, entry_of, fault_of, good_c
 
 use std::alloc::{AllocError, Global};
 use std::marker::Model;
-use tf_graph::{Graph, GraphFault};
+use tf_graph::Graph;
 use tf_provider::{Called, Op, Recorded, Verdict};
 
 /// One call: the action, what the provider was asked to do, and the verdict on its reply.
@@ -58,7 +58,7 @@ impl Journal {
     {
         let marks = no_marks(alloc, graph.nodes())?;
         let entries = Vec::with_capacity(alloc, graph.nodes())?;
-        let graph = copy(alloc, graph)?;
+        let graph = graph.copy(alloc)?;
         Ok(Journal {
             graph,
             marks,
@@ -137,17 +137,6 @@ fn no_marks(alloc: Global, count: usize) -> Result<Vec<bool>, AllocError>
     ensures { IfOk result (λ marks. marks.items ≡ replicate count false) }
 {
     vec![in alloc; false; count]
-}
-
-/// A graph equal to this one.
-fn copy(alloc: Global, graph: &Graph) -> Result<Graph, AllocError>
-    ensures { IfOk result (λ copy. copy ≡ graph.now) }
-{
-    match Graph::new(alloc, graph.nodes(), graph.edges()) {
-        Ok(copy) => Ok(copy),
-        Err(GraphFault::OutOfMemory) => Err(AllocError),
-        Err(GraphFault::TooMany | GraphFault::OutOfRange) => unreachable!(),
-    }
 }
 
 /// Whether each of some actions is marked.

@@ -1,6 +1,6 @@
 //! The planner.
 
-ghost use Rattle.std.specs.Prelude.{◌≡◌, ◌≤◌, [], None, Some, length, map, IfOk, IfErr, option_map, string_bytes};
+ghost use Rattle.std.specs.Prelude.{◌≡◌, ◌≤◌, [], None, Some, length, map, IfOk, IfErr, string_bytes};
 ghost use Rattle.serde_json.specs.View.{members_view};
 ghost use Rattle.tf_address.specs.Label.{label_of, label_text};
 ghost use Rattle.tf_config.specs.Config.{block_of, blocks_of};
@@ -9,7 +9,6 @@ ghost use Rattle.tf_plan.specs.Plan.{action_of, plan_of, planned, planned_action
 ghost use Rattle.tf_plan.specs.PlansBlock.{PlansBlock};
 ghost use Rattle.tf_plan.specs.Served.{AreServed};
 ghost use Rattle.tf_plan.specs.Refused.{Tells, argument_refusal, block_refusal, plan_refusals};
-ghost use Rattle.tf_provider.specs.Meaning.{schema_in};
 ghost use Rattle.tf_plan.specs.Object.{named_of};
 
 use crate::argument::ArgumentFault;
@@ -20,7 +19,7 @@ use crate::refused::Refused;
 use std::alloc::{AllocError, Global};
 use tf_address::Label;
 use tf_config::{Block, Config, Detail, Refusal};
-use tf_provider::{Provider, Schema};
+use tf_provider::{Provider, schema_for};
 
 /// Plans a configuration, before anything exists: one create for each resource block, in address order. The
 /// provider of a type is the first in the list with a schema for it.
@@ -139,23 +138,4 @@ fn bare(code: u8, place: String) -> Refusal
         place,
         detail: Detail::Bare,
     }
-}
-
-/// The schema of a type: that of the first provider that has one.
-fn schema_for<'a>(providers: &'a [Box<dyn Provider + Sync>], type_name: &str) -> Option<&'a Schema>
-    ensures { option_map (λ s. s.now) result ≡ schema_in type_name.now (map (λ b. meaning b) providers.now) }
-{
-    for provider in providers {
-        if let Some(schema) = schema_of(provider, type_name) {
-            return Some(schema);
-        }
-    }
-    None
-}
-
-/// The schema that one provider has for a type.
-fn schema_of<'a>(provider: &'a Box<dyn Provider + Sync>, type_name: &str) -> Option<&'a Schema>
-    ensures { option_map (λ s. s.now) result ≡ (meaning provider.now).schema_of type_name.now }
-{
-    provider.schema(type_name)
 }

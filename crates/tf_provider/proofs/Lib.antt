@@ -1,3 +1,2 @@
 pub mod Placed
 pub mod Refining
-pub mod Found

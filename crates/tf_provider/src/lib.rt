@@ -12,7 +12,7 @@ pub mod schema;
 pub mod verdict;
 
 pub use called::{Called, Parts, Recorded, call};
-pub use provider::{Provider, first_provider};
+pub use provider::{Provider, first_provider, schema_for};
 pub use request::{Op, Reply, Request};
 pub use schema::{Attribute, Kind, Mode, Schema, SchemaFault};
 pub use verdict::{Verdict, asks_fully, has_attributes, judge, well_formed};

@@ -1,8 +1,7 @@
 //! The interface of providers, and the law that each keeps.
 
-ghost use Rattle.std.specs.List.{position_from};
-ghost use Rattle.std.specs.Prelude.{◌≡◌, map, is_some, option_and_then, slice_get};
-ghost use Rattle.tf_provider.specs.Meaning.{first_with};
+ghost use Rattle.std.specs.Prelude.{◌≡◌, map, is_some, option_map};
+ghost use Rattle.tf_provider.specs.Meaning.{first_with, schema_in};
 
 use crate::request::{Reply, Request};
 use crate::schema::Schema;
@@ -27,25 +26,32 @@ pub trait Provider: Drop {
         ensures { IfSome (answered result) (λ a. a ≡ (meaning self.now).answer (asked request.now)) };
 }
 
-/// The place of the first provider that has a schema for a type.
-pub fn first_provider(providers: &[Box<dyn Provider + Sync>], type_name: &str) -> Option<usize>
-    ensures place { result ≡ position_from (λ m. is_some (m.schema_of type_name.now)) 0 (map (λ b. meaning b) providers.now) }
-    ensures provider { option_and_then (slice_get (map (λ b. meaning b) providers.now)) result
-        ≡ first_with type_name.now (map (λ b. meaning b) providers.now) }
+/// The first provider that has a schema for a type.
+pub fn first_provider<'a>(
+    providers: &'a [Box<dyn Provider + Sync>],
+    type_name: &str,
+) -> Option<&'a Box<dyn Provider + Sync>>
+    ensures { option_map (λ p. meaning p.now) result ≡ first_with type_name.now (map (λ b. meaning b) providers.now) }
 {
-    first_place(providers, type_name)
-}
-
-/// The place of the first provider that has a schema for a type.
-fn first_place(providers: &[Box<dyn Provider + Sync>], type_name: &str) -> Option<usize>
-    ensures { result ≡ position_from (λ m. is_some (m.schema_of type_name.now)) 0 (map (λ b. meaning b) providers.now) }
-{
-    for (place, provider) in providers.iter().enumerate() {
+    for provider in providers {
         if has_type(provider, type_name) {
-            return Some(place);
+            return Some(provider);
         }
     }
     None
+}
+
+/// The schema of a type: that of the first provider that has one.
+pub fn schema_for<'a>(
+    providers: &'a [Box<dyn Provider + Sync>],
+    type_name: &str,
+) -> Option<&'a Schema>
+    ensures { option_map (λ s. s.now) result ≡ schema_in type_name.now (map (λ b. meaning b) providers.now) }
+{
+    match first_provider(providers, type_name) {
+        Some(provider) => provider.schema(type_name),
+        None => None,
+    }
 }
 
 /// Whether a provider has a schema for a type.

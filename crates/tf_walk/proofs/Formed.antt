@@ -10,19 +10,9 @@ use Rattle.std.proofs.lemmas.Map.Text.{is_eq-slice_cmp}
 use Rattle.std.proofs.lemmas.Slice.Eq.{bytes_eq-Decides}
 use Rattle.tf_provider.specs.Schema.{AttributeView, SchemaView, IsSchema, ascends, is_below}
 use Rattle.tf_provider.specs.Verdict.{keys_of, same_names, fits, fits_in, well_formed}
+use Rattle.tf_value.proofs.Conjunction.{and-first, and-second, and-both}
 use Rattle.tf_value.specs.Known.{known, known_entries}
 use Rattle.tf_value.specs.Tree.{Tree, null, boolean, whole, text, list, map, unknown, Entries, no_entries, entry, get}
-
-and_first : (b c : Bool) → (b && c) ≡ true → b ≡ true
-and_first true c e = refl
-and_first false c e = e
-
-and_later : (b c : Bool) → (b && c) ≡ true → c ≡ true
-and_later true c e = e
-and_later false c e = absurd (cc)
-
-and_both : (b c : Bool) → b ≡ true → c ≡ true → (b && c) ≡ true
-and_both b c e f = rw (e, f) refl
 
 first_of_four : (b c d e : Bool) → (b && c && d && e) ≡ true → b ≡ true
 first_of_four true c d e h = refl
@@ -52,17 +42,17 @@ here false a t o e h = absurd (cc)
 beyond : (k : List ℕ) (t : Tree) (es : Entries) (xs : List AttributeView) → list_all (λ b. is_below k b.name) xs ≡ true → list_all (fits_in (map (entry k t es))) xs ≡ true → list_all (fits_in (map es)) xs ≡ true
 beyond k t es [] h f = refl
 beyond k t es (b ∷ bs) h f =
-    and_both _ _ (past (bytes_eq b.name k) b t (get b.name es) (different k b.name (and_first _ _ h)) (and_first _ _ f))
-    (beyond k t es bs (and_later _ _ h) (and_later _ _ f))
+    and-both _ _ (past (bytes_eq b.name k) b t (get b.name es) (different k b.name (and-first _ _ h)) (and-first _ _ f))
+    (beyond k t es bs (and-second _ _ h) (and-second _ _ f))
 
 entries-known : (es : Entries) (xs : List AttributeView) → same_names (keys_of es) (each (λ a. a.name) xs) ≡ true → ascends xs ≡ true → list_all (fits_in (map es)) xs ≡ true → known_entries es ≡ true
 entries-known no_entries xs s a f = refl
 entries-known (entry k t es) [] s a f = absurd (cc)
 entries-known (entry k t es) (b ∷ bs) s a f =
-    let same : k ≡ b.name = (bytes_eq-Decides k b.name).0 (and_first _ _ s) in
-    let mine : fits b t ≡ true = here (bytes_eq b.name k) b t (get b.name es) ((bytes_eq-Decides b.name k).1 (sym same)) (and_first _ _ f) in
-    let above : list_all (λ c. is_below k c.name) bs ≡ true = ap (λ n. list_all (λ c. is_below n c.name) bs) same ∙ and_first _ _ a in
-    and_both _ _ (fits-known b t mine) (entries-known es bs (and_later _ _ s) (and_later _ _ a) (beyond k t es bs above (and_later _ _ f)))
+    let same : k ≡ b.name = (bytes_eq-Decides k b.name).0 (and-first _ _ s) in
+    let mine : fits b t ≡ true = here (bytes_eq b.name k) b t (get b.name es) ((bytes_eq-Decides b.name k).1 (sym same)) (and-first _ _ f) in
+    let above : list_all (λ c. is_below k c.name) bs ≡ true = ap (λ n. list_all (λ c. is_below n c.name) bs) same ∙ and-first _ _ a in
+    and-both _ _ (fits-known b t mine) (entries-known es bs (and-second _ _ s) (and-second _ _ a) (beyond k t es bs above (and-second _ _ f)))
 
 pub well_formed-known : (s : SchemaView) (t : Tree) → IsSchema s → well_formed s t ≡ true → known t ≡ true
 well_formed-known s null k h = refl
@@ -70,5 +60,5 @@ well_formed-known s (boolean b) k h = refl
 well_formed-known s (whole z) k h = refl
 well_formed-known s (text b) k h = refl
 well_formed-known s (list ts) k h = absurd (cc)
-well_formed-known s (map es) k h = entries-known es s.attributes (and_first _ _ h) k.ascending (and_later _ _ h)
+well_formed-known s (map es) k h = entries-known es s.attributes (and-first _ _ h) k.ascending (and-second _ _ h)
 well_formed-known s unknown k h = absurd (cc)

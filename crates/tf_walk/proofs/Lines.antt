@@ -2,6 +2,7 @@
 use Rattle.std.proofs.Common.{◌≡◌, ◌<◌, ◌≤◌, ℕ, zero, suc, ◌+◌, ◌/◌, Bool, true, false, ◌&&◌, cond, ltb, List, [], ◌∷◌, ◌++◌, length, get_or, set, map, take, drop, IsUtf8, refl, ap, ap₂, sym, ◌∙◌, arith}
 use Rattle.std.proofs.lemmas.Bool.Decides.{nat_tests}
 use Rattle.std.proofs.lemmas.List.{map-append}
+use Rattle.tf_value.proofs.Conjunction.{and-first, and-second}
 use lib.Utf8.{scalar, scalars, encode, encodes, next}
 use Rattle.tf_walk.specs.Diagnostics.{blanked, in_one_line}
 
@@ -50,19 +51,11 @@ scalar_at c e = at (ltb c 32) refl
     at true h = refl
     at false h = e
 
-first_true : (b c : Bool) → (b && c) ≡ true → b ≡ true
-first_true true c e = refl
-first_true false c e = e
-
-later_true : (b c : Bool) → (b && c) ≡ true → c ≡ true
-later_true true c e = e
-later_true false c e = absurd (cc)
-
 letters : (cs : List ℕ) → scalars cs ≡ true → (scalars (map blanked cs) ≡ true) × (encodes (map blanked cs) ≡ map blanked (encodes cs))
 letters [] e = (refl, refl)
 letters (c ∷ cs) e =
-    let rest = letters cs (later_true (scalar c) (scalars cs) e) in
-    let here = scalar_at c (first_true (scalar c) (scalars cs) e) in
+    let rest = letters cs (and-second (scalar c) (scalars cs) e) in
+    let here = scalar_at c (and-first (scalar c) (scalars cs) e) in
     (rw (here, rest.0) refl, ap₂ (λ x y. x ++ y) (sym (letter_at (ltb c 128) c refl)) rest.1 ∙ sym (map-append blanked (encode c) (encodes cs)))
 
 -- so it is UTF-8 as before

@@ -5,6 +5,7 @@ use Rattle.std.specs.Prelude.{Option, Result, Ok, is_ok, if◌then◌else◌, �
 use Rattle.std.specs.Iterator.{Yields}
 use Rattle.std.specs.List.{list_all}
 use Rattle.tf_provider.specs.Verdict.{keys_of}
+use Rattle.tf_value.proofs.Conjunction.{and-first, and-second}
 use Rattle.tf_value.specs.Tree.{entries_view}
 use Rattle.tf_value.specs.declared.value.Value.{Value}
 
@@ -26,19 +27,11 @@ named-there s t rest [] e y h = ap (λ p. slice_index_or (keys p) 0 []) (y ∙ h
 named-there s t rest (x ∷ xs) e y h =
     ap (λ p. slice_index_or (keys p) (suc (length xs)) []) y.1 ∙ named-there y.0 t rest xs e y.2 h
 
-first_true : (b c : Bool) → (b && c) ≡ true → b ≡ true
-first_true true c e = refl
-first_true false c e = e
-
-pub later_true : (b c : Bool) → (b && c) ≡ true → c ≡ true
-later_true true c e = e
-later_true false c e = absurd (cc)
-
 -- what holds of all names holds of that one
 pub holds-there : (p : List ℕ → Bool) (s t rest : Pairs) (xs : List Given) (e : String Global × Value) → Yields next s xs t → t ≡ e ∷ rest → list_all p (keys s) ≡ true → p (string_bytes e.0) ≡ true
-holds-there p s t rest [] e y h a = first_true _ _ (sym (ap (λ q. list_all p (keys q)) (y ∙ h)) ∙ a)
+holds-there p s t rest [] e y h a = and-first _ _ (sym (ap (λ q. list_all p (keys q)) (y ∙ h)) ∙ a)
 holds-there p s t rest (x ∷ xs) e y h a =
-    holds-there p y.0 t rest xs e y.2 h (later_true _ _ (sym (ap (λ q. list_all p (keys q)) y.1) ∙ a))
+    holds-there p y.0 t rest xs e y.2 h (and-second _ _ (sym (ap (λ q. list_all p (keys q)) y.1) ∙ a))
 
 -- there is no name behind the last
 pub named-beyond : (s t : Pairs) (xs : List Given) (place : ℕ) → Yields next s xs t → t ≡ [] → length xs ≤ place → slice_index_or (keys s) place [] ≡ []

@@ -14,7 +14,7 @@ use Rattle.tf_state.specs.State.{ResourceView}
 use Rattle.tf_walk.specs.After.{Saved, saved_reply, resource_after}
 use Rattle.tf_walk.specs.Room.{Head}
 use Rattle.tf_walk.specs.Settled.{settled}
-use Rattle.tf_walk.specs.Slice.{formed_reply}
+use Rattle.tf_walk.specs.Addition.{formed_reply}
 
 -- a verdict by which a reply is saved
 abbrev saves_reply : Verdict → Bool

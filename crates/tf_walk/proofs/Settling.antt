@@ -1,5 +1,6 @@
 -- Values with null in place of what isn't known.
 use Rattle.std.proofs.Common.{◌≡◌, Bool, true, ◌&&◌, List, [], ◌∷◌, map as each, string_bytes, Option, Some, None, option_map, refl, sym, ap}
+use Rattle.tf_value.proofs.Conjunction.{and-both}
 use Rattle.tf_value.proofs.Views.{Entry, shown}
 use Rattle.tf_value.specs.Known.{known, known_items, known_entries}
 use Rattle.tf_value.specs.Tree.{Tree, null, boolean, whole, text, list, map, unknown, Items, no_items, item, Entries, no_entries, entry, tree_of, items_of, items_view, entries_view}
@@ -17,9 +18,6 @@ pub settled_shown : (es : List Entry) → shown (λ v. settled (tree_of v)) es �
 settled_shown [] = refl
 settled_shown (e ∷ es) = ap (entry (string_bytes e.0) (settled (tree_of e.1))) (settled_shown es)
 
-both_known : (b c : Bool) → b ≡ true → c ≡ true → (b && c) ≡ true
-both_known b c e f = rw (e, f) refl
-
 mutual
   -- and then all is known
   pub settled-known : (t : Tree) → known (settled t) ≡ true
@@ -33,11 +31,11 @@ mutual
 
   pub settled_items-known : (ts : Items) → known_items (settled_items ts) ≡ true
   settled_items-known no_items = refl
-  settled_items-known (item t ts) = both_known (known (settled t)) (known_items (settled_items ts)) (settled-known t) (settled_items-known ts)
+  settled_items-known (item t ts) = and-both (known (settled t)) (known_items (settled_items ts)) (settled-known t) (settled_items-known ts)
 
   pub settled_entries-known : (es : Entries) → known_entries (settled_entries es) ≡ true
   settled_entries-known no_entries = refl
-  settled_entries-known (entry k t es) = both_known (known (settled t)) (known_entries (settled_entries es)) (settled-known t) (settled_entries-known es)
+  settled_entries-known (entry k t es) = and-both (known (settled t)) (known_entries (settled_entries es)) (settled-known t) (settled_entries-known es)
 
 -- the test for it
 pub is_settled-of : (t fallback : Tree) → fallback ≡ settled t → is_settled (Some t) fallback ≡ true

@@ -15,6 +15,7 @@ use Rattle.tf_journal.specs.declared.journal.Entry.{Entry}
 use Rattle.tf_plan.specs.Plan.{PlanView}
 use Rattle.tf_provider.specs.Meaning.{Meaning}
 use Rattle.tf_provider.specs.declared.verdict.Verdict.{Verdict}
+use Rattle.tf_value.proofs.Conjunction.{and-first, and-second}
 use Rattle.tf_walk.specs.Ends.{IsEnd, IsSoFar, IsStaged, Enters, AllHaveEnded, end_at, done_in, stage_of}
 use Rattle.tf_walk.specs.Outcome.{Done, skipped}
 use Rattle.tf_walk.specs.Report.{verdict_in, entered_verdict}
@@ -136,18 +137,13 @@ free_is : (o : Option Done) → is_free (stage_of o) ≡ true → o ≡ None
 free_is None e = refl
 free_is (Some d) e = absurd (cc)
 
-both_parts : (b c : Bool) → (b && c) ≡ true → (b ≡ true) × (c ≡ true)
-both_parts true c e = (refl, e)
-both_parts false c e = absurd (cc)
-
 -- what may be claimed hasn't ended, and all before it has
 pub claimable_is : (l : Ledger) (ends : List (Option Done)) (n : ℕ) → IsStaged l.stages ends → is_claimable l n ≡ true
     → (end_at ends n ≡ None) × (list_all (λ m. is_some (end_at ends m)) (predecessors_of l.graph n) ≡ true)
 claimable_is l ends n staged e =
-    let parts = both_parts (is_free (stage_in l.stages n)) (is_ready l n) e in
     let same : is_ready l n ≡ list_all (λ m. is_some (end_at ends m)) (predecessors_of l.graph n) =
     list_all-same (λ m. is_done (stage_in l.stages m)) (λ m. is_some (end_at ends m)) (predecessors_of l.graph n) (λ m. ap is_done (staged m) ∙ is_done-stage (end_at ends m)) in
-    (free_is (end_at ends n) (sym (ap is_free (staged n)) ∙ parts.0), sym same ∙ parts.1)
+    (free_is (end_at ends n) (sym (ap is_free (staged n)) ∙ and-first (is_free (stage_in l.stages n)) (is_ready l n) e), sym same ∙ and-second (is_free (stage_in l.stages n)) (is_ready l n) e)
 
 not_ready_is : (o : Option Done) (b : Bool) → (is_free (stage_of o) && b) ≡ false → (not (is_some o) && b) ≡ false
 not_ready_is None b e = e

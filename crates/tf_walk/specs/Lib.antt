@@ -1,11 +1,11 @@
+pub mod Addition
 pub mod After
 pub mod Diagnostics
+pub mod Ended
+pub mod Ends
 pub mod Excuse
 pub mod Outcome
 pub mod Report
-pub mod Ended
 pub mod Room
 pub mod RoomHead
-pub mod Ends
 pub mod Settled
-pub mod Slice

@@ -1,11 +1,11 @@
 //! Calls of providers.
 
 ghost use Rattle.std.specs.List.{list_all};
-ghost use Rattle.std.specs.Prelude.{◌≡◌, ◌<◌, ◌++◌, ◌∷◌, [], None, Some, All, length, map, option_map, is_some};
+ghost use Rattle.std.specs.Prelude.{◌≡◌, ◌<◌, ◌++◌, ◌∷◌, [], None, Some, All, length, map, option_map};
 ghost use Rattle.tf_journal.specs.Entries.{fault_of};
 ghost use Rattle.tf_journal.specs.declared.journal.Entry.{Entry};
 ghost use Rattle.tf_provider.specs.Call.{IsServed};
-ghost use Rattle.tf_provider.specs.Meaning.{asked, first_with};
+ghost use Rattle.tf_provider.specs.Meaning.{asked};
 ghost use Rattle.tf_walk.specs.Ended.{done_of, done_or_skipped};
 ghost use Rattle.tf_walk.specs.Ends.{IsRun, done_in};
 ghost use Rattle.tf_walk.specs.Outcome.{call_of_provider, is_good};
@@ -63,27 +63,6 @@ pub fn make_call(
         }
         Err(_) => unreachable!(),
     }
-}
-
-/// The first provider with a schema for a type.
-pub fn provider_for<'a>(
-    providers: &'a [Box<dyn Provider + Sync>],
-    type_name: &str,
-) -> Option<&'a Box<dyn Provider + Sync>>
-    ensures { option_map (λ p. meaning p.now) result ≡ first_with type_name.now (map (λ b. meaning b) providers.now) }
-{
-    for provider in providers {
-        if has_type(provider, type_name) {
-            return Some(provider);
-        }
-    }
-    None
-}
-
-fn has_type(provider: &Box<dyn Provider + Sync>, type_name: &str) -> bool
-    ensures { result ≡ is_some ((meaning provider.now).schema_of type_name.now) }
-{
-    provider.schema(type_name).is_some()
 }
 
 /// Whether each of some actions is good.

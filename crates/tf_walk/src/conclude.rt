@@ -11,19 +11,19 @@ ghost use Rattle.tf_walk.specs.After.{resource_after, saved_by};
 ghost use Rattle.tf_walk.specs.Diagnostics.{diagnostic_of, diagnostics_of_verdict, name_at};
 ghost use Rattle.tf_walk.specs.Room.{message_fits};
 ghost use Rattle.tf_walk.specs.RoomHead.{room_head};
-ghost use Rattle.tf_walk.specs.Slice.{formed_reply, if_formed, listed};
+ghost use Rattle.tf_walk.specs.Addition.{formed_reply, if_formed, listed};
 
+use crate::addition::Addition;
 use crate::ended::Judged;
 use crate::one_line::one_line;
 use crate::report::Diagnostic;
 use crate::rooms::Room;
-use crate::slice::Slice;
 use tf_provider::{Op, Reply, Schema, Verdict, well_formed};
 use tf_state::{Object, Record, Resource};
 use tf_value::Value;
 
 /// What a call adds to the report.
-pub fn conclude_call(room: Room, judged: Judged, schema: &Schema) -> Slice
+pub fn conclude_call(room: Room, judged: Judged, schema: &Schema) -> Addition
     requires { judged.verdict ≡ verdict_on (asked judged.request) (answered judged.reply) schema.now }
     ensures saves { option_map resource_of result.resource
         ≡ option_map (resource_after (room_head room)) (saved_by schema.now (asked judged.request) (answered judged.reply) judged.verdict) }
@@ -108,7 +108,12 @@ fn contradiction(mut message: String, object: &Option<Value>, place: usize) -> S
 }
 
 /// What is saved and told, in the room that was made for it.
-fn fill(room: Room, object: Option<Object>, tainted: bool, telling: Option<(u8, String)>) -> Slice
+fn fill(
+    room: Room,
+    object: Option<Object>,
+    tainted: bool,
+    telling: Option<(u8, String)>,
+) -> Addition
     ensures saves { option_map resource_of result.resource ≡ option_map (λ o. resource_after (room_head room) (tree_of o.value, tainted)) object }
     ensures tells { option_map diagnostic_of result.diagnostic
         ≡ option_map (λ t. record { code = t.0; place = label_text (room_head room).label; verb = Some Create; message = string_bytes t.1 }) telling }
@@ -146,7 +151,7 @@ fn fill(room: Room, object: Option<Object>, tainted: bool, telling: Option<(u8, 
         }
         None => None,
     };
-    Slice {
+    Addition {
         resource,
         diagnostic,
     }

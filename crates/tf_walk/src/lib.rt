@@ -2,6 +2,7 @@
 //! is recorded and reported.
 #![tactic(auto)]
 
+mod addition;
 mod asking;
 mod calls;
 mod claims;
@@ -13,8 +14,9 @@ pub mod report;
 mod requests;
 mod rooms;
 mod settle;
-mod slice;
+mod single;
 mod steps;
 mod walk;
 
 pub use report::{Diagnostic, Excuse, Outcome, Report, Walked};
+pub use single::run_one;

@@ -14,14 +14,14 @@ ghost use Rattle.tf_walk.specs.Ends.{Enters, IsEnd, IsRun, IsSoFar, done_in, end
 ghost use Rattle.tf_walk.specs.Outcome.{call_of};
 
 use crate::asking::Asking;
-use crate::calls::{are_good, make_call, provider_for};
+use crate::calls::{are_good, make_call};
 use crate::ended::Ended;
 use crate::requests::ask;
 use std::alloc::{AllocError, Global};
 use tf_claim::{Finished, Permit, waive};
 use tf_journal::Journal;
 use tf_plan::Plan;
-use tf_provider::Provider;
+use tf_provider::{Provider, first_provider};
 
 /// Ends a claimed action: skips it where an action directly before it isn't good, excuses it where memory
 /// for its request is refused, and else calls its provider.
@@ -69,7 +69,7 @@ fn serve(
     ensures entered { Enters permit (done_of result.0) journal.old.entries journal.new.entries }
     ensures same_graph { journal.new.graph ≡ journal.old.graph }
 {
-    match provider_for(providers, asking.request.type_name.as_str()) {
+    match first_provider(providers, asking.request.type_name.as_str()) {
         None => (Ended::Skipped, waive(permit)),
         Some(provider) => make_call(provider, journal, permit, asking),
     }

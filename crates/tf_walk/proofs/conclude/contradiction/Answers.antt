@@ -8,7 +8,8 @@ use Rattle.tf_value.specs.Tree as tree
 use Rattle.tf_value.proofs.Views.{tree_of-Map}
 use Rattle.tf_walk.specs.Diagnostics.{name_at}
 use Rattle.tf_walk.specs.Room.{message_fits}
-use Rattle.tf_walk.proofs.Named.{named-there, holds-there, named-beyond, later_true, pushed}
+use Rattle.tf_value.proofs.Conjunction.{and-second}
+use Rattle.tf_walk.proofs.Named.{named-there, holds-there, named-beyond, pushed}
 use Rattle.tf_walk.proofs.conclude.contradiction.Goals as goal
 
 -- src/conclude.rt:104:13
@@ -17,7 +18,7 @@ unwrap-requires-in-Some-nth c =
     let ran = c.in-Some-nth.ensures.ran in
     let seen : option_map tree_of c.args.object.now ≡ Some (tree.map (entries_view c.in-Map.attributes.entries)) = ap (option_map tree_of) c.in-Some.is ∙ ap Some (ap tree_of c.in-Map.is ∙ tree_of-Map c.in-Map.attributes) in
     let names : list_all (λ k. nat_le (12 + length k) (string_capacity c.args.message)) (keys_of (entries_view c.iter.result)) ≡ true
-    = ap (λ e. list_all (λ k. nat_le (12 + length k) (string_capacity c.args.message)) (keys_of (entries_view e))) c.iter.ensures.rest ∙ later_true (nat_le 15 (string_capacity c.args.message)) (list_all (λ k. nat_le (12 + length k) (string_capacity c.args.message)) (keys_of (entries_view c.in-Map.attributes.entries))) (ap (message_fits (string_capacity c.args.message)) (sym seen) ∙ c.requires.fits) in
+    = ap (λ e. list_all (λ k. nat_le (12 + length k) (string_capacity c.args.message)) (keys_of (entries_view e))) c.iter.ensures.rest ∙ and-second (nat_le 15 (string_capacity c.args.message)) (list_all (λ k. nat_le (12 + length k) (string_capacity c.args.message)) (keys_of (entries_view c.in-Map.attributes.entries))) (ap (message_fits (string_capacity c.args.message)) (sym seen) ∙ c.requires.fits) in
     let room : nat_le (12 + length (string_bytes c.in-Some-nth.name.now)) (string_capacity c.args.message) ≡ true
     = holds-there (λ k. nat_le (12 + length k) (string_capacity c.args.message)) c.iter.result ran.1.0 c.nth.new.self ran.0 (c.in-Some-nth.name.now, c.in-Some-nth.field-0-1.now) ran.1.1 ran.1.2 names in
     let first : string_bytes c.push_str.new.self ≡ codes "contradicts " = pushed c.push_str.result c.unwrap.result (string_bytes c.push_str.new.self) (string_bytes c.args.message) (codes "contradicts ") c.push_str.ensures.bytes c.unwrap.ensures ∙ ap (λ b. b ++ codes "contradicts ") c.requires.blank in

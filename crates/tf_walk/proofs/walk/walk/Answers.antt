@@ -1,7 +1,7 @@
 use Rattle.std.proofs.Common.{◌≡◌, ◌<◌, ℕ, true, length, Some, map, option_map, set, ap, sym, ◌∙◌, arith}
 use Rattle.std.proofs.lemmas.List.{length-map}
 use Rattle.std.proofs.Math.ListN.{length-set}
-use Rattle.tf_walk.proofs.Seen.{first_true}
+use Rattle.tf_value.proofs.Conjunction.{and-first}
 use Rattle.tf_claim.specs.Ledger.{Ledger, is_free, stage_in, moved}
 use Rattle.tf_claim.specs.declared.book.Stage.TheVariants as stage
 use Rattle.tf_graph.specs.Digraph.{Digraph}
@@ -27,7 +27,7 @@ loop-permit-smaller g c =
     let old = c.loop-permit.book in
     let sized : length old.stages ≡ old.graph.nodes = sym (length-set old.stages p stage.Taken) ∙ (rw claimed.2 at c.in-Some.ensures.kept).sized in
     let within : p < length old.stages = rw sized claimed.0 in
-    let free : is_free (stage_in old.stages p) ≡ true = first_true (is_free (stage_in old.stages p)) _ claimed.1 in
+    let free : is_free (stage_in old.stages p) ≡ true = and-first (is_free (stage_in old.stages p)) _ claimed.1 in
     rw (c.close.ensures, claimed.2, c.end_action-ended.ensures.finished) (fewer_free old.stages p within free)
 
 pub loop-permit-preserved : goal.loop-permit-preserved

@@ -1,7 +1,7 @@
 -- none of the providers passed has the type
 use Rattle.std.proofs.Common.{◌≡◌, map, drop}
 use Rattle.tf_provider.specs.Meaning.{first_with}
-use Rattle.tf_walk.proofs.calls.provider_for.Given as goal
+use Rattle.tf_provider.proofs.provider.first_provider.Given as goal
 
 abbrev pub invariant-loop-provider : goal.invariant-loop-provider
 invariant-loop-provider g l =

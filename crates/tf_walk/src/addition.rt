@@ -5,7 +5,7 @@ use tf_state::Resource;
 
 /// What one action adds to the report: the resource that it saves, and what it tells.
 #[derive(Drop)]
-pub struct Slice {
+pub struct Addition {
     pub resource: Option<Resource>,
     pub diagnostic: Option<Diagnostic>,
 }

@@ -1,6 +1,6 @@
 -- What one action adds to the report.
 use Rattle.std.specs.Prelude.{◌≡◌, List, [], ◌∷◌, Option, Some, None, option_map, if◌then◌else◌}
-use Rattle.tf_provider.specs.Meaning.{Answer, Meaning, object, failed}
+use Rattle.tf_provider.specs.Meaning.{Answer, Meaning, object}
 use Rattle.tf_provider.specs.Schema.{SchemaView}
 use Rattle.tf_provider.specs.Verdict.{well_formed}
 use Rattle.tf_state.specs.State.{resource_of}
@@ -9,7 +9,7 @@ use Rattle.tf_walk.specs.After.{resource_after, saved}
 use Rattle.tf_walk.specs.Diagnostics.{diagnostic_of, diagnostics_at}
 use Rattle.tf_walk.specs.Outcome.{Done, called, call_of}
 use Rattle.tf_walk.specs.Room.{Head}
-use Rattle.tf_walk.specs.declared.slice.Slice.{Slice}
+use Rattle.tf_walk.specs.declared.addition.Addition.{Addition}
 
 -- an object, where it is well formed
 abbrev pub if_formed : SchemaView → tree.Tree → Option tree.Tree
@@ -20,19 +20,14 @@ abbrev pub formed_reply : SchemaView → Option Answer → Option tree.Tree
 formed_reply schema (Some (object t)) = if_formed schema t
 formed_reply schema _ = None
 
--- the object of a failure, where it is well formed
-abbrev pub formed_failure : SchemaView → Option Answer → Option tree.Tree
-formed_failure schema (Some (failed message (Some t))) = if_formed schema t
-formed_failure schema _ = None
-
 abbrev pub listed : {A : Type 0} → Option A → List A
 listed None = []
 listed (Some a) = a ∷ []
 
--- a slice of the report is what came of an action
-pub record IsSliceOf (ms : List Meaning) (h : Head) (d : Done) (slice : Slice) : Type 0 where
-  pub resource : option_map resource_of slice.resource ≡ option_map (resource_after h) (saved ms d)
-  pub told : listed (option_map diagnostic_of slice.diagnostic) ≡ diagnostics_at h d
+-- what an action adds to the report is what came of it
+pub record IsAdditionOf (ms : List Meaning) (h : Head) (d : Done) (a : Addition) : Type 0 where
+  pub resource : option_map resource_of a.resource ≡ option_map (resource_after h) (saved ms d)
+  pub told : listed (option_map diagnostic_of a.diagnostic) ≡ diagnostics_at h d
 
 -- a call's answer is that of the provider that has the type
 abbrev pub IsJudged : List Meaning → Done → Type 0
