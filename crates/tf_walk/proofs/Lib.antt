@@ -9,3 +9,9 @@ pub mod Lines
 pub mod Formed
 pub mod Named
 pub mod Saving
+pub mod Judged
+pub mod Excused
+pub mod Reported
+pub mod Putting
+pub mod Gathered
+pub mod Carried

@@ -1,5 +1,5 @@
 -- The name of the attribute at a place of an object.
-use Rattle.std.proofs.Common.{◌≡◌, ◌≤◌, ℕ, zero, suc, Bool, true, false, ◌&&◌, List, [], ◌∷◌, length, String, string_bytes, refl, sym, ap, ◌∙◌, arith}
+use Rattle.std.proofs.Common.{◌≡◌, ◌≤◌, ℕ, zero, suc, Bool, true, List, [], ◌∷◌, length, String, string_bytes, sym, ap, ◌∙◌, arith}
 use Rattle.std.proofs.Common.{Global, Bor}
 use Rattle.std.specs.Prelude.{Option, Result, Ok, is_ok, if◌then◌else◌, ◌++◌, MatchOption, slice_index_or}
 use Rattle.std.specs.Iterator.{Yields}

@@ -1,5 +1,5 @@
 -- Tests of each node of a list.
-use Rattle.std.proofs.Common.{◌≡◌, ℕ, Bool, true, false, ◌&&◌, List, [], ◌∷◌, refl, ap, ap₂}
+use Rattle.std.proofs.Common.{◌≡◌, ℕ, Bool, true, ◌&&◌, List, [], ◌∷◌, refl, ap, ap₂}
 use Rattle.std.specs.List.{list_all, AllByRecursion}
 use Rattle.tf_graph.specs.Solutions.{seen_by}
 use Rattle.tf_value.proofs.Conjunction.{and-first, and-second, and-both}

@@ -1,5 +1,5 @@
 -- Values with null in place of what isn't known.
-use Rattle.std.proofs.Common.{◌≡◌, Bool, true, ◌&&◌, List, [], ◌∷◌, map as each, string_bytes, Option, Some, None, option_map, refl, sym, ap}
+use Rattle.std.proofs.Common.{◌≡◌, true, List, [], ◌∷◌, map as each, string_bytes, Option, Some, None, option_map, refl, sym, ap}
 use Rattle.tf_value.proofs.Conjunction.{and-both}
 use Rattle.tf_value.proofs.Views.{Entry, shown}
 use Rattle.tf_value.specs.Known.{known, known_items, known_entries}

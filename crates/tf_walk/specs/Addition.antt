@@ -1,12 +1,13 @@
 -- What one action adds to the report.
-use Rattle.std.specs.Prelude.{◌≡◌, List, [], ◌∷◌, Option, Some, None, option_map, if◌then◌else◌}
+use Rattle.std.specs.Prelude.{◌≡◌, List, [], ◌∷◌, ◌++◌, Option, Some, None, option_map, if◌then◌else◌}
+use Rattle.std.specs.List.{AllByRecursion}
 use Rattle.tf_provider.specs.Meaning.{Answer, Meaning, object}
 use Rattle.tf_provider.specs.Schema.{SchemaView}
 use Rattle.tf_provider.specs.Verdict.{well_formed}
-use Rattle.tf_state.specs.State.{resource_of}
+use Rattle.tf_state.specs.State.{ResourceView, resource_of}
 use Rattle.tf_value.specs.Tree as tree
-use Rattle.tf_walk.specs.After.{resource_after, saved}
-use Rattle.tf_walk.specs.Diagnostics.{diagnostic_of, diagnostics_at}
+use Rattle.tf_walk.specs.After.{resource_after, saved, saved_one}
+use Rattle.tf_walk.specs.Diagnostics.{DiagnosticView, diagnostic_of, diagnostics_at}
 use Rattle.tf_walk.specs.Outcome.{Done, called, call_of}
 use Rattle.tf_walk.specs.Room.{Head}
 use Rattle.tf_walk.specs.declared.addition.Addition.{Addition}
@@ -33,3 +34,17 @@ pub record IsAdditionOf (ms : List Meaning) (h : Head) (d : Done) (a : Addition)
 abbrev pub IsJudged : List Meaning → Done → Type 0
 IsJudged ms (called asked answer v) = called asked answer v ≡ call_of ms asked
 IsJudged ms _ = Unit {0}
+
+-- what some actions save, in their order, each in its room
+abbrev pub saved_in : List Meaning → List Head → List Done → List ResourceView
+saved_in ms (h ∷ heads) (d ∷ done) = saved_one (option_map (resource_after h) (saved ms d)) (saved_in ms heads done)
+saved_in ms _ _ = []
+
+-- what is told of some actions, in their order
+abbrev pub told_in : List Head → List Done → List DiagnosticView
+told_in (h ∷ heads) (d ∷ done) = diagnostics_at h d ++ told_in heads done
+told_in _ _ = []
+
+-- each call's answer is that of the provider that has the type
+abbrev pub AreJudged : List Meaning → List Done → Type 0
+AreJudged ms done = AllByRecursion (IsJudged ms) done

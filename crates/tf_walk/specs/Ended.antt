@@ -1,5 +1,5 @@
 -- What came of an action, as the walk keeps it.
-use Rattle.std.specs.Prelude.{Option, Some, None}
+use Rattle.std.specs.Prelude.{List, map, Option, Some, None}
 use Rattle.tf_provider.specs.Meaning.{asked, answered}
 use Rattle.tf_walk.specs.Excuse.{before_call, during_call}
 use Rattle.tf_walk.specs.Outcome.{Done, skipped, excused, called}
@@ -16,3 +16,7 @@ done_of (ended.Called j) = called (asked j.request) (answered j.reply) j.verdict
 abbrev pub done_or_skipped : Option Ended → Done
 done_or_skipped None = skipped
 done_or_skipped (Some e) = done_of e
+
+-- what came of each of some actions
+abbrev pub dones_of : List (Option Ended) → List Done
+dones_of results = map done_or_skipped results

@@ -1,6 +1,7 @@
 pub mod Addition
 pub mod After
 pub mod Diagnostics
+pub mod Draft
 pub mod Ended
 pub mod Ends
 pub mod Excuse

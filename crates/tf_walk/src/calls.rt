@@ -78,7 +78,8 @@ pub fn are_good(results: &[Option<Ended>], actions: &[usize]) -> bool
     true
 }
 
-fn is_good(ended: &Option<Ended>) -> bool
+/// Whether an action is good; one that hasn't ended isn't.
+pub fn is_good(ended: &Option<Ended>) -> bool
     ensures { result ≡ is_good (done_or_skipped ended.now) }
 {
     match ended {

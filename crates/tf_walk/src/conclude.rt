@@ -1,6 +1,6 @@
 //! What came of an action becomes a part of the report, without taking memory.
 
-ghost use Rattle.std.specs.Prelude.{◌≡◌, ◌++◌, [], true, Some, codes, option_map, option_and_then, string_bytes, string_capacity};
+ghost use Rattle.std.specs.Prelude.{◌≡◌, ◌++◌, [], true, Some, codes, map, option_map, option_and_then, string_bytes, string_capacity};
 ghost use Rattle.tf_address.specs.Label.{label_text};
 ghost use Rattle.tf_provider.specs.Meaning.{asked, answered};
 ghost use Rattle.tf_provider.specs.Verdict.{verdict_on};
@@ -9,21 +9,68 @@ ghost use Rattle.tf_state.specs.State.{resource_of};
 ghost use Rattle.tf_value.specs.Tree.{tree_of};
 ghost use Rattle.tf_walk.specs.After.{resource_after, saved_by};
 ghost use Rattle.tf_walk.specs.Diagnostics.{diagnostic_of, diagnostics_of_verdict, name_at};
+ghost use Rattle.tf_walk.specs.Ended.{done_or_skipped};
 ghost use Rattle.tf_walk.specs.Room.{message_fits};
 ghost use Rattle.tf_walk.specs.RoomHead.{room_head};
-ghost use Rattle.tf_walk.specs.Addition.{formed_reply, if_formed, listed};
+ghost use Rattle.tf_walk.specs.Addition.{IsAdditionOf, IsJudged, formed_reply, if_formed, listed};
 
 use crate::addition::Addition;
-use crate::ended::Judged;
+use crate::ended::{Ended, Judged};
 use crate::one_line::one_line;
 use crate::report::Diagnostic;
 use crate::rooms::Room;
-use tf_provider::{Op, Reply, Schema, Verdict, well_formed};
+use tf_provider::{Op, Provider, Reply, Schema, Verdict, schema_for, well_formed};
 use tf_state::{Object, Record, Resource};
 use tf_value::Value;
 
+/// What an action adds to the report.
+pub fn conclude(
+    providers: &[Box<dyn Provider + Sync>],
+    room: Room,
+    ended: Option<Ended>,
+) -> Addition
+    requires { IsJudged (map (λ b. meaning b) providers.now) (done_or_skipped ended) }
+    ensures { IsAdditionOf (map (λ b. meaning b) providers.now) (room_head room) (done_or_skipped ended) result }
+{
+    match ended {
+        None | Some(Ended::Skipped) => Addition {
+            resource: None,
+            diagnostic: None,
+        },
+        Some(Ended::NotAsked | Ended::NotServed) => Addition {
+            resource: None,
+            diagnostic: Some(want_of_memory(room)),
+        },
+        Some(Ended::Called(judged)) => {
+            match schema_for(providers, judged.request.type_name.as_str()) {
+                Some(schema) => conclude_call(room, judged, schema),
+                None => unreachable!(),
+            }
+        }
+    }
+}
+
+/// What is told where there was no memory.
+fn want_of_memory(room: Room) -> Diagnostic
+    ensures { diagnostic_of result
+        ≡ record { code = 26; place = label_text (room_head room).label; verb = Some Create; message = codes "no memory" } }
+{
+    let Room {
+        address,
+        mut message,
+        ..
+    } = room;
+    message.push_str("no memory").unwrap();
+    Diagnostic {
+        code: 26,
+        place: address,
+        verb: Some(Op::Create),
+        message,
+    }
+}
+
 /// What a call adds to the report.
-pub fn conclude_call(room: Room, judged: Judged, schema: &Schema) -> Addition
+fn conclude_call(room: Room, judged: Judged, schema: &Schema) -> Addition
     requires { judged.verdict ≡ verdict_on (asked judged.request) (answered judged.reply) schema.now }
     ensures saves { option_map resource_of result.resource
         ≡ option_map (resource_after (room_head room)) (saved_by schema.now (asked judged.request) (answered judged.reply) judged.verdict) }

@@ -1,14 +1,30 @@
 //! Carrying out a plan by one thread.
 
-ghost use Rattle.std.specs.Prelude.{◌≡◌, map, IfOk, IfErr};
+ghost use Rattle.std.specs.Prelude.{◌≡◌, ◌≤◌, List, None, length, map, count_by, replicate, IfOk, IfErr};
 ghost use Rattle.tf_config.specs.Refusal.{no_memory, told};
 ghost use Rattle.tf_plan.specs.Plan.{action_of, plan_of};
 ghost use Rattle.tf_plan.specs.Served.{AreServed};
-ghost use Rattle.tf_walk.specs.Report.{IsWalked};
+ghost use Rattle.tf_state.specs.State.{state_of};
+ghost use Rattle.tf_walk.specs.Addition.{AreJudged, saved_in, told_in};
+ghost use Rattle.tf_walk.specs.After.{is_any, raised, with_resources};
+ghost use Rattle.tf_walk.specs.Diagnostics.{diagnostic_of};
+ghost use Rattle.tf_walk.specs.Draft.{IsBlank};
+ghost use Rattle.tf_walk.specs.Ended.{dones_of};
+ghost use Rattle.tf_walk.specs.Outcome.{Done, is_good};
+ghost use Rattle.tf_walk.specs.Report.{IsJournal, IsReport, IsWalked, excuses_from, outcome_of};
+ghost use Rattle.tf_walk.specs.RoomHead.{room_head};
 
-use crate::report::Walked;
-use std::alloc::Global;
+use crate::draft::{Draft, blank};
+use crate::ended::Ended;
+use crate::furnish::rooms_for;
+use crate::gather::{conclude_all, count_good, put_all, tell_excuses, tell_outcomes};
+use crate::report::{Report, Walked};
+use crate::rooms::Room;
+use crate::walk::walk;
+use std::alloc::{AllocError, Global};
+use tf_claim::Book;
 use tf_config::Refusal;
+use tf_journal::Journal;
 use tf_plan::Plan;
 use tf_provider::Provider;
 
@@ -25,8 +41,91 @@ pub fn run_one(
     ensures walked { IfOk result (IsWalked (map (λ b. meaning b) providers.now) (plan_of plan.now)) }
     ensures refused { IfErr result (λ r. told r ≡ no_memory) }
 {
-    let _ = alloc;
-    let _ = plan.actions.len();
-    let _ = providers.len();
-    Err(Refusal::OutOfMemory)
+    match carry_out(alloc, plan, providers) {
+        Ok(report) => Ok(Walked::Whole(report)),
+        Err(AllocError) => Err(Refusal::OutOfMemory),
+    }
+}
+
+/// The report on a plan that is carried out.
+fn carry_out(
+    alloc: Global,
+    plan: &Plan,
+    providers: &[Box<dyn Provider + Sync>],
+) -> Result<Report, AllocError>
+    requires served { AreServed (map (λ b. meaning b) providers.now) (map action_of plan.now.actions.items) }
+    ensures { IfOk result (λ report. (done : List Done)
+        × IsReport (map (λ b. meaning b) providers.now) (plan_of plan.now) done report
+        × IsJournal (plan_of plan.now) done report.journal.entries) }
+{
+    let order = plan.order.graph();
+    let count = order.nodes();
+    let mut book = Book::new(alloc, order)?;
+    let mut journal = Journal::with_room(alloc, order)?;
+    let mut results = not_ended(alloc, count)?;
+    let rooms = rooms_for(alloc, plan.actions.as_slice())?;
+    let draft = blank(alloc, plan.lineage.as_str(), count)?;
+    walk(
+        alloc,
+        plan,
+        providers,
+        &mut book,
+        &mut journal,
+        &mut results,
+    );
+    let _entries = journal.entries();
+    Ok(report_of(draft, providers, rooms, results, journal))
+}
+
+/// So many actions, none of which has ended.
+fn not_ended(alloc: Global, count: usize) -> Result<Vec<Option<Ended>>, AllocError>
+    ensures { IfOk result (λ results. results.items ≡ replicate count None) }
+{
+    let mut results = Vec::with_capacity(alloc, count)?;
+    for _ in 0..count {
+        results.push(None)?;
+    }
+    Ok(results)
+}
+
+/// The report on actions that ended, put together in a draft without taking memory.
+fn report_of(
+    draft: Draft,
+    providers: &[Box<dyn Provider + Sync>],
+    rooms: Vec<Room>,
+    results: Vec<Option<Ended>>,
+    journal: Journal,
+) -> Report
+    requires blank { IsBlank (length results.items) draft }
+    requires few { length results.items ≤ 8000 }
+    requires paired { length rooms.items ≡ length results.items }
+    requires judged { AreJudged (map (λ b. meaning b) providers.now) (dones_of results.items) }
+    ensures state { state_of result.state
+        ≡ raised (is_any (saved_in (map (λ b. meaning b) providers.now) (map room_head rooms.items) (dones_of results.items)))
+        (with_resources (saved_in (map (λ b. meaning b) providers.now) (map room_head rooms.items) (dones_of results.items)) (state_of draft.state)) }
+    ensures outcomes { result.outcomes.items ≡ map outcome_of (dones_of results.items) }
+    ensures diagnostics { map diagnostic_of result.diagnostics.items ≡ told_in (map room_head rooms.items) (dones_of results.items) }
+    ensures journal { result.journal ≡ journal }
+    ensures excused { result.excused.items ≡ excuses_from 0 (dones_of results.items) }
+    ensures good { result.good ≡ (count_by is_good (dones_of results.items), 0, 0) }
+{
+    let Draft {
+        state,
+        mut resources,
+        mut outcomes,
+        mut diagnostics,
+        mut excused,
+    } = draft;
+    tell_outcomes(&mut outcomes, &results);
+    tell_excuses(&mut excused, &results);
+    let good = count_good(&results);
+    conclude_all(providers, rooms, results, &mut resources, &mut diagnostics);
+    Report {
+        state: put_all(state, resources),
+        outcomes,
+        diagnostics,
+        journal,
+        excused,
+        good: (good, 0, 0),
+    }
 }

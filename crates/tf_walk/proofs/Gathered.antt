@@ -1,0 +1,39 @@
+-- What one action more adds to a report.
+use Rattle.std.proofs.Common.{◌≡◌, ◌≤◌, suc, length, List, [], ◌∷◌, ◌++◌, map, Option, Some, None, option_map, refl, sym, ap, ◌∙◌, arith}
+use Rattle.std.proofs.lemmas.List.{length-append}
+use Rattle.tf_state.specs.State.{ResourceView, resource_of}
+use Rattle.tf_state.specs.declared.state.Resource.{Resource}
+use Rattle.tf_walk.specs.Addition.{listed}
+use Rattle.tf_walk.specs.After.{saved_one}
+use Rattle.tf_walk.specs.Diagnostics.{DiagnosticView, diagnostic_of}
+use Rattle.tf_walk.specs.declared.report.Diagnostic.{Diagnostic}
+
+saved_listed : (r : Option Resource) (rest : List ResourceView) → map resource_of (listed r) ++ rest ≡ saved_one (option_map resource_of r) rest
+saved_listed None rest = refl
+saved_listed (Some r) rest = refl
+
+pub saved-more : (rs : List Resource) (r : Option Resource) (v : Option ResourceView) (rest : List ResourceView) → option_map resource_of r ≡ v → map resource_of (rs ++ listed r) ++ rest ≡ map resource_of rs ++ saved_one v rest
+saved-more [] r v rest e = saved_listed r rest ∙ ap (λ o. saved_one o rest) e
+saved-more (x ∷ rs) r v rest e = ap (λ ys. resource_of x ∷ ys) (saved-more rs r v rest e)
+
+told_listed : (t : Option Diagnostic) (rest : List DiagnosticView) → map diagnostic_of (listed t) ++ rest ≡ listed (option_map diagnostic_of t) ++ rest
+told_listed None rest = refl
+told_listed (Some t) rest = refl
+
+pub told-more : (ts : List Diagnostic) (t : Option Diagnostic) (told rest : List DiagnosticView) → listed (option_map diagnostic_of t) ≡ told → map diagnostic_of (ts ++ listed t) ++ rest ≡ map diagnostic_of ts ++ (told ++ rest)
+told-more [] t told rest e = told_listed t rest ∙ ap (λ xs. xs ++ rest) e
+told-more (x ∷ ts) t told rest e = ap (λ ys. diagnostic_of x ∷ ys) (told-more ts t told rest e)
+
+-- what is left is paired
+pub paired-more : {A B : Type 0} (xs xs' : List A) (ys ys' : List B) (x : A) (y : B) → xs ≡ x ∷ xs' → ys ≡ y ∷ ys' → length xs ≡ length ys → length xs' ≡ length ys'
+paired-more xs xs' ys ys' x y e f h =
+    let k : suc (length xs') ≡ suc (length ys') = sym (ap length e) ∙ (h ∙ ap length f) in omega (arith, k)
+
+-- and one less
+pub one-less : {A : Type 0} (xs xs' : List A) (x : A) → xs ≡ x ∷ xs' → length xs ≡ suc (length xs')
+one-less xs xs' x e = ap length e
+
+-- at most one is added
+pub one-more : {A : Type 0} (xs ys : List A) (o : Option A) → ys ≡ xs ++ listed o → length ys ≤ suc (length xs)
+one-more xs ys None e = let k = ap length e ∙ length-append xs [] in omega (arith, k)
+one-more xs ys (Some a) e = let k = ap length e ∙ length-append xs (a ∷ []) in omega (arith, k)

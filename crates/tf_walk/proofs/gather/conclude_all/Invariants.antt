@@ -1,0 +1,27 @@
+-- what is saved and told so far, with what the actions that are left save and tell
+use Rattle.std.proofs.Common.{◌≡◌, ◌≤◌, ◌+◌, ◌++◌, length, map}
+use Rattle.std.specs.Prelude.{vec_capacity}
+use Rattle.std.specs.Vec.Iter.{into_iter_items}
+use Rattle.tf_state.specs.State.{resource_of}
+use Rattle.tf_walk.specs.Addition.{AreJudged, saved_in, told_in}
+use Rattle.tf_walk.specs.Diagnostics.{diagnostic_of}
+use Rattle.tf_walk.specs.Ended.{dones_of}
+use Rattle.tf_walk.specs.RoomHead.{room_head}
+use Rattle.tf_walk.proofs.gather.conclude_all.Given as goal
+
+abbrev pub invariant-loop-room : goal.invariant-loop-room
+invariant-loop-room g l =
+    let ms = map (λ b. (goal.Provider-dyn g (b.vtable, b.value)).meaning b.value) l.providers in
+    let rooms = into_iter_items l.room-iterator.a in
+    let results = into_iter_items l.room-iterator.b in
+    record {
+      judged : AreJudged ms (dones_of results);
+      paired : length rooms ≡ length results;
+      saves : map resource_of l.resources.items ++ saved_in ms (map room_head rooms) (dones_of results)
+          ≡ saved_in ms (map room_head l.fn.rooms.items) (dones_of l.fn.results.items);
+      tells : map diagnostic_of l.diagnostics.items ++ told_in (map room_head rooms) (dones_of results)
+          ≡ told_in (map room_head l.fn.rooms.items) (dones_of l.fn.results.items);
+      room_for_resources : length l.resources.items + length results ≤ vec_capacity l.resources;
+      room_for_diagnostics : length l.diagnostics.items + length results ≤ vec_capacity l.diagnostics;
+      few : length l.resources.items + length results ≤ length l.fn.results.items;
+    }

@@ -1,0 +1,160 @@
+//! The report on all actions is put together, without taking memory.
+
+ghost use Rattle.std.specs.Prelude.{◌≡◌, ◌+◌, ◌++◌, ◌<◌, ◌≤◌, ◌^◌, [], length, map, count_by, vec_len, vec_capacity};
+ghost use Rattle.tf_state.specs.State.{resource_of, state_of};
+ghost use Rattle.tf_walk.specs.Addition.{AreJudged, listed, saved_in, told_in};
+ghost use Rattle.tf_walk.specs.After.{is_any, raised, with_resources};
+ghost use Rattle.tf_walk.specs.Diagnostics.{diagnostic_of};
+ghost use Rattle.tf_walk.specs.Ended.{done_or_skipped, dones_of};
+ghost use Rattle.tf_walk.specs.Outcome.{is_good};
+ghost use Rattle.tf_walk.specs.Report.{excuses_at, excuses_from, outcome_of};
+ghost use Rattle.tf_walk.specs.RoomHead.{room_head};
+
+use crate::addition::Addition;
+use crate::calls::is_good;
+use crate::conclude::conclude;
+use crate::ended::Ended;
+use crate::report::{Diagnostic, Excuse, Outcome};
+use crate::rooms::Room;
+use tf_provider::Provider;
+use tf_state::{Resource, State};
+
+/// How each action ended, in action order.
+pub fn tell_outcomes(outcomes: &mut Vec<Outcome>, results: &[Option<Ended>])
+    requires none { outcomes.old.items ≡ [] }
+    requires room { length results.now ≤ vec_capacity outcomes.old }
+    ensures { outcomes.new.items ≡ map outcome_of (dones_of results.now) }
+{
+    for ended in results {
+        outcomes.push(outcome(ended)).unwrap();
+    }
+}
+
+fn outcome(ended: &Option<Ended>) -> Outcome
+    ensures { result ≡ outcome_of (done_or_skipped ended.now) }
+{
+    match ended {
+        None | Some(Ended::Skipped) => Outcome::Skipped,
+        Some(Ended::NotAsked | Ended::NotServed) => Outcome::Excused,
+        Some(Ended::Called(judged)) => Outcome::Judged(judged.verdict),
+    }
+}
+
+/// The actions for which memory was refused, in action order.
+pub fn tell_excuses(excused: &mut Vec<Excuse>, results: &[Option<Ended>])
+    requires none { excused.old.items ≡ [] }
+    requires room { length results.now ≤ vec_capacity excused.old }
+    ensures { excused.new.items ≡ excuses_from 0 (dones_of results.now) }
+{
+    for (place, ended) in results.iter().enumerate() {
+        if let Some(excuse) = excuse(place, ended) {
+            excused.push(excuse).unwrap();
+        }
+    }
+}
+
+fn excuse(place: usize, ended: &Option<Ended>) -> Option<Excuse>
+    ensures { listed result ≡ excuses_at place (done_or_skipped ended.now) }
+{
+    match ended {
+        Some(Ended::NotAsked) => Some(Excuse::Before(place)),
+        Some(Ended::NotServed) => Some(Excuse::During(place)),
+        _ => None,
+    }
+}
+
+/// How many actions are good.
+pub fn count_good(results: &[Option<Ended>]) -> u32
+    requires { length results.now < 2 ^ 32 }
+    ensures { result ≡ count_by (λ o. is_good (done_or_skipped o)) results.now }
+{
+    let mut good = 0;
+    for ended in results {
+        if is_good(ended) {
+            good += 1;
+        }
+    }
+    good
+}
+
+/// What the actions save and tell, in action order.
+pub fn conclude_all(
+    providers: &[Box<dyn Provider + Sync>],
+    rooms: Vec<Room>,
+    results: Vec<Option<Ended>>,
+    resources: &mut Vec<Resource>,
+    diagnostics: &mut Vec<Diagnostic>,
+)
+    requires judged { AreJudged (map (λ b. meaning b) providers.now) (dones_of results.items) }
+    requires paired { length rooms.items ≡ length results.items }
+    requires no_resources { resources.old.items ≡ [] }
+    requires no_diagnostics { diagnostics.old.items ≡ [] }
+    requires room_for_resources { length results.items ≤ vec_capacity resources.old }
+    requires room_for_diagnostics { length results.items ≤ vec_capacity diagnostics.old }
+    ensures saves { map resource_of resources.new.items ≡ saved_in (map (λ b. meaning b) providers.now) (map room_head rooms.items) (dones_of results.items) }
+    ensures tells { map diagnostic_of diagnostics.new.items ≡ told_in (map room_head rooms.items) (dones_of results.items) }
+    ensures few { length resources.new.items ≤ length results.items }
+{
+    for (room, ended) in rooms.into_iter().zip(results) {
+        let Addition {
+            resource,
+            diagnostic,
+        } = conclude(providers, room, ended);
+        add_resource(resources, resource);
+        add_diagnostic(diagnostics, diagnostic);
+    }
+}
+
+fn add_resource(resources: &mut Vec<Resource>, resource: Option<Resource>)
+    requires { length resources.old.items < vec_capacity resources.old }
+    ensures items { resources.new.items ≡ resources.old.items ++ listed resource }
+    ensures capacity { vec_capacity resources.old ≤ vec_capacity resources.new }
+{
+    if let Some(resource) = resource {
+        resources.push(resource).unwrap();
+    }
+}
+
+fn add_diagnostic(diagnostics: &mut Vec<Diagnostic>, diagnostic: Option<Diagnostic>)
+    requires { length diagnostics.old.items < vec_capacity diagnostics.old }
+    ensures items { diagnostics.new.items ≡ diagnostics.old.items ++ listed diagnostic }
+    ensures capacity { vec_capacity diagnostics.old ≤ vec_capacity diagnostics.new }
+{
+    if let Some(diagnostic) = diagnostic {
+        diagnostics.push(diagnostic).unwrap();
+    }
+}
+
+/// A state with some resources more, and a higher serial where there are any.
+pub fn put_all(state: State, resources: Vec<Resource>) -> State
+    requires fresh { state.serial ≡ 0 }
+    requires room { vec_len state.resources + vec_len resources ≤ vec_capacity state.resources }
+    ensures { state_of result
+        ≡ raised (is_any (map resource_of resources.items)) (with_resources (map resource_of resources.items) (state_of state)) }
+{
+    let changed = !resources.is_empty();
+    raise(put_each(state, resources), changed)
+}
+
+/// A state with some resources more.
+fn put_each(mut state: State, mut resources: Vec<Resource>) -> State
+    requires room { vec_len state.resources + vec_len resources ≤ vec_capacity state.resources }
+    ensures put { state_of result ≡ with_resources (map resource_of resources.items) (state_of state) }
+    ensures serial { result.serial ≡ state.serial }
+{
+    while let Some(resource) = resources.pop() {
+        state.put(resource);
+    }
+    state
+}
+
+/// A state, with a higher serial where it changed.
+fn raise(mut state: State, changed: bool) -> State
+    requires { state.serial ≡ 0 }
+    ensures { state_of result ≡ raised changed (state_of state) }
+{
+    if changed {
+        state.serial = 1;
+    }
+    state
+}
