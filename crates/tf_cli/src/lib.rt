@@ -16,3 +16,6 @@ pub use saving::{SaveFault, save};
 pub use tf_config::Refusal;
 pub use tf_options::{Options, options};
 pub use tf_plan::Refused;
+
+#[cfg(test)]
+mod tests;
