@@ -1,2 +1,3 @@
 mod Writes
 mod Refusing
+mod Carried

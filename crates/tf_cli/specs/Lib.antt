@@ -1,3 +1,4 @@
 pub mod Accepted
+pub mod Applies
 pub mod Shown
 pub mod Saved

@@ -2,15 +2,20 @@
 #![tactic(auto)]
 
 pub mod applied;
+mod applying;
 mod lines;
 mod planning;
 mod printing;
 pub mod saving;
 
 pub use applied::Applied;
+pub use applying::apply_text;
 pub use planning::plan_text;
 pub use printing::{print, print_refused, show};
 pub use saving::{SaveFault, save};
 pub use tf_config::Refusal;
 pub use tf_options::{Options, options};
 pub use tf_plan::Refused;
+
+#[cfg(test)]
+mod tests;

@@ -131,7 +131,7 @@ fn print_refusals<E: Write>(refusals: &[Refusal], err: &mut E) -> Result<(), Sav
 }
 
 /// The report of a walk, torn or not.
-fn report_of(walked: &Walked) -> &Report
+pub(crate) fn report_of(walked: &Walked) -> &Report
     ensures { result.now ≡ report_of walked.now }
 {
     match walked {

@@ -1,0 +1,89 @@
+//! Plans a configuration, carries the plan out, and writes the state.
+#![tactic(auto)]
+
+use std::fs::OpenFile;
+use std::process::ExitCode;
+use std::{env, fs, io};
+use tf_cli::{Applied, Options, Refused, SaveFault, apply_text, options, save, show};
+use tf_provider::Provider;
+use tf_sim::Sim;
+
+fn main(rt: HostRuntime) -> io::Result<ExitCode> {
+    let words: Vec<String> = env::args(&rt)?.collect(rt.alloc())?;
+    match options(rt.alloc(), words.as_slice()) {
+        Ok(options) => run(&rt, &options),
+        Err(error) => {
+            let _ = error.print(&rt);
+            Ok(ExitCode::from(u8::from(error.use_stderr())))
+        }
+    }
+}
+
+fn run(rt: &HostRuntime, options: &Options) -> io::Result<ExitCode> {
+    let Ok(config) = fs::read(rt, options.config.as_str()) else {
+        return unread(rt, options.config.as_str());
+    };
+    let state = match fs::read(rt, options.state.as_str()) {
+        Ok(state) => Some(state),
+        Err(error) if error.kind() == io::ErrorKind::NotFound => None,
+        Err(_) => return unread(rt, options.state.as_str()),
+    };
+    let state = state.as_ref().map(|state| state.as_slice());
+    let mut providers: Vec<Box<dyn Provider + Sync>> = Vec::new(rt.alloc());
+    providers.push(Box::new(rt.alloc(), Sim::new(rt.alloc())?)?)?;
+    let answer = apply_text(
+        rt.alloc(),
+        config.as_slice(),
+        None,
+        state,
+        options.lineage.as_str(),
+        providers.as_slice(),
+    );
+    let status = show(&answer, &mut rt.stdout(), &mut rt.stderr());
+    Ok(ExitCode::from(finish(rt, options.state.as_str(), &answer, status)))
+}
+
+fn unread(rt: &HostRuntime, file: &str) -> io::Result<ExitCode> {
+    eprintln!(rt; "error: cannot read {file}")?;
+    Ok(ExitCode::FAILURE)
+}
+
+/// Writes the state where it has changed. The status is 3 where that fails, and else the one so far.
+fn finish(rt: &HostRuntime, file: &str, answer: &Result<Applied, Refused>, status: u8) -> u8 {
+    match answer {
+        Ok(
+            Applied {
+                changed: true,
+                state: Ok(text),
+                ..
+            },
+        ) => {
+            if replace(rt, file, text.as_str()).is_ok() {
+                return status;
+            }
+            let _ = eprintln!(rt; "error: state not written");
+            let _ = save(&mut rt.stdout(), text.as_str());
+            3
+        }
+        _ => status,
+    }
+}
+
+/// Puts a file with this text in a file's place. Where that fails the file stays as it was.
+fn replace(rt: &HostRuntime, file: &str, text: &str) -> Result<(), SaveFault> {
+    let new = format!(in rt.alloc(); "{file}.new").map_err(io::Error::from)?;
+    let replaced = write_and_rename(rt, new.as_str(), file, text);
+    if replaced.is_err() {
+        let _ = fs::remove_file(rt, new.as_str());
+    }
+    replaced
+}
+
+/// Writes a text to a new file, and renames that once all of it is on the disk.
+fn write_and_rename(rt: &HostRuntime, new: &str, file: &str, text: &str) -> Result<(), SaveFault> {
+    let mut written = fs::create(rt, new)?;
+    save(&mut written, text)?;
+    written.sync_all()?;
+    fs::rename(rt, new, file)?;
+    Ok(())
+}

@@ -1,0 +1,61 @@
+//! From the texts that the user gives to what came of carrying out their plan.
+
+ghost use Rattle.std.specs.Prelude.{◌≡◌, ◌==◌, None, not, map, option_map, IfOk, IfErr, string_bytes};
+ghost use Rattle.tf_cli.specs.Accepted.{IsAccepted, Refuses};
+ghost use Rattle.tf_cli.specs.Applies.{IsApplied};
+ghost use Rattle.tf_cli.specs.Shown.{report_of};
+ghost use Rattle.tf_config.specs.Config.{Blocks};
+ghost use Rattle.tf_state.specs.State.{state_of};
+ghost use Rattle.tf_state.specs.Text.{state_text};
+
+use crate::applied::Applied;
+use crate::planning::plan_of_texts;
+use crate::printing::report_of;
+use std::alloc::Global;
+use tf_plan::Refused;
+use tf_provider::Provider;
+use tf_state::write;
+use tf_walk::{Walked, run_one};
+
+/// Plans a configuration, before anything exists, and carries the plan out by one thread, without waiting. The
+/// lineage is that of the new state. There are no variables yet, and a prior state is refused. Where it refuses,
+/// no provider was asked for anything but schemas.
+pub fn apply_text(
+    alloc: Global,
+    config: &[u8],
+    vars: Option<&[u8]>,
+    state: Option<&[u8]>,
+    lineage: &str,
+    providers: &[Box<dyn Provider + Sync>],
+) -> Result<Applied, Refused>
+    requires { vars ≡ None }
+    ensures applied { IfOk result (λ applied. (blocks : Blocks)
+        × IsAccepted config.now (option_map (λ s. s.now) state.entry) (map (λ b. meaning b) providers.now) blocks
+        × IsApplied (map (λ b. meaning b) providers.now) blocks lineage.now applied) }
+    ensures refused { IfErr result (Refuses config.now (option_map (λ s. s.now) state.entry) (map (λ b. meaning b) providers.now)) }
+{
+    let plan = plan_of_texts(alloc, config, state, lineage, providers)?;
+    let text = plan.text(alloc)?;
+    match run_one(alloc, &plan, providers) {
+        Ok(walked) => Ok(answer_of(alloc, text, walked)),
+        Err(_) => Err(Refused::NoMemory),
+    }
+}
+
+/// What is answered where a plan was carried out: its text, the report, and the text of the report's state.
+fn answer_of(alloc: Global, plan: String, walked: Walked) -> Applied
+    ensures plan { result.plan ≡ plan }
+    ensures walked { result.walked ≡ walked }
+    ensures text { IfOk result.state (λ text. string_bytes text ≡ state_text (state_of (report_of walked).state)) }
+    ensures changed { result.changed ≡ not ((report_of walked).state.serial == 0) }
+{
+    let report = report_of(&walked);
+    let state = write(alloc, &report.state);
+    let changed = report.state.serial != 0;
+    Applied {
+        plan,
+        walked,
+        state,
+        changed,
+    }
+}
