@@ -6,6 +6,7 @@ pub mod Ended
 pub mod Ends
 pub mod Excuse
 pub mod Outcome
+pub mod Prepared
 pub mod Report
 pub mod Room
 pub mod RoomHead

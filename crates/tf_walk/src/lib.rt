@@ -12,6 +12,7 @@ mod ended;
 mod furnish;
 mod gather;
 mod one_line;
+mod prepared;
 pub mod report;
 mod requests;
 mod rooms;

@@ -1,6 +1,6 @@
 //! Carrying out a plan by one thread.
 
-ghost use Rattle.std.specs.Prelude.{◌≡◌, ◌≤◌, List, None, length, map, count_by, replicate, IfOk, IfErr};
+ghost use Rattle.std.specs.Prelude.{◌≡◌, ◌≤◌, List, length, map, count_by, IfOk, IfErr};
 ghost use Rattle.tf_config.specs.Refusal.{no_memory, told};
 ghost use Rattle.tf_plan.specs.Plan.{action_of, plan_of};
 ghost use Rattle.tf_plan.specs.Served.{AreServed};
@@ -11,18 +11,18 @@ ghost use Rattle.tf_walk.specs.Diagnostics.{diagnostic_of};
 ghost use Rattle.tf_walk.specs.Draft.{IsBlank};
 ghost use Rattle.tf_walk.specs.Ended.{dones_of};
 ghost use Rattle.tf_walk.specs.Outcome.{Done, is_good};
+ghost use Rattle.tf_walk.specs.Prepared.{IsPrepared};
 ghost use Rattle.tf_walk.specs.Report.{IsJournal, IsReport, IsWalked, excuses_from, outcome_of};
 ghost use Rattle.tf_walk.specs.RoomHead.{room_head};
 
-use crate::draft::{Draft, blank};
+use crate::draft::Draft;
 use crate::ended::Ended;
-use crate::furnish::rooms_for;
 use crate::gather::{conclude_all, count_good, put_all, tell_excuses, tell_outcomes};
+use crate::prepared::{Prepared, prepare};
 use crate::report::{Report, Walked};
 use crate::rooms::Room;
 use crate::walk::walk;
 use std::alloc::{AllocError, Global};
-use tf_claim::Book;
 use tf_config::Refusal;
 use tf_journal::Journal;
 use tf_plan::Plan;
@@ -41,30 +41,32 @@ pub fn run_one(
     ensures walked { IfOk result (IsWalked (map (λ b. meaning b) providers.now) (plan_of plan.now)) }
     ensures refused { IfErr result (λ r. told r ≡ no_memory) }
 {
-    match carry_out(alloc, plan, providers) {
-        Ok(report) => Ok(Walked::Whole(report)),
+    match prepare(alloc, plan) {
+        Ok(prepared) => Ok(Walked::Whole(carry_out(alloc, plan, providers, prepared))),
         Err(AllocError) => Err(Refusal::OutOfMemory),
     }
 }
 
-/// The report on a plan that is carried out.
+/// The report on a plan that is carried out. It has no answer that says that there was no memory.
 fn carry_out(
     alloc: Global,
     plan: &Plan,
     providers: &[Box<dyn Provider + Sync>],
-) -> Result<Report, AllocError>
+    prepared: Prepared,
+) -> Report
     requires served { AreServed (map (λ b. meaning b) providers.now) (map action_of plan.now.actions.items) }
-    ensures { IfOk result (λ report. (done : List Done)
-        × IsReport (map (λ b. meaning b) providers.now) (plan_of plan.now) done report
-        × IsJournal (plan_of plan.now) done report.journal.entries) }
+    requires prepared { IsPrepared (plan_of plan.now) prepared }
+    ensures { (done : List Done)
+        × IsReport (map (λ b. meaning b) providers.now) (plan_of plan.now) done result
+        × IsJournal (plan_of plan.now) done result.journal.entries }
 {
-    let order = plan.order.graph();
-    let count = order.nodes();
-    let mut book = Book::new(alloc, order)?;
-    let mut journal = Journal::with_room(alloc, order)?;
-    let mut results = not_ended(alloc, count)?;
-    let rooms = rooms_for(alloc, plan.actions.as_slice())?;
-    let draft = blank(alloc, plan.lineage.as_str(), count)?;
+    let Prepared {
+        mut book,
+        mut journal,
+        mut results,
+        rooms,
+        draft,
+    } = prepared;
     walk(
         alloc,
         plan,
@@ -74,18 +76,7 @@ fn carry_out(
         &mut results,
     );
     let _entries = journal.entries();
-    Ok(report_of(draft, providers, rooms, results, journal))
-}
-
-/// So many actions, none of which has ended.
-fn not_ended(alloc: Global, count: usize) -> Result<Vec<Option<Ended>>, AllocError>
-    ensures { IfOk result (λ results. results.items ≡ replicate count None) }
-{
-    let mut results = Vec::with_capacity(alloc, count)?;
-    for _ in 0..count {
-        results.push(None)?;
-    }
-    Ok(results)
+    report_of(draft, providers, rooms, results, journal)
 }
 
 /// The report on actions that ended, put together in a draft without taking memory.

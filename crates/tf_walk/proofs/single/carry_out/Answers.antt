@@ -4,9 +4,9 @@ use Rattle.tf_graph.specs.Digraph.{Digraph, predecessors_of}
 use Rattle.tf_graph.specs.Order.{IsInOrder}
 use Rattle.tf_journal.specs.Entries.{Log, actions_of}
 use Rattle.tf_plan.specs.Plan.{action_of, plan_of}
-use Rattle.tf_state.specs.State.{empty_state}
 use Rattle.tf_walk.specs.Addition.{AreJudged, saved_in, told_in}
 use Rattle.tf_walk.specs.After.{is_any, raised, with_resources, saved_resources}
+use Rattle.tf_walk.specs.Draft.{IsBlank}
 use Rattle.tf_walk.specs.Ended.{done_of, done_or_skipped, dones_of}
 use Rattle.tf_walk.specs.Ends.{done_in}
 use Rattle.tf_walk.specs.Outcome.{AreOutcomes, done_at}
@@ -20,30 +20,50 @@ use Rattle.tf_walk.proofs.single.carry_out.Goals as goal
 pub walk-requires-clause-so_far : goal.walk-requires-clause-so_far
 walk-requires-clause-so_far g c =
     let ms = map (λ b. (goal.Provider-dyn g (b.vtable, b.value)).meaning b.value) c.args.providers.now in
-    let count = c.nodes-count.result in
-    let start : c.deref_mut.result.now ≡ replicate count None = c.deref_mut.ensures.value ∙ c.in_ok-results.ensures in
-    let nodes : count ≡ c.args.plan.now.order.nodes = c.nodes-count.ensures.count ∙ ap (λ (d : Digraph). d.nodes) c.graph-order.ensures.graph in
-    let sized : count ≡ length (map action_of c.args.plan.now.actions.items) = omega (arith, nodes, c.args.plan.now.counted, c.args.plan.now.actions.ok.0, length-map c.args.plan.now.actions.items action_of) in
-    rw (start, c.in_ok-journal.ensures.empty) (so_far-none ms (plan_of c.args.plan.now) count sized)
+    let count = c.args.plan.now.order.nodes in
+    let start : c.deref_mut.result.now ≡ replicate count None = c.deref_mut.ensures.value ∙ c.requires.prepared.results in
+    let sized : count ≡ length (map action_of c.args.plan.now.actions.items) = omega (arith, c.args.plan.now.counted, c.args.plan.now.actions.ok.0, length-map c.args.plan.now.actions.items action_of) in
+    rw (start, c.requires.prepared.none) (so_far-none ms (plan_of c.args.plan.now) count sized)
 
 pub walk-requires-clause-staged : goal.walk-requires-clause-staged
 walk-requires-clause-staged g c =
-    let count = c.nodes-count.result in
-    let start : c.deref_mut.result.now ≡ replicate count None = c.deref_mut.ensures.value ∙ c.in_ok-results.ensures in
-    rw (start, c.in_ok-book.ensures.free) (staged-none c.graph-order.result.now.nodes count)
+    let count = c.args.plan.now.order.nodes in
+    let start : c.deref_mut.result.now ≡ replicate count None = c.deref_mut.ensures.value ∙ c.requires.prepared.results in
+    rw (start, c.requires.prepared.free) (staged-none count count)
+
+pub report_of-requires-clause-blank : goal.report_of-requires-clause-blank
+report_of-requires-clause-blank g c =
+    let new = c.walk.new.results in
+    let actions = c.args.plan.now.actions.items in
+    let sized : length new ≡ length actions = sym (length-map new (option_map done_of)) ∙ (c.walk.ensures.so_far.sized ∙ length-map actions action_of) in
+    let start = ap length c.requires.prepared.results ∙ length-replicate c.args.plan.now.order.nodes None in
+    let long : length new ≡ c.args.prepared.results.len =
+    omega (arith, sized, start, c.args.plan.now.counted, c.args.plan.now.actions.ok.0, c.args.prepared.results.ok.0) in
+    let back = written-back new (drop (length new) c.args.prepared.results.items) c.args.prepared.results.len long in
+    let nodes : c.args.plan.now.order.nodes ≡ length actions = omega (arith, c.args.plan.now.counted, c.args.plan.now.actions.ok.0) in
+    subst (λ (n : ℕ). IsBlank n c.args.prepared.draft) (nodes ∙ sym (ap length back ∙ sized)) c.requires.prepared.blank
+
+pub report_of-requires-clause-few : goal.report_of-requires-clause-few
+report_of-requires-clause-few g c =
+    let new = c.walk.new.results in
+    let actions = c.args.plan.now.actions.items in
+    let sized : length new ≡ length actions = sym (length-map new (option_map done_of)) ∙ (c.walk.ensures.so_far.sized ∙ length-map actions action_of) in
+    let start = ap length c.requires.prepared.results ∙ length-replicate c.args.plan.now.order.nodes None in
+    let long : length new ≡ c.args.prepared.results.len =
+    omega (arith, sized, start, c.args.plan.now.counted, c.args.plan.now.actions.ok.0, c.args.prepared.results.ok.0) in
+    let back = ap length (written-back new (drop (length new) c.args.prepared.results.items) c.args.prepared.results.len long) in
+    omega (arith, back, sized, c.args.plan.now.counted, c.args.plan.now.actions.ok.0, c.requires.prepared.few)
 
 pub report_of-requires-clause-paired : goal.report_of-requires-clause-paired
 report_of-requires-clause-paired g c =
     let new = c.walk.new.results in
     let actions = c.args.plan.now.actions.items in
     let sized : length new ≡ length actions = sym (length-map new (option_map done_of)) ∙ (c.walk.ensures.so_far.sized ∙ length-map actions action_of) in
-    let nodes : c.nodes-count.result ≡ c.args.plan.now.order.nodes = c.nodes-count.ensures.count ∙ ap (λ (d : Digraph). d.nodes) c.graph-order.ensures.graph in
-    let start = ap length c.in_ok-results.ensures ∙ length-replicate c.nodes-count.result None in
-    let long : length new ≡ c.in_ok-results.results.len =
-    omega (arith, sized, nodes, start, c.args.plan.now.counted, c.args.plan.now.actions.ok.0, c.in_ok-results.results.ok.0) in
-    let back = written-back new (drop (length new) c.in_ok-results.results.items) c.in_ok-results.results.len long in
-    let heads = c.in_ok-rooms.ensures ∙ ap (λ xs. map head_of (map action_of xs)) c.as_slice.ensures.value in
-    let rooms = rooms-sized c.in_ok-rooms.rooms.items (map action_of actions) heads ∙ length-map actions action_of in
+    let start = ap length c.requires.prepared.results ∙ length-replicate c.args.plan.now.order.nodes None in
+    let long : length new ≡ c.args.prepared.results.len =
+    omega (arith, sized, start, c.args.plan.now.counted, c.args.plan.now.actions.ok.0, c.args.prepared.results.ok.0) in
+    let back = written-back new (drop (length new) c.args.prepared.results.items) c.args.prepared.results.len long in
+    let rooms = rooms-sized c.args.prepared.rooms.items (map action_of actions) c.requires.prepared.rooms ∙ length-map actions action_of in
     rooms ∙ sym (ap length back ∙ sized)
 
 pub report_of-requires-clause-judged : goal.report_of-requires-clause-judged
@@ -53,11 +73,10 @@ report_of-requires-clause-judged g c =
     let new = c.walk.new.results in
     let actions = c.args.plan.now.actions.items in
     let sized : length new ≡ length actions = sym (length-map new (option_map done_of)) ∙ (c.walk.ensures.so_far.sized ∙ length-map actions action_of) in
-    let nodes : c.nodes-count.result ≡ c.args.plan.now.order.nodes = c.nodes-count.ensures.count ∙ ap (λ (d : Digraph). d.nodes) c.graph-order.ensures.graph in
-    let start = ap length c.in_ok-results.ensures ∙ length-replicate c.nodes-count.result None in
-    let long : length new ≡ c.in_ok-results.results.len =
-    omega (arith, sized, nodes, start, c.args.plan.now.counted, c.args.plan.now.actions.ok.0, c.in_ok-results.results.ok.0) in
-    let back = written-back new (drop (length new) c.in_ok-results.results.items) c.in_ok-results.results.len long in
+    let start = ap length c.requires.prepared.results ∙ length-replicate c.args.plan.now.order.nodes None in
+    let long : length new ≡ c.args.prepared.results.len =
+    omega (arith, sized, start, c.args.plan.now.counted, c.args.plan.now.actions.ok.0, c.args.prepared.results.ok.0) in
+    let back = written-back new (drop (length new) c.args.prepared.results.items) c.args.prepared.results.len long in
     subst (λ rs. AreJudged ms (dones_of rs)) (sym back) (so_far-judged ms plan (map (option_map done_of) new) c.walk.new.journal.entries (dones_of new) c.walk.ensures.so_far (dones-are new))
 
 pub returns : goal.returns
@@ -67,12 +86,11 @@ returns g c =
     let new = c.walk.new.results in
     let actions = c.args.plan.now.actions.items in
     let sized : length new ≡ length actions = sym (length-map new (option_map done_of)) ∙ (c.walk.ensures.so_far.sized ∙ length-map actions action_of) in
-    let nodes : c.nodes-count.result ≡ c.args.plan.now.order.nodes = c.nodes-count.ensures.count ∙ ap (λ (d : Digraph). d.nodes) c.graph-order.ensures.graph in
-    let start = ap length c.in_ok-results.ensures ∙ length-replicate c.nodes-count.result None in
-    let long : length new ≡ c.in_ok-results.results.len =
-    omega (arith, sized, nodes, start, c.args.plan.now.counted, c.args.plan.now.actions.ok.0, c.in_ok-results.results.ok.0) in
-    let written = take c.in_ok-results.results.len (new ++ drop (length new) c.in_ok-results.results.items) in
-    let back : written ≡ new = written-back new (drop (length new) c.in_ok-results.results.items) c.in_ok-results.results.len long in
+    let start = ap length c.requires.prepared.results ∙ length-replicate c.args.plan.now.order.nodes None in
+    let long : length new ≡ c.args.prepared.results.len =
+    omega (arith, sized, start, c.args.plan.now.counted, c.args.plan.now.actions.ok.0, c.args.prepared.results.ok.0) in
+    let written = take c.args.prepared.results.len (new ++ drop (length new) c.args.prepared.results.items) in
+    let back : written ≡ new = written-back new (drop (length new) c.args.prepared.results.items) c.args.prepared.results.len long in
     let ends = map (option_map done_of) new in
     let done = dones_of written in
     let same : (n : ℕ) → done_at done n ≡ done_in ends n = λ n. ap (λ rs. done_at (dones_of rs) n) back ∙ dones-are new n in
@@ -80,9 +98,8 @@ returns g c =
     let report = c.report_of.result in
     let told = c.report_of.ensures in
     let solves = so_far-solves ms plan ends c.walk.new.journal.entries done c.walk.ensures.so_far c.walk.ensures.all lengths same in
-    let heads : map room_head c.in_ok-rooms.rooms.items ≡ map head_of plan.actions = c.in_ok-rooms.ensures ∙ ap (λ xs. map head_of (map action_of xs)) c.as_slice.ensures.value in
-    let lineage = c.in_ok-draft.ensures.state ∙ ap empty_state c.as_str.ensures.value in
-    let resources : saved_in ms (map room_head c.in_ok-rooms.rooms.items) done ≡ saved_resources ms plan.actions done =
+    let heads : map room_head c.args.prepared.rooms.items ≡ map head_of plan.actions = c.requires.prepared.rooms in
+    let resources : saved_in ms (map room_head c.args.prepared.rooms.items) done ≡ saved_resources ms plan.actions done =
     ap (λ hs. saved_in ms hs done) heads ∙ saved_in-actions ms plan.actions done in
     let entries : report.journal.entries ≡ c.walk.new.journal.entries = ap (λ (l : Log). l.entries) told.journal in
     let allowed : IsInOrder (predecessors_of c.args.plan.now.order) (actions_of c.walk.new.journal.entries) =
@@ -92,7 +109,7 @@ returns g c =
         solved = subst (λ es. AreOutcomes ms plan es done) (sym told.excused) solves;
         lawful = told.excused;
         outcomes = told.outcomes;
-        state = told.state ∙ ap₂ (λ rs s. raised (is_any rs) (with_resources rs s)) resources lineage;
+        state = told.state ∙ ap₂ (λ rs s. raised (is_any rs) (with_resources rs s)) resources c.requires.prepared.state;
         diagnostics_told = told.diagnostics ∙ (ap (λ hs. told_in hs done) heads ∙ told_in-actions plan.actions done);
         good = told.good;
       },

@@ -1,6 +1,6 @@
 -- as many as there were turns
 use Rattle.std.proofs.Common.{◌≡◌, None, replicate}
-use Rattle.tf_walk.proofs.single.not_ended.Given as goal
+use Rattle.tf_walk.proofs.prepared.not_ended.Given as goal
 
 abbrev pub invariant-loop : goal.invariant-loop
 invariant-loop l = l.results.items ≡ replicate l.counter None

@@ -1,0 +1,20 @@
+-- What carrying out a plan begins with: nothing has ended, nothing was called, and there is room for the report.
+use Rattle.std.specs.Prelude.{◌≡◌, ◌≤◌, [], None, map, replicate}
+use Rattle.tf_claim.specs.declared.book.Stage.TheVariants as stage
+use Rattle.tf_plan.specs.Plan.{PlanView}
+use Rattle.tf_state.specs.State.{state_of, empty_state}
+use Rattle.tf_walk.specs.Draft.{IsBlank}
+use Rattle.tf_walk.specs.Room.{head_of}
+use Rattle.tf_walk.specs.RoomHead.{room_head}
+use Rattle.tf_walk.specs.declared.prepared.Prepared.{Prepared}
+
+pub record IsPrepared (plan : PlanView) (p : Prepared) : Type 0 where
+  pub claims : p.book.graph ≡ plan.order
+  pub free : p.book.stages ≡ replicate plan.order.nodes stage.Free
+  pub calls : p.journal.graph ≡ plan.order
+  pub none : p.journal.entries ≡ []
+  pub results : p.results.items ≡ replicate plan.order.nodes None
+  pub rooms : map room_head p.rooms.items ≡ map head_of plan.actions
+  pub blank : IsBlank plan.order.nodes p.draft
+  pub state : state_of p.draft.state ≡ empty_state plan.lineage
+  pub few : plan.order.nodes ≤ 8000
