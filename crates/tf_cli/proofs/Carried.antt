@@ -1,17 +1,16 @@
 -- What is answered of a plan that was carried out.
-use Rattle.std.proofs.Common.{◌≡◌, ◌∙◌, ◌+◌, ℕ, Bool, true, false, not, List, [], ◌∷◌, refl, sym, ap, subst, string_bytes, arith}
+use Rattle.std.proofs.Common.{◌≡◌, ◌∙◌, ℕ, Bool, false, not, List, [], ◌∷◌, refl, sym, ap, subst, string_bytes, arith}
 use Rattle.std.specs.Prelude.{◌==◌, ◌↔◌, IfOk}
-use Rattle.tf_cli.specs.Applies.{IsApplied, state_in}
+use Rattle.tf_cli.specs.Applies.{IsApplied}
 use Rattle.tf_cli.specs.Shown.{report_of}
 use Rattle.tf_cli.specs.declared.applied.Applied.{Applied}
 use Rattle.tf_config.specs.Config.{Blocks}
-use Rattle.tf_plan.specs.Plan.{ActionView, PlanView, plan_text, planned, planned_actions}
+use Rattle.tf_plan.specs.Plan.{PlanView, plan_text, planned}
 use Rattle.tf_provider.specs.Meaning.{Meaning}
 use Rattle.tf_state.specs.State.{ResourceView, StateView, empty_state, state_of}
 use Rattle.tf_state.specs.Text.{state_text}
-use Rattle.tf_walk.specs.After.{is_any, raised, saved_resources, state_after, with_resources}
-use Rattle.tf_walk.specs.Outcome.{Done}
-use Rattle.tf_walk.specs.Report.{IsReport, IsWalked}
+use Rattle.tf_walk.specs.After.{is_any, raised, saved_resources, with_resources}
+use Rattle.tf_walk.specs.Report.{IsWalked}
 use Rattle.tf_walk.specs.declared.report.Walked.{Walked}
 use Rattle.tf_walk.specs.declared.report.Walked.TheVariants.{Whole, Torn}
 
