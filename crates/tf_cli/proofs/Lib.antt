@@ -1,3 +1,2 @@
 mod Writes
-mod Refusing
 mod Carried
