@@ -4,16 +4,28 @@
 use std::fs::OpenFile;
 use std::process::ExitCode;
 use std::{env, fs, io};
-use tf_cli::{Applied, Options, Refused, SaveFault, apply_text, options, save, show};
+use tf_cli::{
+    Applied, Options, Refused, SaveFault, apply_text, options, print_refused, save, show,
+};
 use tf_provider::Provider;
 use tf_sim::Sim;
 
 fn main(rt: HostRuntime) -> io::Result<ExitCode> {
-    let words: Vec<String> = env::args(&rt)?.collect(rt.alloc())?;
+    match answer(&rt) {
+        Err(error) if error.kind() == io::ErrorKind::OutOfMemory => {
+            let _ = print_refused(&Refused::NoMemory, &mut rt.stderr());
+            Ok(ExitCode::FAILURE)
+        }
+        answered => answered,
+    }
+}
+
+fn answer(rt: &HostRuntime) -> io::Result<ExitCode> {
+    let words: Vec<String> = env::args(rt)?.collect(rt.alloc())?;
     match options(rt.alloc(), words.as_slice()) {
-        Ok(options) => run(&rt, &options),
+        Ok(options) => run(rt, &options),
         Err(error) => {
-            let _ = error.print(&rt);
+            let _ = error.print(rt);
             Ok(ExitCode::from(u8::from(error.use_stderr())))
         }
     }
