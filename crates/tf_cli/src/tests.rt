@@ -115,13 +115,16 @@ const NOTHING: &str =
 const NET: &str =
     "{\n  \"lineage\": \"L\",\n  \"outputs\": {},\n  \"resources\": [\n    {\n      \"instances\": [\n        {\n          \"attributes\": {\n            \"cidr\": \"x\",\n            \"id\": \"net-x\",\n            \"tag\": null\n          },\n          \"schema_version\": 0\n        }\n      ],\n      \"mode\": \"managed\",\n      \"name\": \"a\",\n      \"provider\": \"provider[\\\"registry.terraform.io/hashicorp/sim\\\"]\",\n      \"type\": \"sim_net\"\n    }\n  ],\n  \"serial\": 1,\n  \"terraform_version\": \"1.0.0\",\n  \"version\": 4\n}\n";
 
+const TAINTED: &str =
+    "{\n  \"lineage\": \"L\",\n  \"outputs\": {},\n  \"resources\": [\n    {\n      \"instances\": [\n        {\n          \"attributes\": {\n            \"cidr\": \"x\",\n            \"id\": \"net-x\",\n            \"tag\": \"truth\"\n          },\n          \"schema_version\": 0,\n          \"status\": \"tainted\"\n        }\n      ],\n      \"mode\": \"managed\",\n      \"name\": \"a\",\n      \"provider\": \"provider[\\\"registry.terraform.io/hashicorp/sim\\\"]\",\n      \"type\": \"sim_net\"\n    }\n  ],\n  \"serial\": 1,\n  \"terraform_version\": \"1.0.0\",\n  \"version\": 4\n}\n";
+
 const CONFIG: &str = "{\"resource\": {\"sim_net\": {\"a\": {\"cidr\": \"x\"}}}}";
 
 const PLAN: &str =
     "+ sim_net.a\n    cidr = \"x\"\n    id = (known after apply)\nPlan: 1 to add, 0 to change, 0 to destroy.\n";
 
 // A configuration, and what comes of its apply: what is printed, the status, the state after and the number of calls.
-static APPLIES: [(&str, &str, &str, u8, &str, usize); 4] = [
+static APPLIES: [(&str, &str, &str, u8, &str, usize); 5] = [
     (
         "{}",
         "No changes.\nApply complete! Resources: 0 added, 0 changed, 0 destroyed.\n",
@@ -152,6 +155,14 @@ static APPLIES: [(&str, &str, &str, u8, &str, usize); 4] = [
         "error 21 at sim_net.b create: refused\n",
         2,
         NOTHING,
+        1,
+    ),
+    (
+        "{\"resource\": {\"sim_net\": {\"a\": {\"cidr\": \"x\", \"tag\": \"lie\"}}}}",
+        "+ sim_net.a\n    cidr = \"x\"\n    id = (known after apply)\n    tag = \"lie\"\nPlan: 1 to add, 0 to change, 0 to destroy.\nApply incomplete. Resources: 0 added, 0 changed, 0 destroyed.\n",
+        "error 22 at sim_net.a create: contradicts tag\n",
+        2,
+        TAINTED,
         1,
     ),
 ];
