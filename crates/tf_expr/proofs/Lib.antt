@@ -1,0 +1,11 @@
+pub mod Alone
+pub mod Begun
+pub mod Called
+pub mod Cuts
+pub mod Growing
+pub mod Named
+pub mod Numbers
+pub mod Pieces
+pub mod Rowing
+pub mod Weaving
+pub mod Within

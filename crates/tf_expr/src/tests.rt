@@ -1,0 +1,296 @@
+use crate::{ReadFault, functions, read_template, references};
+use std::alloc::Global;
+use std::process::Abort;
+use std::test::Fail;
+
+// The tree that a text spells, or why none is read.
+fn shown(alloc: Global, text: &str) -> Result<String, Fail> {
+    match read_template(alloc, text) {
+        Ok(template) => Ok(format!(in alloc; "{template:?}")?),
+        Err(fault) => Ok(format!(in alloc; "{fault:?}")?),
+    }
+}
+
+fn refused_at(rt: &impl Abort, alloc: Global, text: &str, offset: usize) {
+    assert_eq!(rt;
+        read_template(alloc, text).err(),
+        Some(ReadFault::At(offset)),
+        "{text}"
+    );
+}
+
+fn is_read(alloc: Global, text: &str) -> bool {
+    read_template(alloc, text).is_ok()
+}
+
+// An interpolation with a text repeated before a middle, and another repeated behind it.
+fn nested(
+    alloc: Global,
+    before: &str,
+    middle: &str,
+    behind: &str,
+    times: usize,
+) -> Result<String, Fail> {
+    let mut text = String::from_str(alloc, "${")?;
+    for _ in 0..times {
+        text.push_str(before)?;
+    }
+    text.push_str(middle)?;
+    for _ in 0..times {
+        text.push_str(behind)?;
+    }
+    text.push_str("}")?;
+    Ok(text)
+}
+
+#[test]
+fn reads_literals(rt: HostRuntime) -> Result<(), Fail> {
+    for (text, literal) in [
+        ("", ""),
+        ("a}", "a}"),
+        ("%%{if}", "%{if}"),
+        ("$$${x}", "$${x}"),
+        ("$$$", "$$$"),
+        ("%%%{", "%%{"),
+        ("a\\n\"\n", "a\\n\"\n"),
+        ("ä€", "ä€"),
+    ] {
+        let template = read_template(rt.alloc(), text).map_err(|_| "refused")?;
+        assert_eq!(rt; template.parts.len(), 0, "{text}");
+        assert_eq!(rt; template.last.as_str(), literal, "{text}");
+    }
+    Ok(())
+}
+
+#[test]
+fn groups_operators(rt: HostRuntime) -> Result<(), Fail> {
+    for (text, other) in [
+        ("${2 + 3 * 4}", "${2+(3*4)}"),
+        ("${1 - 2 - 3}", "${(1 - 2) - 3}"),
+        ("${!true == false}", "${(!true) == false}"),
+        ("${1 < 2 == true}", "${(1 < 2) == true}"),
+        ("${a.b || c.d && e.f}", "${a.b || (c.d && e.f)}"),
+        ("${a.b ? 1 : c.d ? 2 : 3}", "${a.b ? 1 : (c.d ? 2 : 3)}"),
+        ("${!a.b[0].c}", "${!((a.b[0]).c)}"),
+        ("${1 - -1}", "${1 - (-1)}"),
+    ] {
+        let bare = without_groups(rt.alloc(), shown(rt.alloc(), text)?.as_str())?;
+        let grouped = without_groups(rt.alloc(), shown(rt.alloc(), other)?.as_str())?;
+        assert_eq!(rt; bare.as_str(), grouped.as_str(), "{text}");
+    }
+    Ok(())
+}
+
+// The shape of a tree, with each node in brackets but for parentheses.
+fn without_groups(alloc: Global, tree: &str) -> Result<String, Fail> {
+    let mut bare = String::new(alloc);
+    for part in tree.split("Group(") {
+        bare.push_str(part)?;
+    }
+    let mut text = String::new(alloc);
+    for c in bare.chars() {
+        if c != ')' {
+            text.push(c)?;
+        }
+    }
+    Ok(text)
+}
+
+#[test]
+fn reads_each_form(rt: HostRuntime) -> Result<(), Fail> {
+    for (text, tree) in [
+        (
+            "${var.n-1}",
+            "Reference(Reference { first: \"var\", name: \"n-1\" })",
+        ),
+        ("${ \t\r\nnull }", "Null"),
+        ("${9223372036854775807}", "Number(9223372036854775807)"),
+        ("${007}", "Number(7)"),
+        (
+            "${[1, 2,][0]}",
+            "Index(List([Number(1), Number(2)]), Number(0))",
+        ),
+        ("${f()}", "Call(\"f\", [])"),
+        ("${f(1,)}", "Call(\"f\", [Number(1)])"),
+        (
+            "${(a.b).c}",
+            "Attribute(Group(Reference(Reference { first: \"a\", name: \"b\" })), \"c\")",
+        ),
+        (
+            "${\"a\\\"\\\\\\n\\r\\t${1 + 2}b\"}",
+            "Quoted(Template { parts: [(\"a\\\"\\\\\\n\\r\\t\", Binary(Add, Number(1), Number(2)))], last: \"b\" })",
+        ),
+        (
+            "${\"$${%%{\"}",
+            "Quoted(Template { parts: [], last: \"${%{\" })",
+        ),
+    ] {
+        let whole = format!(in rt.alloc(); "Template {{ parts: [(\"\", {tree})], last: \"\" }}")?;
+        assert_eq!(rt; shown(rt.alloc(), text)?.as_str(), whole.as_str());
+    }
+    Ok(())
+}
+
+#[test]
+fn refuses_with_offsets(rt: HostRuntime) {
+    for (text, offset) in [
+        ("%{if}", 0),
+        ("${1 / 2}", 4),
+        ("${1.5}", 3),
+        ("${}", 2),
+        ("${", 2),
+        ("${-9223372036854775808}", 3),
+        ("${1 =", 5),
+        ("${1 !", 5),
+        ("${1 &", 5),
+        ("${1 |", 5),
+        ("${=", 2),
+        ("${\"\\", 4),
+        ("${\"\\q\"}", 3),
+        ("${\"a\nb\"}", 4),
+        ("${\"%{\"}", 3),
+        ("${1[0]}", 3),
+        ("${[,]}", 3),
+        ("${f(1 2)}", 6),
+        ("${true.x}", 6),
+        ("${var}", 5),
+        ("${a.b ? 1}", 9),
+        ("a${1}${", 7),
+    ] {
+        refused_at(&rt, rt.alloc(), text, offset);
+    }
+}
+
+#[test]
+fn reads_to_depth_64(rt: HostRuntime) -> Result<(), Fail> {
+    for (before, behind) in [("!", ""), ("(", ")"), ("[", "]"), ("f(", ")")] {
+        let whole = nested(rt.alloc(), before, "true", behind, 62)?;
+        assert!(rt; is_read(rt.alloc(), whole.as_str()), "{before}");
+        let deep = nested(rt.alloc(), before, "true", behind, 63)?;
+        assert_eq!(rt;
+            read_template(rt.alloc(), deep.as_str()).err(),
+            Some(ReadFault::TooDeep),
+            "{before}"
+        );
+    }
+    let quotes = nested(rt.alloc(), "\"${", "1", "}\"", 62)?;
+    assert!(rt; is_read(rt.alloc(), quotes.as_str()));
+    let more = nested(rt.alloc(), "\"${", "1", "}\"", 63)?;
+    assert_eq!(rt;
+        read_template(rt.alloc(), more.as_str()).err(),
+        Some(ReadFault::TooDeep)
+    );
+    Ok(())
+}
+
+#[test]
+fn answers_long_texts_at_once(rt: HostRuntime) -> Result<(), Fail> {
+    let parentheses = nested(rt.alloc(), "(", "1", "", 200_000)?;
+    assert_eq!(rt;
+        read_template(rt.alloc(), parentheses.as_str()).err(),
+        Some(ReadFault::TooDeep)
+    );
+    let mut dollars = String::new(rt.alloc());
+    for _ in 0..100_000 {
+        dollars.push('$')?;
+    }
+    assert!(rt; is_read(rt.alloc(), dollars.as_str()));
+    Ok(())
+}
+
+#[test]
+fn lists_names(rt: HostRuntime) -> Result<(), Fail> {
+    let text = "${a.b ? [c.d, \"x${e.f}\"] : g(h.i.j[k.l], m())}${a.b}";
+    let template = read_template(rt.alloc(), text).map_err(|_| "refused")?;
+    let mut names = String::new(rt.alloc());
+    for reference in references(rt.alloc(), &template)?.iter() {
+        names.push_str(reference.first.as_str())?;
+        names.push_str(reference.name.as_str())?;
+        names.push(' ')?;
+    }
+    assert_eq!(rt; names.as_str(), "ab cd ef hi kl ab ");
+    let mut called = String::new(rt.alloc());
+    for name in functions(rt.alloc(), &template)?.iter() {
+        called.push_str(name.as_str())?;
+    }
+    assert_eq!(rt; called.as_str(), "gm");
+    Ok(())
+}
+
+// Whether a text begins a template, with one of these ends behind it.
+fn is_begun(alloc: Global, text: &str) -> Result<bool, Fail> {
+    for end in [
+        "", "}", "1}", "\"}", "x}", ")}", "]}", "1]}", "1)}", ".x}", "()}", " : 1}", "1 : 1}",
+        "= 1}", "& 1}", "| 1}", "\"\"}", "}\"}", "n\"}", "1}\"}", "1))}", "1]]}",
+    ] {
+        let whole = format!(in alloc; "{text}{end}")?;
+        if is_read(alloc, whole.as_str()) {
+            return Ok(true);
+        }
+    }
+    Ok(false)
+}
+
+// What stands before the offset of a refusal begins a template, and with one character more it doesn't.
+#[test]
+fn refuses_at_the_first_wrong_token(rt: HostRuntime) -> Result<(), Fail> {
+    for (text, offset, more) in [
+        ("%{if}", 0, 2),
+        ("a%{", 1, 2),
+        ("${1 / 2}", 4, 1),
+        ("${1.5}", 3, 1),
+        ("${}", 2, 1),
+        ("${)}", 2, 1),
+        ("${]}", 2, 1),
+        ("${,}", 2, 1),
+        ("${?}", 2, 1),
+        ("${:}", 2, 1),
+        ("${.}", 2, 1),
+        ("${+1}", 2, 1),
+        ("${*}", 2, 1),
+        ("${=}", 2, 1),
+        ("${==}", 2, 1),
+        ("${<}", 2, 1),
+        ("${&&}", 2, 1),
+        ("${||}", 2, 1),
+        ("${#}", 2, 1),
+        ("${1 2}", 4, 1),
+        ("${1 x}", 4, 1),
+        ("${1[0]}", 3, 1),
+        ("${\"a\"[0]}", 5, 1),
+        ("${true.x}", 6, 1),
+        ("${null[0]}", 6, 1),
+        ("${true(1)}", 6, 1),
+        ("${a b}", 4, 1),
+        ("${a}", 3, 1),
+        ("${a.}", 4, 1),
+        ("${a.1}", 4, 1),
+        ("${a.b.}", 6, 1),
+        ("${a.b(1)}", 5, 1),
+        ("${[,]}", 3, 1),
+        ("${[1,,]}", 5, 1),
+        ("${[1)}", 4, 1),
+        ("${f(1 2)}", 6, 1),
+        ("${f(1]}", 5, 1),
+        ("${(1]}", 4, 1),
+        ("${()}", 3, 1),
+        ("${a.b[]}", 6, 1),
+        ("${1 ? 2}", 7, 1),
+        ("${1 ? : 2}", 6, 1),
+        ("${1 + }", 6, 1),
+        ("${1 + * 2}", 6, 1),
+        ("${!}", 3, 1),
+        ("${\"\\q\"}", 3, 2),
+        ("${\"a\nb\"}", 4, 1),
+        ("${\"%{\"}", 3, 2),
+        ("${-9223372036854775808}", 3, 19),
+        ("${\"${1 2}\"}", 7, 1),
+    ] {
+        refused_at(&rt, rt.alloc(), text, offset);
+        let before = text.get(..offset).ok_or("no text")?;
+        assert!(rt; is_begun(rt.alloc(), before)?, "{text}");
+        let wrong = text.get(..offset.saturating_add(more)).ok_or("no text")?;
+        assert!(rt; !is_begun(rt.alloc(), wrong)?, "{text}");
+    }
+    Ok(())
+}
