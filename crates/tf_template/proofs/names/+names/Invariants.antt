@@ -1,0 +1,10 @@
+use Rattle.std.proofs.Common.{◌≡◌, ◌++◌, map, take}
+use Rattle.tf_template.specs.Names.{named_among, named_between, reference_of}
+use Rattle.tf_template.specs.Tree.{parts_view, terms_view}
+use Rattle.tf_template.proofs.names.+names.Given as goal
+
+abbrev pub invariant-add_terms-loop-term : goal.invariant-add_terms-loop-term
+invariant-add_terms-loop-term l = map reference_of l.found.items ≡ map reference_of l.fn.found.items ++ named_among (terms_view (take l.term-index l.terms.items))
+
+abbrev pub invariant-add_parts-loop-part : goal.invariant-add_parts-loop-part
+invariant-add_parts-loop-part l = map reference_of l.found.items ≡ map reference_of l.fn.found.items ++ named_between (parts_view (take l.part-index l.parts.items))

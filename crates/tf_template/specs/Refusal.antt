@@ -1,0 +1,10 @@
+-- What a refusal says of the trees that a text spells.
+use Rattle.tf_template.specs.declared.template.ReadFault.{ReadFault}
+use Rattle.tf_template.specs.declared.template.ReadFault.TheVariants.{At, TooDeep, OutOfMemory}
+
+-- A refusal where a template is spelled: never that none is; that it is too deep, only if it is; or that
+-- memory ran out.
+abbrev pub Refuses : ReadFault → Type 0 → Type 0
+Refuses (At offset) deep = ⊥
+Refuses TooDeep deep = deep
+Refuses OutOfMemory deep = Unit {0}

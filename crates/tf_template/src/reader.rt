@@ -1,0 +1,225 @@
+//! The reader of templates.
+
+ghost use Rattle.std.specs.Prelude.{◌≡◌, ◌<◌, ◌≤◌, ℕ, List, Bool, length, IfOk};
+ghost use Rattle.tf_template.specs.Reads.{Answers, AnswersList, AnswersParts, Holds, IsFound, IsListed, IsOperand, IsRead, Stops, Turns, closing};
+ghost use Rattle.tf_template.specs.Spelling.{Spells, SpellsList, SpellsParts};
+ghost use Rattle.tf_template.specs.Token.{token_kind};
+ghost use Rattle.tf_template.specs.Tree.{Tree, Trees, Woven, level, tree_depth, view};
+ghost use Rattle.tf_template.specs.declared.token.Kind.TheVariants.{Name};
+
+use crate::fault::{Fault, last_level, pass_brace, pass_colon, refusal, refusal_behind};
+use crate::literal::{End, Stretch, read_literal};
+use crate::make::{
+    Found, Items, Read, attribute, binary, call, conditional, constant, group, index, listed,
+    number, quoted, reference, unary,
+};
+use crate::scan::Rest;
+use crate::token::{Bracket, Kind, Operator, next_token};
+use crate::tree::{Prefix, Template};
+use crate::word::{Keyword, keyword_of};
+use std::alloc::Global;
+
+#[cycle(reader)]
+pub(crate) fn expression<'a>(
+    alloc: Global,
+    text: &'a str,
+    least: usize,
+    budget: usize,
+) -> Result<Found<'a>, Fault>
+    requires room { budget ≤ 64 }
+    requires some { 0 < least }
+    requires most { least ≤ 8 }
+    ensures sound { IfOk result (λ f. IsFound budget text.now f × (least ≤ level (view f.term))) }
+    ensures shorter { IfOk result (λ f. length f.rest.now < length text.now) }
+    ensures complete { (t : Tree) (rest : List ℕ) → Spells t text.now rest → least ≤ level t → Stops least rest → Answers budget t rest result }
+{
+    let mut left = operand(alloc, text, budget)?;
+    while next_token(left.rest).kind.binding() >= least {
+        left = operator(alloc, left, budget)?;
+    }
+    Ok(left)
+}
+
+// One operator more, behind its left side.
+#[cycle(reader)]
+fn operator<'a>(alloc: Global, left: Found<'a>, budget: usize) -> Result<Found<'a>, Fault>
+    requires room { budget ≤ 64 }
+    requires depth { left.depth ≡ tree_depth (view left.term) }
+    ensures sound { IfOk result (λ f. Turns (view left.entry.term) left.entry.rest.now (view f.term) f.rest.now
+        × (f.depth ≡ tree_depth (view f.term)) × (f.depth ≤ budget)) }
+    ensures deeper { IfOk result (λ f. left.entry.depth < f.depth) }
+    ensures shorter { IfOk result (λ f. length f.rest.now < length left.entry.rest.now) }
+    ensures complete { (t : Tree) (rest : List ℕ) → Turns (view left.entry.term) left.entry.rest.now t rest → Holds t rest → Answers budget t rest result }
+{
+    let token = next_token(left.rest);
+    if left.term.level() < token.kind.needs() {
+        return Err(refusal(token));
+    }
+    if left.depth >= budget {
+        return Err(Fault::TooDeep);
+    }
+    match token.kind {
+        Kind::Binary(operator) => {
+            let right = expression(alloc, token.rest, operator.level() + 1, budget - 1)?;
+            binary(alloc, operator, left, right)
+        }
+        Kind::Question => {
+            let yes = expression(alloc, token.rest, 1, budget - 1)?;
+            let no = expression(alloc, pass_colon(yes.rest)?, 1, budget - 1)?;
+            conditional(alloc, left, yes, no)
+        }
+        Kind::OpenBracket => {
+            let place = expression(alloc, token.rest, 1, budget - 1)?;
+            index(alloc, left, place)
+        }
+        Kind::Dot => attribute(alloc, left, token.rest),
+        _ => Err(refusal(token)),
+    }
+}
+
+// What stands before, between and behind operators.
+#[cycle(reader)]
+fn operand<'a>(alloc: Global, text: &'a str, budget: usize) -> Result<Found<'a>, Fault>
+    requires { budget ≤ 64 }
+    ensures sound { IfOk result (λ f. IsFound budget text.now f × (8 ≤ level (view f.term))) }
+    ensures shorter { IfOk result (λ f. length f.rest.now < length text.now) }
+    ensures complete { (t : Tree) (rest : List ℕ) → IsOperand t → Spells t text.now rest → Holds t rest → Answers budget t rest result }
+{
+    let token = next_token(text);
+    if budget == 0 {
+        return Err(last_level(token));
+    }
+    match token.kind {
+        Kind::Number => number(token),
+        Kind::Name => name(alloc, text, budget),
+        Kind::Quote => {
+            let read = template(alloc, token.rest, true, budget - 1)?;
+            Ok(quoted(read))
+        }
+        Kind::Bang => {
+            let operand = expression(alloc, token.rest, 8, budget - 1)?;
+            unary(alloc, Prefix::Not, operand)
+        }
+        Kind::Binary(Operator::Subtract) => {
+            let operand = expression(alloc, token.rest, 8, budget - 1)?;
+            unary(alloc, Prefix::Negate, operand)
+        }
+        Kind::OpenParen => {
+            let inner = expression(alloc, token.rest, 1, budget - 1)?;
+            group(alloc, inner)
+        }
+        Kind::OpenBracket => {
+            let parts = list(alloc, token.rest, Bracket::Square, budget - 1)?;
+            Ok(listed(parts))
+        }
+        _ => Err(refusal(token)),
+    }
+}
+
+// What begins with a name.
+#[cycle(reader)]
+fn name<'a>(alloc: Global, text: &'a str, budget: usize) -> Result<Found<'a>, Fault>
+    requires room { budget ≤ 64 }
+    requires some { 0 < budget }
+    requires kind { token_kind text.now ≡ Name }
+    ensures sound { IfOk result (λ f. IsFound budget text.now f × (8 ≤ level (view f.term))) }
+    ensures shorter { IfOk result (λ f. length f.rest.now < length text.now) }
+    ensures complete { (t : Tree) (rest : List ℕ) → IsOperand t → Spells t text.now rest → Holds t rest → Answers budget t rest result }
+{
+    let token = next_token(text);
+    let keyword = keyword_of(token.word);
+    let Keyword::Free = keyword else {
+        return Ok(constant(keyword, token.rest));
+    };
+    let next = next_token(token.rest);
+    match next.kind {
+        Kind::Dot => reference(alloc, token.word, next.rest),
+        Kind::OpenParen => {
+            let arguments = list(alloc, next.rest, Bracket::Round, budget - 1)?;
+            call(alloc, token.word, arguments)
+        }
+        _ => Err(refusal(next)),
+    }
+}
+
+// Expressions up to a closing bracket.
+#[cycle(reader)]
+fn list<'a>(
+    alloc: Global,
+    text: &'a str,
+    bracket: Bracket,
+    budget: usize,
+) -> Result<Items<'a>, Fault>
+    requires { budget ≤ 64 }
+    ensures sound { IfOk result (λ f. IsListed (closing bracket) budget text.now f) }
+    ensures shorter { IfOk result (λ f. length f.rest.now < length text.now) }
+    ensures complete { (ts : Trees) (rest : List ℕ) → SpellsList (closing bracket) ts text.now rest → AnswersList budget ts rest result }
+{
+    let mut terms = Vec::new(alloc);
+    let mut depth = 0;
+    let mut rest = Rest { text };
+    loop {
+        let token = next_token(rest.text);
+        if token.kind.closes(bracket) {
+            return Ok(Items {
+                terms,
+                depth,
+                rest: token.rest,
+            });
+        }
+        let found = expression(alloc, rest.text, 1, budget)?;
+        terms.push(found.term)?;
+        depth = depth.max(found.depth);
+        let token = next_token(found.rest);
+        if token.kind.closes(bracket) {
+            return Ok(Items {
+                terms,
+                depth,
+                rest: token.rest,
+            });
+        }
+        let Kind::Comma = token.kind else {
+            return Err(refusal_behind(token));
+        };
+        rest = Rest { text: token.rest };
+    }
+}
+
+/// A template up to its end, within quotes or not.
+#[cycle(reader)]
+pub(crate) fn template<'a>(
+    alloc: Global,
+    text: &'a str,
+    within: bool,
+    budget: usize,
+) -> Result<Read<'a>, Fault>
+    requires { budget ≤ 64 }
+    ensures sound { IfOk result (λ f. IsRead within budget text.now f) }
+    ensures shorter { IfOk result (λ f. length f.rest.now ≤ length text.now) }
+    ensures complete { (w : Woven) (rest : List ℕ) → SpellsParts within w.0 w.1 text.now rest → AnswersParts budget w rest result }
+{
+    let mut parts = Vec::new(alloc);
+    let mut depth = 0;
+    let mut rest = Rest { text };
+    loop {
+        let Stretch { text, end, left } = read_literal(alloc, rest.text, within)?;
+        match end {
+            End::Closes(rest) => {
+                let template = Template { parts, last: text };
+                return Ok(Read {
+                    template,
+                    depth,
+                    rest,
+                });
+            }
+            End::Wrong => return Err(Fault::At(left)),
+            End::Opens(inside) => {
+                let found = expression(alloc, inside, 1, budget)?;
+                let after = pass_brace(found.rest)?;
+                parts.push((text, found.term))?;
+                depth = depth.max(found.depth);
+                rest = Rest { text: after };
+            }
+        }
+    }
+}
