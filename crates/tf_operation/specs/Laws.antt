@@ -1,0 +1,45 @@
+-- What holds of operations, whatever their operands are.
+use Rattle.std.specs.Prelude.{ℕ, List, ◌≡◌, Option, Some, Ok}
+use Rattle.tf_template.specs.declared.token.Operator.{Operator}
+use Rattle.tf_template.specs.declared.tree.Prefix.{Prefix}
+use Rattle.tf_value.specs.Tree.{Tree, list, Items, Entries}
+use Rattle.tf_value.specs.Refinement.{Refines, RefinesItems, RefinesEntries}
+use Rattle.tf_value.specs.Measure.{IsWithinLimits}
+use Rattle.tf_operation.specs.declared.function.Function.{Function}
+use Rattle.tf_operation.specs.Answer.{limited, list_value, map_value}
+use Rattle.tf_operation.specs.Operators.{unary_value, binary_value}
+use Rattle.tf_operation.specs.Parts.{attribute_value, index_value}
+use Rattle.tf_operation.specs.Joining.{joined_value}
+use Rattle.tf_operation.specs.Functions.{call_value}
+
+-- Where more is known of the operand of `!` or `-`, no more than more is known of the result.
+abbrev pub UnaryGrows : Type 0
+UnaryGrows = (op : Prefix) (t u v w : Tree) → Refines t u → unary_value op t ≡ Ok v → unary_value op u ≡ Ok w → Refines v w
+
+-- Where more is known of the operands of an operator, no more than more is known of the result.
+abbrev pub BinaryGrows : Type 0
+BinaryGrows = (op : Operator) (a b c d v w : Tree) → Refines a b → Refines c d → binary_value op a c ≡ Ok v → binary_value op b d ≡ Ok w → Refines v w
+
+-- Where more is known of a value, no more than more is known of what stands at a name in it.
+abbrev pub AttributeGrows : Type 0
+AttributeGrows = (t u : Tree) (name : List ℕ) (v w : Tree) → Refines t u → attribute_value t name ≡ Ok v → attribute_value u name ≡ Ok w → Refines v w
+
+-- Where more is known of a value and an index, no more than more is known of what stands there.
+abbrev pub IndexGrows : Type 0
+IndexGrows = (a b c d v w : Tree) → Refines a b → Refines c d → index_value a c ≡ Ok v → index_value b d ≡ Ok w → Refines v w
+
+-- Where more is known of the items of a list, no more than more is known of the list.
+abbrev pub ListGrows : Type 0
+ListGrows = (ts us : Items) (v w : Tree) → RefinesItems ts us → list_value ts ≡ Ok v → list_value us ≡ Ok w → Refines v w
+
+-- Where more is known of the entries of a map, no more than more is known of the map.
+abbrev pub MapGrows : Type 0
+MapGrows = (es fs : Entries) (v w : Tree) → RefinesEntries es fs → map_value es ≡ Ok v → map_value fs ≡ Ok w → Refines v w
+
+-- Where more is known of values, no more than more is known of their texts, joined.
+abbrev pub JoinedGrows : Type 0
+JoinedGrows = (ts us : Items) (v w : Tree) → RefinesItems ts us → joined_value ts ≡ Ok v → joined_value us ≡ Ok w → Refines v w
+
+-- Where more is known of the arguments of a function, no more than more is known of the result.
+abbrev pub CallGrows : Type 0
+CallGrows = (f : Function) (ts us : Items) (v w : Tree) → RefinesItems ts us → call_value f ts ≡ Ok v → call_value f us ≡ Ok w → Refines v w

@@ -1,0 +1,28 @@
+#![tactic(auto)]
+
+//! The operators and functions of expressions, on values.
+//!
+//! The definitions in `specs/` say what each answers, a value or one fault: where an operand is unknown, the
+//! result is unknown; then the kinds are tested, then whether a number is too large or a part is missing, and
+//! then the limits on values. `laws` has what holds of the definitions.
+
+mod building;
+mod calls;
+mod collections;
+mod fault;
+mod function;
+mod joining;
+pub mod laws;
+mod operators;
+mod parts;
+
+pub use building::{limited, list, map};
+pub use calls::call;
+pub use fault::EvalFault;
+pub use function::Function;
+pub use joining::Joiner;
+pub use operators::{binary, unary};
+pub use parts::{attribute, index};
+
+#[cfg(test)]
+mod tests;
