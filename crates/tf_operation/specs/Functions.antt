@@ -8,7 +8,7 @@ use Rattle.tf_operation.specs.declared.fault.EvalFault.TheVariants.{WrongKind, A
 use Rattle.tf_operation.specs.declared.function.Function.{Function}
 use Rattle.tf_operation.specs.declared.function.Function.TheVariants.{Length, Keys, Values, Merge, Concat, Join}
 use Rattle.tf_operation.specs.Answer.{Answer, whole_value, list_value, map_value, any_unknown, items_behind}
-use Rattle.tf_operation.specs.Joining.{text_of, joined_text, text_value}
+use Rattle.tf_operation.specs.Joining.{text_of, joined_value}
 
 -- the function of a name
 abbrev pub function_named : List ℕ → Option Function
@@ -103,15 +103,19 @@ items_value (Some ts) = list_value ts
 abbrev pub concat_value : Items → Answer
 concat_value ts = if any_unknown ts then Ok unknown else items_value (concatenated ts)
 
+-- items with one before each
+abbrev pub each_after : Tree → Items → Items
+each_after s no_items = no_items
+each_after s (item t ts) = item s (item t (each_after s ts))
+
 -- items with one between each two
 abbrev pub spaced : Tree → Items → Items
 spaced s no_items = no_items
-spaced s (item t no_items) = item t no_items
-spaced s (item t (item u ts)) = item t (item s (spaced s (item u ts)))
+spaced s (item t ts) = item t (each_after s ts)
 
--- the items of a list, joined, with a separator between each two
+-- the items of a list, joined, with a separator between each two; the separator is of a kind that has a text
 abbrev pub spaced_value : Tree → Tree → Answer
-spaced_value s (list ts) = if is_some (text_of s) then text_value (joined_text (spaced s ts)) else Err WrongKind
+spaced_value s (list ts) = if is_some (text_of s) then joined_value (spaced s ts) else Err WrongKind
 spaced_value s _ = Err WrongKind
 
 -- `join` joins the items of a list, with a separator between each two. Where a part of the separator or of

@@ -1,11 +1,10 @@
 //! Calls of functions.
 
 ghost use Rattle.std.specs.Prelude.{◌≡◌, IsTrue, pos, vec_len};
-ghost use Rattle.tf_value.specs.Known.{known_items};
 ghost use Rattle.tf_value.specs.Tree.{tree_of, items_view};
 ghost use Rattle.tf_operation.specs.Answer.{Answers, Gives, whole_value};
 ghost use Rattle.tf_operation.specs.Functions.{call_value, takes, length_value, join_value, spaced};
-ghost use Rattle.tf_operation.specs.Joining.{joined_text, text_value};
+ghost use Rattle.tf_operation.specs.Joining.{joined_value};
 
 use crate::collections::{concat, keys, merge, values};
 use crate::fault::EvalFault;
@@ -80,17 +79,16 @@ fn join(alloc: Global, separator: Value, list: Value) -> Result<Value, EvalFault
 }
 
 fn join_items(alloc: Global, separator: &Value, items: &Vec<Value>) -> Result<Value, EvalFault>
-    requires { IsTrue (known_items (items_view items.now.items)) }
-    ensures { Gives (text_value (joined_text (spaced (tree_of separator.now) (items_view items.now.items)))) result }
+    ensures { Gives (joined_value (spaced (tree_of separator.now) (items_view items.now.items))) result }
 {
     let mut joiner = Joiner::new(alloc);
-    let mut is_first = true;
-    for item in items {
-        if !is_first {
-            joiner.push_value(separator)?;
-        }
+    let Some((first, others)) = items.split_first() else {
+        return joiner.finish();
+    };
+    joiner.push_value(first)?;
+    for item in others {
+        joiner.push_value(separator)?;
         joiner.push_value(item)?;
-        is_first = false;
     }
     joiner.finish()
 }

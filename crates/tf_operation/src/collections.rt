@@ -1,9 +1,11 @@
 //! Functions on lists and maps.
 
-ghost use Rattle.std.specs.Prelude.{◌≡◌, IfOk, OnOk};
+ghost use Rattle.std.specs.Prelude.{◌≡◌, IfOk, OnOk, map as each};
+ghost use Rattle.std.specs.BTreeMap.{keys as map_keys, values as map_values};
 ghost use Rattle.tf_value.specs.Tree.{tree_of, items_view, entries_view};
+ghost use Rattle.tf_value.specs.declared.value.Value.{Text};
 ghost use Rattle.tf_operation.specs.Answer.{Answers, Gives, any_unknown};
-ghost use Rattle.tf_operation.specs.Functions.{keys_value, values_value, merge_value, concat_value, key_items, value_items, laid_over};
+ghost use Rattle.tf_operation.specs.Functions.{keys_value, values_value, merge_value, concat_value, laid_over};
 
 use crate::building::{list, map};
 use crate::fault::EvalFault;
@@ -23,13 +25,9 @@ pub(crate) fn keys(alloc: Global, argument: Value) -> Result<Value, EvalFault>
 }
 
 fn key_texts(alloc: Global, entries: BTreeMap<String, Value>) -> Result<Vec<Value>, AllocError>
-    ensures { IfOk result (λ v. items_view v.items ≡ key_items (entries_view entries.entries)) }
+    ensures { IfOk result (λ v. v.items ≡ each Text (map_keys entries)) }
 {
-    let mut texts = Vec::with_capacity(alloc, entries.len())?;
-    for key in entries.into_keys() {
-        texts.push(Value::Text(key))?;
-    }
-    Ok(texts)
+    entries.into_keys().map(Value::Text).collect(alloc)
 }
 
 // What stands at the keys of a map.
@@ -44,13 +42,9 @@ pub(crate) fn values(alloc: Global, argument: Value) -> Result<Value, EvalFault>
 }
 
 fn entry_values(alloc: Global, entries: BTreeMap<String, Value>) -> Result<Vec<Value>, AllocError>
-    ensures { IfOk result (λ v. items_view v.items ≡ value_items (entries_view entries.entries)) }
+    ensures { IfOk result (λ v. v.items ≡ map_values entries) }
 {
-    let mut found = Vec::with_capacity(alloc, entries.len())?;
-    for value in entries.into_values() {
-        found.push(value)?;
-    }
-    Ok(found)
+    entries.into_values().collect(alloc)
 }
 
 // Maps in one.
@@ -108,7 +102,7 @@ fn has_unknown(values: &Vec<Value>) -> bool
     ensures { result ≡ any_unknown (items_view values.now.items) }
 {
     for value in values {
-        if matches!(value, Value::Unknown) {
+        if let Value::Unknown = value {
             return true;
         }
     }

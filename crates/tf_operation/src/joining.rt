@@ -29,9 +29,10 @@ enum Joined {
 }
 
 impl Joiner {
-    ghost use Rattle.std.specs.Prelude.{◌≡◌, OnOk, OnErr};
-    ghost use Rattle.tf_value.specs.Tree.{text, Items, no_items, tree_of};
-    ghost use Rattle.tf_operation.specs.Answer.{Answers, item_behind};
+    ghost use Rattle.std.specs.Prelude.{◌≡◌, OnOk, OnErr, None, false};
+    ghost use Rattle.tf_value.specs.Tree.{Tree, text, Items, no_items, tree_of};
+    ghost use Rattle.tf_operation.specs.Answer.{Answers, is_unknown, item_behind};
+    ghost use Rattle.tf_operation.specs.Joining.{text_of};
     ghost use Rattle.tf_operation.specs.Joiner.{answer_so_far, Joins};
 
     /// Nothing yet: it is joined to the empty text.
@@ -70,8 +71,7 @@ impl Joiner {
                 let digits = number.to_string(self.alloc)?;
                 self.push_text(digits.as_str())
             }
-            Value::Bool(true) => self.push_text("true"),
-            Value::Bool(false) => self.push_text("false"),
+            Value::Bool(truth) => self.push_text(truth_name(*truth)),
             Value::Unknown => {
                 self.joined = Joined::Unknown;
                 Ok(())
@@ -84,9 +84,12 @@ impl Joiner {
     }
 
     // Notes a value that has no text.
-    fn push_misfit(&mut self) {
-        if !matches!(self.joined, Joined::Unknown) {
-            self.joined = Joined::WrongKind;
+    fn push_misfit(&mut self)
+        ensures { (ts : Items) (t : Tree) → is_unknown t ≡ false → text_of t ≡ None → Joins self.old ts → Joins self.new (item_behind ts t) }
+    {
+        match self.joined {
+            Joined::Unknown => {}
+            _ => self.joined = Joined::WrongKind,
         }
     }
 
@@ -105,7 +108,20 @@ impl Joiner {
     }
 }
 
+ghost use Rattle.std.specs.Prelude.{◌↔◌, ◌≡◌, ◌++◌, IsTrue, codes, if◌then◌else◌};
+ghost use Rattle.tf_value.specs.Measure.{IsWithinLimits};
+ghost use Rattle.tf_value.specs.Tree.{text as text_tree};
+
 // Whether two texts, joined, are a value within the limits.
-fn fits(text: &str, literal: &str) -> bool {
+fn fits(text: &str, literal: &str) -> bool
+    ensures { IsTrue result ↔ IsWithinLimits (text_tree (text.now ++ literal.now)) }
+{
     (text.len() as u64).saturating_add(literal.len() as u64) < MAX_WEIGHT
+}
+
+// The name of a truth value.
+fn truth_name(truth: bool) -> &'static str
+    ensures { result.now ≡ (if truth then codes "true" else codes "false") }
+{
+    if truth { "true" } else { "false" }
 }

@@ -1,7 +1,6 @@
 //! Attributes and indices.
 
-ghost use Rattle.std.specs.Prelude.{◌≡◌};
-ghost use Rattle.tf_value.specs.Tree.{tree_of, items_view, entries_view, get};
+ghost use Rattle.tf_value.specs.Tree.{list, map, tree_of, items_view, entries_view, get};
 ghost use Rattle.tf_operation.specs.Answer.{Answers, present_value};
 ghost use Rattle.tf_operation.specs.Parts.{attribute_value, index_value, item_at_whole};
 
@@ -27,10 +26,33 @@ pub fn attribute(value: Value, name: &str) -> Result<Value, EvalFault>
 pub fn index(value: Value, place: Value) -> Result<Value, EvalFault>
     ensures { Answers (index_value (tree_of value) (tree_of place)) result }
 {
-    match (value, place) {
-        (Value::Unknown, _) | (_, Value::Unknown) => Ok(Value::Unknown),
-        (Value::Map(entries), Value::Text(key)) => at_key(entries, key.as_str()),
-        (Value::List(items), Value::Int(number)) => at_number(items, number),
+    match value {
+        Value::Unknown => Ok(Value::Unknown),
+        Value::Map(entries) => in_map(entries, place),
+        Value::List(items) => in_list(items, place),
+        _ => match place {
+            Value::Unknown => Ok(Value::Unknown),
+            _ => Err(EvalFault::WrongKind),
+        },
+    }
+}
+
+fn in_map(entries: BTreeMap<String, Value>, place: Value) -> Result<Value, EvalFault>
+    ensures { Answers (index_value (map (entries_view entries.entries)) (tree_of place)) result }
+{
+    match place {
+        Value::Unknown => Ok(Value::Unknown),
+        Value::Text(key) => at_key(entries, key.as_str()),
+        _ => Err(EvalFault::WrongKind),
+    }
+}
+
+fn in_list(items: Vec<Value>, place: Value) -> Result<Value, EvalFault>
+    ensures { Answers (index_value (list (items_view items.items)) (tree_of place)) result }
+{
+    match place {
+        Value::Unknown => Ok(Value::Unknown),
+        Value::Int(number) => at_number(items, number),
         _ => Err(EvalFault::WrongKind),
     }
 }
@@ -49,8 +71,12 @@ fn at_number(items: Vec<Value>, number: i64) -> Result<Value, EvalFault>
     ensures { Answers (present_value (item_at_whole number (items_view items.items))) result }
 {
     let mut items = items;
-    match usize::try_from(number) {
-        Ok(position) if position < items.len() => Ok(items.swap_remove(position)),
-        _ => Err(EvalFault::Missing),
+    let Ok(position) = usize::try_from(number) else {
+        return Err(EvalFault::Missing);
+    };
+    if position < items.len() {
+        Ok(items.swap_remove(position))
+    } else {
+        Err(EvalFault::Missing)
     }
 }
