@@ -5,3 +5,5 @@ pub mod Trees
 pub mod Faults
 pub mod Called
 pub mod Numbers
+pub mod Growth
+pub mod Growing
