@@ -1,0 +1,5 @@
+pub mod Answering
+pub mod Constants
+pub mod Environment
+pub mod Growth
+pub mod Meaning
