@@ -1,0 +1,7 @@
+pub mod Demand
+pub mod Fault
+pub mod Named
+pub mod Opening
+pub mod Reading
+pub mod Tree
+pub mod Laws
