@@ -1,0 +1,4 @@
+pub mod Faultless
+pub mod Refusals
+pub mod Views
+pub mod Walked
