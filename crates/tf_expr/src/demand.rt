@@ -62,11 +62,7 @@ pub(crate) fn demand_template(
 }
 
 // A property's name, which is literal.
-pub(crate) fn demand_plain_name(
-    alloc: Global,
-    path: &Path<'_>,
-    name: &str,
-) -> Result<(), ExprFault>
+pub(crate) fn demand_plain_name(alloc: Global, path: &Path<'_>, name: &str) -> Result<(), ExprFault>
     ensures ok { OnOk result (IsPlain name.now) }
     ensures fault { IfErr result (λ fault.
         Refuses (demanded (place_of path.now) (a_plain_name name.now)) (told fault)) }

@@ -40,11 +40,7 @@ fn add(alloc: Global, expr: &Expr, found: &mut Vec<Reference>) -> Result<(), All
 }
 
 #[cycle(names)]
-fn add_list(
-    alloc: Global,
-    exprs: &Vec<Expr>,
-    found: &mut Vec<Reference>,
-) -> Result<(), AllocError>
+fn add_list(alloc: Global, exprs: &Vec<Expr>, found: &mut Vec<Reference>) -> Result<(), AllocError>
     ensures { OnOk result (map reference_of found.new.items
         ≡ map reference_of found.old.items ++ named_among (trees_view exprs.now.items)) }
 {
