@@ -1,5 +1,5 @@
 -- A `BTreeMap` of expressions beside the entries that it stands for.
-use Rattle.std.proofs.Common.{◌≡◌, ℕ, List, [], ◌∷◌, ◌++◌, String, Global, Ordering, Less, Equal, Greater, string_bytes, string_cmp, nat_cmp, map as each, refl, ap, ◌∙◌}
+use Rattle.std.proofs.Common.{◌≡◌, List, [], ◌∷◌, ◌++◌, String, Global, Ordering, Less, Equal, Greater, string_bytes, string_cmp, nat_cmp, refl, ap, ◌∙◌}
 use Rattle.std.proofs.lemmas.Cmp.{nat_list_cmp_total}
 use Rattle.std.specs.Cmp.Lexicographic.{slice_cmp}
 use Rattle.std.specs.List.Sorted.{IsStrictlySortedBy}
@@ -7,7 +7,7 @@ use Rattle.std.specs.Map.{keys_of}
 use Rattle.std.specs.Ordering.{match_ordering, ordering_reverse}
 use Rattle.std.specs.BTreeMap.{insert_entry}
 use Rattle.tf_value.proofs.Views.{below_middle}
-use Rattle.tf_expr.specs.Tree.{Tree, Entries, entry, put, tree_of, entries_view}
+use Rattle.tf_expr.specs.Tree.{entry, put, tree_of, entries_view}
 use Rattle.tf_expr.specs.declared.expr.Expr.{Expr}
 
 abbrev pub Named : Type 0

@@ -1,5 +1,5 @@
 -- Reading element after element, and member after member.
-use Rattle.std.proofs.Common.{◌≡◌, ℕ, zero, suc, ◌+◌, ◌<◌, List, [], ◌∷◌, ◌++◌, String, Global, length, get_or, take, string_bytes, string_cmp, refl, ap, subst, arith, add-one}
+use Rattle.std.proofs.Common.{◌≡◌, ℕ, zero, suc, ◌+◌, ◌<◌, List, [], ◌∷◌, ◌++◌, length, get_or, take, string_bytes, string_cmp, refl, ap, subst, arith, add-one}
 use Rattle.std.specs.Fmt.{decimal}
 use Rattle.std.specs.List.Sorted.{IsStrictlySortedBy}
 use Rattle.std.specs.Map.{keys_of}
@@ -16,7 +16,7 @@ use Rattle.tf_expr.specs.Demand.{Checks, AreMet, Refuses, a_plain_name}
 use Rattle.tf_expr.specs.Fault.{Told}
 use Rattle.tf_expr.specs.Opening.{IsPlain}
 use Rattle.tf_expr.specs.Reading.{expr_checks, item_checks, member_checks, IsExpr, AreExprs, HoldExprs}
-use Rattle.tf_expr.specs.Tree.{Tree, tree_of, Trees, trees_view, Entries, no_entries, entry, put}
+use Rattle.tf_expr.specs.Tree.{Tree, tree_of, trees_view, Entries, no_entries, entry, put}
 use Rattle.tf_expr.specs.declared.expr.Expr.{Expr}
 
 -- what is demanded of an element, and of a member

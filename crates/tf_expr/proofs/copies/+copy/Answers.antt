@@ -2,7 +2,7 @@ use Rattle.std.proofs.Common.{◌≡◌, [], ◌∷◌, ◌++◌, string_bytes, 
 use Rattle.std.specs.List.Sorted.{IsStrictlySortedBy}
 use Rattle.std.specs.Map.{keys_of}
 use Rattle.std.specs.String.{string_cmp}
-use Rattle.tf_expr.specs.Tree.{tree_of, entries_view}
+use Rattle.tf_expr.specs.Tree.{entries_view}
 use Rattle.tf_expr.proofs.Views.{Named, entries_view-insert_entry, put_last}
 use Rattle.tf_expr.proofs.copies.+copy.Goals as goal
 

@@ -3,12 +3,12 @@ use Rattle.std.proofs.lemmas.Result.{err_from_is_err_and}
 use Rattle.std.specs.List.Sorted.{IsStrictlySortedBy}
 use Rattle.std.specs.Map.{keys_of}
 use Rattle.serde_json.proofs.Views.{Entry}
-use Rattle.serde_json.specs.View.{view, members_view}
+use Rattle.serde_json.specs.View.{view}
 use Rattle.tf_expr.proofs.Refusals.{Refuses-left, Refuses-right}
 use Rattle.tf_expr.proofs.Views.{entries_view-insert_entry}
 use Rattle.tf_expr.proofs.Walked.{items_more, items_refused, members_more, members_refused}
 use Rattle.tf_expr.specs.Demand.{a_plain_name}
-use Rattle.tf_expr.specs.Reading.{expr_checks, HoldExprs}
+use Rattle.tf_expr.specs.Reading.{expr_checks}
 use Rattle.tf_expr.specs.Tree.{tree_of, entries_view}
 use Rattle.tf_text.proofs.Places.{place_of-Member, place_of-Item}
 use Rattle.tf_text.specs.Check.{demanded}
