@@ -1,7 +1,8 @@
 pub mod Demand
 pub mod Fault
+pub mod Laws
 pub mod Named
 pub mod Opening
 pub mod Reading
 pub mod Tree
-pub mod Laws
+pub mod Within
