@@ -1,5 +1,6 @@
 pub mod Demand
 pub mod Fault
+pub mod FaultText
 pub mod Laws
 pub mod Named
 pub mod Opening

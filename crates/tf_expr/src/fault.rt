@@ -1,5 +1,7 @@
 //! Why a JSON tree is no expression.
 
+ghost use Rattle.std.specs.Prelude.{Some};
+
 use std::alloc::{AllocError, AllocFailed};
 use std::error::Error;
 use std::fmt;
@@ -29,7 +31,13 @@ pub enum Cause {
     TooDeep,
 }
 
+/// What is wrong and where, on one line, with no newline.
 impl fmt::Display for ExprFault {
+    ghost use Rattle.tf_expr.specs.Fault.{told};
+    ghost use Rattle.tf_expr.specs.FaultText.{fault_text};
+
+    ghost output = { λ fault. Some (fault_text (told fault)) };
+
     fn fmt<W: fmt::Write>(&self, f: &mut fmt::Formatter<W>) -> fmt::Result {
         match self {
             ExprFault::OutOfMemory => write!(f, "out of memory"),
@@ -38,7 +46,12 @@ impl fmt::Display for ExprFault {
     }
 }
 
+/// What is wrong, on one line, with no newline.
 impl fmt::Display for Cause {
+    ghost use Rattle.tf_expr.specs.FaultText.{cause_text};
+
+    ghost output = { λ cause. Some (cause_text cause) };
+
     fn fmt<W: fmt::Write>(&self, f: &mut fmt::Formatter<W>) -> fmt::Result {
         match self {
             Cause::BadShape => write!(f, "no expression"),

@@ -1,6 +1,6 @@
 use Rattle.std.proofs.Common.{◌≡◌, List, ◌++◌, take, map}
 use Rattle.tf_expr.specs.Tree.{tree_of, entries_view}
-use Rattle.tf_expr.proofs.Views.{Named}
+use Rattle.tf_expr.proofs.Views.{Entry}
 use Rattle.tf_expr.proofs.copies.+copy.Given as goal
 
 abbrev pub invariant-copy_list-loop-expr : goal.invariant-copy_list-loop-expr
@@ -8,4 +8,4 @@ invariant-copy_list-loop-expr l = map tree_of l.copies.items ≡ map tree_of (ta
 
 abbrev pub invariant-copy_entries-loop-key : goal.invariant-copy_entries-loop-key
 invariant-copy_entries-loop-key l =
-    (done : List Named) × (l.entries.entries ≡ done ++ l.key-iterator) × (entries_view l.copies.entries ≡ entries_view done)
+    (done : List Entry) × (l.entries.entries ≡ done ++ l.key-iterator) × (entries_view l.copies.entries ≡ entries_view done)
