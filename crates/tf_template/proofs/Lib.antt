@@ -1,6 +1,7 @@
 pub mod Alone
 pub mod Begun
 pub mod Called
+pub mod Copied
 pub mod Cuts
 pub mod Growing
 pub mod Named

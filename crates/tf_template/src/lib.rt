@@ -9,6 +9,7 @@
 #![tactic(auto)]
 
 mod calls;
+mod copies;
 mod fault;
 pub mod laws;
 mod literal;
@@ -22,6 +23,7 @@ mod tree;
 mod word;
 
 pub use calls::functions;
+pub use copies::copy;
 pub use names::references;
 pub use template::{MAX_DEPTH, ReadFault, read_template};
 pub use token::Operator;

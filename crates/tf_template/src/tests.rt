@@ -1,4 +1,4 @@
-use crate::{ReadFault, functions, read_template, references};
+use crate::{ReadFault, copy, functions, read_template, references};
 use std::alloc::Global;
 use std::process::Abort;
 use std::test::Fail;
@@ -214,6 +214,28 @@ fn lists_names(rt: HostRuntime) -> Result<(), Fail> {
         called.push_str(name.as_str())?;
     }
     assert_eq!(rt; called.as_str(), "gm");
+    Ok(())
+}
+
+#[test]
+fn copies_each_form(rt: HostRuntime) -> Result<(), Fail> {
+    let text = "a${1}${true ? null : [-2, !c.d[0].e]}\n${f(\"x${(1 + 2) * 3}y\", g())}b";
+    let template = read_template(rt.alloc(), text).map_err(|_| "refused")?;
+    let written = format!(in rt.alloc(); "{template:?}")?;
+    let copied = format!(in rt.alloc(); "{:?}", copy(&template)?)?;
+    assert_eq!(rt; copied.as_str(), written.as_str());
+    let cloned = format!(in rt.alloc(); "{:?}", template.clone()?)?;
+    assert_eq!(rt; cloned.as_str(), written.as_str());
+    for (_, term) in template.parts.iter() {
+        let written = format!(in rt.alloc(); "{term:?}")?;
+        let cloned = format!(in rt.alloc(); "{:?}", term.clone()?)?;
+        assert_eq!(rt; cloned.as_str(), written.as_str());
+    }
+    for reference in references(rt.alloc(), &template)?.iter() {
+        let cloned = reference.clone()?;
+        assert_eq!(rt; cloned.first.as_str(), "c");
+        assert_eq!(rt; cloned.name.as_str(), "d");
+    }
     Ok(())
 }
 

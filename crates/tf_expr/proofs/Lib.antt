@@ -1,0 +1,5 @@
+pub mod Faultless
+pub mod Refusals
+pub mod Views
+pub mod Walked
+pub mod Within
