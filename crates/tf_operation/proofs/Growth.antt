@@ -103,7 +103,7 @@ pub present : (o : Option Tree) (v : Tree) → present_value o ≡ Ok v → o �
 present None v e = absurd (cc)
 present (Some t) v e = cc
 
-some_value : (t v : Tree) → Some t ≡ Some v → t ≡ v
+pub some_value : (t v : Tree) → Some t ≡ Some v → t ≡ v
 some_value t v e = cc
 
 either_grows : (b : Bool) (t u v w : Tree) (r s : Option Tree) → Refines t u → (r ≡ Some v → s ≡ Some w → Refines v w) → cond b (Some t) r ≡ Some v → cond b (Some u) s ≡ Some w → Refines v w

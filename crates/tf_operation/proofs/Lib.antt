@@ -7,3 +7,5 @@ pub mod Called
 pub mod Numbers
 pub mod Growth
 pub mod Growing
+pub mod Bounds
+pub mod Merging

@@ -1,16 +1,16 @@
 -- What holds of operations, whatever their operands are.
-use Rattle.std.specs.Prelude.{ℕ, List, ◌≡◌, Option, Some, Ok}
+use Rattle.std.specs.Prelude.{ℕ, List, ◌≡◌, Option, Some, None, Ok, ⊤}
 use Rattle.tf_template.specs.declared.token.Operator.{Operator}
 use Rattle.tf_template.specs.declared.tree.Prefix.{Prefix}
-use Rattle.tf_value.specs.Tree.{Tree, list, Items, Entries}
+use Rattle.tf_value.specs.Tree.{Tree, Items, no_items, item, Entries, no_entries, entry, get}
 use Rattle.tf_value.specs.Refinement.{Refines, RefinesItems, RefinesEntries}
 use Rattle.tf_value.specs.Measure.{IsWithinLimits}
 use Rattle.tf_operation.specs.declared.function.Function.{Function}
-use Rattle.tf_operation.specs.Answer.{limited, list_value, map_value}
+use Rattle.tf_operation.specs.Answer.{list_value, map_value}
 use Rattle.tf_operation.specs.Operators.{unary_value, binary_value}
 use Rattle.tf_operation.specs.Parts.{attribute_value, index_value}
 use Rattle.tf_operation.specs.Joining.{joined_value}
-use Rattle.tf_operation.specs.Functions.{call_value}
+use Rattle.tf_operation.specs.Functions.{laid_over, call_value}
 
 -- Where more is known of the operand of `!` or `-`, no more than more is known of the result.
 abbrev pub UnaryGrows : Type 0
@@ -43,3 +43,43 @@ JoinedGrows = (ts us : Items) (v w : Tree) → RefinesItems ts us → joined_val
 -- Where more is known of the arguments of a function, no more than more is known of the result.
 abbrev pub CallGrows : Type 0
 CallGrows = (f : Function) (ts us : Items) (v w : Tree) → RefinesItems ts us → call_value f ts ≡ Ok v → call_value f us ≡ Ok w → Refines v w
+
+-- Values are within the limits where each of them is.
+abbrev pub AreWithinLimits : Items → Type 0
+AreWithinLimits no_items = ⊤
+AreWithinLimits (item t ts) = IsWithinLimits t × AreWithinLimits ts
+
+-- What an operator answers is within the limits.
+abbrev pub OperatorsAreWithinLimits : Type 0
+OperatorsAreWithinLimits =
+    ((op : Prefix) (t v : Tree) → unary_value op t ≡ Ok v → IsWithinLimits v) × ((op : Operator) (t u v : Tree) → binary_value op t u ≡ Ok v → IsWithinLimits v)
+
+-- What stands at a name or an index in a value within the limits is within the limits.
+abbrev pub PartsAreWithinLimits : Type 0
+PartsAreWithinLimits =
+    ((t : Tree) (name : List ℕ) (v : Tree) → IsWithinLimits t → attribute_value t name ≡ Ok v → IsWithinLimits v)
+    × ((t u v : Tree) → IsWithinLimits t → index_value t u ≡ Ok v → IsWithinLimits v)
+
+-- A list, a map and a joined text are within the limits.
+abbrev pub CollectionsAreWithinLimits : Type 0
+CollectionsAreWithinLimits =
+    ((ts : Items) (v : Tree) → list_value ts ≡ Ok v → IsWithinLimits v) × ((es : Entries) (v : Tree) → map_value es ≡ Ok v → IsWithinLimits v)
+    × ((ts : Items) (v : Tree) → joined_value ts ≡ Ok v → IsWithinLimits v)
+
+-- What a function answers to arguments within the limits is within the limits.
+abbrev pub CallsAreWithinLimits : Type 0
+CallsAreWithinLimits = (f : Function) (ts : Items) (v : Tree) → AreWithinLimits ts → call_value f ts ≡ Ok v → IsWithinLimits v
+
+-- No two entries have the same key.
+abbrev pub AreDistinct : Entries → Type 0
+AreDistinct no_entries = ⊤
+AreDistinct (entry k t es) = (get k es ≡ None) × AreDistinct es
+
+-- what stands at a key in the later one of two maps, or else in the earlier one
+abbrev pub later_or_earlier : Option Tree → Option Tree → Option Tree
+later_or_earlier (Some t) earlier = Some t
+later_or_earlier None earlier = earlier
+
+-- Where a map is merged onto another, its own value stands at each of its keys, and the other's at the others.
+abbrev pub LaterMapWins : Type 0
+LaterMapWins = (k : List ℕ) (base es : Entries) → AreDistinct es → get k (laid_over base es) ≡ later_or_earlier (get k es) (get k base)

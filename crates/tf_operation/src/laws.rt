@@ -1,6 +1,6 @@
 //! Laws of operations, proved for all operands: each function's contract is a law, and its body does nothing.
 
-ghost use Rattle.tf_operation.specs.Laws.{UnaryGrows, BinaryGrows, AttributeGrows, IndexGrows, ListGrows, MapGrows, JoinedGrows, CallGrows};
+ghost use Rattle.tf_operation.specs.Laws.{UnaryGrows, BinaryGrows, AttributeGrows, IndexGrows, ListGrows, MapGrows, JoinedGrows, CallGrows, OperatorsAreWithinLimits, PartsAreWithinLimits, CollectionsAreWithinLimits, CallsAreWithinLimits, LaterMapWins};
 
 /// Where the operand of an operator turns out to be another value, what the operator answered turns out to be
 /// what it answers to that one.
@@ -36,4 +36,17 @@ pub fn joined_grows()
 /// answers to those.
 pub fn calls_grow()
     ensures { CallGrows }
+{}
+
+/// What an operation answers to operands within the limits of weight and depth is within the limits.
+pub fn answers_are_within_limits()
+    ensures operators { OperatorsAreWithinLimits }
+    ensures parts { PartsAreWithinLimits }
+    ensures collections { CollectionsAreWithinLimits }
+    ensures calls { CallsAreWithinLimits }
+{}
+
+/// Where maps are merged, a later one's value stands at each of its keys, and earlier ones' values at the others.
+pub fn later_map_wins()
+    ensures { LaterMapWins }
 {}
