@@ -2,6 +2,7 @@ pub mod Demand
 pub mod Fault
 pub mod FaultText
 pub mod Laws
+pub mod Meaning
 pub mod Named
 pub mod Opening
 pub mod Reading

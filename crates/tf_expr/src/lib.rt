@@ -8,6 +8,7 @@
 mod calls;
 mod copies;
 mod demand;
+mod evaluation;
 pub mod expr;
 pub mod fault;
 pub mod laws;
@@ -15,9 +16,11 @@ mod names;
 mod reading;
 
 pub use copies::copy;
+pub use evaluation::eval_expr;
 pub use expr::Expr;
 pub use fault::{Cause, ExprFault};
 pub use reading::{read_expr, read_expr_at};
+pub use tf_meaning::{Constant, Constants, EvalFault, Scope, eval};
 pub use tf_template::{
     MAX_DEPTH, Operator, Prefix, ReadFault, Reference, Template, Term, functions, read_template,
     references,

@@ -1,5 +1,5 @@
 use crate::laws::{faultless_trees_are_expressions, faulty_trees_are_none};
-use crate::{Cause, Expr, ExprFault, copy, read_expr, read_expr_at};
+use crate::{Cause, Constants, Expr, ExprFault, copy, eval_expr, read_expr, read_expr_at};
 use serde_json::Value;
 use std::alloc::Global;
 use std::test::Fail;
@@ -233,5 +233,48 @@ fn reads_a_long_text(rt: HostRuntime) -> Result<(), Fail> {
 fn has_laws(_rt: HostRuntime) -> Result<(), Fail> {
     faultless_trees_are_expressions();
     faulty_trees_are_none();
+    Ok(())
+}
+
+// The value of an expression where no name stands for anything, or its fault.
+fn valued(alloc: Global, text: &str) -> Result<String, Fail> {
+    let constants = Vec::new(alloc);
+    match eval_expr(alloc, &read(alloc, text)?, &Constants { constants }) {
+        Ok(value) => Ok(format!(in alloc; "{value:?}")?),
+        Err(fault) => Ok(format!(in alloc; "{fault}")?),
+    }
+}
+
+#[test]
+fn gives_values_and_first_faults(rt: HostRuntime) -> Result<(), Fail> {
+    for (text, value) in [
+        ("null", "Null"),
+        ("true", "Bool(true)"),
+        ("-5", "Int(-5)"),
+        ("\"$${x}\"", "Text(\"${x}\")"),
+        ("\"${1 + 2}\"", "Int(3)"),
+        ("\"n${1 + 2}\"", "Text(\"n3\")"),
+        (
+            "[\"${1 + 2}\", [\"a\"]]",
+            "List([Int(3), List([Text(\"a\")])])",
+        ),
+        (
+            "{\"b\": \"${!true}\", \"a\": {}}",
+            "Map({\"a\": Map({}), \"b\": Bool(false)})",
+        ),
+        ("[1, \"${1 + null}\", \"${[1][1]}\"]", "WrongKind"),
+        ("{\"b\": \"${1 + null}\", \"a\": \"${[1][1]}\"}", "Missing"),
+        ("\"${var.n}\"", "Missing"),
+    ] {
+        assert_eq!(rt; valued(rt.alloc(), text)?.as_str(), value, "{text}");
+    }
+    let deepest = nested(rt.alloc(), "[", "", "]", 32)?;
+    assert!(rt;
+        valued(rt.alloc(), deepest.as_str())?
+            .as_str()
+            .starts_with("List")
+    );
+    let deeper = nested(rt.alloc(), "[", "", "]", 33)?;
+    assert_eq!(rt; valued(rt.alloc(), deeper.as_str())?.as_str(), "TooLarge");
     Ok(())
 }

@@ -25,16 +25,16 @@ pub onto-nil : {X : Type 0} → (r : Result (List X) EvalFault) → r ≡ onto [
 onto-nil (Ok xs) = refl
 onto-nil (Err e) = refl
 
-onto-one : {X : Type 0} → (done : List X) (x : X) (r : Result (List X) EvalFault) → onto done (and_then r (λ xs. Ok (x ∷ xs))) ≡ onto (done ++ x ∷ []) r
+pub onto-one : {X : Type 0} → (done : List X) (x : X) (r : Result (List X) EvalFault) → onto done (and_then r (λ xs. Ok (x ∷ xs))) ≡ onto (done ++ x ∷ []) r
 onto-one done x (Ok xs) = ap Ok (sym (append_assoc done (x ∷ []) xs))
 onto-one done x (Err e) = refl
 
 -- what an expression and those behind it give
-onto-and : {X : Type 0} → (done : List X) (v : X) (first : Result X EvalFault) (r : Result (List X) EvalFault) → first ≡ Ok v
+pub onto-and : {X : Type 0} → (done : List X) (v : X) (first : Result X EvalFault) (r : Result (List X) EvalFault) → first ≡ Ok v
     → onto done (and_then first (λ x. and_then r (λ xs. Ok (x ∷ xs)))) ≡ onto (done ++ v ∷ []) r
 onto-and done v first r e = rw e (onto-one done v r)
 
-onto-fault : {X : Type 0} → (done : List X) (fault : EvalFault) (first : Result X EvalFault) (r : Result (List X) EvalFault) → first ≡ Err fault
+pub onto-fault : {X : Type 0} → (done : List X) (fault : EvalFault) (first : Result X EvalFault) (r : Result (List X) EvalFault) → first ≡ Err fault
     → onto done (and_then first (λ x. and_then r (λ xs. Ok (x ∷ xs)))) ≡ Err fault
 onto-fault done fault first r e = rw e refl
 
