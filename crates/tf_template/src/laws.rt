@@ -1,10 +1,22 @@
 //! Laws of the definitions.
 
 ghost use Rattle.std.specs.Prelude.{◌≡◌, ℕ, List};
+ghost use Rattle.tf_template.specs.Canonical.{IsWritableTemplate, canonical};
 ghost use Rattle.tf_template.specs.Spelling.{SpellsTemplate};
 ghost use Rattle.tf_template.specs.Tree.{Woven};
 
 /// A text spells one template at most, however deep.
 pub fn one_template()
     ensures { (text : List ℕ) (v w : Woven) → SpellsTemplate v text → SpellsTemplate w text → v ≡ w }
+{}
+
+/// The canonical text of a writable template spells it, and no other.
+pub fn canonical_text()
+    ensures spelled { (w : Woven) → IsWritableTemplate w → SpellsTemplate w (canonical w) }
+    ensures alone { (v w : Woven) → IsWritableTemplate w → SpellsTemplate v (canonical w) → v ≡ w }
+{}
+
+/// Each template that some text spells is writable.
+pub fn spelled_is_writable()
+    ensures { (w : Woven) (text : List ℕ) → SpellsTemplate w text → IsWritableTemplate w }
 {}
