@@ -11,6 +11,7 @@ pub mod Numbers
 pub mod Pieces
 pub mod Rowing
 pub mod Texts
+pub mod Utf8
 pub mod Weaving
 pub mod Within
 pub mod Writables

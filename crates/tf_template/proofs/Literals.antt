@@ -50,7 +50,7 @@ abbrev braced : ℕ → ℕ → Bool
 braced b n = ((b == 36) || (b == 37)) && (n == 123)
 
 -- how a byte is written, by the tests on it
-abbrev chosen : Bool → Bool → Bool → ℕ → List ℕ
+abbrev pub chosen : Bool → Bool → Bool → ℕ → List ℕ
 chosen x y z b = if x then b ∷ b ∷ [] else (if y then 92 ∷ b ∷ [] else (if z then 92 ∷ 110 ∷ [] else b ∷ []))
 
 chosen_first : (x y z : Bool) (b : ℕ) (r : List ℕ) → (get_or (chosen x y z b ++ r) 0 0 ≡ b) ⊎ (get_or (chosen x y z b ++ r) 0 0 ≡ 92)

@@ -1,6 +1,7 @@
 -- One text for each tree that has any.
 use Rattle.std.specs.Fmt.{decimal}
 use Rattle.std.specs.Prelude.{◌≡◌, ◌≢◌, ◌<◌, ◌≤◌, ◌^◌, ℕ, Bool, true, false, if◌then◌else◌, ◌||◌, ◌&&◌, ◌==◌, List, [], ◌∷◌, ◌++◌, codes, slice_index}
+use Rattle.std.specs.Str.{IsUtf8}
 use Rattle.tf_address.specs.Name.{is_name}
 use Rattle.tf_template.specs.Tree.{Tree, number, truth, null, quoted, reference, call, group, listed, attribute, index, unary, binary, conditional, Trees, no_trees, tree, Parts, no_parts, part, Woven, level, level_of}
 use Rattle.tf_template.specs.Word.{keyword}
@@ -48,6 +49,34 @@ abbrev mutual
 
 abbrev pub IsWritableTemplate : Woven → Type 0
 IsWritableTemplate w = ArePartsWritable w.0
+
+-- The trees whose texts are UTF-8.
+abbrev mutual
+  pub HasTexts : Tree → Type 0
+  HasTexts (number n) = Unit {0}
+  HasTexts (truth b) = Unit {0}
+  HasTexts null = Unit {0}
+  HasTexts (quoted ps last) = PartsHaveTexts ps × IsUtf8 last
+  HasTexts (reference a b) = Unit {0}
+  HasTexts (call f ts) = HaveTexts ts
+  HasTexts (group t) = HasTexts t
+  HasTexts (listed ts) = HaveTexts ts
+  HasTexts (attribute t name) = HasTexts t
+  HasTexts (index t i) = HasTexts t × HasTexts i
+  HasTexts (unary op t) = HasTexts t
+  HasTexts (binary op a b) = HasTexts a × HasTexts b
+  HasTexts (conditional c a b) = HasTexts c × HasTexts a × HasTexts b
+
+  pub HaveTexts : Trees → Type 0
+  HaveTexts no_trees = Unit {0}
+  HaveTexts (tree t ts) = HasTexts t × HaveTexts ts
+
+  pub PartsHaveTexts : Parts → Type 0
+  PartsHaveTexts no_parts = Unit {0}
+  PartsHaveTexts (part text t ps) = IsUtf8 text × HasTexts t × PartsHaveTexts ps
+
+abbrev pub TemplateHasTexts : Woven → Type 0
+TemplateHasTexts w = PartsHaveTexts w.0 × IsUtf8 w.1
 
 -- A byte of literal text in front of this byte of it, or of 0 at its end: `$` and `%` are doubled before a
 -- brace, and within quotes a quote, a backslash and a line feed are escaped.

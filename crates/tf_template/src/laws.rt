@@ -1,7 +1,8 @@
 //! Laws of the definitions.
 
 ghost use Rattle.std.specs.Prelude.{◌≡◌, ℕ, List};
-ghost use Rattle.tf_template.specs.Canonical.{IsWritableTemplate, canonical};
+ghost use Rattle.std.specs.Str.{IsUtf8};
+ghost use Rattle.tf_template.specs.Canonical.{IsWritableTemplate, TemplateHasTexts, canonical};
 ghost use Rattle.tf_template.specs.Spelling.{SpellsTemplate};
 ghost use Rattle.tf_template.specs.Tree.{Woven};
 
@@ -10,10 +11,11 @@ pub fn one_template()
     ensures { (text : List ℕ) (v w : Woven) → SpellsTemplate v text → SpellsTemplate w text → v ≡ w }
 {}
 
-/// The canonical text of a writable template spells it, and no other.
+/// The canonical text of a writable template spells it, and no other. It is UTF-8 where the template's texts are.
 pub fn canonical_text()
     ensures spelled { (w : Woven) → IsWritableTemplate w → SpellsTemplate w (canonical w) }
     ensures alone { (v w : Woven) → IsWritableTemplate w → SpellsTemplate v (canonical w) → v ≡ w }
+    ensures text { (w : Woven) → IsWritableTemplate w → TemplateHasTexts w → IsUtf8 (canonical w) }
 {}
 
 /// Each template that some text spells is writable.

@@ -353,6 +353,18 @@ fn refuses_at_the_first_wrong_token(rt: HostRuntime) -> Result<(), Fail> {
     Ok(())
 }
 
+#[test]
+fn shows_faults(rt: HostRuntime) -> Result<(), Fail> {
+    for (fault, text) in [
+        (ReadFault::At(12), "no template from byte 12 on"),
+        (ReadFault::TooDeep, "deeper than 64"),
+        (ReadFault::OutOfMemory, "out of memory"),
+    ] {
+        assert_eq!(rt; format!(in rt.alloc(); "{fault}")?.as_str(), text);
+    }
+    Ok(())
+}
+
 // A text that ends too early is refused at its end, and begins a template.
 #[test]
 fn refuses_at_the_end(rt: HostRuntime) -> Result<(), Fail> {
