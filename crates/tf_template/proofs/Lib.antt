@@ -3,6 +3,7 @@ pub mod Begun
 pub mod Called
 pub mod Copied
 pub mod Cuts
+pub mod Cutting
 pub mod Fronts
 pub mod Growing
 pub mod Literals

@@ -23,7 +23,7 @@ use Rattle.tf_template.proofs.Literals.{chosen}
 low_is_scalar : (c : ℕ) → c < 128 → IsScalar c
 low_is_scalar c h = grind (arith, nat_tests)
 
-cons_ascii : (b : ℕ) (s : List ℕ) → b < 128 → IsUtf8 s → IsUtf8 (b ∷ s)
+pub cons_ascii : (b : ℕ) (s : List ℕ) → b < 128 → IsUtf8 s → IsUtf8 (b ∷ s)
 cons_ascii b s h u = IsUtf8-append (b ∷ []) s (subst IsUtf8 (encode_ascii b h) (IsUtf8-encode b (low_is_scalar b h))) u
 
 low_byte : (b : ℕ) → nat_lt b 128 ≡ true → b < 128
@@ -73,7 +73,7 @@ comma_front no_trees s u = u
 comma_front (tree t ts) s u = ascii_front (codes ", ") s refl u
 
 -- bytes of 128 and above stand for themselves
-abbrev AllHigh : List ℕ → Type 0
+abbrev pub AllHigh : List ℕ → Type 0
 AllHigh [] = Unit {0}
 AllHigh (b ∷ bs) = (128 ≤ b) × AllHigh bs
 
@@ -81,7 +81,7 @@ pick_high : (x : Bool) (a b : List ℕ) → (x ≡ true → AllHigh a) → (x �
 pick_high true a b f g = f refl
 pick_high false a b f g = g refl
 
-encode_high : (c : ℕ) → 128 ≤ c → AllHigh (encode_utf8 c)
+pub encode_high : (c : ℕ) → 128 ≤ c → AllHigh (encode_utf8 c)
 unfolding encode_utf8
 encode_high c h =
     pick_high (nat_lt c 128) _ _ (λ e. absurd (not_low c h e))

@@ -58,7 +58,7 @@ named : (a s rest : List ℕ) → TakesName a s rest → is_name a ≡ true
 named a s rest h = ap is_name (sym h.word_is) ∙ word_is_name s h.kind_is
 
 -- literal text
-pick : (P : Piece → Type 0) (x : Bool) (p q : Piece) → (x ≡ true → P p) → (x ≡ false → P q) → P (if x then p else q)
+pub pick : (P : Piece → Type 0) (x : Bool) (p q : Piece) → (x ≡ true → P p) → (x ≡ false → P q) → P (if x then p else q)
 pick P true p q f g = f refl
 pick P false p q f g = g refl
 

@@ -18,7 +18,8 @@ pub fn canonical_text()
     ensures text { (w : Woven) → IsWritableTemplate w → TemplateHasTexts w → IsUtf8 (canonical w) }
 {}
 
-/// Each template that some text spells is writable.
+/// Each template that some text spells is writable, and its texts are UTF-8 where that text is.
 pub fn spelled_is_writable()
-    ensures { (w : Woven) (text : List ℕ) → SpellsTemplate w text → IsWritableTemplate w }
+    ensures writable { (w : Woven) (text : List ℕ) → SpellsTemplate w text → IsWritableTemplate w }
+    ensures texts { (w : Woven) (text : List ℕ) → IsUtf8 text → SpellsTemplate w text → TemplateHasTexts w }
 {}
