@@ -3,10 +3,16 @@ pub mod Begun
 pub mod Called
 pub mod Copied
 pub mod Cuts
+pub mod Cutting
+pub mod Fronts
 pub mod Growing
+pub mod Literals
 pub mod Named
 pub mod Numbers
 pub mod Pieces
 pub mod Rowing
+pub mod Texts
+pub mod Utf8
 pub mod Weaving
 pub mod Within
+pub mod Writables

@@ -1,5 +1,6 @@
 pub mod Bytes
 pub mod Calls
+pub mod Canonical
 pub mod Literal
 pub mod Names
 pub mod Reads

@@ -8,7 +8,6 @@
 //! and calls.
 #![tactic(auto)]
 
-mod calls;
 mod copies;
 mod fault;
 pub mod laws;
@@ -22,9 +21,8 @@ mod token;
 mod tree;
 mod word;
 
-pub use calls::functions;
 pub use copies::copy;
-pub use names::references;
+pub use names::{functions, references};
 pub use template::{MAX_DEPTH, ReadFault, read_template};
 pub use token::Operator;
 pub use tree::{Prefix, Reference, Template, Term};

@@ -1,6 +1,7 @@
-//! What a template names.
+//! What a template names and calls.
 
-ghost use Rattle.std.specs.Prelude.{◌≡◌, [], ◌∷◌, ◌++◌, IfOk, OnOk, map};
+ghost use Rattle.std.specs.Prelude.{◌≡◌, [], ◌∷◌, ◌++◌, IfOk, OnOk, map, string_bytes};
+ghost use Rattle.tf_template.specs.Calls.{called, called_among, called_between, called_by};
 ghost use Rattle.tf_template.specs.Names.{named, named_among, named_between, named_by, reference_of};
 ghost use Rattle.tf_template.specs.Tree.{parts_view, template_view, terms_view, view};
 
@@ -15,21 +16,58 @@ use std::alloc::{AllocError, Global};
 pub fn references(alloc: Global, template: &Template) -> Result<Vec<Reference>, AllocError>
     ensures { IfOk result (λ v. map reference_of v.items ≡ named (template_view template.now)) }
 {
-    let mut found = Vec::new(alloc);
+    let names = names_of(alloc, template)?;
+    Ok(names.references)
+}
+
+/// The name of each function that a template calls, from left to right, as often as it is called. A call
+/// stands before the calls among its arguments.
+///
+/// # Errors
+///
+/// Only where memory runs out.
+pub fn functions(alloc: Global, template: &Template) -> Result<Vec<String>, AllocError>
+    ensures { IfOk result (λ v. map string_bytes v.items ≡ called (template_view template.now)) }
+{
+    let names = names_of(alloc, template)?;
+    Ok(names.functions)
+}
+
+// What was found so far.
+#[derive(Drop)]
+struct Names {
+    references: Vec<Reference>,
+    functions: Vec<String>,
+}
+
+fn names_of(alloc: Global, template: &Template) -> Result<Names, AllocError>
+    ensures named { IfOk result (λ n. map reference_of n.references.items ≡ named (template_view template.now)) }
+    ensures called { IfOk result (λ n. map string_bytes n.functions.items ≡ called (template_view template.now)) }
+{
+    let mut found = Names {
+        references: Vec::new(alloc),
+        functions: Vec::new(alloc),
+    };
     add_parts(&template.parts, &mut found)?;
     Ok(found)
 }
 
 #[cycle(names)]
-fn add(term: &Term, found: &mut Vec<Reference>) -> Result<(), AllocError>
-    ensures { OnOk result (map reference_of found.new.items
-        ≡ map reference_of found.old.items ++ named_by (view term.now)) }
+fn add(term: &Term, found: &mut Names) -> Result<(), AllocError>
+    ensures named { OnOk result (map reference_of found.new.references.items
+        ≡ map reference_of found.old.references.items ++ named_by (view term.now)) }
+    ensures called { OnOk result (map string_bytes found.new.functions.items
+        ≡ map string_bytes found.old.functions.items ++ called_by (view term.now)) }
 {
     match term {
         Term::Number(_) | Term::Truth(_) | Term::Null => Ok(()),
         Term::Quoted(template) => add_parts(&template.parts, found),
-        Term::Reference(reference) => push(reference, found),
-        Term::Call(_, terms) | Term::List(terms) => add_terms(terms, found),
+        Term::Reference(reference) => add_reference(reference, found),
+        Term::Call(name, terms) => {
+            add_function(name, found)?;
+            add_terms(terms, found)
+        }
+        Term::List(terms) => add_terms(terms, found),
         Term::Group(inner) | Term::Attribute(inner, _) | Term::Unary(_, inner) => add(inner, found),
         Term::Index(left, right) | Term::Binary(_, left, right) => {
             add(left, found)?;
@@ -44,9 +82,11 @@ fn add(term: &Term, found: &mut Vec<Reference>) -> Result<(), AllocError>
 }
 
 #[cycle(names)]
-fn add_terms(terms: &Vec<Term>, found: &mut Vec<Reference>) -> Result<(), AllocError>
-    ensures { OnOk result (map reference_of found.new.items
-        ≡ map reference_of found.old.items ++ named_among (terms_view terms.now.items)) }
+fn add_terms(terms: &Vec<Term>, found: &mut Names) -> Result<(), AllocError>
+    ensures named { OnOk result (map reference_of found.new.references.items
+        ≡ map reference_of found.old.references.items ++ named_among (terms_view terms.now.items)) }
+    ensures called { OnOk result (map string_bytes found.new.functions.items
+        ≡ map string_bytes found.old.functions.items ++ called_among (terms_view terms.now.items)) }
 {
     for term in terms {
         add(term, found)?;
@@ -55,9 +95,11 @@ fn add_terms(terms: &Vec<Term>, found: &mut Vec<Reference>) -> Result<(), AllocE
 }
 
 #[cycle(names)]
-fn add_parts(parts: &Vec<(String, Term)>, found: &mut Vec<Reference>) -> Result<(), AllocError>
-    ensures { OnOk result (map reference_of found.new.items
-        ≡ map reference_of found.old.items ++ named_between (parts_view parts.now.items)) }
+fn add_parts(parts: &Vec<(String, Term)>, found: &mut Names) -> Result<(), AllocError>
+    ensures named { OnOk result (map reference_of found.new.references.items
+        ≡ map reference_of found.old.references.items ++ named_between (parts_view parts.now.items)) }
+    ensures called { OnOk result (map string_bytes found.new.functions.items
+        ≡ map string_bytes found.old.functions.items ++ called_between (parts_view parts.now.items)) }
 {
     for part in parts {
         add(&part.1, found)?;
@@ -65,12 +107,20 @@ fn add_parts(parts: &Vec<(String, Term)>, found: &mut Vec<Reference>) -> Result<
     Ok(())
 }
 
-fn push(reference: &Reference, found: &mut Vec<Reference>) -> Result<(), AllocError>
-    ensures { OnOk result (map reference_of found.new.items
-        ≡ map reference_of found.old.items ++ reference_of reference.now ∷ []) }
+fn add_reference(reference: &Reference, found: &mut Names) -> Result<(), AllocError>
+    ensures named { OnOk result (map reference_of found.new.references.items
+        ≡ map reference_of found.old.references.items ++ reference_of reference.now ∷ []) }
+    ensures called { found.new.functions ≡ found.old.functions }
 {
-    let first = reference.first.clone()?;
-    let name = reference.name.clone()?;
-    found.push(Reference { first, name })?;
+    found.references.push(reference.clone()?)?;
+    Ok(())
+}
+
+fn add_function(name: &String, found: &mut Names) -> Result<(), AllocError>
+    ensures named { found.new.references ≡ found.old.references }
+    ensures called { OnOk result (map string_bytes found.new.functions.items
+        ≡ map string_bytes found.old.functions.items ++ string_bytes name.now ∷ []) }
+{
+    found.functions.push(name.clone()?)?;
     Ok(())
 }

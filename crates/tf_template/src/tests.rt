@@ -183,18 +183,55 @@ fn reads_to_depth_64(rt: HostRuntime) -> Result<(), Fail> {
     Ok(())
 }
 
+fn repeated(alloc: Global, part: &str, times: usize) -> Result<String, Fail> {
+    let mut text = String::new(alloc);
+    for _ in 0..times {
+        text.push_str(part)?;
+    }
+    Ok(text)
+}
+
+// What is too deep is so within the first 64 levels, however long the text is.
+#[test]
+fn answers_deep_texts_at_once(rt: HostRuntime) -> Result<(), Fail> {
+    for (before, part, times) in [
+        ("${", "(", 2_000_000),
+        ("${", "!", 2_000_000),
+        ("${1", " + 1", 1_000_000),
+        ("${a.b", "[0]", 1_000_000),
+        ("${1", " ? 1 : 1", 500_000),
+        ("${", "\"${", 1_000_000),
+    ] {
+        let parts = repeated(rt.alloc(), part, times)?;
+        let text = format!(in rt.alloc(); "{before}{parts}")?;
+        assert_eq!(rt;
+            read_template(rt.alloc(), text.as_str()).err(),
+            Some(ReadFault::TooDeep),
+            "{part}"
+        );
+    }
+    Ok(())
+}
+
 #[test]
 fn answers_long_texts_at_once(rt: HostRuntime) -> Result<(), Fail> {
-    let parentheses = nested(rt.alloc(), "(", "1", "", 200_000)?;
-    assert_eq!(rt;
-        read_template(rt.alloc(), parentheses.as_str()).err(),
-        Some(ReadFault::TooDeep)
-    );
-    let mut dollars = String::new(rt.alloc());
-    for _ in 0..100_000 {
-        dollars.push('$')?;
+    for (part, times) in [("$", 4_000_000), ("\"", 4_194_304), ("%", 1_000_000)] {
+        let text = repeated(rt.alloc(), part, times)?;
+        let template = read_template(rt.alloc(), text.as_str()).map_err(|_| "refused")?;
+        assert_eq!(rt; template.last.len(), times, "{part}");
     }
-    assert!(rt; is_read(rt.alloc(), dollars.as_str()));
+    for (before, part, times, behind) in [
+        ("${[", "1, ", 1_000_000, "]}"),
+        ("${\"", "\\\"", 2_097_152, "\"}"),
+        ("", "${a.b}", 200_000, ""),
+    ] {
+        let parts = repeated(rt.alloc(), part, times)?;
+        let text = format!(in rt.alloc(); "{before}{parts}{behind}")?;
+        assert!(rt; is_read(rt.alloc(), text.as_str()), "{part}");
+    }
+    let quotes = repeated(rt.alloc(), "\"", 4_194_304)?;
+    let text = format!(in rt.alloc(); "${{{quotes}")?;
+    refused_at(&rt, rt.alloc(), text.as_str(), 4);
     Ok(())
 }
 
@@ -239,80 +276,130 @@ fn copies_each_form(rt: HostRuntime) -> Result<(), Fail> {
     Ok(())
 }
 
-// Whether a text begins a template, with one of these ends behind it.
-fn is_begun(alloc: Global, text: &str) -> Result<bool, Fail> {
-    for end in [
-        "", "}", "1}", "\"}", "x}", ")}", "]}", "1]}", "1)}", ".x}", "()}", " : 1}", "1 : 1}",
-        "= 1}", "& 1}", "| 1}", "\"\"}", "}\"}", "n\"}", "1}\"}", "1))}", "1]]}",
-    ] {
-        let whole = format!(in alloc; "{text}{end}")?;
-        if is_read(alloc, whole.as_str()) {
-            return Ok(true);
-        }
-    }
-    Ok(false)
-}
-
-// What stands before the offset of a refusal begins a template, and with one character more it doesn't.
+// What stands before the offset of a refusal begins a template, shown by one, and with so many bytes more it
+// doesn't.
 #[test]
 fn refuses_at_the_first_wrong_token(rt: HostRuntime) -> Result<(), Fail> {
-    for (text, offset, more) in [
-        ("%{if}", 0, 2),
-        ("a%{", 1, 2),
-        ("${1 / 2}", 4, 1),
-        ("${1.5}", 3, 1),
-        ("${}", 2, 1),
-        ("${)}", 2, 1),
-        ("${]}", 2, 1),
-        ("${,}", 2, 1),
-        ("${?}", 2, 1),
-        ("${:}", 2, 1),
-        ("${.}", 2, 1),
-        ("${+1}", 2, 1),
-        ("${*}", 2, 1),
-        ("${=}", 2, 1),
-        ("${==}", 2, 1),
-        ("${<}", 2, 1),
-        ("${&&}", 2, 1),
-        ("${||}", 2, 1),
-        ("${#}", 2, 1),
-        ("${1 2}", 4, 1),
-        ("${1 x}", 4, 1),
-        ("${1[0]}", 3, 1),
-        ("${\"a\"[0]}", 5, 1),
-        ("${true.x}", 6, 1),
-        ("${null[0]}", 6, 1),
-        ("${true(1)}", 6, 1),
-        ("${a b}", 4, 1),
-        ("${a}", 3, 1),
-        ("${a.}", 4, 1),
-        ("${a.1}", 4, 1),
-        ("${a.b.}", 6, 1),
-        ("${a.b(1)}", 5, 1),
-        ("${[,]}", 3, 1),
-        ("${[1,,]}", 5, 1),
-        ("${[1)}", 4, 1),
-        ("${f(1 2)}", 6, 1),
-        ("${f(1]}", 5, 1),
-        ("${(1]}", 4, 1),
-        ("${()}", 3, 1),
-        ("${a.b[]}", 6, 1),
-        ("${1 ? 2}", 7, 1),
-        ("${1 ? : 2}", 6, 1),
-        ("${1 + }", 6, 1),
-        ("${1 + * 2}", 6, 1),
-        ("${!}", 3, 1),
-        ("${\"\\q\"}", 3, 2),
-        ("${\"a\nb\"}", 4, 1),
-        ("${\"%{\"}", 3, 2),
-        ("${-9223372036854775808}", 3, 19),
-        ("${\"${1 2}\"}", 7, 1),
+    for (text, offset, more, completion) in [
+        ("%{if}", 0, 2, ""),
+        ("a%{", 1, 2, "b"),
+        ("${1 / 2}", 4, 1, "}"),
+        ("${1.5}", 3, 1, "}"),
+        ("${}", 2, 1, "1}"),
+        ("${)}", 2, 1, "(1)}"),
+        ("${]}", 2, 1, "[1]}"),
+        ("${,}", 2, 1, "1}"),
+        ("${?}", 2, 1, "1}"),
+        ("${:}", 2, 1, "1}"),
+        ("${.}", 2, 1, "1}"),
+        ("${+1}", 2, 1, "1}"),
+        ("${*}", 2, 1, "1}"),
+        ("${=}", 2, 1, "1}"),
+        ("${==}", 2, 1, "1}"),
+        ("${<}", 2, 1, "1}"),
+        ("${&&}", 2, 1, "1}"),
+        ("${||}", 2, 1, "1}"),
+        ("${#}", 2, 1, "1}"),
+        ("${'a'}", 2, 1, "\"a\"}"),
+        ("${{}", 2, 1, "1}"),
+        ("${ä}", 2, 2, "a.b}"),
+        ("${1 2}", 4, 1, "}"),
+        ("${1 x}", 4, 1, "}"),
+        ("${1[0]}", 3, 1, "}"),
+        ("${\"a\"[0]}", 5, 1, "}"),
+        ("${true.x}", 6, 1, "}"),
+        ("${null[0]}", 6, 1, "}"),
+        ("${true(1)}", 6, 1, "}"),
+        ("${a b}", 4, 1, ".b}"),
+        ("${a}", 3, 1, "()}"),
+        ("${a.}", 4, 1, "b}"),
+        ("${a.1}", 4, 1, "b}"),
+        ("${a.b.}", 6, 1, "c}"),
+        ("${a.b(1)}", 5, 1, "}"),
+        ("${[,]}", 3, 1, "]}"),
+        ("${[1,,]}", 5, 1, "]}"),
+        ("${[1)}", 4, 1, "]}"),
+        ("${f(1 2)}", 6, 1, ")}"),
+        ("${f(1]}", 5, 1, ")}"),
+        ("${(1]}", 4, 1, ")}"),
+        ("${()}", 3, 1, "1)}"),
+        ("${a.b[]}", 6, 1, "0]}"),
+        ("${1 ? 2}", 7, 1, " : 3}"),
+        ("${1 ? : 2}", 6, 1, "2 : 3}"),
+        ("${1 + }", 6, 1, "1}"),
+        ("${1 + * 2}", 6, 1, "2}"),
+        ("${1 = 2}", 4, 2, "== 2}"),
+        ("${1 ! 2}", 4, 2, "!= 2}"),
+        ("${1 & 2}", 4, 2, "&& 2}"),
+        ("${1 | 2}", 4, 2, "|| 2}"),
+        ("${!}", 3, 1, "true}"),
+        ("${\"\\q\"}", 3, 2, "\\n\"}"),
+        ("${\"a\nb\"}", 4, 1, "\"}"),
+        ("${\"%{\"}", 3, 2, "\"}"),
+        ("${-9223372036854775808}", 3, 19, "1}"),
+        ("${\"${1 2}\"}", 7, 1, "}\"}"),
     ] {
         refused_at(&rt, rt.alloc(), text, offset);
         let before = text.get(..offset).ok_or("no text")?;
-        assert!(rt; is_begun(rt.alloc(), before)?, "{text}");
+        let whole = format!(in rt.alloc(); "{before}{completion}")?;
+        assert!(rt; is_read(rt.alloc(), whole.as_str()), "{whole}");
         let wrong = text.get(..offset.saturating_add(more)).ok_or("no text")?;
-        assert!(rt; !is_begun(rt.alloc(), wrong)?, "{text}");
+        let answer = read_template(rt.alloc(), wrong).err();
+        assert!(rt;
+            matches!(answer, Some(ReadFault::At(at)) if at <= offset),
+            "{wrong}"
+        );
+    }
+    Ok(())
+}
+
+#[test]
+fn shows_faults(rt: HostRuntime) -> Result<(), Fail> {
+    for (fault, text) in [
+        (ReadFault::At(12), "no template from byte 12 on"),
+        (ReadFault::TooDeep, "deeper than 64"),
+        (ReadFault::OutOfMemory, "out of memory"),
+    ] {
+        assert_eq!(rt; format!(in rt.alloc(); "{fault}")?.as_str(), text);
+    }
+    Ok(())
+}
+
+// A text that ends too early is refused at its end, and begins a template.
+#[test]
+fn refuses_at_the_end(rt: HostRuntime) -> Result<(), Fail> {
+    for (text, completion) in [
+        ("${", "1}"),
+        ("a${1}${", "2}"),
+        ("${1", "}"),
+        ("${true", "}"),
+        ("${var", ".a}"),
+        ("${var.", "a}"),
+        ("${var.a.", "b}"),
+        ("${f(", ")}"),
+        ("${f(1,", ")}"),
+        ("${[1", "]}"),
+        ("${(", "1)}"),
+        ("${(1", ")}"),
+        ("${a.b[", "0]}"),
+        ("${a.b[0", "]}"),
+        ("${-", "1}"),
+        ("${!", "true}"),
+        ("${1 =", "= 1}"),
+        ("${1 !", "= 1}"),
+        ("${1 &", "& 1}"),
+        ("${1 |", "| 1}"),
+        ("${1 ?", "1 : 1}"),
+        ("${1 ? 1", ": 1}"),
+        ("${1 ? 1 :", "1}"),
+        ("${\"", "\"}"),
+        ("${\"\\", "n\"}"),
+        ("${\"%", "\"}"),
+        ("${\"${1", "}\"}"),
+    ] {
+        refused_at(&rt, rt.alloc(), text, text.len());
+        let whole = format!(in rt.alloc(); "{text}{completion}")?;
+        assert!(rt; is_read(rt.alloc(), whole.as_str()), "{whole}");
     }
     Ok(())
 }

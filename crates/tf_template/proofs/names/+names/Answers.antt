@@ -1,6 +1,7 @@
-use Rattle.std.proofs.Common.{◌≡◌, ◌<◌, map, length, get_or, ap, ◌∙◌, arith}
+use Rattle.std.proofs.Common.{◌≡◌, ◌<◌, map, length, get_or, ap, ◌∙◌, arith, string_bytes}
 use Rattle.tf_template.specs.Names.{reference_of}
-use Rattle.tf_template.proofs.Named.{more_terms, more_parts}
+use Rattle.tf_template.proofs.Called as called
+use Rattle.tf_template.proofs.Named as named
 use Rattle.tf_template.proofs.names.+names.Goals as goal
 
 pub add_parts-loop-part-preserved : goal.add_parts-loop-part-preserved
@@ -9,8 +10,12 @@ add_parts-loop-part-preserved t c =
     let xs = c.deref-part-items.ensures.value in
     let within : c.loop-part.part-index < length c.args.parts.now.items = omega (arith, c.loop-part-test.true, ap length xs) in
     let is : c.part-item.result ≡ get_or c.args.parts.now.items c.loop-part.part-index c.part-item.result = c.part-item.is ∙ ap (λ ys. get_or ys i c.part-item.result) xs in
-    more_parts c.args.parts.now.items i c.part-item.result (map reference_of c.args.found.now.items) (map reference_of c.loop-part.found.items) (map reference_of c.add.new.found.items)
-    within is c.loop-part.invariant c.in_ok-add.ensures
+    record {
+      named = named.more_parts c.args.parts.now.items i c.part-item.result (map reference_of c.args.found.now.references.items) (map reference_of c.loop-part.found.references.items) (map reference_of c.add.new.found.references.items)
+          within is c.loop-part.invariant.named c.in_ok-add.ensures.named;
+      called = called.more_parts c.args.parts.now.items i c.part-item.result (map string_bytes c.args.found.now.functions.items) (map string_bytes c.loop-part.found.functions.items) (map string_bytes c.add.new.found.functions.items)
+          within is c.loop-part.invariant.called c.in_ok-add.ensures.called;
+    }
 
 pub add_terms-loop-term-preserved : goal.add_terms-loop-term-preserved
 add_terms-loop-term-preserved t c =
@@ -18,5 +23,9 @@ add_terms-loop-term-preserved t c =
     let xs = c.deref-term-items.ensures.value in
     let within : c.loop-term.term-index < length c.args.terms.now.items = omega (arith, c.loop-term-test.true, ap length xs) in
     let is : c.term-item.result ≡ get_or c.args.terms.now.items c.loop-term.term-index c.term-item.result = c.term-item.is ∙ ap (λ ys. get_or ys i c.term-item.result) xs in
-    more_terms c.args.terms.now.items i c.term-item.result (map reference_of c.args.found.now.items) (map reference_of c.loop-term.found.items) (map reference_of c.add.new.found.items)
-    within is c.loop-term.invariant c.in_ok-add.ensures
+    record {
+      named = named.more_terms c.args.terms.now.items i c.term-item.result (map reference_of c.args.found.now.references.items) (map reference_of c.loop-term.found.references.items) (map reference_of c.add.new.found.references.items)
+          within is c.loop-term.invariant.named c.in_ok-add.ensures.named;
+      called = called.more_terms c.args.terms.now.items i c.term-item.result (map string_bytes c.args.found.now.functions.items) (map string_bytes c.loop-term.found.functions.items) (map string_bytes c.add.new.found.functions.items)
+          within is c.loop-term.invariant.called c.in_ok-add.ensures.called;
+    }
