@@ -9,3 +9,4 @@ pub mod Growth
 pub mod Growing
 pub mod Bounds
 pub mod Merging
+pub mod Knowing

@@ -1,8 +1,9 @@
 -- What holds of operations, whatever their operands are.
-use Rattle.std.specs.Prelude.{ℕ, List, ◌≡◌, Option, Some, None, Ok, ⊤}
+use Rattle.std.specs.Prelude.{ℕ, List, ◌≡◌, true, Option, Some, None, Ok, ⊤}
 use Rattle.tf_template.specs.declared.token.Operator.{Operator}
 use Rattle.tf_template.specs.declared.tree.Prefix.{Prefix}
 use Rattle.tf_value.specs.Tree.{Tree, Items, no_items, item, Entries, no_entries, entry, get}
+use Rattle.tf_value.specs.Known.{known, known_items, known_entries}
 use Rattle.tf_value.specs.Refinement.{Refines, RefinesItems, RefinesEntries}
 use Rattle.tf_value.specs.Measure.{IsWithinLimits}
 use Rattle.tf_operation.specs.declared.function.Function.{Function}
@@ -83,3 +84,26 @@ later_or_earlier None earlier = earlier
 -- Where a map is merged onto another, its own value stands at each of its keys, and the other's at the others.
 abbrev pub LaterMapWins : Type 0
 LaterMapWins = (k : List ℕ) (base es : Entries) → AreDistinct es → get k (laid_over base es) ≡ later_or_earlier (get k es) (get k base)
+
+-- What an operator answers to known operands is known.
+abbrev pub OperatorsKeepKnown : Type 0
+OperatorsKeepKnown =
+    ((op : Prefix) (t v : Tree) → known t ≡ true → unary_value op t ≡ Ok v → known v ≡ true)
+    × ((op : Operator) (t u v : Tree) → known t ≡ true → known u ≡ true → binary_value op t u ≡ Ok v → known v ≡ true)
+
+-- What stands at a name or a known index in a known value is known.
+abbrev pub PartsKeepKnown : Type 0
+PartsKeepKnown =
+    ((t : Tree) (name : List ℕ) (v : Tree) → known t ≡ true → attribute_value t name ≡ Ok v → known v ≡ true)
+    × ((t u v : Tree) → known t ≡ true → known u ≡ true → index_value t u ≡ Ok v → known v ≡ true)
+
+-- A list, a map and a joined text of known values are known.
+abbrev pub CollectionsKeepKnown : Type 0
+CollectionsKeepKnown =
+    ((ts : Items) (v : Tree) → known_items ts ≡ true → list_value ts ≡ Ok v → known v ≡ true)
+    × ((es : Entries) (v : Tree) → known_entries es ≡ true → map_value es ≡ Ok v → known v ≡ true)
+    × ((ts : Items) (v : Tree) → known_items ts ≡ true → joined_value ts ≡ Ok v → known v ≡ true)
+
+-- What a function answers to known arguments is known.
+abbrev pub CallsKeepKnown : Type 0
+CallsKeepKnown = (f : Function) (ts : Items) (v : Tree) → known_items ts ≡ true → call_value f ts ≡ Ok v → known v ≡ true

@@ -48,13 +48,22 @@ fn entry(alloc: Global, key: &str, value: Value) -> Result<Value, AllocError> {
     Ok(Value::Map(entries))
 }
 
-// A list of values, within the limits or not.
-fn items<const N: usize>(alloc: Global, values: [Value; N]) -> Result<Value, AllocError> {
-    let mut found = Vec::new(alloc);
-    for value in values {
-        found.push(value)?;
+// A list of one value.
+fn alone(alloc: Global, value: Value) -> Result<Value, AllocError> {
+    Ok(Value::List(vec![in alloc; value]?))
+}
+
+// A list of two values.
+fn pair(alloc: Global, first: Value, second: Value) -> Result<Value, AllocError> {
+    Ok(Value::List(vec![in alloc; first, second]?))
+}
+
+// Whether an answer is a text of these bytes.
+fn is_text(answer: &Answer, expected: &str) -> bool {
+    match answer {
+        Ok(Value::Text(text)) => text.as_str() == expected,
+        _ => false,
     }
-    Ok(Value::List(found))
 }
 
 #[test]
@@ -155,206 +164,194 @@ fn operators(rt: HostRuntime) {
 }
 
 #[test]
+fn equality(rt: HostRuntime) -> Result<(), Fail> {
+    let alloc = rt.alloc();
+    let one = text(alloc, "1")?;
+    assert_eq!(rt;
+        binary(Operator::Equal, Value::Int(1), one),
+        Ok(Value::Bool(false))
+    );
+    let one = text(alloc, "1")?;
+    assert_eq!(rt;
+        binary(Operator::NotEqual, Value::Int(1), one),
+        Ok(Value::Bool(true))
+    );
+    let nulls = binary(Operator::Equal, Value::Null, Value::Null);
+    assert_eq!(rt; nulls, Ok(Value::Bool(true)));
+    let maps = binary(Operator::Equal, first_map(alloc)?, first_map(alloc)?);
+    assert_eq!(rt; maps, Ok(Value::Bool(true)));
+    let hidden = alone(alloc, Value::Unknown)?;
+    assert_eq!(rt;
+        binary(Operator::Equal, hidden, Value::Int(1)),
+        Ok(Value::Unknown)
+    );
+    let hidden = entry(alloc, "k", Value::Unknown)?;
+    assert_eq!(rt;
+        binary(Operator::NotEqual, Value::Null, hidden),
+        Ok(Value::Unknown)
+    );
+    Ok(())
+}
+
+#[test]
 fn kinds(rt: HostRuntime) -> Result<(), Fail> {
     let alloc = rt.alloc();
-    for (operator, left, right, expected) in [
-        (
-            Operator::Equal,
-            Value::Int(1),
-            text(alloc, "1")?,
-            Ok(Value::Bool(false)),
-        ),
-        (
-            Operator::NotEqual,
-            Value::Int(1),
-            text(alloc, "1")?,
-            Ok(Value::Bool(true)),
-        ),
-        (
-            Operator::Equal,
-            Value::Null,
-            Value::Null,
-            Ok(Value::Bool(true)),
-        ),
-        (
-            Operator::Equal,
-            first_map(alloc)?,
-            first_map(alloc)?,
-            Ok(Value::Bool(true)),
-        ),
-        (
-            Operator::Equal,
-            items(alloc, [Value::Unknown])?,
-            Value::Int(1),
-            Ok(Value::Unknown),
-        ),
-        (
-            Operator::NotEqual,
-            Value::Null,
-            entry(alloc, "k", Value::Unknown)?,
-            Ok(Value::Unknown),
-        ),
-        (
-            Operator::Add,
-            Value::Unknown,
-            Value::Null,
-            Ok(Value::Unknown),
-        ),
-        (
-            Operator::And,
-            Value::Int(1),
-            Value::Unknown,
-            Ok(Value::Unknown),
-        ),
-        (
-            Operator::Add,
-            Value::Int(1),
-            text(alloc, "1")?,
-            Err(EvalFault::WrongKind),
-        ),
-        (
-            Operator::Add,
-            text(alloc, "a")?,
-            text(alloc, "b")?,
-            Err(EvalFault::WrongKind),
-        ),
-        (
-            Operator::Less,
-            items(alloc, [Value::Unknown])?,
-            Value::Int(1),
-            Err(EvalFault::WrongKind),
-        ),
-        (
-            Operator::Or,
-            Value::Bool(true),
-            Value::Null,
-            Err(EvalFault::WrongKind),
-        ),
+    let found = binary(Operator::Add, Value::Unknown, Value::Null);
+    assert_eq!(rt; found, Ok(Value::Unknown));
+    let found = binary(Operator::And, Value::Int(1), Value::Unknown);
+    assert_eq!(rt; found, Ok(Value::Unknown));
+    let found = binary(Operator::Or, Value::Bool(true), Value::Null);
+    assert_eq!(rt; found, Err(EvalFault::WrongKind));
+    let found = binary(Operator::Add, Value::Int(1), text(alloc, "1")?);
+    assert_eq!(rt; found, Err(EvalFault::WrongKind));
+    let found = binary(Operator::Add, text(alloc, "a")?, text(alloc, "b")?);
+    assert_eq!(rt; found, Err(EvalFault::WrongKind));
+    let found = binary(Operator::Less, alone(alloc, Value::Unknown)?, Value::Int(1));
+    assert_eq!(rt; found, Err(EvalFault::WrongKind));
+    Ok(())
+}
+
+#[test]
+fn items_by_number(rt: HostRuntime) -> Result<(), Fail> {
+    for (number, expected) in [
+        (0, Ok(Value::Int(1))),
+        (1, Ok(Value::Int(2))),
+        (2, Err(EvalFault::Missing)),
+        (-1, Err(EvalFault::Missing)),
+        (i64::MAX, Err(EvalFault::Missing)),
+        (i64::MIN, Err(EvalFault::Missing)),
     ] {
-        let found: Answer = binary(operator, left, right);
-        assert_eq!(rt; found, expected, "{operator:?}");
+        let numbers = pair(rt.alloc(), Value::Int(1), Value::Int(2))?;
+        let found: Answer = index(numbers, Value::Int(number));
+        assert_eq!(rt; found, expected, "{number}");
     }
     Ok(())
 }
 
 #[test]
-fn parts(rt: HostRuntime) -> Result<(), Fail> {
+fn entries_by_key(rt: HostRuntime) -> Result<(), Fail> {
     let alloc = rt.alloc();
-    let pair = || items(alloc, [Value::Int(1), Value::Int(2)]);
-    for (value, place, expected) in [
-        (pair()?, Value::Int(0), Ok(Value::Int(1))),
-        (pair()?, Value::Int(1), Ok(Value::Int(2))),
-        (pair()?, Value::Int(2), Err(EvalFault::Missing)),
-        (pair()?, Value::Int(-1), Err(EvalFault::Missing)),
-        (pair()?, Value::Int(i64::MIN), Err(EvalFault::Missing)),
-        (pair()?, text(alloc, "0")?, Err(EvalFault::WrongKind)),
-        (first_map(alloc)?, text(alloc, "b")?, Ok(Value::Int(1))),
-        (
-            first_map(alloc)?,
-            text(alloc, "c")?,
-            Err(EvalFault::Missing),
-        ),
-        (first_map(alloc)?, Value::Int(0), Err(EvalFault::WrongKind)),
-        (text(alloc, "ab")?, Value::Int(0), Err(EvalFault::WrongKind)),
-        (Value::Unknown, Value::Null, Ok(Value::Unknown)),
-        (Value::Null, Value::Unknown, Ok(Value::Unknown)),
-        (pair()?, Value::Unknown, Ok(Value::Unknown)),
-        (
-            items(alloc, [Value::Unknown])?,
-            Value::Int(0),
-            Ok(Value::Unknown),
-        ),
-    ] {
-        let found: Answer = index(value, place);
-        assert_eq!(rt; found, expected);
-    }
+    let found = index(first_map(alloc)?, text(alloc, "b")?);
+    assert_eq!(rt; found, Ok(Value::Int(1)));
+    let found = index(first_map(alloc)?, text(alloc, "c")?);
+    assert_eq!(rt; found, Err(EvalFault::Missing));
     assert_eq!(rt; attribute(first_map(alloc)?, "a"), Ok(Value::Int(2)));
     assert_eq!(rt; attribute(first_map(alloc)?, "c"), Err(EvalFault::Missing));
     assert_eq!(rt; attribute(Value::Unknown, "c"), Ok(Value::Unknown));
-    assert_eq!(rt; attribute(pair()?, "a"), Err(EvalFault::WrongKind));
+    assert_eq!(rt; attribute(Value::Null, "a"), Err(EvalFault::WrongKind));
     Ok(())
+}
+
+#[test]
+fn indices_of_other_kinds(rt: HostRuntime) -> Result<(), Fail> {
+    let alloc = rt.alloc();
+    let found = index(alone(alloc, Value::Null)?, text(alloc, "0")?);
+    assert_eq!(rt; found, Err(EvalFault::WrongKind));
+    let found = index(first_map(alloc)?, Value::Int(0));
+    assert_eq!(rt; found, Err(EvalFault::WrongKind));
+    let found = index(text(alloc, "ab")?, Value::Int(0));
+    assert_eq!(rt; found, Err(EvalFault::WrongKind));
+    assert_eq!(rt; index(Value::Unknown, Value::Null), Ok(Value::Unknown));
+    assert_eq!(rt; index(Value::Null, Value::Unknown), Ok(Value::Unknown));
+    let found = index(alone(alloc, Value::Null)?, Value::Unknown);
+    assert_eq!(rt; found, Ok(Value::Unknown));
+    let found = index(alone(alloc, Value::Unknown)?, Value::Int(0));
+    assert_eq!(rt; found, Ok(Value::Unknown));
+    Ok(())
+}
+
+// What a value between two texts is joined to.
+fn joined(alloc: Global, value: &Value) -> Result<Answer, AllocError> {
+    let mut joiner = Joiner::new(alloc);
+    joiner.push_text("a")?;
+    joiner.push_value(value)?;
+    joiner.push_text("c")?;
+    Ok(joiner.finish())
 }
 
 #[test]
 fn joins(rt: HostRuntime) -> Result<(), Fail> {
     let alloc = rt.alloc();
     for (value, expected) in [
-        (text(alloc, "b")?, Ok(text(alloc, "abc")?)),
-        (Value::Int(-12), Ok(text(alloc, "a-12c")?)),
-        (
-            Value::Int(i64::MIN),
-            Ok(text(alloc, "a-9223372036854775808c")?),
-        ),
-        (Value::Int(0), Ok(text(alloc, "a0c")?)),
-        (Value::Bool(true), Ok(text(alloc, "atruec")?)),
-        (Value::Bool(false), Ok(text(alloc, "afalsec")?)),
-        (Value::Unknown, Ok(Value::Unknown)),
-        (Value::Null, Err(EvalFault::WrongKind)),
-        (items(alloc, [Value::Unknown])?, Err(EvalFault::WrongKind)),
-        (first_map(alloc)?, Err(EvalFault::WrongKind)),
+        (Value::Int(-12), "a-12c"),
+        (Value::Int(i64::MIN), "a-9223372036854775808c"),
+        (Value::Int(0), "a0c"),
+        (Value::Bool(true), "atruec"),
+        (Value::Bool(false), "afalsec"),
     ] {
-        let mut joiner = Joiner::new(alloc);
-        joiner.push_text("a")?;
-        joiner.push_value(&value)?;
-        joiner.push_text("c")?;
-        let found: Answer = joiner.finish();
-        assert_eq!(rt; found, expected, "a{value:?}c");
+        assert!(rt; is_text(&joined(alloc, &value)?, expected), "{expected}");
     }
-    assert_eq!(rt; Joiner::new(alloc).finish(), Ok(text(alloc, "")?));
-    let mut late = Joiner::new(alloc);
-    late.push_value(&Value::Null)?;
-    late.push_value(&Value::Unknown)?;
-    late.push_value(&Value::Null)?;
-    assert_eq!(rt; late.finish(), Ok(Value::Unknown));
+    let found = joined(alloc, &text(alloc, "b")?)?;
+    assert!(rt; is_text(&found, "abc"));
+    assert_eq!(rt; joined(alloc, &Value::Unknown)?, Ok(Value::Unknown));
+    assert_eq!(rt; joined(alloc, &Value::Null)?, Err(EvalFault::WrongKind));
+    let hidden = alone(alloc, Value::Unknown)?;
+    assert_eq!(rt; joined(alloc, &hidden)?, Err(EvalFault::WrongKind));
+    assert_eq!(rt;
+        joined(alloc, &first_map(alloc)?)?,
+        Err(EvalFault::WrongKind)
+    );
+    assert!(rt; is_text(&Joiner::new(alloc).finish(), ""));
     Ok(())
 }
 
-// What a function answers to these arguments.
-fn called<const N: usize>(
-    rt: &(impl Abort + AllocGlobal),
-    function: Function,
-    values: [Value; N],
-) -> Result<Answer, AllocError> {
-    let mut arguments = Vec::new(rt.alloc());
-    for value in values {
-        arguments.push(value)?;
-    }
-    assert!(rt; function.takes(arguments.len()));
-    Ok(call(rt.alloc(), function, arguments))
+#[test]
+fn unknown_before_wrong_kinds(rt: HostRuntime) -> Result<(), Fail> {
+    let mut joiner = Joiner::new(rt.alloc());
+    joiner.push_value(&Value::Null)?;
+    joiner.push_value(&Value::Unknown)?;
+    joiner.push_value(&Value::Null)?;
+    assert_eq!(rt; joiner.finish(), Ok(Value::Unknown));
+    Ok(())
 }
 
 #[test]
-fn collections(rt: HostRuntime) -> Result<(), Fail> {
+fn keys_and_values(rt: HostRuntime) -> Result<(), Fail> {
     let alloc = rt.alloc();
-    let second = || entry(alloc, "a", Value::Int(5));
-    let found = called(&rt, Function::Keys, [first_map(alloc)?])?;
-    assert_eq!(rt;
-        found,
-        Ok(items(alloc, [text(alloc, "a")?, text(alloc, "b")?])?)
-    );
-    let found = called(&rt, Function::Values, [first_map(alloc)?])?;
-    assert_eq!(rt; found, Ok(items(alloc, [Value::Int(2), Value::Int(1)])?));
-    let found = called(&rt, Function::Merge, [first_map(alloc)?, second()?])?;
-    let key = text(alloc, "a")?;
-    assert_eq!(rt; index(found.map_err(|_| "no map")?, key), Ok(Value::Int(5)));
-    let found = called(&rt, Function::Merge, [second()?, first_map(alloc)?])?;
-    assert_eq!(rt; found, Ok(first_map(alloc)?));
-    let one = items(alloc, [Value::Int(1)])?;
-    let more = items(alloc, [Value::Unknown, Value::Int(3)])?;
-    let all = items(alloc, [Value::Int(1), Value::Unknown, Value::Int(3)])?;
-    assert_eq!(rt; called(&rt, Function::Concat, [one, more])?, Ok(all));
-    let unknown = items(alloc, [Value::Unknown])?;
-    assert_eq!(rt;
-        called(&rt, Function::Length, [unknown])?,
-        Ok(Value::Int(1))
-    );
-    assert_eq!(rt;
-        called(&rt, Function::Length, [first_map(alloc)?])?,
-        Ok(Value::Int(2))
-    );
+    let found = call(alloc, Function::Keys, vec![in alloc; first_map(alloc)?]?);
+    let names = pair(alloc, text(alloc, "a")?, text(alloc, "b")?)?;
+    assert_eq!(rt; found, Ok(names));
+    let found = call(alloc, Function::Values, vec![in alloc; first_map(alloc)?]?);
+    assert_eq!(rt; found, Ok(pair(alloc, Value::Int(2), Value::Int(1))?));
     let hidden = entry(alloc, "k", Value::Unknown)?;
-    let key = items(alloc, [text(alloc, "k")?])?;
-    assert_eq!(rt; called(&rt, Function::Keys, [hidden])?, Ok(key));
+    let found = call(alloc, Function::Keys, vec![in alloc; hidden]?);
+    assert_eq!(rt; found, Ok(alone(alloc, text(alloc, "k")?)?));
+    Ok(())
+}
+
+#[test]
+fn lengths(rt: HostRuntime) -> Result<(), Fail> {
+    let alloc = rt.alloc();
+    let found = call(alloc, Function::Length, vec![in alloc; first_map(alloc)?]?);
+    assert_eq!(rt; found, Ok(Value::Int(2)));
+    let hidden = alone(alloc, Value::Unknown)?;
+    let found = call(alloc, Function::Length, vec![in alloc; hidden]?);
+    assert_eq!(rt; found, Ok(Value::Int(1)));
+    Ok(())
+}
+
+#[test]
+fn merges(rt: HostRuntime) -> Result<(), Fail> {
+    let alloc = rt.alloc();
+    let second = entry(alloc, "a", Value::Int(5))?;
+    let maps = vec![in alloc; first_map(alloc)?, second]?;
+    let Ok(merged) = call(alloc, Function::Merge, maps) else {
+        return Err("no map".into());
+    };
+    assert_eq!(rt; attribute(merged, "a"), Ok(Value::Int(5)));
+    let second = entry(alloc, "a", Value::Int(5))?;
+    let maps = vec![in alloc; second, first_map(alloc)?]?;
+    assert_eq!(rt; call(alloc, Function::Merge, maps), Ok(first_map(alloc)?));
+    Ok(())
+}
+
+#[test]
+fn concatenates(rt: HostRuntime) -> Result<(), Fail> {
+    let alloc = rt.alloc();
+    let one = alone(alloc, Value::Int(1))?;
+    let more = alone(alloc, Value::Unknown)?;
+    let found = call(alloc, Function::Concat, vec![in alloc; one, more]?);
+    assert_eq!(rt; found, Ok(pair(alloc, Value::Int(1), Value::Unknown)?));
     Ok(())
 }
 
@@ -368,63 +365,63 @@ fn arguments_of_other_kinds(rt: HostRuntime) -> Result<(), Fail> {
         Function::Merge,
         Function::Concat,
     ] {
-        let unknown = called(&rt, function, [Value::Unknown])?;
-        assert_eq!(rt; unknown, Ok(Value::Unknown), "{function:?}");
-        let null = called(&rt, function, [Value::Null])?;
-        assert_eq!(rt; null, Err(EvalFault::WrongKind), "{function:?}");
-        let letters = called(&rt, function, [text(alloc, "abc")?])?;
-        assert_eq!(rt; letters, Err(EvalFault::WrongKind), "{function:?}");
-    }
-    for function in [Function::Merge, Function::Concat] {
-        let found = called(&rt, function, [Value::Null, Value::Unknown])?;
+        assert!(rt; function.takes(1));
+        let found = call(alloc, function, vec![in alloc; Value::Unknown]?);
         assert_eq!(rt; found, Ok(Value::Unknown), "{function:?}");
+        let found = call(alloc, function, vec![in alloc; Value::Int(1)]?);
+        assert_eq!(rt; found, Err(EvalFault::WrongKind), "{function:?}");
+        let found = call(alloc, function, vec![in alloc; text(alloc, "abc")?]?);
+        assert_eq!(rt; found, Err(EvalFault::WrongKind), "{function:?}");
     }
+    let two = vec![in alloc; Value::Null, Value::Unknown]?;
+    assert_eq!(rt; call(alloc, Function::Merge, two), Ok(Value::Unknown));
+    let two = vec![in alloc; Value::Null, Value::Unknown]?;
+    assert_eq!(rt; call(alloc, Function::Concat, two), Ok(Value::Unknown));
     Ok(())
+}
+
+// What `join` answers.
+fn join(alloc: Global, separator: Value, list: Value) -> Result<Answer, AllocError> {
+    Ok(call(alloc, Function::Join, vec![in alloc; separator, list]?))
 }
 
 #[test]
 fn joined_lists(rt: HostRuntime) -> Result<(), Fail> {
     let alloc = rt.alloc();
-    let letters = || items(alloc, [text(alloc, "x")?, text(alloc, "y")?]);
-    let mixed = items(alloc, [Value::Int(1), Value::Bool(true), text(alloc, "")?])?;
-    let nested = items(alloc, [items(alloc, [Value::Unknown])?])?;
-    for (separator, list, expected) in [
-        (text(alloc, "-")?, letters()?, Ok(text(alloc, "x-y")?)),
-        (Value::Int(0), letters()?, Ok(text(alloc, "x0y")?)),
-        (
-            Value::Bool(false),
-            mixed,
-            Ok(text(alloc, "1falsetruefalse")?),
-        ),
-        (text(alloc, "-")?, items(alloc, [])?, Ok(text(alloc, "")?)),
-        (
-            text(alloc, "-")?,
-            items(alloc, [Value::Int(7)])?,
-            Ok(text(alloc, "7")?),
-        ),
-        (Value::Null, items(alloc, [])?, Err(EvalFault::WrongKind)),
-        (letters()?, letters()?, Err(EvalFault::WrongKind)),
-        (
-            text(alloc, "-")?,
-            items(alloc, [Value::Null])?,
-            Err(EvalFault::WrongKind),
-        ),
-        (
-            text(alloc, "-")?,
-            text(alloc, "x")?,
-            Err(EvalFault::WrongKind),
-        ),
-        (Value::Null, nested, Ok(Value::Unknown)),
-        (Value::Unknown, Value::Null, Ok(Value::Unknown)),
-        (
-            text(alloc, "-")?,
-            entry(alloc, "k", Value::Unknown)?,
-            Ok(Value::Unknown),
-        ),
-    ] {
-        let found = called(&rt, Function::Join, [separator, list])?;
-        assert_eq!(rt; found, expected);
-    }
+    let letters = pair(alloc, text(alloc, "x")?, text(alloc, "y")?)?;
+    assert!(rt; is_text(&join(alloc, text(alloc, "-")?, letters)?, "x-y"));
+    let mixed = pair(alloc, Value::Int(1), Value::Bool(true))?;
+    assert!(rt; is_text(&join(alloc, Value::Bool(false), mixed)?, "1falsetrue"));
+    let none = Value::List(Vec::new(alloc));
+    assert!(rt; is_text(&join(alloc, Value::Int(0), none)?, ""));
+    let one = alone(alloc, Value::Int(7))?;
+    assert!(rt; is_text(&join(alloc, text(alloc, "-")?, one)?, "7"));
+    Ok(())
+}
+
+#[test]
+fn lists_not_joined(rt: HostRuntime) -> Result<(), Fail> {
+    let alloc = rt.alloc();
+    let none = Value::List(Vec::new(alloc));
+    assert_eq!(rt; join(alloc, Value::Null, none)?, Err(EvalFault::WrongKind));
+    let null = alone(alloc, Value::Null)?;
+    assert_eq!(rt;
+        join(alloc, Value::Int(0), null)?,
+        Err(EvalFault::WrongKind)
+    );
+    let letters = text(alloc, "x")?;
+    assert_eq!(rt;
+        join(alloc, Value::Int(0), letters)?,
+        Err(EvalFault::WrongKind)
+    );
+    let nested = alone(alloc, alone(alloc, Value::Unknown)?)?;
+    assert_eq!(rt; join(alloc, Value::Null, nested)?, Ok(Value::Unknown));
+    let hidden = entry(alloc, "k", Value::Unknown)?;
+    assert_eq!(rt; join(alloc, Value::Int(0), hidden)?, Ok(Value::Unknown));
+    assert_eq!(rt;
+        join(alloc, Value::Unknown, Value::Null)?,
+        Ok(Value::Unknown)
+    );
     Ok(())
 }
 
@@ -455,37 +452,32 @@ fn weights(rt: HostRuntime) -> Result<(), Fail> {
     assert!(rt; list(nulls(alloc, 999_999)?).is_ok());
     assert_eq!(rt; list(nulls(alloc, 1_000_000)?), Err(EvalFault::TooLarge));
     assert!(rt; limited(Value::Text(long(alloc, 999_999)?)).is_ok());
-    assert_eq!(rt;
-        limited(Value::Text(long(alloc, 1_000_000)?)),
-        Err(EvalFault::TooLarge)
-    );
-    let halves = [
-        Value::List(nulls(alloc, 500_000)?),
-        Value::List(nulls(alloc, 499_999)?),
-    ];
-    assert!(rt; called(&rt, Function::Concat, halves)?.is_ok());
-    let halves = [
-        Value::List(nulls(alloc, 500_000)?),
-        Value::List(nulls(alloc, 500_000)?),
-    ];
-    assert_eq!(rt;
-        called(&rt, Function::Concat, halves)?,
-        Err(EvalFault::TooLarge)
-    );
-    let half = long(alloc, 500_000)?;
-    for (rest, fault) in [(499_999, None), (500_000, Some(EvalFault::TooLarge))] {
-        let mut joiner = Joiner::new(alloc);
-        joiner.push_text(half.as_str())?;
-        joiner.push_text(long(alloc, rest)?.as_str())?;
-        joiner.push_text("")?;
-        assert_eq!(rt; joiner.finish().err(), fault, "{rest} more bytes");
+    let above = limited(Value::Text(long(alloc, 1_000_000)?));
+    assert_eq!(rt; above, Err(EvalFault::TooLarge));
+    for (bytes, fault) in [(999_998, None), (999_999, Some(EvalFault::TooLarge))] {
+        let mut entries = BTreeMap::new(alloc);
+        drop(entries.insert(long(alloc, bytes)?, Value::Null)?);
+        assert_eq!(rt; map(entries).err(), fault, "{bytes} bytes");
     }
-    let mut entries = BTreeMap::new(alloc);
-    drop(entries.insert(long(alloc, 999_998)?, Value::Null)?);
-    assert!(rt; map(entries).is_ok());
-    let mut entries = BTreeMap::new(alloc);
-    drop(entries.insert(long(alloc, 999_999)?, Value::Null)?);
-    assert_eq!(rt; map(entries), Err(EvalFault::TooLarge));
+    Ok(())
+}
+
+#[test]
+fn weights_of_joined_parts(rt: HostRuntime) -> Result<(), Fail> {
+    let alloc = rt.alloc();
+    for (more, fault) in [(499_999, None), (500_000, Some(EvalFault::TooLarge))] {
+        let first = Value::List(nulls(alloc, 500_000)?);
+        let second = Value::List(nulls(alloc, more)?);
+        let lists = call(alloc, Function::Concat, vec![in alloc; first, second]?);
+        assert_eq!(rt; lists.err(), fault, "{more} more items");
+        let first = long(alloc, 500_000)?;
+        let second = long(alloc, more)?;
+        let mut joiner = Joiner::new(alloc);
+        joiner.push_text(first.as_str())?;
+        joiner.push_text(second.as_str())?;
+        joiner.push_text("")?;
+        assert_eq!(rt; joiner.finish().err(), fault, "{more} more bytes");
+    }
     Ok(())
 }
 
@@ -494,7 +486,10 @@ fn depths(rt: HostRuntime) -> Result<(), Fail> {
     let alloc = rt.alloc();
     let mut value = Value::Null;
     for _ in 0..32 {
-        value = list(vec![in alloc; value]?).map_err(|_| "too deep")?;
+        let Ok(deeper) = list(vec![in alloc; value]?) else {
+            return Err("too deep".into());
+        };
+        value = deeper;
     }
     assert_eq!(rt; list(vec![in alloc; value]?), Err(EvalFault::TooLarge));
     Ok(())
@@ -520,35 +515,40 @@ fn numbered(alloc: Global, first: u32, count: u32) -> Result<Value, AllocError> 
 }
 
 #[test]
-fn many_parts(rt: HostRuntime) -> Result<(), Fail> {
+fn many_texts(rt: HostRuntime) -> Result<(), Fail> {
     let alloc = rt.alloc();
-    let found = called(
-        &rt,
-        Function::Join,
-        [text(alloc, ",")?, letters(alloc, 100_000)?],
-    )?;
+    let found = join(alloc, text(alloc, ",")?, letters(alloc, 100_000)?)?;
     let Ok(Value::Text(joined)) = found else {
         return Err("no text".into());
     };
     assert_eq!(rt; joined.len(), 199_999);
-    let maps = [
-        numbered(alloc, 100_000, 50_000)?,
-        numbered(alloc, 125_000, 50_000)?,
-    ];
-    let merged = called(&rt, Function::Merge, maps)?.map_err(|_| "no map")?;
-    assert_eq!(rt;
-        called(&rt, Function::Length, [merged])?,
-        Ok(Value::Int(75_000))
-    );
-    let mut arguments = Vec::new(alloc);
+    Ok(())
+}
+
+#[test]
+fn large_maps(rt: HostRuntime) -> Result<(), Fail> {
+    let alloc = rt.alloc();
+    let first = numbered(alloc, 100_000, 50_000)?;
+    let second = numbered(alloc, 125_000, 50_000)?;
+    let Ok(Value::Map(merged)) = call(alloc, Function::Merge, vec![in alloc; first, second]?) else {
+        return Err("no map".into());
+    };
+    assert_eq!(rt; merged.len(), 75_000);
+    Ok(())
+}
+
+#[test]
+fn many_lists(rt: HostRuntime) -> Result<(), Fail> {
+    let alloc = rt.alloc();
+    let mut lists = Vec::with_capacity(alloc, 100_000)?;
     for _ in 0..100_000 {
-        arguments.push(items(alloc, [Value::Null, Value::Null])?)?;
+        lists.push(pair(alloc, Value::Null, Value::Null)?)?;
     }
-    let joined = call(alloc, Function::Concat, arguments).map_err(|_| "no list")?;
-    assert_eq!(rt;
-        called(&rt, Function::Length, [joined])?,
-        Ok(Value::Int(200_000))
-    );
+    assert!(rt; Function::Concat.takes(lists.len()));
+    let Ok(Value::List(joined)) = call(alloc, Function::Concat, lists) else {
+        return Err("no list".into());
+    };
+    assert_eq!(rt; joined.len(), 200_000);
     Ok(())
 }
 
@@ -578,4 +578,5 @@ fn laws() {
     crate::laws::calls_grow();
     crate::laws::answers_are_within_limits();
     crate::laws::later_map_wins();
+    crate::laws::known_stays_known();
 }
