@@ -1,3 +1,4 @@
+pub mod Place
 pub mod Provider
 pub mod State
 pub mod Text

@@ -1,6 +1,7 @@
 //! The state of what was created, and its text in Terraform's state file format, version 4.
 #![tactic(auto)]
 
+mod key;
 mod object;
 mod provider;
 mod state;
@@ -8,6 +9,7 @@ mod state;
 mod tests;
 mod writing;
 
+pub use key::{Key, Place};
 pub use object::Object;
 pub use provider::provider_address;
 pub use state::{Record, Resource, State};
