@@ -2,3 +2,4 @@ pub mod Place
 pub mod Provider
 pub mod State
 pub mod Text
+pub mod Types

@@ -4,9 +4,12 @@
 mod key;
 mod object;
 mod provider;
+mod record_writing;
 mod state;
 #[cfg(test)]
 mod tests;
+mod types;
+mod words;
 mod writing;
 
 pub use key::{Key, Place};

@@ -1,6 +1,7 @@
-use crate::{Object, Record, Resource, State, provider_address, write};
+use crate::{Key, Object, Place, Record, Resource, State, provider_address, write};
 use serde_json::Value as Json;
 use std::alloc::Global;
+use std::collections::BTreeSet;
 use std::test::Fail;
 use tf_address::Label;
 use tf_value::{from_json, is_known};
@@ -14,9 +15,15 @@ fn put_net(alloc: Global, state: &mut State, name: &str, tainted: bool) -> Resul
     }
     let mut records = Vec::new(alloc);
     records.push(Record {
+        place: Place {
+            key: Key::Single,
+            deposed: None,
+        },
         attributes: Object { value },
         schema_version: 0,
         tainted,
+        dependencies: BTreeSet::new(alloc),
+        create_before_destroy: false,
     })?;
     let resource = Resource {
         label: Label {
