@@ -1,17 +1,23 @@
 //! The state of what was created, and its text in Terraform's state file format, version 4.
 #![tactic(auto)]
 
+mod body;
+mod fault;
 mod key;
 mod object;
 mod provider;
+mod record_reading;
 mod record_writing;
+mod shape;
 mod state;
 #[cfg(test)]
 mod tests;
 mod types;
+mod value_reading;
 mod words;
 mod writing;
 
+pub use fault::StateFault;
 pub use key::{Key, Place};
 pub use object::Object;
 pub use provider::provider_address;
