@@ -1,12 +1,12 @@
 -- Values that are read are known.
-use Rattle.std.proofs.Common.{◌≡◌, ℕ, List, Bool, true, false, ◌&&◌, Option, Some, None, cond, Ordering, Less, Equal, Greater, nat_cmp, refl, ap, sym, ◌∙◌, subst, Global, BTreeMap, String}
+use Rattle.std.proofs.Common.{◌≡◌, ℕ, List, Bool, true, false, ◌&&◌, Option, Some, None, cond, Ordering, Less, Equal, Greater, nat_cmp, refl, ap, ◌∙◌, subst, Global, BTreeMap, String}
 use Rattle.std.specs.Cmp.Lexicographic.{slice_cmp}
 use Rattle.std.specs.Ordering.{match_ordering}
 use Rattle.std.specs.Prelude.{option_and_then}
 use Rattle.serde_json.specs.Data.{Data, Members, no_members, member}
 use Rattle.tf_value.specs.Json.{tree_from}
 use Rattle.tf_value.specs.Known.{known, known_entries}
-use Rattle.tf_value.specs.Tree.{Tree, map, Entries, no_entries, entry, put, tree_of, entries_view}
+use Rattle.tf_value.specs.Tree.{Tree, Entries, no_entries, entry, put, tree_of, entries_view}
 use Rattle.tf_value.specs.declared.value.Value.{Value, Map as Mapped}
 use Rattle.tf_value.proofs.Views.{tree_of-Map}
 use Rattle.tf_value.proofs.Conjunction.{and-first, and-second, and-both}

@@ -4,5 +4,6 @@ pub mod Loops
 pub mod Ordered
 pub mod PlaceOrder
 pub mod Places
+pub mod Refusals
 pub mod TypeForms
 pub mod ValueForms

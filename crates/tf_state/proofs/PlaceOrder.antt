@@ -1,6 +1,6 @@
 -- The derived orders of places and of addresses are those of the plain data.
-use Rattle.std.proofs.Common.{◌≡◌, refl, ap, ap₂, ◌∙◌, rules}
-use Rattle.std.specs.Prelude.{ℕ, Option, Some, None, String, string_bytes}
+use Rattle.std.proofs.Common.{◌≡◌, refl, ap₂}
+use Rattle.std.specs.Prelude.{Option, Some, None, String}
 use Rattle.std.specs.Ordering.{ordering_then}
 use Rattle.std.specs.Option.{option_cmp}
 use Rattle.std.specs.String.{string_cmp}

@@ -1,5 +1,5 @@
 -- What a JSON tree is read as, by the clauses of the crate of values.
-use Rattle.std.proofs.Common.{◌≡◌, ◌≤◌, ◌<◌, ℕ, Bool, true, false, ◌&&◌, Option, Some, None, cond, refl, ap, sym, ◌∙◌, subst, ⊎_elim}
+use Rattle.std.proofs.Common.{◌≡◌, ◌<◌, Bool, true, false, ◌&&◌, Some, None, cond, refl, subst, ⊎_elim}
 use Rattle.std.proofs.lemmas.Bool.{le-leb, lt-leb}
 use Rattle.serde_json.specs.Data.{Data}
 use Rattle.tf_value.specs.Json.{value_from, tree_from, IsUnread}

@@ -1,5 +1,5 @@
 -- Records, resources and outputs that were read, as plain data.
-use Rattle.std.specs.Prelude.{List, map, String, string_bytes}
+use Rattle.std.specs.Prelude.{List, map, string_bytes}
 use Rattle.tf_address.specs.Label.{label_of}
 use Rattle.tf_address.specs.declared.label.Label.{Label}
 use Rattle.tf_value.specs.Tree.{tree_of}

@@ -1,10 +1,10 @@
 -- What a JSON tree says as a state. Each function answers what a part is read as, and none where the format refuses it.
-use Rattle.std.specs.Prelude.{◌≡◌, ℕ, ◌^◌, ◌<◌, ◌≤◌, ◌⊎◌, Bool, true, false, not, ◌&&◌, ◌==◌, nat_lt, nat_le, if◌then◌else◌, List, [], ◌∷◌, length, filter, Option, Some, None, option_map, option_and_then, codes, IsUtf8}
+use Rattle.std.specs.Prelude.{◌≡◌, ℕ, ◌^◌, ◌<◌, ◌≤◌, ◌⊎◌, Bool, true, false, ◌&&◌, ◌==◌, nat_lt, nat_le, if◌then◌else◌, List, [], ◌∷◌, length, filter, Option, Some, None, option_map, option_and_then, codes, IsUtf8}
 use Rattle.std.specs.Cmp.Lexicographic.{slice_cmp}
 use Rattle.std.specs.Ordering.{nat_cmp, match_ordering}
 use Rattle.std.specs.Str.{bytes_eq}
 use Rattle.std.specs.declared.cmp.Ordering.{Ordering}
-use Rattle.serde_json.specs.Data.{Data, null, boolean, number as json_number, unsigned, negative, float, string, array, object, Items, no_items, item, Members, no_members, member}
+use Rattle.serde_json.specs.Data.{Data, null, boolean, number as json_number, unsigned, string, array, object, Items, no_items, item, Members, no_members, member}
 use Rattle.serde_json.specs.Find.{get}
 use Rattle.serde_json.specs.Read.{read}
 use Rattle.tf_address.specs.Label.{label_cmp}
@@ -281,3 +281,9 @@ abbrev pub IsUnread : List ℕ → StateFault → Type 0
 IsUnread bytes BadState = (s : StateView) → ¬ Reads bytes s
 IsUnread bytes Limit = (s : StateView) × Reads bytes s × IsBeyond s
 IsUnread bytes OutOfMemory = Unit {0}
+
+-- Why bytes are no JSON tree: they aren't UTF-8, or no JSON; or there was no memory.
+abbrev pub IsNoJson : List ℕ → StateFault → Type 0
+IsNoJson bytes BadState = (d : Data) → ¬ (IsUtf8 bytes × (read bytes ≡ Some d))
+IsNoJson bytes Limit = ⊥
+IsNoJson bytes OutOfMemory = Unit {0}

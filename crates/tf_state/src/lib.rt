@@ -6,8 +6,10 @@ mod fault;
 mod key;
 mod object;
 mod provider;
+mod reading;
 mod record_reading;
 mod record_writing;
+mod resource_reading;
 mod shape;
 mod state;
 #[cfg(test)]
@@ -21,5 +23,6 @@ pub use fault::StateFault;
 pub use key::{Key, Place};
 pub use object::Object;
 pub use provider::provider_address;
+pub use reading::read;
 pub use state::{Record, Resource, State};
 pub use writing::write;

@@ -104,10 +104,7 @@ pub(crate) fn read_key(alloc: Global, json: Option<&Json>) -> Result<Key, StateF
 }
 
 /// The key of a deposed object.
-pub(crate) fn read_deposed(
-    alloc: Global,
-    json: Option<&Json>,
-) -> Result<Option<String>, StateFault>
+pub(crate) fn read_deposed(alloc: Global, json: Option<&Json>) -> Result<Option<String>, StateFault>
     ensures ok { IfOk result (λ d. deposed_in (option_map (λ v. view v.now) json.entry) ≡ Some (deposed_of d)) }
     ensures err { IfErr result (λ e. IsRefused (deposed_in (option_map (λ v. view v.now) json.entry)) e) }
 {

@@ -1,8 +1,6 @@
-use Rattle.std.proofs.Common.{◌≡◌, Some, None, true, false, Option, refl, sym, ap, ◌∙◌, cond}
+use Rattle.std.proofs.Common.{Some, sym, ap, ◌∙◌}
 use Rattle.std.specs.Prelude.{is_some}
-use Rattle.std.specs.BTreeMap.{is_at}
-use Rattle.std.specs.Map.{lookup}
-use Rattle.tf_state.specs.Reading.{put_new, record_cmp}
+use Rattle.tf_state.specs.Reading.{record_cmp}
 use Rattle.tf_state.specs.Made.{record_made, records_made}
 use Rattle.tf_state.specs.contracts.key.PlaceOrd.TheImpl as places
 use Rattle.tf_state.specs.contracts.key.PlaceOrd.TheImpl.Laws.{total-law}
