@@ -1,23 +1,31 @@
 -- The text of a plain tree reads as that tree.
-use Rattle.std.proofs.Common.{◌≡◌, ℕ, zero, suc, ◌<◌, ◌≤◌, pos, negsuc, List, [], ◌∷◌, ◌++◌, Some, Ordering, Less, Equal, Greater, nat_cmp, refl, sym, ap, ap₂, ◌∙◌, subst, append-nil, arith}
-use Rattle.std.specs.Prelude.{Option, option_map, option_and_then}
+use Rattle.std.proofs.Common.{◌≡◌, ℕ, suc, ◌^◌, ◌<◌, ◌≤◌, ◌==◌, false, get_or, decimal, pos, negsuc, List, [], ◌∷◌, Some, Greater, nat_cmp, refl, sym, ap, ◌∙◌, subst, append-nil, arith}
+use Rattle.std.specs.Prelude.{option_map, option_and_then}
 use Rattle.std.specs.Cmp.Lexicographic.{slice_cmp}
 use Rattle.std.specs.Ordering.{ordering_reverse}
 use Rattle.std.proofs.lemmas.Cmp.{nat_list_cmp_total}
 use Rattle.json.specs.Json as json
-use Rattle.json.specs.Lex.{tokens}
 use Rattle.json.specs.Tree as tree
 use Rattle.json.proofs.Printed.Trees.{value-json_tokens, ArePrintable-json_tokens}
-use Rattle.json.proofs.Printed.Decimals.{IsNumber-decimal, IsNumber-signed_decimal}
+use Rattle.json.specs.Print.{IsNumber}
+use Rattle.json.specs.Word.{after_number}
+use Rattle.json.proofs.Printed.Decimals.{IsNumber-decimal}
+use Rattle.std.proofs.lemmas.Bool.{ne_eqb}
+use Rattle.std.proofs.lemmas.Fmt.{first_decimal}
 use Rattle.serde_json.specs.Data.{Data, null, boolean, number, unsigned, negative, float, string, array, object, Items, no_items, item, Members, no_members, member, put, depth, items_depth, members_depth}
-use Rattle.serde_json.specs.Read.{read, of_json, of_items, of_members, max_depth}
+use Rattle.serde_json.specs.Read.{of_json, of_items, of_members, max_depth}
 use Rattle.serde_json.specs.Written.{outline, items_outline, members_outline}
 use Rattle.serde_json.proofs.Numbers.{number_of-decimal, number_of-negative}
 use Rattle.tf_json.specs.Plain.{IsPlain, ArePlain, ArePlainMembers, AreAbove, TextReadsBack}
-use Rattle.tf_json.specs.Text.{text_of}
 use Rattle.tf_json.proofs.Gaps.{tokens-pretty}
 
 -- ---- numbers
+
+-- a number that begins with a digit other than 0 is one behind a minus, too
+negative_number : (s : List ℕ) → 48 < get_or s 0 0 → IsNumber s → IsNumber (45 ∷ s)
+unfolding after_number
+negative_number [] first h = absurd (omega arith)
+negative_number (d ∷ s) first h = let other : (d == 45) ≡ false = ne_eqb d 45 (λ e. omega arith) in rw other at h
 
 mutual
   HasNumbers-outline : (d : Data) → IsPlain d → tree.HasNumbers (outline d)
@@ -25,7 +33,10 @@ mutual
   HasNumbers-outline (boolean b) h = tt
   HasNumbers-outline (number (unsigned n)) h = IsNumber-decimal n h
   HasNumbers-outline (number (negative (pos n))) h = absurd h
-  HasNumbers-outline (number (negative (negsuc n))) h = ?
+  HasNumbers-outline (number (negative (negsuc n))) h =
+      let some : 0 < suc n = omega arith in
+      let fits : suc n < 2 ^ 64 = omega arith in
+      negative_number (decimal (suc n)) (first_decimal (suc n) some fits) (IsNumber-decimal (suc n) fits)
   HasNumbers-outline (number (float x)) h = absurd h
   HasNumbers-outline (string s) h = tt
   HasNumbers-outline (array ds) h = ItemsHaveNumbers-outline ds h
@@ -67,6 +78,10 @@ join (member k d ms) ns = member k d (join ms ns)
 join_assoc : (ms ns os : Members) → join (join ms ns) os ≡ join ms (join ns os)
 join_assoc no_members ns os = refl
 join_assoc (member k d ms) ns os = ap (member k d) (join_assoc ms ns os)
+
+join_nothing : (ms : Members) → join ms no_members ≡ ms
+join_nothing no_members = refl
+join_nothing (member k d ms) = ap (member k d) (join_nothing ms)
 
 -- a key is above each of these
 abbrev AreBelow : Members → List ℕ → Type 0
@@ -115,10 +130,6 @@ mutual
   of_members-outline (member k d ms) found h b =
       rw (of_json-outline d h.1, put-last k d found b.0)
       (of_members-outline ms (join found (member k d no_members)) h.2 (AllBelow-join found k d ms b.1 h.0) ∙ ap Some (join_assoc found (member k d no_members) ms))
-
-  join_nothing : (ms : Members) → join ms no_members ≡ ms
-  join_nothing no_members = refl
-  join_nothing (member k d ms) = ap (member k d) (join_nothing ms)
 
 pub text_reads_back : TextReadsBack
 text_reads_back d plain shallow =
