@@ -5,5 +5,6 @@ pub mod Ordered
 pub mod PlaceOrder
 pub mod Places
 pub mod Refusals
+pub mod Removal
 pub mod TypeForms
 pub mod ValueForms

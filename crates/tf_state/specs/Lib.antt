@@ -1,3 +1,4 @@
+pub mod LookUp
 pub mod Made
 pub mod Place
 pub mod Provider

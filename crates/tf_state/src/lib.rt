@@ -3,6 +3,7 @@
 
 mod body;
 mod fault;
+mod finding;
 mod key;
 mod object;
 mod provider;
