@@ -1,3 +1,4 @@
+pub mod Back
 pub mod Floats
 pub mod KnownForms
 pub mod Loops

@@ -1,3 +1,4 @@
+pub mod Laws
 pub mod LookUp
 pub mod Made
 pub mod Place
@@ -6,4 +7,5 @@ pub mod Reading
 pub mod State
 pub mod Text
 pub mod Types
+pub mod Valid
 pub mod Words
