@@ -1,22 +1,20 @@
 -- What is written is read back: values, tables, properties.
-use Rattle.std.proofs.Common.{◌≡◌, ℕ, ◌^◌, ◌<◌, Bool, true, false, ◌&&◌, List, [], ◌∷◌, ◌++◌, Option, Some, None, option_map, cond, Ordering, Less, Equal, Greater, nat_cmp, nat_lt, is_eq, map as each, refl, sym, ap, ap₂, ◌∙◌, subst, lt-ltb, append_assoc, append-nil}
+use Rattle.std.proofs.Common.{◌≡◌, ℕ, ◌^◌, ◌<◌, Bool, true, false, List, [], ◌∷◌, ◌++◌, Option, Some, None, option_map, Ordering, Greater, nat_cmp, map as each, refl, sym, ap, ◌∙◌, lt-ltb, append_assoc, append-nil}
 use Rattle.std.specs.Cmp.Lexicographic.{slice_cmp}
 use Rattle.std.specs.List.{AllByRecursion}
-use Rattle.std.specs.Ordering.{match_ordering, ordering_reverse}
+use Rattle.std.specs.Ordering.{ordering_reverse}
 use Rattle.std.specs.Prelude.{option_and_then}
 use Rattle.std.proofs.lemmas.Cmp.{nat_list_cmp_total}
-use Rattle.serde_json.specs.Data.{Data, object, string, number as json_number, unsigned, array, Members, no_members, member, Items, no_items, item}
+use Rattle.serde_json.specs.Data.{Data, string, number as json_number, unsigned, Members, no_members, member}
 use Rattle.serde_json.specs.View.{items_of}
-use Rattle.tf_json.specs.Plain.{ArePlainMembers, AreAbove, IsPlain}
-use Rattle.tf_value.specs.Json.{value_data, entries_data, value_from, tree_from}
-use Rattle.tf_value.specs.Known.{known}
+use Rattle.tf_json.specs.Plain.{ArePlainMembers, AreAbove}
+use Rattle.tf_value.specs.Json.{value_data, entries_data}
 use Rattle.tf_value.specs.Tree.{Tree, map, Entries, no_entries, entry, put}
 use Rattle.tf_value.proofs.Forms.{value_from-value_data}
 use Rattle.tf_state.specs.Place.{KeyView, single, number, name}
-use Rattle.tf_state.specs.Reading.{value_in, values_in, is_within, key_in, deposed_in, attributes_in, addresses_in, address_in, dependencies_in, tainted_in, flag_in, put_text, put_new, below, below_or_zero, output_in}
+use Rattle.tf_state.specs.Reading.{value_in, values_in, key_in, deposed_in, attributes_in, addresses_in, dependencies_in, tainted_in, flag_in, put_text, put_new, below, below_or_zero, output_in}
 use Rattle.tf_state.specs.Text.{key_data, status_data, flag_data, dependencies_data, output_data, outputs_data}
 use Rattle.tf_state.specs.Valid.{IsSaved, AreSaved, IsTable, IsAttributes, IsKey, IsDeposed, AreAddresses}
-use Rattle.tf_state.specs.Words.{is_deposed_key, is_address}
 use Rattle.tf_state.proofs.ValueForms.{value_read}
 
 -- ---- values

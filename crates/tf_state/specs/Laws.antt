@@ -1,10 +1,8 @@
 -- What holds of states and their texts, whatever they are.
-use Rattle.std.specs.Prelude.{◌≡◌, ℕ, List, Some, IsUtf8}
-use Rattle.serde_json.specs.Data.{Data}
-use Rattle.serde_json.specs.Read.{read}
-use Rattle.tf_state.specs.Reading.{Reads, state_in}
+use Rattle.std.specs.Prelude.{◌≡◌, ℕ, List, IsUtf8}
+use Rattle.tf_state.specs.Reading.{Reads}
 use Rattle.tf_state.specs.State.{StateView}
-use Rattle.tf_state.specs.Text.{state_data, state_text}
+use Rattle.tf_state.specs.Text.{state_text}
 use Rattle.tf_state.specs.Valid.{IsValid}
 
 -- Bytes are the text of at most one state.

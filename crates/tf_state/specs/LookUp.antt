@@ -1,7 +1,6 @@
 -- Resources by address and records by place, and what it leaves to put one in or take one out.
-use Rattle.std.specs.Prelude.{◌≡◌, ℕ, suc, Bool, if◌then◌else◌, List, [], ◌∷◌, Option, option_and_then, find, ⊤}
+use Rattle.std.specs.Prelude.{ℕ, suc, Bool, if◌then◌else◌, List, [], ◌∷◌, Option, option_and_then, find}
 use Rattle.std.specs.Ordering.{is_eq}
-use Rattle.std.specs.declared.cmp.Ordering.TheVariants.{Less}
 use Rattle.tf_address.specs.Label.{LabelView, label_cmp}
 use Rattle.tf_state.specs.Place.{PlaceView, place_cmp, place_below}
 use Rattle.tf_state.specs.State.{RecordView, ResourceView, StateView}

@@ -5,6 +5,7 @@ mod body;
 mod fault;
 mod finding;
 mod key;
+mod laws;
 mod object;
 mod provider;
 mod reading;
@@ -22,6 +23,7 @@ mod writing;
 
 pub use fault::StateFault;
 pub use key::{Key, Place};
+pub use laws::{texts_are_of_one, texts_read_back};
 pub use object::Object;
 pub use provider::provider_address;
 pub use reading::read;

@@ -1,5 +1,5 @@
 use Rattle.std.proofs.Common.{◌≡◌, ◌<◌, ◌≤◌, length, map, vec_len, sym, ap, ◌∙◌, arith}
-use Rattle.tf_state.specs.LookUp.{first_place, same_place, without_first}
+use Rattle.tf_state.specs.LookUp.{first_place, same_place}
 use Rattle.tf_state.specs.Place.{place_of}
 use Rattle.tf_state.specs.State.{RecordView, ResourceView, record_of, resource_of}
 use Rattle.tf_state.proofs.Removal.{found, left, absent, kept}

@@ -1,5 +1,5 @@
 use Rattle.std.proofs.Common.{◌≡◌, ◌<◌, ◌≤◌, length, map, vec_len, sym, ap, ◌∙◌, arith}
-use Rattle.tf_state.specs.LookUp.{first_place, same_label, without_first}
+use Rattle.tf_state.specs.LookUp.{first_place, same_label}
 use Rattle.tf_address.specs.Label.{label_of}
 use Rattle.tf_state.specs.State.{ResourceView, StateView, resource_of, state_of}
 use Rattle.tf_state.proofs.Removal.{found, left, absent, kept}
