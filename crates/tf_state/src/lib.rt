@@ -1,6 +1,8 @@
 //! The state of what was created, and its text in Terraform's state file format, version 4.
 #![tactic(auto)]
 
+#[cfg(test)]
+mod accepted;
 mod body;
 mod fault;
 mod finding;
@@ -11,6 +13,8 @@ mod provider;
 mod reading;
 mod record_reading;
 mod record_writing;
+#[cfg(test)]
+mod refused;
 mod resource_reading;
 mod shape;
 mod state;

@@ -91,3 +91,45 @@ fn names_providers(rt: HostRuntime) -> Result<(), Fail> {
     }
     Ok(())
 }
+
+#[test]
+fn finds_and_takes_out(rt: HostRuntime) -> Result<(), Fail> {
+    let mut state = State::empty(rt.alloc(), "L")?;
+    put_net(rt.alloc(), &mut state, "a", false)?;
+    put_net(rt.alloc(), &mut state, "b", true)?;
+    let label = Label {
+        kind: String::from_str(rt.alloc(), "sim_net")?,
+        name: String::from_str(rt.alloc(), "b")?,
+    };
+    let place = Place {
+        key: Key::Single,
+        deposed: None,
+    };
+    let numbered = Place {
+        key: Key::Number(0),
+        deposed: None,
+    };
+    assert!(rt; matches!(state.record(&label, &place), Some(record) if record.tainted));
+    assert!(rt; state.record(&label, &numbered).is_none());
+    match state.remove(&label) {
+        Some(mut resource) => {
+            assert!(rt; state.resource(&label).is_none());
+            assert!(rt; resource.remove(&numbered).is_none());
+            match resource.remove(&place) {
+                Some(mut record) => {
+                    record.place = numbered;
+                    resource.reserve(1)?;
+                    resource.put(record);
+                    state.reserve(1)?;
+                    state.put(resource);
+                }
+                None => return Err("no record".into()),
+            }
+        }
+        None => return Err("no resource".into()),
+    }
+    assert!(rt; state.record(&label, &place).is_none());
+    let text = write(rt.alloc(), &state)?;
+    assert!(rt; text.contains("\"index_key\": 0,"), "{text}");
+    Ok(())
+}
