@@ -1,2 +1,15 @@
+pub mod Back
 pub mod Floats
+pub mod KnownForms
+pub mod Loops
+pub mod Ordered
+pub mod PlaceOrder
 pub mod Places
+pub mod RecordBack
+pub mod Plainness
+pub mod Refusals
+pub mod Removal
+pub mod StateBack
+pub mod StateLaws
+pub mod TypeForms
+pub mod ValueForms
