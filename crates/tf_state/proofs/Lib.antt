@@ -1,4 +1,5 @@
 pub mod Back
+pub mod ByTable
 pub mod Floats
 pub mod KnownForms
 pub mod Loops
@@ -7,6 +8,7 @@ pub mod PlaceOrder
 pub mod Places
 pub mod RecordBack
 pub mod Plainness
+pub mod Properties
 pub mod Refusals
 pub mod Removal
 pub mod StateBack

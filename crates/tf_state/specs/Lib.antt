@@ -5,6 +5,7 @@ pub mod Place
 pub mod Provider
 pub mod Reading
 pub mod State
+pub mod Table
 pub mod Text
 pub mod Types
 pub mod Valid
