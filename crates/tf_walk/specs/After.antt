@@ -49,15 +49,15 @@ resource_after h s =
       label = h.label;
       provider = provider_text h.label.kind;
       records =
-        record {
-          place = record { key = single; deposed = None };
-          attributes = s.0;
-          schema_version = h.version;
-          tainted = s.1;
-          dependencies = [];
-          create_before_destroy = false;
-        }
-        ∷ [];
+          record {
+            place = record { key = single; deposed = None };
+            attributes = s.0;
+            schema_version = h.version;
+            tainted = s.1;
+            dependencies = [];
+            create_before_destroy = false;
+          }
+          ∷ [];
     }
 
 abbrev pub saved_resource : List Meaning → ActionView → Done → Option ResourceView
