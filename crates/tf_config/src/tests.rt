@@ -468,6 +468,11 @@ fn says_when_memory_ran_out(rt: HostRuntime) {
         }
         Err(refusal) => assert!(rt; matches!(refusal, Refusal::OutOfMemory)),
     }
+}
+
+// Nor while names are looked for.
+#[test]
+fn says_when_memory_ran_out_among_names(rt: HostRuntime) {
     match read(
         rt.alloc(),
         b"{\"resource\": {\"t\": {\"a\": {\"x\": [1, \"${f(var.x)}\"]}}}}",
