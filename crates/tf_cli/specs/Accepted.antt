@@ -4,16 +4,17 @@ use Rattle.serde_json.specs.Data.{Data}
 use Rattle.tf_provider.specs.Meaning.{Meaning}
 use Rattle.tf_config.specs.Config.{Blocks}
 use Rattle.tf_config.specs.Configuration.{IsConfiguration}
+use Rattle.tf_config.specs.KnownNames.{KnownBlocks}
 use Rattle.tf_config.specs.Reading.{IsTree, IsRefused, max_bytes, max_blocks}
 use Rattle.tf_config.specs.Refusal.{Told, no_memory, fault, bare, told}
 use Rattle.tf_plan.specs.Refused.{plan_refusals}
 use Rattle.tf_plan.specs.declared.refused.Refused.{Refused}
 use Rattle.tf_plan.specs.declared.refused.Refused.TheVariants.{NoMemory, These}
 
--- the text is a configuration of these blocks, within the limits
+-- the text is a configuration of these blocks, within the limits, and all names in it are known
 abbrev pub IsRead : List ℕ → Blocks → Type 0
 IsRead bytes blocks =
-    (tree : Data) × IsTree bytes tree × IsConfiguration tree blocks × (length bytes ≤ max_bytes) × (length blocks ≤ max_blocks)
+    (tree : Data) × IsTree bytes tree × IsConfiguration tree blocks × (length bytes ≤ max_bytes) × (length blocks ≤ max_blocks) × KnownBlocks blocks
 
 -- The first test: the configuration is refused, which is the one refusal.
 abbrev pub ConfigurationIsRefused : List ℕ → List Told → Type 0

@@ -1,63 +1,20 @@
 -- What is read and what is demanded fit together: a tree stands for blocks exactly where all checks are
 -- met, and for one list of blocks at most.
-use Rattle.std.proofs.Common.{◌≡◌, ℕ, ◌+◌, List, [], ◌∷◌, refl, sym, ap, ◌∙◌}
-use Rattle.std.specs.Fmt.{decimal}
-use Rattle.serde_json.specs.Data.{Data, null, boolean, number, string, array, object, Items, no_items, item, Members, no_members, member, put}
-use Rattle.tf_text.proofs.Checks.{AllMet-append, AllMet-left, AllMet-right}
+use Rattle.std.proofs.Common.{◌≡◌, ℕ, List, [], ◌∷◌, refl, sym, ap, ◌∙◌}
+use Rattle.serde_json.specs.Data.{Data, null, boolean, number, string, array, object}
+use Rattle.tf_expr.proofs.Faultless.{expr_met, expr_from_met, expr_one}
+use Rattle.tf_expr.proofs.Within.{AllMet-demanded_as, AllMet-from_demanded_as}
+use Rattle.tf_expr.specs.Reading.{expr_checks}
+use Rattle.tf_expr.specs.Tree.{Entries, no_entries, put}
 use Rattle.tf_text.proofs.Walks.{Builds-met, Builds-from_met, Builds-same}
 use Rattle.tf_config.specs.Config.{Blocks, put_block}
 use Rattle.tf_config.specs.Configuration.{PropertyChecks, below, object_checks, checks_of_property, property_checks, resource_checks, type_checks, checks_of_section, section_checks, configuration_checks, BuildsFrom, AddsAs, AddsProperty, IsBody, AddsResource, AddsType, AddsTypes, AddsSection, IsConfiguration}
-use Rattle.tf_config.specs.Demand.{AreMet, IsMet}
-use Rattle.tf_config.specs.Literal.{literal_checks, item_checks, member_checks, IsLiteral, AreLiterals, HoldsLiterals}
+use Rattle.tf_config.specs.Demand.{AreMet, IsMet, of_expression}
 use Rattle.tf_config.specs.Words.{section_of, property_of}
 use Rattle.tf_config.specs.declared.words.Section.{Section}
 use Rattle.tf_config.specs.declared.words.Section.TheVariants as sections
 use Rattle.tf_config.specs.declared.words.Property.{Property}
 use Rattle.tf_config.specs.declared.words.Property.TheVariants as properties
-
--- ---- literals
-
-mutual
-  pub literal_met : (place : List (List ℕ)) (d : Data) → IsLiteral d → AreMet (literal_checks place d)
-  literal_met place null h = tt
-  literal_met place (boolean b) h = tt
-  literal_met place (number n) h = (h, tt)
-  literal_met place (string s) h = (h, tt)
-  literal_met place (array ds) h = items_met place 0 ds h
-  literal_met place (object ms) h = members_met place ms h
-
-  items_met : (place : List (List ℕ)) (n : ℕ) (ds : Items) → AreLiterals ds → AreMet (item_checks place n ds)
-  items_met place n no_items h = tt
-  items_met place n (item d ds) h =
-      AllMet-append IsMet (literal_checks (decimal n ∷ place) d) (item_checks place (n + 1) ds) (literal_met (decimal n ∷ place) d h.0) (items_met place (n + 1) ds h.1)
-
-  members_met : (place : List (List ℕ)) (ms : Members) → HoldsLiterals ms → AreMet (member_checks place ms)
-  members_met place no_members h = tt
-  members_met place (member k d ms) h =
-      (h.0, AllMet-append IsMet (literal_checks (k ∷ place) d) (member_checks place ms) (literal_met (k ∷ place) d h.1) (members_met place ms h.2))
-
-mutual
-  pub literal_from_met : (place : List (List ℕ)) (d : Data) → AreMet (literal_checks place d) → IsLiteral d
-  literal_from_met place null h = tt
-  literal_from_met place (boolean b) h = tt
-  literal_from_met place (number n) h = h.0
-  literal_from_met place (string s) h = h.0
-  literal_from_met place (array ds) h = items_from_met place 0 ds h
-  literal_from_met place (object ms) h = members_from_met place ms h
-
-  items_from_met : (place : List (List ℕ)) (n : ℕ) (ds : Items) → AreMet (item_checks place n ds) → AreLiterals ds
-  items_from_met place n no_items h = tt
-  items_from_met place n (item d ds) h =
-      let own = literal_checks (decimal n ∷ place) d in
-      let others = item_checks place (n + 1) ds in
-      (literal_from_met (decimal n ∷ place) d (AllMet-left IsMet own others h), items_from_met place (n + 1) ds (AllMet-right IsMet own others h))
-
-  members_from_met : (place : List (List ℕ)) (ms : Members) → AreMet (member_checks place ms) → HoldsLiterals ms
-  members_from_met place no_members h = tt
-  members_from_met place (member k d ms) h =
-      let own = literal_checks (k ∷ place) d in
-      let others = member_checks place ms in
-      (h.0, literal_from_met (k ∷ place) d (AllMet-left IsMet own others h.1), members_from_met place ms (AllMet-right IsMet own others h.1))
 
 -- ---- objects
 
@@ -92,46 +49,48 @@ module _ {B : Type 0} (Adds : List ℕ → Data → B → B → Type 0) where
 
 -- ---- arguments
 
-as_met : (p : Property) (place : List (List ℕ)) (k : List ℕ) (d : Data) (a b : Members) → AddsAs p k d a b → AreMet (checks_of_property p place k d)
+as_met : (p : Property) (place : List (List ℕ)) (k : List ℕ) (d : Data) (a b : Entries) → AddsAs p k d a b → AreMet (checks_of_property p place k d)
 as_met properties.Comment place k d a b h = tt
 as_met properties.Reserved place k d a b h = absurd h
-as_met properties.Argument place k d a b h = (h.0, literal_met place d h.1)
+as_met properties.Argument place k d a b h = (h.0, AllMet-demanded_as IsMet of_expression (λ demand met. met) (expr_checks place d) (expr_met place d h.1 h.2))
 
-as_from_met : (p : Property) (place : List (List ℕ)) (k : List ℕ) (d : Data) (a : Members) → AreMet (checks_of_property p place k d) → (b : Members) × AddsAs p k d a b
+as_from_met : (p : Property) (place : List (List ℕ)) (k : List ℕ) (d : Data) (a : Entries) → AreMet (checks_of_property p place k d) → (b : Entries) × AddsAs p k d a b
 as_from_met properties.Comment place k d a h = (a, refl)
 as_from_met properties.Reserved place k d a h = absurd h.0
-as_from_met properties.Argument place k d a h = (put k d a, (h.0, literal_from_met place d h.1, refl))
+as_from_met properties.Argument place k d a h =
+    let e = expr_from_met place d (AllMet-from_demanded_as IsMet of_expression (λ demand met. met) (expr_checks place d) h.1) in
+    (put k e.0 a, (h.0, e.0, e.1, refl))
 
-as_same : (p : Property) (k : List ℕ) (d : Data) (a b c : Members) → AddsAs p k d a b → AddsAs p k d a c → b ≡ c
+as_same : (p : Property) (k : List ℕ) (d : Data) (a b c : Entries) → AddsAs p k d a b → AddsAs p k d a c → b ≡ c
 as_same properties.Comment k d a b c h j = sym h ∙ j
 as_same properties.Reserved k d a b c h j = absurd h
-as_same properties.Argument k d a b c h j = sym h.2 ∙ j.2
+as_same properties.Argument k d a b c h j = sym h.3 ∙ ap (λ e. put k e a) (expr_one d h.1 j.1 h.2 j.2) ∙ j.3
 
-pub property_met : (place : List (List ℕ)) (k : List ℕ) (d : Data) (a b : Members) → AddsProperty k d a b → AreMet (property_checks place k d)
+pub property_met : (place : List (List ℕ)) (k : List ℕ) (d : Data) (a b : Entries) → AddsProperty k d a b → AreMet (property_checks place k d)
 property_met place k d a b h = as_met (property_of k) place k d a b h
 
-property_from_met : (place : List (List ℕ)) (k : List ℕ) (d : Data) (a : Members) → AreMet (property_checks place k d) → (b : Members) × AddsProperty k d a b
+property_from_met : (place : List (List ℕ)) (k : List ℕ) (d : Data) (a : Entries) → AreMet (property_checks place k d) → (b : Entries) × AddsProperty k d a b
 property_from_met place k d a h = as_from_met (property_of k) place k d a h
 
-property_same : (k : List ℕ) (d : Data) (a b c : Members) → AddsProperty k d a b → AddsProperty k d a c → b ≡ c
+property_same : (k : List ℕ) (d : Data) (a b c : Entries) → AddsProperty k d a b → AddsProperty k d a c → b ≡ c
 property_same k d a b c h j = as_same (property_of k) k d a b c h j
 
 -- ---- bodies
 
-pub body_met : (place : List (List ℕ)) (d : Data) (arguments : Members) → IsBody d arguments → AreMet (object_checks property_checks place d)
-body_met place d arguments h = object_met AddsProperty property_checks property_met place d no_members arguments h
+pub body_met : (place : List (List ℕ)) (d : Data) (arguments : Entries) → IsBody d arguments → AreMet (object_checks property_checks place d)
+body_met place d arguments h = object_met AddsProperty property_checks property_met place d no_entries arguments h
 
 pub resource_met : (kind : List ℕ) (place : List (List ℕ)) (k : List ℕ) (d : Data) (a b : Blocks) → AddsResource kind k d a b → AreMet (resource_checks place k d)
 resource_met kind place k d a b h = (h.0, body_met place d h.1 h.2)
 
 resource_from_met : (kind : List ℕ) (place : List (List ℕ)) (k : List ℕ) (d : Data) (a : Blocks) → AreMet (resource_checks place k d) → (b : Blocks) × AddsResource kind k d a b
 resource_from_met kind place k d a h =
-    let body = object_from_met AddsProperty property_checks property_from_met place d no_members h.1 in
+    let body = object_from_met AddsProperty property_checks property_from_met place d no_entries h.1 in
     (put_block (record { kind = kind; name = k; arguments = body.0 }) a, (h.0, body.0, body.1, refl))
 
 resource_same : (kind : List ℕ) (k : List ℕ) (d : Data) (a b c : Blocks) → AddsResource kind k d a b → AddsResource kind k d a c → b ≡ c
 resource_same kind k d a b c h j =
-    let body : h.1 ≡ j.1 = object_same AddsProperty property_same d no_members h.1 j.1 h.2 j.2 in
+    let body : h.1 ≡ j.1 = object_same AddsProperty property_same d no_entries h.1 j.1 h.2 j.2 in
     sym h.3 ∙ ap (λ arguments. put_block (record { kind = kind; name = k; arguments = arguments }) a) body ∙ j.3
 
 -- ---- types and sections

@@ -1,7 +1,9 @@
 pub mod BlockLaws
 pub mod Blocks
 pub mod ConfigurationLaws
-pub mod Literals
+pub mod Functions
 pub mod Members
+pub mod NameLaws
+pub mod NameWalks
 pub mod RefusalLaws
 pub mod Refusals

@@ -1,44 +1,88 @@
 -- One fault is told of a text at most, and none of a configuration.
-use Rattle.std.proofs.Common.{◌≡◌, ◌⊎◌, ◌∙◌, ℕ, ◌≤◌, List, length, Some, sym, ap, subst, inl, inr, arith}
-use Rattle.std.proofs.lemmas.Bool.{cases_order}
+use Rattle.std.proofs.Common.{◌≡◌, ◌⊎◌, ◌∙◌, ℕ, ◌≤◌, ◌<◌, List, [], ◌∷◌, length, Some, sym, ap, subst, inl, inr, arith}
 use Rattle.serde_json.specs.Data.{Data}
+use Rattle.tf_expr.specs.Demand as expr
+use Rattle.tf_expr.specs.declared.fault.Cause.{Cause}
+use Rattle.tf_expr.specs.declared.fault.Cause.TheVariants.{BadShape, At, TooDeep}
 use Rattle.tf_text.proofs.Checks.{IsFirst-unmet, IsFirst-same}
+use Rattle.tf_text.specs.Check.{IsFirst}
 use Rattle.tf_config.proofs.ConfigurationLaws.{configuration_met, configuration_same}
 use Rattle.tf_config.specs.Config.{Blocks}
 use Rattle.tf_config.specs.Configuration.{configuration_checks, IsConfiguration}
-use Rattle.tf_config.specs.Demand.{Demand, nothing_fits, a_name, a_type_name, a_plain_name, a_whole_number, a_template, Way, IsMet, Fails, Refuses, bad_template}
-use Rattle.tf_config.specs.Opening.{IsFirstOpening}
-use Rattle.tf_config.specs.Reading.{IsTree, IsNotJson, IsMisshapen, HasTooManyBlocks, IsRefused, max_bytes, max_blocks}
+use Rattle.tf_config.specs.Demand.{Demand, nothing_fits, a_name, a_type_name, of_expression, Checks, Way, IsMet, Fails, Refuses, way_of}
+use Rattle.tf_config.specs.KnownNames.{NameDemand, only_known_names, AreNamesMet, AreNamesWrong, block_name_checks, RefusesNames, KnownBlocks}
+use Rattle.tf_config.specs.Laws.{SpellsNone, IsUnspelled, IsTemplateWay}
+use Rattle.tf_config.specs.Reading.{IsTree, IsNotJson, IsMisshapen, HasTooManyBlocks, HasUnknownNames, IsRefused, max_bytes, max_blocks}
 use Rattle.tf_config.specs.Refusal.{DetailView, Told, fault}
+
+-- ---- demands
+
+expression_apart : (d : expr.Demand) (cause : Cause) → expr.IsMet d → expr.Fails d cause → ⊥
+expression_apart (expr.a_plain_name s) cause met fails = fails.0 met
+expression_apart (expr.a_whole_number n) cause met fails = absurd (cc (met, fails.0))
+expression_apart (expr.a_template s) BadShape met fails = fails
+expression_apart (expr.a_template s) (At offset) met fails = fails met.0 met.1.0
+expression_apart (expr.a_template s) TooDeep met fails = let deep = fails met.0 met.1.0 in absurd (omega (arith, deep, met.1.1))
 
 apart : (d : Demand) (way : Way) → IsMet d → Fails d way → ⊥
 apart nothing_fits way met fails = met
 apart (a_name s) way met fails = absurd (cc (met, fails.0))
 apart (a_type_name s) way met fails = absurd (cc (met, fails.0))
-apart (a_plain_name s) way met fails = fails.0 met
-apart (a_whole_number n) way met fails = absurd (cc (met, fails.0))
-apart (a_template s) way met fails = met fails.0 fails.1.0
+apart (of_expression d) way met fails = expression_apart d fails.0 met fails.1
 
-first_same : (s : List ℕ) (n m : ℕ) → IsFirstOpening s n → IsFirstOpening s m → n ≡ m
-first_same s n m h k =
-    elim (cases_order n m) [
-      | inl same ↦ same
-      | inr apart ↦ elim apart [ inl below ↦ absurd (k.1 n below h.0) | inr above ↦ absurd (h.1 m above k.0) ]
+template_ways : (s : List ℕ) (cause cause' : Cause) (way way' : Way) → expr.IsNoTemplate s cause → way ≡ way_of cause → expr.IsNoTemplate s cause' → way' ≡ way_of cause'
+    → (way ≡ way') ⊎ (SpellsNone (of_expression (expr.a_template s)) tt × IsTemplateWay way × IsTemplateWay way')
+template_ways s BadShape cause' way way' h is k is' = absurd h
+template_ways s (At n) BadShape way way' h is k is' = absurd k
+template_ways s (At n) (At m) way way' h is k is' = inr (h, inl (n, is), inl (m, is'))
+template_ways s (At n) TooDeep way way' h is k is' = inr (h, inl (n, is), inr is')
+template_ways s TooDeep BadShape way way' h is k is' = absurd k
+template_ways s TooDeep (At m) way way' h is k is' = inr (k, inr is, inl (m, is'))
+template_ways s TooDeep TooDeep way way' h is k is' = inl (is ∙ sym is')
+
+-- a demand fails in one way, or its text spells no template
+two_ways : (d : Demand) (way way' : Way) → Fails d way → Fails d way' → (way ≡ way') ⊎ (SpellsNone d tt × IsTemplateWay way × IsTemplateWay way')
+two_ways nothing_fits way way' h k = inl (h ∙ sym k)
+two_ways (a_name s) way way' h k = inl (h.1 ∙ sym k.1)
+two_ways (a_type_name s) way way' h k = inl (h.1 ∙ sym k.1)
+two_ways (of_expression (expr.a_plain_name s)) way way' h k = inl (h.2 ∙ ap way_of (h.1.1 ∙ sym k.1.1) ∙ sym k.2)
+two_ways (of_expression (expr.a_whole_number n)) way way' h k = inl (h.2 ∙ ap way_of (h.1.1 ∙ sym k.1.1) ∙ sym k.2)
+two_ways (of_expression (expr.a_template s)) way way' h k = template_ways s h.0 k.0 way way' h.1 h.2 k.1 k.2
+
+first_once : (checks : Checks) (place place' : List ℕ) (way way' : Way) → IsFirst IsMet Fails place way checks → IsFirst IsMet Fails place' way' checks
+    → (place ≡ place') × ((way ≡ way') ⊎ (IsFirst IsMet SpellsNone place tt checks × IsTemplateWay way × IsTemplateWay way'))
+first_once [] place place' way way' h k = absurd h
+first_once (x ∷ xs) place place' way way' h k =
+    elim h [
+      | inl here ↦ elim k [
+        | inl other ↦ (
+          here.0 ∙ sym other.0,
+          elim (two_ways x.demand way way' here.1 other.1) [ inl same ↦ inl same | inr none ↦ inr (inl (here.0, none.0), none.1, none.2) ],
+        )
+        | inr other ↦ absurd (apart x.demand way other.0 here.1)
+      ]
+      | inr later ↦ elim k [
+        | inl other ↦ absurd (apart x.demand way' later.0 other.1)
+        | inr other ↦ let once = first_once xs place place' way way' later.1 other.1 in (
+          once.0,
+          elim once.1 [ inl same ↦ inl same | inr none ↦ inr (inr (later.0, none.0), none.1, none.2) ],
+        )
+      ]
     ]
 
-one_way : (d : Demand) (way other : Way) → Fails d way → Fails d other → way ≡ other
-one_way nothing_fits way other h k = h ∙ sym k
-one_way (a_name s) way other h k = h.1 ∙ sym k.1
-one_way (a_type_name s) way other h k = h.1 ∙ sym k.1
-one_way (a_plain_name s) way other h k = h.1 ∙ sym k.1
-one_way (a_whole_number n) way other h k = h.1 ∙ sym k.1
-one_way (a_template s) way other h k = h.2 ∙ ap bad_template (first_same s h.0 k.0 h.1 k.1) ∙ sym k.2
+names_apart : (d : NameDemand) (way : Way) → AreNamesMet d → AreNamesWrong d way → ⊥
+names_apart (only_known_names w) way met wrong = wrong.0 met
+
+names_one_way : (d : NameDemand) (way way' : Way) → AreNamesWrong d way → AreNamesWrong d way' → way ≡ way'
+names_one_way (only_known_names w) way way' h k = h.1 ∙ sym k.1
+
+-- ---- texts
 
 one_tree : (bytes : List ℕ) (t u : Data) → IsTree bytes t → IsTree bytes u → t ≡ u
 one_tree bytes t u h k = let same : Some t ≡ Some u = sym h.1 ∙ k.1 in cc
 
-abbrev IsShape : List ℕ → Told → Type 0
-IsShape bytes refusal = IsNotJson bytes refusal ⊎ IsMisshapen bytes refusal ⊎ HasTooManyBlocks bytes refusal
+one_list : (bytes : List ℕ) (t u : Data) (bs cs : Blocks) → IsTree bytes t → IsTree bytes u → IsConfiguration t bs → IsConfiguration u cs → bs ≡ cs
+one_list bytes t u bs cs text text' h k = configuration_same u bs cs (subst (λ d. IsConfiguration d bs) (one_tree bytes t u text text') h) k
 
 -- a text that stands for blocks has no fault in its shape
 standing : (bytes : List ℕ) (code : ℕ) (place : List ℕ) (detail : DetailView) (tree : Data) (blocks : Blocks) → IsTree bytes tree → IsConfiguration tree blocks
@@ -48,56 +92,113 @@ standing bytes code place detail tree blocks text stands h =
     IsFirst-unmet IsMet Fails apart (configuration_checks tree) place (code, detail) (configuration_met tree blocks stands)
     (subst (λ t. Refuses (configuration_checks t) (fault code place detail)) same h.2)
 
+-- a text with too many blocks isn't refused for a name
+too_many : (bytes : List ℕ) (refusal refusal' : Told) → HasTooManyBlocks bytes refusal → HasUnknownNames bytes refusal' → ⊥
+too_many bytes refusal refusal' many unknown =
+    let same : many.2 ≡ unknown.2 = one_list bytes many.0 unknown.0 many.2 unknown.2 many.1 unknown.1 many.3 unknown.3 in
+    omega (arith, many.4, unknown.4, ap length same)
+
+abbrev HasTree : List ℕ → Type 0
+HasTree bytes = (tree : Data) × IsTree bytes tree
+
+abbrev IsRead : List ℕ → Told → Type 0
+IsRead bytes refusal = IsMisshapen bytes refusal ⊎ HasTooManyBlocks bytes refusal ⊎ HasUnknownNames bytes refusal
+
+read_tree : (bytes : List ℕ) (refusal : Told) → IsRead bytes refusal → HasTree bytes
+read_tree bytes refusal h =
+    elim h [ inl misshapen ↦ (misshapen.0, misshapen.1) | inr stands ↦ elim stands [ inl many ↦ (many.0, many.1) | inr unknown ↦ (unknown.0, unknown.1) ] ]
+
+-- ---- two refusals
+
+one_fault : (place place' : List ℕ) (way way' : Way) → place ≡ place' → way ≡ way' → fault way.0 place way.1 ≡ fault way'.0 place' way'.1
+one_fault place place' way way' here same = ap (λ p. fault way.0 p way.1) here ∙ ap (λ (w : Way). fault w.0 place' w.1) same
+
 module _ (bytes : List ℕ) (code code' : ℕ) (place place' : List ℕ) (detail detail' : DetailView) where
-  both_misshapen : IsMisshapen bytes (fault code place detail) → IsMisshapen bytes (fault code' place' detail') → fault code place detail ≡ fault code' place' detail'
+  abbrev One : Type 0
+  One = fault code place detail ≡ fault code' place' detail'
+
+  abbrev Once : Type 0
+  Once = (place ≡ place') × (One ⊎ (IsUnspelled bytes place × IsTemplateWay (code, detail) × IsTemplateWay (code', detail')))
+
+  once : One → Once
+  once same = (cc, inl same)
+
+  both_misshapen : IsMisshapen bytes (fault code place detail) → IsMisshapen bytes (fault code' place' detail') → Once
   both_misshapen h k =
       let same : h.0 ≡ k.0 = one_tree bytes h.0 k.0 h.1 k.1 in
       let first = subst (λ t. Refuses (configuration_checks t) (fault code place detail)) same h.2 in
-      let one = IsFirst-same IsMet Fails apart one_way (configuration_checks k.0) place place' (code, detail) (code', detail') first k.2 in
-      ap (λ p. fault code p detail) one.0 ∙ ap (λ (w : Way). fault w.0 place' w.1) one.1
+      let both = first_once (configuration_checks k.0) place place' (code, detail) (code', detail') first k.2 in
+      (both.0, elim both.1 [ inl one ↦ inl (one_fault place place' (code, detail) (code', detail') both.0 one) | inr none ↦ inr ((k.0, k.1, none.0), none.1, none.2) ])
 
-  shape_once : IsShape bytes (fault code place detail) → IsShape bytes (fault code' place' detail') → fault code place detail ≡ fault code' place' detail'
-  shape_once h k =
+  both_unknown : HasUnknownNames bytes (fault code place detail) → HasUnknownNames bytes (fault code' place' detail') → Once
+  both_unknown h k =
+      let same : h.2 ≡ k.2 = one_list bytes h.0 k.0 h.2 k.2 h.1 k.1 h.3 k.3 in
+      let first = subst (λ bs. RefusesNames (block_name_checks bs) (fault code place detail)) same h.5 in
+      let both = IsFirst-same AreNamesMet AreNamesWrong names_apart names_one_way (block_name_checks k.2) place place' (code, detail) (code', detail') first k.5 in
+      once (one_fault place place' (code, detail) (code', detail') both.0 both.1)
+
+  read_once : IsRead bytes (fault code place detail) → IsRead bytes (fault code' place' detail') → Once
+  read_once h k =
       elim h [
-        | inl no_json ↦ elim k [
-          | inl other ↦ no_json.1 ∙ sym other.1
-          | inr shape ↦ elim shape [ inl misshapen ↦ absurd (no_json.0 misshapen.0 misshapen.1) | inr many ↦ absurd (no_json.0 many.0 many.1) ]
+        | inl misshapen ↦ elim k [
+          | inl other ↦ both_misshapen misshapen other
+          | inr stands ↦ elim stands [
+            | inl many ↦ absurd (standing bytes code place detail many.0 many.2 many.1 many.3 misshapen)
+            | inr unknown ↦ absurd (standing bytes code place detail unknown.0 unknown.2 unknown.1 unknown.3 misshapen)
+          ]
         ]
-        | inr shape ↦ elim k [
-          | inl no_json ↦ elim shape [ inl misshapen ↦ absurd (no_json.0 misshapen.0 misshapen.1) | inr many ↦ absurd (no_json.0 many.0 many.1) ]
-          | inr other ↦ elim shape [
-            | inl misshapen ↦ elim other [
-              | inl other_misshapen ↦ both_misshapen misshapen other_misshapen
-              | inr many ↦ absurd (standing bytes code place detail many.0 many.2 many.1 many.3 misshapen)
-            ]
-            | inr many ↦ elim other [
-              | inl other_misshapen ↦ absurd (standing bytes code' place' detail' many.0 many.2 many.1 many.3 other_misshapen)
-              | inr other_many ↦ many.5 ∙ sym other_many.5
-            ]
+        | inr stands ↦ elim stands [
+          | inl many ↦ elim k [
+            | inl misshapen ↦ absurd (standing bytes code' place' detail' many.0 many.2 many.1 many.3 misshapen)
+            | inr other ↦ elim other [ inl other_many ↦ once (many.5 ∙ sym other_many.5) | inr unknown ↦ absurd (too_many bytes (fault code place detail) (fault code' place' detail') many unknown) ]
+          ]
+          | inr unknown ↦ elim k [
+            | inl misshapen ↦ absurd (standing bytes code' place' detail' unknown.0 unknown.2 unknown.1 unknown.3 misshapen)
+            | inr other ↦ elim other [ inl many ↦ absurd (too_many bytes (fault code' place' detail') (fault code place detail) many unknown) | inr other_unknown ↦ both_unknown unknown other_unknown ]
           ]
         ]
       ]
 
-  pub refused_once : IsRefused bytes (fault code place detail) → IsRefused bytes (fault code' place' detail') → fault code place detail ≡ fault code' place' detail'
-  refused_once h k =
+  text_once : IsNotJson bytes (fault code place detail) ⊎ IsRead bytes (fault code place detail) → IsNotJson bytes (fault code' place' detail') ⊎ IsRead bytes (fault code' place' detail') → Once
+  text_once h k =
       elim h [
-        | inl long ↦ elim k [ inl other ↦ long.1 ∙ sym other.1 | inr small ↦ absurd (omega (arith, long.0, small.0)) ]
-        | inr small ↦ elim k [ inl long ↦ absurd (omega (arith, long.0, small.0)) | inr other ↦ shape_once small.1 other.1 ]
+        | inl no_json ↦ elim k [
+          | inl other ↦ once (no_json.1 ∙ sym other.1)
+          | inr other ↦ let text = read_tree bytes (fault code' place' detail') other in absurd (no_json.0 text.0 text.1)
+        ]
+        | inr one ↦ elim k [
+          | inl no_json ↦ let text = read_tree bytes (fault code place detail) one in absurd (no_json.0 text.0 text.1)
+          | inr other ↦ read_once one other
+        ]
       ]
 
+  pub refused_once : IsRefused bytes (fault code place detail) → IsRefused bytes (fault code' place' detail') → Once
+  refused_once h k =
+      elim h [
+        | inl long ↦ elim k [ inl other ↦ once (long.1 ∙ sym other.1) | inr small ↦ absurd (omega (arith, long.0, small.0)) ]
+        | inr small ↦ elim k [ inl long ↦ absurd (omega (arith, long.0, small.0)) | inr other ↦ text_once small.1 other.1 ]
+      ]
+
+-- ---- a refusal and a configuration
+
 pub refused_not_read : (bytes : List ℕ) (code : ℕ) (place : List ℕ) (detail : DetailView) (tree : Data) (blocks : Blocks) → IsRefused bytes (fault code place detail)
-    → length bytes ≤ max_bytes → IsTree bytes tree → IsConfiguration tree blocks → length blocks ≤ max_blocks → ⊥
-refused_not_read bytes code place detail tree blocks h small text stands few =
+    → length bytes ≤ max_bytes → IsTree bytes tree → IsConfiguration tree blocks → length blocks ≤ max_blocks → KnownBlocks blocks → ⊥
+refused_not_read bytes code place detail tree blocks h small text stands few known =
     elim h [
       | inl long ↦ absurd (omega (arith, long.0))
       | inr within ↦ elim within.1 [
         | inl no_json ↦ no_json.0 tree text
-        | inr shape ↦ elim shape [
+        | inr read ↦ elim read [
           | inl misshapen ↦ standing bytes code place detail tree blocks text stands misshapen
-          | inr many ↦
-              let same_tree : many.0 ≡ tree = one_tree bytes many.0 tree many.1 text in
-              let same : many.2 ≡ blocks = configuration_same tree many.2 blocks (subst (λ t. IsConfiguration t many.2) same_tree many.3) stands in
-              omega (arith, many.4, ap length same)
+          | inr other ↦ elim other [
+            | inl many ↦
+                let same : many.2 ≡ blocks = one_list bytes many.0 tree many.2 blocks many.1 text many.3 stands in
+                omega (arith, many.4, ap length same)
+            | inr unknown ↦
+                let same : unknown.2 ≡ blocks = one_list bytes unknown.0 tree unknown.2 blocks unknown.1 text unknown.3 stands in
+                IsFirst-unmet AreNamesMet AreNamesWrong names_apart (block_name_checks blocks) place (code, detail) known
+                (subst (λ bs. RefusesNames (block_name_checks bs) (fault code place detail)) same unknown.5)
+          ]
         ]
       ]
     ]

@@ -3,9 +3,8 @@ use Rattle.std.specs.Prelude.{ℕ, List, [], ◌∷◌, map, string_bytes}
 use Rattle.std.specs.Cmp.Lexicographic.{slice_cmp}
 use Rattle.std.specs.Ordering.{nat_cmp, match_ordering, ordering_then}
 use Rattle.std.specs.declared.cmp.Ordering.{Ordering}
-use Rattle.serde_json.specs.Data.{Members}
-use Rattle.serde_json.specs.View.{members_view}
 use Rattle.tf_address.specs.declared.label.Label.{Label}
+use Rattle.tf_expr.specs.Tree.{Entries, entries_view}
 use Rattle.tf_config.specs.declared.config.Block.{Block}
 use Rattle.tf_config.specs.declared.config.Config.{Config}
 
@@ -13,15 +12,15 @@ use Rattle.tf_config.specs.declared.config.Config.{Config}
 pub record BlockView : Type 0 where
   pub kind : List ℕ
   pub name : List ℕ
-  pub arguments : Members
+  pub arguments : Entries
 
 -- the resource blocks, in address order
 abbrev pub Blocks : Type 0
 Blocks = List BlockView
 
 -- the arguments of a block
-abbrev pub arguments_of : Block → Members
-arguments_of block = members_view block.arguments.entries
+abbrev pub arguments_of : Block → Entries
+arguments_of block = entries_view block.arguments.entries
 
 abbrev pub block_of : Label × Block → BlockView
 block_of entry = record {

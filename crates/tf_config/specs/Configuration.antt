@@ -1,12 +1,14 @@
 -- What a configuration stands for, and what is demanded of it.
 use Rattle.std.specs.Prelude.{◌≡◌, ℕ, List, [], ◌∷◌, ◌++◌, IsTrue, codes}
-use Rattle.serde_json.specs.Data.{Data, object, Members, no_members, put}
+use Rattle.serde_json.specs.Data.{Data, object}
 use Rattle.tf_address.specs.Name.{is_name}
+use Rattle.tf_expr.specs.Reading.{expr_checks, IsExpr}
+use Rattle.tf_expr.specs.Tree.{Tree, Entries, no_entries, put}
+use Rattle.tf_expr.specs.Within.{demanded_as}
 use Rattle.tf_text.specs.Check.{demanded}
 use Rattle.tf_text.specs.Walk.{each, Builds}
 use Rattle.tf_config.specs.Config.{Blocks, put_block}
-use Rattle.tf_config.specs.Demand.{Checks, nothing_fits, a_name, a_type_name}
-use Rattle.tf_config.specs.Literal.{literal_checks, IsLiteral}
+use Rattle.tf_config.specs.Demand.{Checks, nothing_fits, a_name, a_type_name, of_expression}
 use Rattle.tf_config.specs.Words.{section_of, property_of, is_type_name}
 use Rattle.tf_config.specs.declared.words.Section.{Section}
 use Rattle.tf_config.specs.declared.words.Section.TheVariants as sections
@@ -32,9 +34,9 @@ abbrev pub object_checks : PropertyChecks → List (List ℕ) → Data → Check
 object_checks checks place (object members) = each (below checks place) members
 object_checks checks place _ = wrong place
 
--- an argument: a name, and a literal
+-- an argument: a name, and an expression
 abbrev pub argument_checks : PropertyChecks
-argument_checks place name value = demanded place (a_name name) ++ literal_checks place value
+argument_checks place name value = demanded place (a_name name) ++ demanded_as of_expression (expr_checks place value)
 
 -- In a body `//` is ignored, a reserved name is refused, and any other property is an argument.
 abbrev pub checks_of_property : Property → PropertyChecks
@@ -78,27 +80,27 @@ abbrev pub BuildsFrom : {B : Type 0} → (List ℕ → Data → B → B → Type
 BuildsFrom Adds (object members) before after = Builds Adds members before after
 BuildsFrom Adds _ before after = ⊥
 
--- an argument is put at its name
-abbrev pub AddsArgument : List ℕ → Data → Members → Members → Type 0
-AddsArgument name value before after = IsTrue (is_name name) × IsLiteral value × (put name value before ≡ after)
+-- an argument is an expression, which is put at its name
+abbrev pub AddsArgument : List ℕ → Data → Entries → Entries → Type 0
+AddsArgument name value before after = IsTrue (is_name name) × (e : Tree) × IsExpr value e × (put name e before ≡ after)
 
 -- a property adds an argument, and `//` adds nothing
-abbrev pub AddsAs : Property → List ℕ → Data → Members → Members → Type 0
+abbrev pub AddsAs : Property → List ℕ → Data → Entries → Entries → Type 0
 AddsAs properties.Comment name value before after = before ≡ after
 AddsAs properties.Reserved name value before after = ⊥
 AddsAs properties.Argument name value before after = AddsArgument name value before after
 
-abbrev pub AddsProperty : List ℕ → Data → Members → Members → Type 0
+abbrev pub AddsProperty : List ℕ → Data → Entries → Entries → Type 0
 AddsProperty name = AddsAs (property_of name) name
 
 -- a body stands for its arguments
-abbrev pub IsBody : Data → Members → Type 0
-IsBody value arguments = BuildsFrom AddsProperty value no_members arguments
+abbrev pub IsBody : Data → Entries → Type 0
+IsBody value arguments = BuildsFrom AddsProperty value no_entries arguments
 
 -- a name below a type adds a block at its address
 abbrev pub AddsResource : List ℕ → List ℕ → Data → Blocks → Blocks → Type 0
 AddsResource kind name value before after =
-    IsTrue (is_name name) × (arguments : Members) × IsBody value arguments × (put_block (record { kind = kind; name = name; arguments = arguments }) before ≡ after)
+    IsTrue (is_name name) × (arguments : Entries) × IsBody value arguments × (put_block (record { kind = kind; name = name; arguments = arguments }) before ≡ after)
 
 -- a type adds what its names add
 abbrev pub AddsType : List ℕ → Data → Blocks → Blocks → Type 0

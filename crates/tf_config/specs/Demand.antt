@@ -1,11 +1,12 @@
 -- What the format of a configuration demands, and how a demand fails.
 use Rattle.std.specs.Prelude.{◌≡◌, ℕ, List, IsTrue, MatchResult, Result, false}
-use Rattle.serde_json.specs.Data.{Num}
 use Rattle.tf_address.specs.Name.{is_name}
+use Rattle.tf_expr.specs.Demand as expr
+use Rattle.tf_expr.specs.Fault as faults
+use Rattle.tf_expr.specs.declared.fault.Cause.{Cause}
+use Rattle.tf_expr.specs.declared.fault.Cause.TheVariants as causes
 use Rattle.tf_text.specs.Check.{Check, AllMet, IsFirst}
-use Rattle.tf_config.specs.Opening.{IsPlain, IsFirstOpening}
 use Rattle.tf_config.specs.Refusal.{DetailView, bare, at, Told, no_memory, workers, fault, told}
-use Rattle.tf_config.specs.Whole.{is_whole}
 use Rattle.tf_config.specs.Words.{is_type_name}
 use Rattle.tf_config.specs.declared.refusal.Refusal.{Refusal}
 
@@ -16,21 +17,14 @@ pub data Demand : Type 0 where
   a_name : List ℕ → Demand
   -- the text is a name that may be a resource type
   a_type_name : List ℕ → Demand
-  -- neither `${` nor `%{` stands in the text, which names a property of an object
-  a_plain_name : List ℕ → Demand
-  -- the number is held as a whole number of 64 signed bits
-  a_whole_number : Num → Demand
-  -- the text is a template
-  a_template : List ℕ → Demand
+  -- what is demanded of a part of an expression
+  of_expression : expr.Demand → Demand
 
--- Until there are expressions, a template is a text with neither `${` nor `%{` in it.
 abbrev pub IsMet : Demand → Type 0
 IsMet nothing_fits = ⊥
 IsMet (a_name text) = IsTrue (is_name text)
 IsMet (a_type_name text) = IsTrue (is_type_name text)
-IsMet (a_plain_name text) = IsPlain text
-IsMet (a_whole_number number) = IsTrue (is_whole number)
-IsMet (a_template text) = IsPlain text
+IsMet (of_expression demand) = expr.IsMet demand
 
 -- a refusal's code, and what stands behind its name
 abbrev pub Way : Type 0
@@ -44,14 +38,31 @@ bad_shape = (2, bare)
 abbrev pub bad_template : ℕ → Way
 bad_template offset = (3, at offset)
 
+-- 4, UnknownName
+abbrev pub unknown_name : Way
+unknown_name = (4, bare)
+
+-- 14, Limit: a template that is too deep
+abbrev pub too_deep : Way
+too_deep = (14, bare)
+
+-- the way in which a fault of an expression is refused
+abbrev pub way_of : Cause → Way
+way_of causes.BadShape = bad_shape
+way_of (causes.At offset) = bad_template offset
+way_of causes.TooDeep = too_deep
+
+-- what is told of an expression, as it is refused
+abbrev pub refused_expression : faults.Told → Told
+refused_expression faults.no_memory = no_memory
+refused_expression (faults.wrong place cause) = fault (way_of cause).0 place (way_of cause).1
+
 -- a demand fails in this way
 abbrev pub Fails : Demand → Way → Type 0
 Fails nothing_fits way = way ≡ bad_shape
 Fails (a_name text) way = (is_name text ≡ false) × (way ≡ bad_shape)
 Fails (a_type_name text) way = (is_type_name text ≡ false) × (way ≡ bad_shape)
-Fails (a_plain_name text) way = (¬ IsPlain text) × (way ≡ bad_shape)
-Fails (a_whole_number number) way = (is_whole number ≡ false) × (way ≡ bad_shape)
-Fails (a_template text) way = (offset : ℕ) × IsFirstOpening text offset × (way ≡ bad_template offset)
+Fails (of_expression demand) way = (cause : Cause) × expr.Fails demand cause × (way ≡ way_of cause)
 
 -- what there is to check, in walk order
 abbrev pub Checks : Type 0

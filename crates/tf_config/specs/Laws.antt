@@ -1,13 +1,16 @@
 -- What holds of configurations and refusals, whatever they are.
-use Rattle.std.specs.Prelude.{◌≡◌, ℕ, ◌≤◌, List, length, Some, IsSome}
+use Rattle.std.specs.Prelude.{◌≡◌, ◌⊎◌, ℕ, ◌≤◌, List, length}
 use Rattle.std.specs.List.{AllByRecursion}
 use Rattle.std.specs.List.Sorted.{IsStrictlySortedBy}
 use Rattle.serde_json.specs.Data.{Data}
-use Rattle.serde_json.specs.Find.{get_member}
-use Rattle.tf_value.specs.Json.{value_from}
-use Rattle.tf_config.specs.Config.{BlockView, Blocks, address_cmp}
+use Rattle.tf_expr.specs.Demand as expr
+use Rattle.tf_template.specs.Spelling.{SpellsTemplate}
+use Rattle.tf_template.specs.Tree.{Woven}
+use Rattle.tf_text.specs.Check.{IsFirst}
+use Rattle.tf_config.specs.Config.{Blocks, address_cmp}
 use Rattle.tf_config.specs.Configuration.{configuration_checks, IsConfiguration}
-use Rattle.tf_config.specs.Demand.{AreMet}
+use Rattle.tf_config.specs.Demand.{Demand, of_expression, AreMet, IsMet, Way, bad_template, too_deep}
+use Rattle.tf_config.specs.KnownNames.{KnownBlocks, NamesNothing}
 use Rattle.tf_config.specs.Reading.{IsTree, IsRefused, max_bytes, max_blocks}
 use Rattle.tf_config.specs.Refusal.{DetailView, fault}
 
@@ -27,20 +30,36 @@ StandsForOne = (tree : Data) (blocks others : Blocks) → IsConfiguration tree b
 abbrev pub BlocksAreInOrder : Type 0
 BlocksAreInOrder = (tree : Data) (blocks : Blocks) → IsConfiguration tree blocks → IsStrictlySortedBy address_cmp blocks
 
--- each argument is the JSON form of a value
-abbrev pub HasValues : BlockView → Type 0
-HasValues block = (name : List ℕ) (argument : Data) → get_member name block.arguments ≡ Some argument → IsSome (value_from argument)
+-- Where all names of blocks are known, their arguments name nothing, and each function that they call is
+-- one.
+abbrev pub KnownNamesAreNone : Type 0
+KnownNamesAreNone = (blocks : Blocks) → KnownBlocks blocks → AllByRecursion NamesNothing blocks
 
--- Each argument of a block is the JSON form of a value.
-abbrev pub ArgumentsAreValues : Type 0
-ArgumentsAreValues = (tree : Data) (blocks : Blocks) → IsConfiguration tree blocks → AllByRecursion HasValues blocks
+-- And where arguments name nothing and each function that they call is one, all names are known.
+abbrev pub NoNamesAreKnown : Type 0
+NoNamesAreKnown = (blocks : Blocks) → AllByRecursion NamesNothing blocks → KnownBlocks blocks
 
--- One fault is told of a text at most.
+-- the demand is for a template, and its text spells none, however deep
+abbrev pub SpellsNone : Demand → Unit {0} → Type 0
+SpellsNone (of_expression (expr.a_template text)) _ = (w : Woven) → ¬ SpellsTemplate w text
+SpellsNone _ _ = ⊥
+
+-- The first fault of a text is at a place at which a template is demanded and none is spelled.
+abbrev pub IsUnspelled : List ℕ → List ℕ → Type 0
+IsUnspelled bytes place = (tree : Data) × IsTree bytes tree × IsFirst IsMet SpellsNone place tt (configuration_checks tree)
+
+-- the way of a text that is no template: 3 with an offset, or 14
+abbrev pub IsTemplateWay : Way → Type 0
+IsTemplateWay way = ((offset : ℕ) × (way ≡ bad_template offset)) ⊎ (way ≡ too_deep)
+
+-- One fault is told of a text at most. Where the first fault is a text in it that spells no template, it is
+-- told at its place by 3 with some offset or by 14.
 abbrev pub RefusedOnce : Type 0
 RefusedOnce = (bytes : List ℕ) (code code' : ℕ) (place place' : List ℕ) (detail detail' : DetailView)
-    → IsRefused bytes (fault code place detail) → IsRefused bytes (fault code' place' detail') → fault code place detail ≡ fault code' place' detail'
+    → IsRefused bytes (fault code place detail) → IsRefused bytes (fault code' place' detail')
+    → (place ≡ place') × ((fault code place detail ≡ fault code' place' detail') ⊎ (IsUnspelled bytes place × IsTemplateWay (code, detail) × IsTemplateWay (code', detail')))
 
--- A text of which a fault is told isn't a configuration within the limits.
+-- A text of which a fault is told isn't a configuration within the limits, all names of which are known.
 abbrev pub RefusedIsNotRead : Type 0
 RefusedIsNotRead = (bytes : List ℕ) (code : ℕ) (place : List ℕ) (detail : DetailView) (tree : Data) (blocks : Blocks) → IsRefused bytes (fault code place detail)
-    → length bytes ≤ max_bytes → IsTree bytes tree → IsConfiguration tree blocks → length blocks ≤ max_blocks → ⊥
+    → length bytes ≤ max_bytes → IsTree bytes tree → IsConfiguration tree blocks → length blocks ≤ max_blocks → KnownBlocks blocks → ⊥

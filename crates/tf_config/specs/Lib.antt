@@ -1,12 +1,9 @@
 pub mod Config
 pub mod Configuration
 pub mod Demand
-pub mod EvalFault
+pub mod KnownNames
 pub mod Laws
-pub mod Literal
-pub mod Opening
 pub mod Reading
 pub mod Refusal
 pub mod RefusalText
-pub mod Whole
 pub mod Words

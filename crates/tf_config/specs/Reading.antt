@@ -6,6 +6,7 @@ use Rattle.tf_text.specs.Place.{dotted}
 use Rattle.tf_config.specs.Config.{Blocks}
 use Rattle.tf_config.specs.Configuration.{configuration_checks, whole_file, IsConfiguration}
 use Rattle.tf_config.specs.Demand.{Refuses}
+use Rattle.tf_config.specs.KnownNames.{block_name_checks, RefusesNames}
 use Rattle.tf_config.specs.Refusal.{bare, Told, no_memory, workers, fault}
 
 -- the text is UTF-8, and is this tree as `serde_json` reads it
@@ -43,12 +44,18 @@ HasTooManyBlocks bytes refusal =
 abbrev pub IsMisshapen : List ℕ → Told → Type 0
 IsMisshapen bytes refusal = (tree : Data) × IsTree bytes tree × Refuses (configuration_checks tree) refusal
 
+-- The text has blocks with a name that isn't known, and this is the first text in walk order that has one.
+abbrev pub HasUnknownNames : List ℕ → Told → Type 0
+HasUnknownNames bytes refusal =
+    (tree : Data) × IsTree bytes tree × (blocks : Blocks) × IsConfiguration tree blocks × (length blocks ≤ max_blocks) × RefusesNames (block_name_checks blocks) refusal
+
 -- What is told of a text, in the order of tests: it is longer than it may be, 14; it is no JSON; it has a
--- fault in its shape; it has too many blocks. That there was no memory may be told of any text.
+-- fault in its shape; it has too many blocks; a name isn't known. That there was no memory may be told of
+-- any text.
 abbrev pub IsRefused : List ℕ → Told → Type 0
 IsRefused bytes no_memory = Unit {0}
 IsRefused bytes workers = ⊥
 IsRefused bytes (fault code place detail) =
     let refusal = fault code place detail in
     ((max_bytes < length bytes) × (refusal ≡ whole_fault 14))
-    ⊎ ((length bytes ≤ max_bytes) × (IsNotJson bytes refusal ⊎ IsMisshapen bytes refusal ⊎ HasTooManyBlocks bytes refusal))
+    ⊎ ((length bytes ≤ max_bytes) × (IsNotJson bytes refusal ⊎ IsMisshapen bytes refusal ⊎ HasTooManyBlocks bytes refusal ⊎ HasUnknownNames bytes refusal))

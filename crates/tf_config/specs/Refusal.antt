@@ -1,10 +1,10 @@
 -- What a refusal tells, without where it lies in memory.
 use Rattle.std.specs.Prelude.{ℕ, List, map, string_bytes}
+use Rattle.tf_operation.specs.declared.fault.EvalFault.{EvalFault}
 use Rattle.tf_config.specs.declared.refusal.Detail.{Detail}
 use Rattle.tf_config.specs.declared.refusal.Detail.TheVariants as details
 use Rattle.tf_config.specs.declared.refusal.Refusal.{Refusal}
 use Rattle.tf_config.specs.declared.refusal.Refusal.TheVariants as refusals
-use Rattle.tf_config.specs.declared.tf_expr.EvalFault.{EvalFault}
 
 -- what stands behind a refusal's name: nothing, a byte offset, the names of a cycle, or how an
 -- evaluation failed

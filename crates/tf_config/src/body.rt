@@ -1,21 +1,21 @@
-ghost use Rattle.serde_json.specs.Data.{no_members};
 ghost use Rattle.serde_json.specs.View.{view, members_view};
 ghost use Rattle.std.specs.Prelude.{IfErr, IfOk, OnOk};
 ghost use Rattle.tf_config.specs.Configuration.{below, argument_checks, AddsArgument, AddsProperty, IsBody, object_checks, property_checks};
 ghost use Rattle.tf_config.specs.Config.{arguments_of};
 ghost use Rattle.tf_config.specs.Demand.{Refuses};
 ghost use Rattle.tf_config.specs.Refusal.{told};
+ghost use Rattle.tf_expr.specs.Tree.{no_entries};
 ghost use Rattle.tf_text.specs.Place.{place_of};
 ghost use Rattle.tf_text.specs.Walk.{each, Builds};
 
 use crate::config::Block;
 use crate::demand::{bad_shape, demand_name};
-use crate::literal::demand_literal;
 use crate::refusal::Refusal;
 use crate::words::{Property, property_named};
 use serde_json::{Map, Value};
 use std::alloc::Global;
 use std::collections::BTreeMap;
+use tf_expr::read_expr_at;
 use tf_text::Path;
 
 /// The body of a resource, which stands at the path.
@@ -40,7 +40,7 @@ fn read_properties<'a>(
     members: &'a Map<String, Value>,
 ) -> Result<Block, Refusal>
     ensures ok { IfOk result (λ block.
-        Builds AddsProperty (members_view members.now.entries) no_members (arguments_of block)) }
+        Builds AddsProperty (members_view members.now.entries) no_entries (arguments_of block)) }
     ensures fault { IfErr result (λ refusal.
         Refuses (each (below property_checks (place_of path.now)) (members_view members.now.entries))
         (told refusal)) }
@@ -87,9 +87,8 @@ fn add_argument<'a>(
         Refuses (argument_checks (place_of path.now) name.now (view value.now)) (told refusal)) }
 {
     demand_name(alloc, path, name)?;
-    demand_literal(alloc, value, path)?;
+    let expr = read_expr_at(alloc, path, value)?;
     let name = String::from_str(alloc, name)?;
-    let value = value.clone()?;
-    drop(block.arguments.insert(name, value)?);
+    drop(block.arguments.insert(name, expr)?);
     Ok(())
 }

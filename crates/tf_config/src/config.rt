@@ -1,6 +1,6 @@
-use serde_json::Value;
 use std::collections::BTreeMap;
 use tf_address::Label;
+use tf_expr::Expr;
 
 /// A configuration: its resource blocks, by address.
 #[derive(Drop)]
@@ -12,6 +12,6 @@ pub struct Config {
 /// What a resource block says.
 #[derive(Drop)]
 pub struct Block {
-    /// The arguments by name. Each is a literal.
-    pub arguments: BTreeMap<String, Value>,
+    /// The arguments by name.
+    pub arguments: BTreeMap<String, Expr>,
 }

@@ -1,6 +1,4 @@
-ghost use Rattle.std.specs.Prelude.{IsTrue, IsSome};
-ghost use Rattle.serde_json.specs.View.{number_view};
-ghost use Rattle.tf_config.specs.Demand.{Judges, TellsAt, bad_shape, a_name, a_type_name, a_plain_name, a_whole_number, a_template};
+ghost use Rattle.tf_config.specs.Demand.{Judges, TellsAt, bad_shape, unknown_name, a_name, a_type_name};
 ghost use Rattle.tf_config.specs.Configuration.{whole_file};
 ghost use Rattle.tf_config.specs.Refusal.{bare, told, detail_of};
 ghost use Rattle.tf_text.specs.Check.{demanded};
@@ -8,7 +6,6 @@ ghost use Rattle.tf_text.specs.Place.{dotted, place_of};
 
 use crate::refusal::{Detail, Refusal};
 use crate::words;
-use serde_json::Number;
 use std::alloc::Global;
 use tf_address::is_name;
 use tf_text::Path;
@@ -17,7 +14,7 @@ pub(crate) const NOT_JSON: u8 = 1;
 
 pub(crate) const BAD_SHAPE: u8 = 2;
 
-const BAD_TEMPLATE: u8 = 3;
+const UNKNOWN_NAME: u8 = 4;
 
 pub(crate) const LIMIT: u8 = 14;
 
@@ -50,6 +47,13 @@ pub(crate) fn bad_shape(alloc: Global, path: &Path<'_>) -> Refusal
     fault(alloc, path, BAD_SHAPE, Detail::Bare)
 }
 
+/// The text at the place names or calls something that isn't known.
+pub(crate) fn names_unknown(alloc: Global, path: &Path<'_>) -> Refusal
+    ensures { TellsAt (dotted (place_of path.now)) unknown_name (told result) }
+{
+    fault(alloc, path, UNKNOWN_NAME, Detail::Bare)
+}
+
 pub(crate) fn demand_name(alloc: Global, path: &Path<'_>, text: &str) -> Result<(), Refusal>
     ensures { Judges (demanded (place_of path.now) (a_name text.now)) result }
 {
@@ -67,36 +71,5 @@ pub(crate) fn demand_type_name(alloc: Global, path: &Path<'_>, text: &str) -> Re
         Ok(())
     } else {
         Err(bad_shape(alloc, path))
-    }
-}
-
-pub(crate) fn demand_plain_name(alloc: Global, path: &Path<'_>, text: &str) -> Result<(), Refusal>
-    ensures { Judges (demanded (place_of path.now) (a_plain_name text.now)) result }
-{
-    match words::first_opening(text) {
-        None => Ok(()),
-        Some(_) => Err(bad_shape(alloc, path)),
-    }
-}
-
-pub(crate) fn demand_whole_number(
-    alloc: Global,
-    path: &Path<'_>,
-    number: &Number,
-) -> Result<(), Refusal>
-    ensures { Judges (demanded (place_of path.now) (a_whole_number (number_view number.now))) result }
-{
-    match number.as_i64() {
-        Some(_) => Ok(()),
-        None => Err(bad_shape(alloc, path)),
-    }
-}
-
-pub(crate) fn demand_template(alloc: Global, path: &Path<'_>, text: &str) -> Result<(), Refusal>
-    ensures { Judges (demanded (place_of path.now) (a_template text.now)) result }
-{
-    match words::first_opening(text) {
-        None => Ok(()),
-        Some(offset) => Err(fault(alloc, path, BAD_TEMPLATE, Detail::At(offset))),
     }
 }

@@ -1,4 +1,4 @@
-ghost use Rattle.tf_config.specs.Laws.{StandingIsFaultless, FaultlessStands, StandsForOne, BlocksAreInOrder, ArgumentsAreValues, RefusedOnce, RefusedIsNotRead};
+ghost use Rattle.tf_config.specs.Laws.{StandingIsFaultless, FaultlessStands, StandsForOne, BlocksAreInOrder, KnownNamesAreNone, NoNamesAreKnown, RefusedOnce, RefusedIsNotRead};
 
 /// A JSON tree stands for blocks exactly where all checks of it are met, and for one list of blocks at most.
 pub fn faultless_trees_stand()
@@ -7,14 +7,21 @@ pub fn faultless_trees_stand()
     ensures one { StandsForOne }
 {}
 
-/// The blocks of a configuration stand in address order, each address once, and each of their arguments is
-/// the JSON form of a value.
+/// The blocks of a configuration stand in address order, each address once.
 pub fn blocks_are_in_order()
     ensures order { BlocksAreInOrder }
-    ensures values { ArgumentsAreValues }
 {}
 
-/// One fault is told of a text at most, and none of a text that is a configuration within the limits.
+/// All names of blocks are known exactly where their arguments name nothing, and each function that they call
+/// is one.
+pub fn known_names_are_none()
+    ensures none { KnownNamesAreNone }
+    ensures known { NoNamesAreKnown }
+{}
+
+/// One fault is told of a text at most, but that of a text in it which spells no template an offset is told
+/// or that it is too deep. None is told of a text that is a configuration within the limits, all names of
+/// which are known.
 pub fn refusals_are_one()
     ensures once { RefusedOnce }
     ensures not_read { RefusedIsNotRead }

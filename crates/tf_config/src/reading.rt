@@ -4,6 +4,7 @@ ghost use Rattle.std.specs.Prelude.{[], ◌≤◌, length, IfErr, IfOk, OnOk};
 ghost use Rattle.tf_config.specs.Config.{blocks_of};
 ghost use Rattle.tf_config.specs.Configuration.{below, configuration_checks, object_checks, resource_checks, section_checks, type_checks, AddsResource, AddsSection, AddsType, BuildsFrom, IsConfiguration};
 ghost use Rattle.tf_config.specs.Demand.{Refuses};
+ghost use Rattle.tf_config.specs.KnownNames.{KnownBlocks};
 ghost use Rattle.tf_config.specs.Reading.{max_blocks, max_bytes, IsRefused, IsTree, TellsNotJson};
 ghost use Rattle.tf_config.specs.Refusal.{told};
 ghost use Rattle.tf_text.specs.Place.{place_of};
@@ -14,6 +15,7 @@ use crate::config::Config;
 use crate::demand::{
     BAD_SHAPE, LIMIT, NOT_JSON, bad_shape, demand_name, demand_type_name, whole_file_fault,
 };
+use crate::known_names::demand_known_names;
 use crate::refusal::Refusal;
 use crate::words::{Section, section_named};
 use serde_json::{Map, Value};
@@ -29,19 +31,21 @@ const MAX_BYTES: usize = 4_194_304;
 const MAX_BLOCKS: usize = 2_000;
 
 /// Reads a configuration: the bytes of one JSON object, whose property `resource` has types, below them
-/// names, and below those bodies. A body's properties are arguments, each a literal. `//` is ignored at the
-/// top and in a body.
+/// names, and below those bodies. A body's properties are arguments, each an expression: texts are
+/// templates. `//` is ignored at the top and in a body.
 ///
 /// # Errors
 ///
 /// The first of these in the order of tests, or `OutOfMemory`.
 /// - 14 at `configuration`: more than 4,194,304 bytes.
 /// - 1 at `configuration`: no JSON as `serde_json` reads it, which takes UTF-8 alone.
-/// - 2 or 3, at the first fault in a walk that takes properties in byte order, depth first, and a block's own
-///   shape before its parts. The place is the path of names and positions, joined by dots, or `configuration`
-///   where the top is no object. 2 is a property, a block, a name or a number that the format doesn't allow.
-///   3 is a text in which `${` or `%{` stands, with the byte offset of the first of them.
+/// - 2, 3 or 14, at the first fault in a walk that takes properties in byte order, depth first, and a block's
+///   own shape before its parts. The place is the path of names and positions, joined by dots, or
+///   `configuration` where the top is no object. 2 is a property, a block, a name or a number that the format
+///   doesn't allow. 3 is a text that is no template, with a byte offset. 14 is a template that is too deep.
 /// - 14 at `configuration`: more than 2,000 resource blocks.
+/// - 4, at the first text in the same walk that names anything, since nothing can be declared, or that calls
+///   what is no function.
 pub fn read(alloc: Global, bytes: &[u8]) -> Result<Config, Refusal>
     // The text is a tree, and the tree stands for these blocks.
     ensures ok { IfOk result (λ config. (tree : Data) × IsTree bytes.now tree
@@ -50,6 +54,9 @@ pub fn read(alloc: Global, bytes: &[u8]) -> Result<Config, Refusal>
     // No limit is passed.
     ensures small { IfOk result (λ config. (length bytes.now ≤ max_bytes)
         × (length (blocks_of config) ≤ max_blocks)) }
+
+    // All names are known, so that the arguments name nothing.
+    ensures names { IfOk result (λ config. KnownBlocks (blocks_of config)) }
 
     // What is told is the first fault, or that there was no memory.
     ensures fault { IfErr result (λ refusal. IsRefused bytes.now (told refusal)) }
@@ -62,6 +69,7 @@ pub fn read(alloc: Global, bytes: &[u8]) -> Result<Config, Refusal>
     if config.resources.len() > MAX_BLOCKS {
         return Err(whole_file_fault(alloc, LIMIT));
     }
+    demand_known_names(alloc, &config)?;
     Ok(config)
 }
 

@@ -1,10 +1,13 @@
 ghost use Rattle.std.specs.Prelude.{◌≡◌, Some};
+ghost use Rattle.tf_config.specs.Demand.{way_of};
+ghost use Rattle.tf_config.specs.Refusal.{detail_of};
 ghost use Rattle.tf_config.specs.RefusalText.{refusal_name};
 
 use crate::names::NameList;
-use crate::tf_expr::EvalFault;
 use std::alloc::{AllocError, AllocFailed};
 use std::fmt;
+use tf_expr::{Cause as ExprCause, ExprFault};
+use tf_operation::EvalFault;
 
 /// Why nothing was called: what was wrong with what the user gave, or with the machine.
 #[derive(Debug, Drop)]
@@ -55,6 +58,40 @@ impl<T: Drop> From<AllocFailed<T>> for Refusal {
 
     fn from(_error: AllocFailed<T>) -> Refusal {
         Refusal::OutOfMemory
+    }
+}
+
+/// A fault of an expression, as it is refused.
+impl From<ExprFault> for Refusal {
+    ghost use Rattle.tf_expr.specs.Fault.{told as told_of_expression};
+    ghost use Rattle.tf_config.specs.Refusal.{told};
+    ghost use Rattle.tf_config.specs.Demand.{refused_expression};
+
+    ghost from_gives = { λ fault refusal. told refusal ≡ refused_expression (told_of_expression fault) };
+
+    fn from(fault: ExprFault) -> Refusal {
+        match fault {
+            ExprFault::OutOfMemory => Refusal::OutOfMemory,
+            ExprFault::Refused { place, cause } => {
+                let (code, detail) = way_of(cause);
+                Refusal::Fault {
+                    code,
+                    place,
+                    detail,
+                }
+            }
+        }
+    }
+}
+
+/// The code of a fault of an expression, and what stands behind its name.
+fn way_of(cause: ExprCause) -> (u8, Detail)
+    ensures { (result.0, detail_of result.1) ≡ way_of cause }
+{
+    match cause {
+        ExprCause::BadShape => (2, Detail::Bare),
+        ExprCause::At(offset) => (3, Detail::At(offset)),
+        ExprCause::TooDeep => (14, Detail::Bare),
     }
 }
 

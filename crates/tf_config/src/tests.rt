@@ -1,5 +1,7 @@
-use crate::tf_expr::EvalFault;
-use crate::{Detail, Refusal, blocks_are_in_order, faultless_trees_stand, read, refusals_are_one};
+use crate::{
+    Detail, EvalFault, Refusal, blocks_are_in_order, faultless_trees_stand, known_names_are_none,
+    read, refusals_are_one,
+};
 use std::alloc::{AllocError, Global};
 use std::test::Fail;
 
@@ -128,6 +130,10 @@ static BODIES: [(&str, &str); 20] = [
         "error 2 at resource.sim_net.a.connection: BadShape",
     ),
     ("{\"-x\": 1}", "error 2 at resource.sim_net.a.-x: BadShape"),
+    (
+        "{\"-x\": \"${\"}",
+        "error 2 at resource.sim_net.a.-x: BadShape",
+    ),
     ("{\"x\": 1.0}", "error 2 at resource.sim_net.a.x: BadShape"),
     ("{\"x\": 1e3}", "error 2 at resource.sim_net.a.x: BadShape"),
     ("{\"x\": -0}", "error 2 at resource.sim_net.a.x: BadShape"),
@@ -136,24 +142,60 @@ static BODIES: [(&str, &str); 20] = [
         "error 2 at resource.sim_net.a.x: BadShape",
     ),
     (
-        "{\"x\": \"a$b%{\"}",
-        "error 3 at resource.sim_net.a.x: BadTemplate(3)",
-    ),
-    (
-        "{\"x\": \"$${x}\"}",
-        "error 3 at resource.sim_net.a.x: BadTemplate(1)",
-    ),
-    (
-        "{\"x\": \"{$\", \"y\": \"\u{e9}${\"}",
-        "error 3 at resource.sim_net.a.y: BadTemplate(2)",
-    ),
-    (
-        "{\"x\": [0, [\"\", 1, {\"k\": [\"${\"]}]]}",
-        "error 3 at resource.sim_net.a.x.1.2.k.0: BadTemplate(0)",
-    ),
-    (
         "{\"x\": {\"a\": 1, \"b%{\": \"${\"}}",
         "error 2 at resource.sim_net.a.x.b%{: BadShape",
+    ),
+    (
+        "{\"x\": {\"a$${b\": 1}}",
+        "error 2 at resource.sim_net.a.x.a$${b: BadShape",
+    ),
+    (
+        "{\"x\": [0, [\"\", 1, {\"k\": [1.5]}]]}",
+        "error 2 at resource.sim_net.a.x.1.2.k.0: BadShape",
+    ),
+    (
+        "{\"x\": {\"a\": \"$${x}\", \"b\": \"%%{if}\"}, \"y\": \"a$b{\"}",
+        "1 blocks",
+    ),
+];
+
+static TEMPLATES: [(&str, &str); 16] = [
+    ("%{if}", "error 3 at resource.sim_net.a.x: BadTemplate(0)"),
+    (
+        "${1 / 2}",
+        "error 3 at resource.sim_net.a.x: BadTemplate(4)",
+    ),
+    ("${1.5}", "error 3 at resource.sim_net.a.x: BadTemplate(3)"),
+    ("${}", "error 3 at resource.sim_net.a.x: BadTemplate(2)"),
+    ("${", "error 3 at resource.sim_net.a.x: BadTemplate(2)"),
+    (
+        "${9223372036854775808}",
+        "error 3 at resource.sim_net.a.x: BadTemplate(2)",
+    ),
+    (
+        "\u{e9}${",
+        "error 3 at resource.sim_net.a.x: BadTemplate(4)",
+    ),
+    ("a$b%{", "error 3 at resource.sim_net.a.x: BadTemplate(3)"),
+    ("$${x}", "1 blocks"),
+    ("${1 + 2}", "1 blocks"),
+    ("n-${length([1, \\\"a\\\"])}${null}", "1 blocks"),
+    ("${var.x}", "error 4 at resource.sim_net.a.x: UnknownName"),
+    (
+        "${sim_net.b.id}",
+        "error 4 at resource.sim_net.a.x: UnknownName",
+    ),
+    (
+        "${true ? 1 : keys(local.y)}",
+        "error 4 at resource.sim_net.a.x: UnknownName",
+    ),
+    (
+        "${upper(1)}",
+        "error 4 at resource.sim_net.a.x: UnknownName",
+    ),
+    (
+        "a${join(1, [toset([])])}",
+        "error 4 at resource.sim_net.a.x: UnknownName",
     ),
 ];
 
@@ -168,30 +210,133 @@ fn refuses_bodies(rt: HostRuntime) -> Result<(), Fail> {
 }
 
 #[test]
+fn refuses_templates(rt: HostRuntime) -> Result<(), Fail> {
+    for (template, want) in &TEMPLATES {
+        let body = format!(in rt.alloc(); "{{\"x\": \"{template}\"}}")?;
+        let text = with_body(rt.alloc(), body.as_str())?;
+        let said = answer(rt.alloc(), text.as_str().as_bytes())?;
+        assert_eq!(rt; said.as_str(), *want, "{template}");
+    }
+    Ok(())
+}
+
+#[test]
+fn knows_each_function(rt: HostRuntime) -> Result<(), Fail> {
+    for name in ["length", "keys", "values", "merge", "concat", "join"] {
+        let body = format!(in rt.alloc(); "{{\"x\": [\"${{{name}()}}\"]}}")?;
+        let text = with_body(rt.alloc(), body.as_str())?;
+        let said = answer(rt.alloc(), text.as_str().as_bytes())?;
+        assert_eq!(rt; said.as_str(), "1 blocks", "{name}");
+    }
+    Ok(())
+}
+
+static FIRSTS: [(&str, &str); 8] = [
+    (
+        "{\"tags\": {\"j\": \"\", \"k\": [\"${var.x}\"]}}",
+        "error 4 at resource.sim_net.a.tags.k.0: UnknownName",
+    ),
+    (
+        "{\"x\": [\"a\", [0, \"${f()}\"], \"${g()}\"], \"y\": \"${h()}\"}",
+        "error 4 at resource.sim_net.a.x.1.1: UnknownName",
+    ),
+    (
+        "{\"x\": [0, [\"\", 1, {\"k\": [\"${\"]}]]}",
+        "error 3 at resource.sim_net.a.x.1.2.k.0: BadTemplate(2)",
+    ),
+    (
+        "{\"y\": 1.5, \"x\": \"%{\"}",
+        "error 3 at resource.sim_net.a.x: BadTemplate(0)",
+    ),
+    (
+        "{\"x\": 1.5, \"y\": \"%{\"}",
+        "error 2 at resource.sim_net.a.x: BadShape",
+    ),
+    (
+        "{\"x\": {\"a\": \"${1.5}\", \"b${\": 0}}",
+        "error 3 at resource.sim_net.a.x.a: BadTemplate(3)",
+    ),
+    (
+        "{\"x\": \"${var.x}\", \"y\": [1.5]}",
+        "error 2 at resource.sim_net.a.y.0: BadShape",
+    ),
+    (
+        "{\"x\": \"${f()}\", \"y\": \"${\"}",
+        "error 3 at resource.sim_net.a.y: BadTemplate(2)",
+    ),
+];
+
+static NAMING: &str =
+    "{\"resource\": {\"t\": {\"b\": {\"x\": \"${t.a}\"}, \"a-1\": {\"z\": \"${t.b}\"}}, \"s\": {\"c\": {}}}}";
+
+#[test]
+fn tells_the_first_fault(rt: HostRuntime) -> Result<(), Fail> {
+    for (body, want) in &FIRSTS {
+        let text = with_body(rt.alloc(), body)?;
+        let said = answer(rt.alloc(), text.as_str().as_bytes())?;
+        assert_eq!(rt; said.as_str(), *want, "{body}");
+    }
+    assert_eq!(rt;
+        answer(rt.alloc(), NAMING.as_bytes())?.as_str(),
+        "error 4 at resource.t.a-1.z: UnknownName"
+    );
+    Ok(())
+}
+
+// A text in a list, in which a number stands in this many parentheses.
+fn grouped(alloc: Global, count: usize) -> Result<String, AllocError> {
+    let mut text = String::from_str(alloc, "{\"x\": [\"\", \"${")?;
+    for _ in 0..count {
+        text.push('(')?;
+    }
+    text.push('1')?;
+    for _ in 0..count {
+        text.push(')')?;
+    }
+    text.push_str("}\"]}")?;
+    with_body(alloc, text.as_str())
+}
+
+#[test]
+fn refuses_deep_templates(rt: HostRuntime) -> Result<(), Fail> {
+    for (count, want) in [
+        (62, "1 blocks"),
+        (63, "error 14 at resource.sim_net.a.x.1: Limit"),
+    ] {
+        let text = grouped(rt.alloc(), count)?;
+        let said = answer(rt.alloc(), text.as_str().as_bytes())?;
+        assert_eq!(rt; said.as_str(), want);
+    }
+    Ok(())
+}
+
+static ARGUMENTS: &str =
+    "{\"resource\": {\"sim_net\": {\"b\": {\"cidr\": \"x\", \"cidr\": \"${1 + 2}\"}, \"a\": {\"t\": [{\"k\": null}, 7, false]}}}}";
+
+static READ: &str = "sim_net.a {\"t\": List([Map({\"k\": Null}), Int(7), Bool(false)])}
+sim_net.b {\"cidr\": Template(Template { parts: [(\"\", Binary(Add, Number(1), Number(2)))], last: \"\" })}
+";
+
+#[test]
 fn reads_arguments(rt: HostRuntime) -> Result<(), Fail> {
-    let text =
-        b"{\"resource\": {\"sim_net\": {\"b\": {\"cidr\": \"x\", \"cidr\": \"y\"}, \"a\": {}}}}";
-    let config = read(rt.alloc(), text).map_err(|_| "refused")?;
+    let config = read(rt.alloc(), ARGUMENTS.as_bytes()).map_err(|_| "refused")?;
     let mut seen = String::new(rt.alloc());
     for (label, block) in config.resources.iter() {
-        let count = block.arguments.len();
-        let cidr = block
-            .arguments
-            .get("cidr")
-            .and_then(|value| value.as_str())
-            .unwrap_or("none");
-        seen.push_str(format!(in rt.alloc(); "{label} {count} {cidr};")?.as_str())?;
+        let arguments = &block.arguments;
+        seen.push_str(format!(in rt.alloc(); "{label} {arguments:?}\n")?.as_str())?;
     }
-    assert_eq!(rt; seen.as_str(), "sim_net.a 0 none;sim_net.b 1 y;");
+    assert_eq!(rt; seen.as_str(), READ);
     faultless_trees_stand();
     blocks_are_in_order();
+    known_names_are_none();
     refusals_are_one();
     Ok(())
 }
 
-// A configuration with this many blocks.
-fn many(alloc: Global, count: usize) -> Result<String, AllocError> {
-    let mut text = String::from_str(alloc, "{\"resource\": {\"t\": {\"a\": {}")?;
+// A configuration with this many blocks, the first of which has this body.
+fn many(alloc: Global, count: usize, body: &str) -> Result<String, AllocError> {
+    let mut text = String::from_str(alloc, "{\"resource\": {\"t\": {\"a\": ")?;
+    text.push_str(body)?;
     for n in 1..count {
         let next = format!(in alloc; ", \"a{n}\": {{}}")?;
         text.push_str(next.as_str())?;
@@ -215,11 +360,20 @@ fn deep(alloc: Global, depth: usize) -> Result<String, AllocError> {
 
 #[test]
 fn keeps_limits(rt: HostRuntime) -> Result<(), Fail> {
-    for (count, want) in [
-        (2_000, "2000 blocks"),
-        (2_001, "error 14 at configuration: Limit"),
+    let named = "{\"x\": \"${var.x}\"}";
+    let misshapen = "{\"x\": \"${\"}";
+    for (count, body, want) in [
+        (2_000, "{}", "2000 blocks"),
+        (2_000, named, "error 4 at resource.t.a.x: UnknownName"),
+        (2_001, "{}", "error 14 at configuration: Limit"),
+        (2_001, named, "error 14 at configuration: Limit"),
+        (
+            2_001,
+            misshapen,
+            "error 3 at resource.t.a.x: BadTemplate(2)",
+        ),
     ] {
-        let text = many(rt.alloc(), count)?;
+        let text = many(rt.alloc(), count, body)?;
         let said = answer(rt.alloc(), text.as_str().as_bytes())?;
         assert_eq!(rt; said.as_str(), want);
     }
@@ -285,7 +439,8 @@ fn prints_refusals(rt: HostRuntime) -> Result<(), Fail> {
 // Nothing is read or told in place of a refused growth: run with each allocation failing in turn.
 #[test]
 fn says_when_memory_ran_out(rt: HostRuntime) {
-    let text = b"{\"resource\": {\"t\": {\"a\": {\"x\": [\"y\"]}, \"b\": {\"z\": {\"k\": 1}}}}}";
+    let text =
+        b"{\"resource\": {\"t\": {\"a\": {\"x\": [\"y${keys(1)}\"]}, \"b\": {\"z\": {\"k\": 1}}}}}";
     match read(rt.alloc(), text) {
         Ok(config) => {
             assert_eq!(rt; config.resources.len(), 2);
@@ -309,7 +464,30 @@ fn says_when_memory_ran_out(rt: HostRuntime) {
         ) => {
             assert_eq!(rt; code, 3);
             assert_eq!(rt; place.as_str(), "resource.t.a.x.0");
-            assert!(rt; matches!(detail, Detail::At(0)));
+            assert!(rt; matches!(detail, Detail::At(2)));
+        }
+        Err(refusal) => assert!(rt; matches!(refusal, Refusal::OutOfMemory)),
+    }
+}
+
+// Nor while names are looked for.
+#[test]
+fn says_when_memory_ran_out_among_names(rt: HostRuntime) {
+    match read(
+        rt.alloc(),
+        b"{\"resource\": {\"t\": {\"a\": {\"x\": [1, \"${f(var.x)}\"]}}}}",
+    ) {
+        Ok(_) => assert!(rt; false, "read"),
+        Err(
+            Refusal::Fault {
+                code,
+                place,
+                detail,
+            },
+        ) => {
+            assert_eq!(rt; code, 4);
+            assert_eq!(rt; place.as_str(), "resource.t.a.x.1");
+            assert!(rt; matches!(detail, Detail::Bare));
         }
         Err(refusal) => assert!(rt; matches!(refusal, Refusal::OutOfMemory)),
     }

@@ -1,7 +1,6 @@
 ghost use Rattle.std.specs.List.{list_any};
-ghost use Rattle.std.specs.Prelude.{◌≡◌, MatchOption};
+ghost use Rattle.std.specs.Prelude.{◌≡◌};
 ghost use Rattle.std.specs.Str.{bytes_eq};
-ghost use Rattle.tf_config.specs.Opening.{opens, IsFirstOpening, IsPlain};
 ghost use Rattle.tf_config.specs.Words.{section_of, property_of, is_type_name, reserved_properties, reserved_types};
 
 use tf_address::is_name;
@@ -92,23 +91,4 @@ fn is_reserved_type(text: &str) -> bool
             | "false"
             | "null"
     )
-}
-
-/// The byte offset of the first `${` or `%{` in a text.
-pub(crate) fn first_opening(text: &str) -> Option<usize>
-    ensures { MatchOption result (IsPlain text.now) (IsFirstOpening text.now) }
-{
-    let bytes = text.as_bytes();
-    for after in 1..bytes.len() {
-        if opens(bytes[after - 1], bytes[after]) {
-            return Some(after - 1);
-        }
-    }
-    None
-}
-
-fn opens(first: u8, second: u8) -> bool
-    ensures { result ≡ opens first second }
-{
-    (first == b'$' || first == b'%') && second == b'{'
 }

@@ -1,13 +1,14 @@
 -- A `BTreeMap` of expressions beside the entries that it stands for.
-use Rattle.std.proofs.Common.{◌≡◌, List, [], ◌∷◌, ◌++◌, String, Global, Ordering, Less, Equal, Greater, string_bytes, string_cmp, nat_cmp, refl, ap, ◌∙◌}
+use Rattle.std.proofs.Common.{◌≡◌, ℕ, Bool, true, false, cond, Bor, Option, Some, None, option_map, is_eq, List, [], ◌∷◌, ◌++◌, String, Global, Ordering, Less, Equal, Greater, string_bytes, string_cmp, nat_cmp, refl, ap, ◌∙◌}
 use Rattle.std.proofs.lemmas.Cmp.{nat_list_cmp_total}
+use Rattle.std.proofs.lemmas.Map.Text.{is_eq-slice_cmp}
 use Rattle.std.specs.Cmp.Lexicographic.{slice_cmp}
 use Rattle.std.specs.List.Sorted.{IsStrictlySortedBy}
-use Rattle.std.specs.Map.{keys_of}
+use Rattle.std.specs.Map.{keys_of, lookup}
 use Rattle.std.specs.Ordering.{match_ordering, ordering_reverse}
-use Rattle.std.specs.BTreeMap.{insert_entry}
+use Rattle.std.specs.BTreeMap.{insert_entry, is_at}
 use Rattle.tf_value.proofs.Views.{below_middle}
-use Rattle.tf_expr.specs.Tree.{entry, put, tree_of, entries_view}
+use Rattle.tf_expr.specs.Tree.{Tree, entry, get, put, tree_of, entries_view}
 use Rattle.tf_expr.specs.declared.expr.Expr.{Expr}
 
 abbrev pub Entry : Type 0
@@ -17,6 +18,19 @@ entries_view-match_ordering : (o : Ordering) (a b c : List Entry) → entries_vi
 entries_view-match_ordering Less a b c = refl
 entries_view-match_ordering Equal a b c = refl
 entries_view-match_ordering Greater a b c = refl
+
+found_or : (b : Bool) (e : Expr) (rest : Option Expr) (r : Option Tree) → option_map tree_of rest ≡ r → option_map tree_of (cond b (Some e) rest) ≡ cond b (Some (tree_of e)) r
+found_or true e rest r h = refl
+found_or false e rest r h = h
+
+-- what a look-up finds in a `BTreeMap<String, Expr>`
+pub tree_of-lookup : (name : List ℕ) (es : List Entry) → option_map tree_of (lookup (is_at (λ k. slice_cmp nat_cmp name (string_bytes k))) es) ≡ get name (entries_view es)
+tree_of-lookup name [] = refl
+tree_of-lookup name (e ∷ es) = rw (← is_eq-slice_cmp name (string_bytes e.0)) (found_or (is_eq (slice_cmp nat_cmp name (string_bytes e.0))) e.1 _ _ (tree_of-lookup name es))
+
+pub tree_of_ref : (r : Option (Bor Expr)) → option_map (λ e. tree_of e.now) r ≡ option_map tree_of (option_map (λ e. e.now) r)
+tree_of_ref None = refl
+tree_of_ref (Some e) = refl
 
 -- what an insert into a `BTreeMap<String, Expr>` leaves
 pub entries_view-insert_entry : (es : List Entry) (k : String Global) (e : Expr) → entries_view (insert_entry string_cmp es k e) ≡ put (string_bytes k) (tree_of e) (entries_view es)

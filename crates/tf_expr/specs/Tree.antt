@@ -1,7 +1,8 @@
 -- What an expression is, as plain data: no pointers, no capacities.
-use Rattle.std.specs.Prelude.{ℕ, ℤ, Bool, List, [], ◌∷◌, map as each, String, string_bytes}
+use Rattle.std.specs.Prelude.{ℕ, ℤ, Bool, if◌then◌else◌, Option, Some, None, List, [], ◌∷◌, map as each, String, string_bytes}
 use Rattle.std.specs.Cmp.Lexicographic.{slice_cmp}
 use Rattle.std.specs.Ordering.{nat_cmp, match_ordering}
+use Rattle.std.specs.Str.{bytes_eq}
 use Rattle.std.specs.declared.alloc.Global.{Global}
 use Rattle.tf_template.specs.Tree.{Woven, template_view}
 use Rattle.tf_expr.specs.declared.expr.Expr.{Expr, fold-Expr}
@@ -56,6 +57,11 @@ trees_view es = trees_of (each tree_of es)
 -- the entries of a `BTreeMap<String, Expr>`
 abbrev pub entries_view : List (String Global × Expr) → Entries
 entries_view es = entries_of (each (λ e. (e.0, tree_of e.1)) es)
+
+-- what stands at a name
+abbrev pub get : List ℕ → Entries → Option Tree
+get k no_entries = None
+get k (entry l t es) = if bytes_eq k l then Some t else get k es
 
 -- the entries with a tree at a name, in byte order of the names
 abbrev pub put : List ℕ → Tree → Entries → Entries

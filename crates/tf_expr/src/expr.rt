@@ -1,5 +1,8 @@
 //! Trees of expressions.
 
+ghost use Rattle.std.specs.Prelude.{◌≡◌, option_map};
+ghost use Rattle.tf_expr.specs.Tree.{entries_view, get, tree_of};
+
 use std::collections::BTreeMap;
 use tf_template::Template;
 
@@ -18,4 +21,11 @@ pub enum Expr {
     List(Vec<Expr>),
     /// An object: expressions by property name, in byte order of the names. The names are literal.
     Map(BTreeMap<String, Expr>),
+}
+
+/// The expression of a name; `None` where there is none.
+pub fn find<'a>(entries: &'a BTreeMap<String, Expr>, name: &str) -> Option<&'a Expr>
+    ensures { option_map (λ e. tree_of e.now) result ≡ get name.now (entries_view entries.now.entries) }
+{
+    entries.get(name)
 }

@@ -17,7 +17,7 @@ mod reading;
 
 pub use copies::copy;
 pub use evaluation::eval_expr;
-pub use expr::Expr;
+pub use expr::{Expr, find};
 pub use fault::{Cause, ExprFault};
 pub use reading::{read_expr, read_expr_at};
 pub use tf_meaning::{Constant, Constants, EvalFault, Scope, eval};

@@ -1,1 +1,4 @@
+pub mod Gaps
 pub mod Pretty
+pub mod Puts
+pub mod ReadsBack

@@ -4,6 +4,7 @@
 ghost use Rattle.serde_json.specs.View.{view};
 ghost use Rattle.serde_json.specs.Written.{has_float};
 ghost use Rattle.std.specs.Prelude.{◌≡◌, IfOk, false, string_bytes};
+ghost use Rattle.tf_json.specs.Plain.{TextReadsBack};
 ghost use Rattle.tf_json.specs.Text.{text_of};
 
 use serde_json::Value;
@@ -20,6 +21,13 @@ pub fn text(alloc: Global, json: &Value) -> Result<String, AllocError>
     text.push('\n')?;
     Ok(text)
 }
+
+/// The text of a plain tree (whole numbers of 64 bits, the keys of each object strictly in byte order) that nests
+/// no deeper than `serde_json` reads is read as that tree. A law: the body does nothing.
+#[tactic(auto, using(crate::proofs::ReadsBack::text_reads_back))]
+pub fn texts_read_back()
+    ensures { TextReadsBack }
+{}
 
 #[cfg(test)]
 mod tests {

@@ -1,5 +1,5 @@
 -- What operations answer is within the limits.
-use Rattle.std.proofs.Common.{◌≡◌, ◌+◌, ◌≤◌, ◌||◌, ℕ, zero, suc, ℤ, pos, negsuc, List, length, max, Bool, true, false, cond, Option, Some, None, Ok, Err, refl, sym, ap, ◌∙◌, subst, arith}
+use Rattle.std.proofs.Common.{◌≡◌, ◌≤◌, ℕ, zero, suc, ℤ, pos, negsuc, List, max, Bool, true, false, cond, Option, Some, None, Ok, Err, refl, ap, subst, arith}
 use Rattle.std.specs.Prelude.{is_some, not, neg_ℤ, ◌+ℤ◌, ◌-ℤ◌, ◌*ℤ◌}
 use Rattle.std.specs.Str.{bytes_eq}
 use Rattle.tf_template.specs.declared.token.Operator.{Operator}
@@ -12,10 +12,10 @@ use Rattle.tf_operation.specs.declared.function.Function.{Function}
 use Rattle.tf_operation.specs.declared.function.Function.TheVariants.{Length, Keys, Values, Merge, Concat, Join}
 use Rattle.tf_operation.specs.declared.fault.EvalFault.TheVariants.{Overflow, WrongKind}
 use Rattle.tf_operation.specs.Answer.{Answer, any_unknown, whole_value, list_value, map_value}
-use Rattle.tf_operation.specs.Operators.{not_value, negate_value, unary_value, truths_value, wholes_value, scalars_value, binary_value}
+use Rattle.tf_operation.specs.Operators.{unary_value, truths_value, wholes_value, scalars_value, binary_value}
 use Rattle.tf_operation.specs.Parts.{item_at, item_at_whole, attribute_value, index_value}
 use Rattle.tf_operation.specs.Joining.{text_of, joined_text, text_value, joined_value}
-use Rattle.tf_operation.specs.Functions.{items_count, entries_count, key_items, value_items, length_value, keys_value, values_value, entries_value, merged_onto, merge_value, items_value, concatenated, concat_value, spaced, spaced_value, join_value, call_value}
+use Rattle.tf_operation.specs.Functions.{items_count, entries_count, key_items, value_items, length_value, keys_value, values_value, entries_value, merged_onto, items_value, concatenated, spaced, spaced_value, join_value, call_value}
 use Rattle.tf_operation.specs.Laws.{AreWithinLimits}
 use Rattle.tf_operation.proofs.Growth.{answered, ok_value, present, some_value}
 use Rattle.tf_operation.proofs.Limits.{limited-holds}

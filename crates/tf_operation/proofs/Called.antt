@@ -1,12 +1,11 @@
 -- Which function is called with which arguments.
-use Rattle.std.proofs.Common.{◌≡◌, ◌+◌, ◌<◌, ℕ, List, [], ◌∷◌, ◌++◌, length, length-append, true, refl, sym, ap, ◌∙◌, arith}
+use Rattle.std.proofs.Common.{◌≡◌, ◌<◌, ℕ, List, [], ◌∷◌, ◌++◌, length, length-append, true, refl, sym, ap, ◌∙◌, arith}
 use Rattle.std.proofs.lemmas.Bool.Decides.{nat_tests}
 use Rattle.std.proofs.lemmas.List.{nil_from_length}
 use Rattle.tf_value.specs.Tree.{tree_of, items_view}
 use Rattle.tf_value.specs.declared.value.Value.{Value}
 use Rattle.tf_operation.specs.declared.function.Function.{Function}
 use Rattle.tf_operation.specs.declared.function.Function.TheVariants.{Length, Keys, Values, Merge, Concat, Join}
-use Rattle.tf_operation.specs.Answer.{Answer}
 use Rattle.tf_operation.specs.Functions.{takes, call_value, merge_value, concat_value, join_value}
 
 some_taken : (n : ℕ) → takes Merge n ≡ true → 0 < n

@@ -1,5 +1,5 @@
 -- Exact answers, and answers that memory may lack.
-use Rattle.std.proofs.Common.{◌≡◌, Result, Ok, Err, sym, ◌∙◌, subst}
+use Rattle.std.proofs.Common.{◌≡◌, Result, Ok, Err, subst}
 use Rattle.tf_value.specs.declared.value.Value.{Value}
 use Rattle.tf_operation.specs.declared.fault.EvalFault.{EvalFault}
 use Rattle.tf_operation.specs.declared.fault.EvalFault.TheVariants.{Overflow, WrongKind, Missing, Arity, TooLarge, OutOfMemory}

@@ -1,5 +1,5 @@
 -- Where more is known of what is joined, and of the arguments of functions, no more than more is known of results.
-use Rattle.std.proofs.Common.{◌≡◌, ◌⊎◌, ◌&&◌, ◌||◌, ◌+◌, ℕ, pos, List, Bool, true, false, cond, Option, Some, None, Ok, option_map, Ordering, Less, Equal, Greater, nat_cmp, refl, sym, ap, ◌∙◌, subst, inl, inr}
+use Rattle.std.proofs.Common.{◌≡◌, ◌&&◌, ◌||◌, ◌+◌, ℕ, pos, List, Bool, true, false, cond, Option, Some, None, Ok, option_map, Ordering, Less, Equal, Greater, nat_cmp, refl, sym, ap, ◌∙◌, subst, inl, inr}
 use Rattle.std.specs.Cmp.Lexicographic.{slice_cmp}
 use Rattle.std.specs.Fmt.{◌++?◌}
 use Rattle.std.specs.Ordering.{match_ordering}
@@ -12,7 +12,7 @@ use Rattle.tf_operation.specs.declared.function.Function.{Function}
 use Rattle.tf_operation.specs.declared.function.Function.TheVariants.{Length, Keys, Values, Merge, Concat, Join}
 use Rattle.tf_operation.specs.Answer.{Answer, any_unknown, is_unknown, items_behind, whole_value}
 use Rattle.tf_operation.specs.Joining.{text_of, joined_text, text_value, joined_value}
-use Rattle.tf_operation.specs.Functions.{items_count, entries_count, key_items, value_items, length_value, keys_value, values_value, laid_over, merged_onto, entries_value, merge_value, concatenated, items_value, concat_value, spaced_value, join_value, call_value}
+use Rattle.tf_operation.specs.Functions.{items_count, entries_count, key_items, value_items, length_value, keys_value, values_value, laid_over, merged_onto, entries_value, merge_value, concatenated, items_value, concat_value, join_value, call_value}
 use Rattle.tf_operation.proofs.Growth.{IsSettled, answered, ok_value, unknown_grows, values_grow, both_settled_grow, items_settled_grow, list_value-grows, map_value-grows}
 
 -- texts

@@ -1,22 +1,18 @@
 -- Where more is known of operands, no more than more is known of results.
-use Rattle.std.proofs.Common.{◌≡◌, ◌⊎◌, ◌&&◌, ◌||◌, ◌+◌, ℕ, zero, suc, ℤ, pos, negsuc, List, Bool, true, false, cond, Option, Some, None, Ok, Err, refl, sym, ap, ◌∙◌, subst, inl, inr}
-use Rattle.std.specs.Prelude.{not}
+use Rattle.std.proofs.Common.{◌≡◌, ◌⊎◌, ◌&&◌, ℕ, zero, suc, ℤ, pos, negsuc, List, Bool, true, false, cond, Option, Some, None, Ok, refl, sym, ap, ◌∙◌, subst, inl, inr}
 use Rattle.std.specs.Str.{bytes_eq}
 use Rattle.tf_template.specs.declared.token.Operator.{Operator}
 use Rattle.tf_template.specs.declared.token.Operator.TheVariants.{Equal, NotEqual}
 use Rattle.tf_template.specs.declared.tree.Prefix.{Prefix}
 use Rattle.tf_template.specs.declared.tree.Prefix.TheVariants.{Not, Negate}
-use Rattle.tf_value.specs.Tree.{Tree, null, boolean, whole, text, list, map, unknown, Items, no_items, item, Entries, no_entries, entry, get, same}
+use Rattle.tf_value.specs.Tree.{Tree, boolean, whole, text, list, map, unknown, Items, no_items, item, Entries, no_entries, entry, get}
 use Rattle.tf_value.specs.Known.{known, known_items}
 use Rattle.tf_value.specs.Refinement.{Refines, RefinesItems, RefinesEntries}
-use Rattle.tf_value.proofs.Conjunction.{and-first, and-second, and-both}
+use Rattle.tf_value.proofs.Conjunction.{and-first, and-second}
 use Rattle.tf_value.proofs.Order.{Refines-refl, Refines-known, RefinesItems-known}
-use Rattle.tf_operation.specs.declared.fault.EvalFault.{EvalFault}
-use Rattle.tf_operation.specs.declared.fault.EvalFault.TheVariants.{WrongKind, Missing}
-use Rattle.tf_operation.specs.Answer.{Answer, limited, present_value, any_unknown, is_unknown, list_value, map_value}
+use Rattle.tf_operation.specs.Answer.{Answer, present_value, list_value, map_value}
 use Rattle.tf_operation.specs.Operators.{not_value, negate_value, unary_value, scalars_value, equal_value, unequal_value, binary_value}
 use Rattle.tf_operation.specs.Parts.{item_at, item_at_whole, attribute_value, index_value}
-use Rattle.tf_operation.specs.Joining.{text_of, joined_text, text_value, joined_value}
 use Rattle.tf_operation.proofs.Limits.{limited-value}
 
 -- an answer that is a value

@@ -1,5 +1,5 @@
 -- What operations answer to known operands is known.
-use Rattle.std.proofs.Common.{◌≡◌, ◌&&◌, ◌||◌, ℕ, zero, suc, ℤ, pos, negsuc, List, Bool, true, false, cond, Option, Some, None, Ok, Err, option_map, Ordering, Less, Equal, Greater, nat_cmp, refl, sym, ap, ◌∙◌, subst}
+use Rattle.std.proofs.Common.{◌≡◌, ◌&&◌, ◌||◌, ℕ, zero, suc, ℤ, pos, negsuc, List, Bool, true, false, cond, Option, Some, None, Ok, Err, option_map, Ordering, Less, Equal, Greater, nat_cmp, refl, subst}
 use Rattle.std.specs.Prelude.{is_some, not, neg_ℤ, ◌+ℤ◌, ◌-ℤ◌, ◌*ℤ◌}
 use Rattle.std.specs.Cmp.Lexicographic.{slice_cmp}
 use Rattle.std.specs.Ordering.{match_ordering}
@@ -8,7 +8,7 @@ use Rattle.tf_template.specs.declared.token.Operator.{Operator}
 use Rattle.tf_template.specs.declared.token.Operator.TheVariants.{Or, And, Equal as same_as, NotEqual, Greater as above, GreaterOrEqual, Less as below, LessOrEqual, Add, Subtract, Multiply}
 use Rattle.tf_template.specs.declared.tree.Prefix.{Prefix}
 use Rattle.tf_template.specs.declared.tree.Prefix.TheVariants.{Not, Negate}
-use Rattle.tf_value.specs.Tree.{Tree, null, boolean, whole, text, list, map, unknown, Items, no_items, item, Entries, no_entries, entry, get, put}
+use Rattle.tf_value.specs.Tree.{Tree, boolean, whole, text, list, map, unknown, Items, no_items, item, Entries, no_entries, entry, get, put}
 use Rattle.tf_value.specs.Known.{known, known_items, known_entries}
 use Rattle.tf_value.proofs.Conjunction.{and-first, and-second, and-both}
 use Rattle.tf_operation.specs.declared.function.Function.{Function}

@@ -1,9 +1,8 @@
 -- Which answers are within the limits.
-use Rattle.std.proofs.Common.{◌≡◌, ◌≤◌, ◌<◌, ◌&&◌, Bool, true, false, cond, Ok, Err, refl, sym, ap, ◌∙◌}
+use Rattle.std.proofs.Common.{◌≡◌, ◌&&◌, Bool, true, false, cond, Ok, Err, refl}
 use Rattle.std.proofs.lemmas.Bool.{le-leb, leb-true}
-use Rattle.std.specs.Prelude.{nat_le}
 use Rattle.tf_value.specs.Tree.{Tree}
-use Rattle.tf_value.specs.Measure.{weight, depth, max_weight, max_depth, IsWithinLimits}
+use Rattle.tf_value.specs.Measure.{IsWithinLimits}
 use Rattle.tf_operation.specs.declared.fault.EvalFault.TheVariants.{WrongKind, TooLarge}
 use Rattle.tf_operation.specs.Answer.{Answer, limited}
 

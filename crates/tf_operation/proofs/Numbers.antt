@@ -1,11 +1,10 @@
 -- Whole numbers as indices.
-use Rattle.std.proofs.Common.{◌≡◌, ◌<◌, ◌≤◌, ◌^◌, ℕ, ℤ, pos, negsuc, List, length, get_or, Some, None, refl, sym, ap, ◌∙◌, subst, arith}
+use Rattle.std.proofs.Common.{◌≡◌, ℕ, ℤ, pos, negsuc, List, None, refl, sym, ap, arith}
 use Rattle.std.specs.Prelude.{unsigned_abs, FitsSigned}
 use Rattle.std.specs.Int.{w64, FitsUnsignedBits}
-use Rattle.tf_value.specs.Tree.{tree_of, items_view}
+use Rattle.tf_value.specs.Tree.{items_view}
 use Rattle.tf_value.specs.declared.value.Value.{Value}
 use Rattle.tf_operation.specs.Parts.{item_at, item_at_whole}
-use Rattle.tf_operation.proofs.Rows.{item_at-view, item_at-beyond}
 
 -- a whole number that is an index
 pub item_at_whole-index : (z : ℤ) (i : ℕ) (vs : List Value) → FitsUnsignedBits 64 z → i ≡ unsigned_abs z → item_at_whole z (items_view vs) ≡ item_at i (items_view vs)

@@ -1,6 +1,6 @@
 -- Items and entries, one behind the other.
-use Rattle.std.proofs.Common.{◌≡◌, ◌<◌, ◌≤◌, zero, ◌+◌, add-one, drop-cons, drop, get_or, length, ℕ, List, [], ◌∷◌, ◌++◌, Bool, true, false, Option, Some, None, option_map, map as each, suc, arith, refl, sym, ap, ◌∙◌}
-use Rattle.tf_value.specs.Tree.{Tree, Items, no_items, item, Entries, no_entries, entry, tree_of, items_view}
+use Rattle.std.proofs.Common.{◌≡◌, ◌<◌, ◌≤◌, zero, ◌+◌, add-one, drop-cons, drop, get_or, length, ℕ, List, [], ◌∷◌, ◌++◌, Option, Some, None, option_map, map as each, suc, arith, refl, sym, ap, ◌∙◌}
+use Rattle.tf_value.specs.Tree.{Tree, Items, no_items, item, tree_of, items_view}
 use Rattle.std.specs.Map.{keys_of, values_of}
 use Rattle.tf_value.specs.Tree.{entries_view}
 use Rattle.tf_value.specs.declared.value.Value.{Value, Text}

@@ -1,5 +1,5 @@
 -- What operators answer.
-use Rattle.std.specs.Prelude.{Bool, true, false, not, ◌&&◌, ◌||◌, ℤ, ◌+ℤ◌, ◌-ℤ◌, ◌*ℤ◌, neg_ℤ, int_lt, int_le, if◌then◌else◌, Ok, Err}
+use Rattle.std.specs.Prelude.{Bool, not, ◌&&◌, ◌||◌, ℤ, ◌+ℤ◌, ◌-ℤ◌, ◌*ℤ◌, neg_ℤ, int_lt, int_le, if◌then◌else◌, Ok, Err}
 use Rattle.tf_value.specs.Tree.{Tree, boolean, whole, unknown, same}
 use Rattle.tf_value.specs.Known.{known}
 use Rattle.tf_template.specs.declared.token.Operator.{Operator}

@@ -1,5 +1,9 @@
 //! Texts and values, joined to a text.
 
+ghost use Rattle.std.specs.Prelude.{◌↔◌, ◌≡◌, ◌++◌, IsTrue, codes, if◌then◌else◌};
+ghost use Rattle.tf_value.specs.Measure.{IsWithinLimits};
+ghost use Rattle.tf_value.specs.Tree.{text as text_tree};
+
 use crate::fault::EvalFault;
 use std::alloc::{AllocError, Global};
 use tf_value::{MAX_WEIGHT, Value};
@@ -107,10 +111,6 @@ impl Joiner {
         }
     }
 }
-
-ghost use Rattle.std.specs.Prelude.{◌↔◌, ◌≡◌, ◌++◌, IsTrue, codes, if◌then◌else◌};
-ghost use Rattle.tf_value.specs.Measure.{IsWithinLimits};
-ghost use Rattle.tf_value.specs.Tree.{text as text_tree};
 
 // Whether two texts, joined, are a value within the limits.
 fn fits(text: &str, literal: &str) -> bool

@@ -1,8 +1,7 @@
 -- A schema's attributes, one after another.
 use Rattle.std.proofs.Common.{◌≡◌, ◌<◌, ℕ, suc, ◌+◌, true, List, [], ◌∷◌, ◌++◌, length, get_or, drop, map, fold, Option, None, Result, Ok, Err, refl, sym, ap, ◌∙◌, subst, add-one}
 use Rattle.std.proofs.Math.Seq.{drop-cons}
-use Rattle.serde_json.specs.Data.{Members}
-use Rattle.serde_json.specs.Find.{get_member}
+use Rattle.tf_expr.specs.Tree as expr
 use Rattle.tf_provider.specs.Schema.{AttributeView, ascends}
 use Rattle.tf_value.specs.Tree.{Tree, Entries}
 use Rattle.tf_plan.specs.Argument.{attribute_value}
@@ -16,7 +15,7 @@ pub drop-item : {A : Type 0} (xs : List A) (i : ℕ) (x : A) → i < length xs �
 drop-item xs i x h e = drop-cons xs i x h ∙ rw (← e, add-one) refl
 
 -- the values and faults so far, with those of the attributes that are left, are those of all
-pub record IsSoFar (es : Entries) (found : Option NamedFault) (left all : List AttributeView) (arguments : Members) : Type 0 where
+pub record IsSoFar (es : Entries) (found : Option NamedFault) (left all : List AttributeView) (arguments : expr.Entries) : Type 0 where
   pub object : onto es (planned_entries left arguments) ≡ planned_entries all arguments
   pub fault : fold sooner found (attribute_faults left arguments) ≡ fold sooner None (attribute_faults all arguments)
   pub below : keys_below es left ≡ true
@@ -28,13 +27,13 @@ faults_step found name (Ok t) rest = refl
 faults_step found name (Err fault) rest = refl
 
 -- one more attribute
-pub so_far-step : (es es' : Entries) (found found' : Option NamedFault) (a : AttributeView) (left all : List AttributeView) (arguments : Members)
+pub so_far-step : (es es' : Entries) (found found' : Option NamedFault) (a : AttributeView) (left all : List AttributeView) (arguments : expr.Entries)
     → IsSoFar es found (a ∷ left) all arguments
-    → es' ≡ put_value a.name (attribute_value a (get_member a.name arguments)) es
-    → found' ≡ fold sooner found (fault_at a.name (attribute_value a (get_member a.name arguments)))
+    → es' ≡ put_value a.name (attribute_value a (expr.get a.name arguments)) es
+    → found' ≡ fold sooner found (fault_at a.name (attribute_value a (expr.get a.name arguments)))
     → IsSoFar es' found' left all arguments
 so_far-step es es' found found' a left all arguments h e f =
-    let planned = attribute_value a (get_member a.name arguments) in
+    let planned = attribute_value a (expr.get a.name arguments) in
     record {
       object = ap (λ (x : Entries). onto x (planned_entries left arguments)) e ∙ (onto-put_value es a left planned (planned_entries left arguments) h.below ∙ h.object);
       fault = ap (λ (x : Option NamedFault). fold sooner x (attribute_faults left arguments)) f ∙ (faults_step found a.name planned (attribute_faults left arguments) ∙ h.fault);

@@ -5,8 +5,7 @@ use Rattle.std.specs.List.{AllByRecursion, filter_map, cons_option}
 use Rattle.std.specs.Option.{option_map_or}
 use Rattle.std.specs.Str.{bytes_eq}
 use Rattle.std.proofs.lemmas.Slice.Eq.{bytes_eq-Decides}
-use Rattle.serde_json.specs.Data.{Members}
-use Rattle.serde_json.specs.Find.{get_member}
+use Rattle.tf_expr.specs.Tree as expr
 use Rattle.tf_address.specs.Label.{label_text}
 use Rattle.tf_config.specs.Config.{BlockView, Blocks}
 use Rattle.tf_config.specs.Refusal.{Told, fault, bare}
@@ -52,15 +51,15 @@ named_first a (Ok t) rest others h same = rw (same_name a.name) same
 named_first a (Err why) rest others h same = absurd (cc)
 
 -- where no attribute has a fault, each has a value
-all_named : (attributes : List AttributeView) (arguments : Members) → attribute_faults attributes arguments ≡ [] → same_names (keys_of (planned_entries attributes arguments)) (each (λ a. a.name) attributes) ≡ true
+all_named : (attributes : List AttributeView) (arguments : expr.Entries) → attribute_faults attributes arguments ≡ [] → same_names (keys_of (planned_entries attributes arguments)) (each (λ a. a.name) attributes) ≡ true
 all_named [] arguments h = refl
 all_named (a ∷ others) arguments h =
-    let planned = attribute_value a (get_member a.name arguments) in
+    let planned = attribute_value a (expr.get a.name arguments) in
     named_first a planned (planned_entries others arguments) (each (λ b. b.name) others) (front_empty (fault_at a.name planned) (attribute_faults others arguments) h)
     (all_named others arguments (back_empty (fault_at a.name planned) (attribute_faults others arguments) h))
 
 -- the object of a block without a fault has the attributes of its schema
-object_named : (schema : SchemaView) (arguments : Members) → first_fault schema arguments ≡ None → has_attributes schema (tree.map (planned_entries schema.attributes arguments)) ≡ true
+object_named : (schema : SchemaView) (arguments : expr.Entries) → first_fault schema arguments ≡ None → has_attributes schema (tree.map (planned_entries schema.attributes arguments)) ≡ true
 object_named schema arguments h =
     all_named schema.attributes arguments (front_empty (attribute_faults schema.attributes arguments) (stray_faults schema arguments) (no_fault (attribute_faults schema.attributes arguments ++ stray_faults schema arguments) h))
 

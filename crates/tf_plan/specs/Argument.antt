@@ -1,29 +1,28 @@
 -- What an argument gives the attribute that it names.
-use Rattle.std.specs.Prelude.{ℕ, Bool, if◌then◌else◌, ◌||◌, nat_lt, ℤ, List, codes, Option, Some, None, Result, Ok, Err}
-use Rattle.std.specs.Option.{option_map_or}
+use Rattle.std.specs.Prelude.{ℕ, Bool, if◌then◌else◌, ℤ, List, [], codes, Option, Some, None, Result, Ok, Err}
 use Rattle.std.specs.Fmt.{signed_decimal}
-use Rattle.serde_json.specs.Data.{Data}
 use Rattle.tf_value.specs.Tree.{Tree, null, boolean, whole, text, list, map, unknown}
-use Rattle.tf_value.specs.Measure.{weight, depth, max_weight, max_depth}
-use Rattle.tf_value.specs.Json.{value_from}
 use Rattle.tf_provider.specs.Schema.{AttributeView}
 use Rattle.tf_provider.specs.declared.schema.Kind.{Kind}
 use Rattle.tf_provider.specs.declared.schema.Kind.TheVariants as kinds
 use Rattle.tf_provider.specs.declared.schema.Mode.{Mode}
 use Rattle.tf_provider.specs.declared.schema.Mode.TheVariants as modes
-use Rattle.tf_config.specs.declared.tf_expr.EvalFault.{EvalFault}
-use Rattle.tf_config.specs.declared.tf_expr.EvalFault.TheVariants as faults
+use Rattle.tf_operation.specs.Answer.{Answer}
+use Rattle.tf_meaning.specs.Constants.{constant_in}
+use Rattle.tf_expr.specs.Meaning.{meaning}
+use Rattle.tf_expr.specs.Tree as expr
 use Rattle.tf_plan.specs.declared.argument.ArgumentFault.{ArgumentFault}
 use Rattle.tf_plan.specs.declared.argument.ArgumentFault.TheVariants.{Evaluation, BadArgument}
 
--- a value is beyond the limits of weight or depth
-abbrev pub is_too_large : Tree → Bool
-is_too_large t = nat_lt max_weight (weight t) || nat_lt max_depth (depth t)
+-- a value, or an evaluation that fails
+abbrev pub evaluated : Answer → Result Tree ArgumentFault
+evaluated (Ok t) = Ok t
+evaluated (Err why) = Err (Evaluation why)
 
--- A literal stands for the value whose JSON form it is, unless that is beyond the limits. (Reading a
--- configuration leaves only trees that are the form of a value.)
-abbrev pub literal_value : Data → Result Tree ArgumentFault
-literal_value d = option_map_or (λ t. if is_too_large t then Err (Evaluation faults.TooLarge) else Ok t) (value_from d) (Err (Evaluation faults.TooLarge))
+-- An argument stands for the value of its expression, where no name stands for anything. (Reading a
+-- configuration leaves only expressions that name nothing.)
+abbrev pub argument_value : expr.Tree → Result Tree ArgumentFault
+argument_value e = evaluated (meaning (constant_in []) e)
 
 -- An attribute takes values of its kind, and a value that isn't known yet. One of kind String takes whole
 -- numbers and truth values too, as their texts.
@@ -67,6 +66,6 @@ result_then f (Ok a) = f a
 result_then f (Err e) = Err e
 
 -- an attribute's planned value in a create, with the argument that names it
-abbrev pub attribute_value : AttributeView → Option Data → Result Tree ArgumentFault
+abbrev pub attribute_value : AttributeView → Option expr.Tree → Result Tree ArgumentFault
 attribute_value a None = unset_value a.mode
-attribute_value a (Some d) = result_then (given_value a.mode a.kind) (literal_value d)
+attribute_value a (Some e) = result_then (given_value a.mode a.kind) (argument_value e)

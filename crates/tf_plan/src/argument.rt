@@ -1,18 +1,17 @@
 //! What an argument gives the attribute that it names.
 
 ghost use Rattle.std.specs.Prelude.{option_map};
-ghost use Rattle.serde_json.specs.View.{view};
+ghost use Rattle.tf_expr.specs.Tree.{tree_of as expr_of};
 ghost use Rattle.tf_value.specs.Tree.{tree_of};
-ghost use Rattle.tf_plan.specs.Argument.{literal_value, unset_value, set_value, given_value, attribute_value, converted, or_bad_argument};
+ghost use Rattle.tf_plan.specs.Argument.{argument_value, unset_value, set_value, given_value, attribute_value, converted, or_bad_argument};
 ghost use Rattle.tf_provider.specs.declared.schema.Kind.TheVariants as kinds;
 ghost use Rattle.tf_plan.specs.Gives.{Gives};
 ghost use Rattle.tf_provider.specs.Schema.{attribute_of};
 
-use serde_json::Value as Json;
 use std::alloc::{AllocError, AllocFailed, Global};
-use tf_config::EvalFault;
+use tf_expr::{Constants, EvalFault, Expr, eval_expr};
 use tf_provider::{Attribute, Kind, Mode};
-use tf_value::{JsonFault, Value};
+use tf_value::Value;
 
 /// What is wrong with an argument, or with an attribute that no argument sets.
 #[derive(Clone, Copy, Debug, PartialEq, Eq)]
@@ -47,28 +46,29 @@ impl From<AllocError> for ValueFault {
 pub fn attribute_value(
     alloc: Global,
     attribute: &Attribute,
-    argument: Option<&Json>,
+    argument: Option<&Expr>,
 ) -> Result<Value, ValueFault>
     ensures { Gives tree_of result
-        (attribute_value (attribute_of attribute.now) (option_map (λ json. view json.now) argument.entry)) }
+        (attribute_value (attribute_of attribute.now) (option_map (λ e. expr_of e.now) argument.entry)) }
 {
     match argument {
         None => unset_value(attribute.mode),
-        Some(json) => {
-            let value = literal_value(alloc, json)?;
+        Some(expr) => {
+            let value = argument_value(alloc, expr)?;
             given_value(alloc, attribute.mode, attribute.kind, value)
         }
     }
 }
 
-/// The value that a literal stands for.
-fn literal_value(alloc: Global, json: &Json) -> Result<Value, ValueFault>
-    ensures { Gives tree_of result (literal_value (view json.now)) }
+/// The value that an argument stands for.
+fn argument_value(alloc: Global, expr: &Expr) -> Result<Value, ValueFault>
+    ensures { Gives tree_of result (argument_value (expr_of expr.now)) }
 {
-    match tf_value::from_json(alloc, json) {
+    let constants = Vec::new(alloc);
+    match eval_expr(alloc, expr, &Constants { constants }) {
         Ok(value) => Ok(value),
-        Err(JsonFault::OutOfMemory) => Err(ValueFault::OutOfMemory),
-        Err(_) => Err(ValueFault::Argument(ArgumentFault::Evaluation(EvalFault::TooLarge))),
+        Err(EvalFault::OutOfMemory) => Err(ValueFault::OutOfMemory),
+        Err(why) => Err(ValueFault::Argument(ArgumentFault::Evaluation(why))),
     }
 }
 

@@ -1,8 +1,7 @@
 //! The object that is planned for a block, or the first thing that is wrong with its arguments.
 
 ghost use Rattle.std.specs.Prelude.{◌≡◌, true, Result, IfOk, fold, map, option_map};
-ghost use Rattle.serde_json.specs.Find.{get_member};
-ghost use Rattle.serde_json.specs.View.{view, members_view};
+ghost use Rattle.tf_expr.specs.Tree.{get, tree_of as expr_of, entries_view as arguments_view};
 ghost use Rattle.tf_provider.specs.Schema.{ascends, attribute_of};
 ghost use Rattle.tf_value.specs.Tree.{Tree, tree_of, entries_view};
 ghost use Rattle.tf_plan.specs.declared.argument.ArgumentFault.{ArgumentFault};
@@ -12,9 +11,9 @@ ghost use Rattle.tf_plan.specs.Object.{Plans, named_of};
 ghost use Rattle.tf_plan.specs.Planned.{fault_at, attribute_faults, first_of_faults, stray_faults, planned_entries, sooner};
 
 use crate::argument::{ArgumentFault, ValueFault, attribute_value};
-use serde_json::Value as Json;
 use std::alloc::{AllocError, Global};
 use std::collections::BTreeMap;
+use tf_expr::{Expr, find};
 use tf_provider::{Attribute, Schema};
 use tf_value::Value;
 
@@ -40,9 +39,9 @@ pub enum Planned {
 pub fn plan_object(
     alloc: Global,
     schema: &Schema,
-    arguments: &BTreeMap<String, Json>,
+    arguments: &BTreeMap<String, Expr>,
 ) -> Result<Planned, AllocError>
-    ensures { IfOk result (Plans schema.now (members_view arguments.now.entries)) }
+    ensures { IfOk result (Plans schema.now (arguments_view arguments.now.entries)) }
 {
     let Tried { object, fault } = try_attributes(alloc, schema.attributes(), arguments)?;
     match add_strays(alloc, fault, schema, arguments)? {
@@ -61,13 +60,13 @@ struct Tried {
 fn try_attributes(
     alloc: Global,
     attributes: &[Attribute],
-    arguments: &BTreeMap<String, Json>,
+    arguments: &BTreeMap<String, Expr>,
 ) -> Result<Tried, AllocError>
     requires { ascends (map attribute_of attributes.now) ≡ true }
     ensures object { IfOk result (λ t. entries_view t.object.entries
-        ≡ planned_entries (map attribute_of attributes.now) (members_view arguments.now.entries)) }
+        ≡ planned_entries (map attribute_of attributes.now) (arguments_view arguments.now.entries)) }
     ensures fault { IfOk result (λ t. option_map named_of t.fault
-        ≡ first_of_faults (attribute_faults (map attribute_of attributes.now) (members_view arguments.now.entries))) }
+        ≡ first_of_faults (attribute_faults (map attribute_of attributes.now) (arguments_view arguments.now.entries))) }
 {
     let mut tried = Tried {
         object: BTreeMap::new(alloc),
@@ -82,10 +81,10 @@ fn try_attributes(
 }
 
 /// The argument of a name, if there is one.
-fn argument_named<'a>(arguments: &'a BTreeMap<String, Json>, name: &str) -> Option<&'a Json>
-    ensures { option_map (λ json. view json.now) result ≡ get_member name.now (members_view arguments.now.entries) }
+fn argument_named<'a>(arguments: &'a BTreeMap<String, Expr>, name: &str) -> Option<&'a Expr>
+    ensures { option_map (λ e. expr_of e.now) result ≡ get name.now (arguments_view arguments.now.entries) }
 {
-    arguments.get(name)
+    find(arguments, name)
 }
 
 /// Adds an attribute's planned value to the object, or its fault to the faults.
@@ -118,10 +117,10 @@ fn add_strays(
     alloc: Global,
     first: Option<Named>,
     schema: &Schema,
-    arguments: &BTreeMap<String, Json>,
+    arguments: &BTreeMap<String, Expr>,
 ) -> Result<Option<Named>, AllocError>
     ensures { IfOk result (λ found. option_map named_of found
-        ≡ fold sooner (option_map named_of first) (stray_faults schema.now (members_view arguments.now.entries))) }
+        ≡ fold sooner (option_map named_of first) (stray_faults schema.now (arguments_view arguments.now.entries))) }
 {
     let mut fault = first;
     for (name, _) in arguments.iter() {

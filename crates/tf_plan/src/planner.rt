@@ -1,7 +1,6 @@
 //! The planner.
 
 ghost use Rattle.std.specs.Prelude.{◌≡◌, ◌≤◌, [], None, Some, length, map, IfOk, IfErr, string_bytes};
-ghost use Rattle.serde_json.specs.View.{members_view};
 ghost use Rattle.tf_address.specs.Label.{label_of, label_text};
 ghost use Rattle.tf_config.specs.Config.{block_of, blocks_of};
 ghost use Rattle.tf_config.specs.Refusal.{told, fault, bare};

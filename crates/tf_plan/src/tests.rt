@@ -71,7 +71,7 @@ fn answer(alloc: Global, resources: &str) -> Result<String, Fail> {
     }
 }
 
-static ANSWERS: [(&str, &str); 12] = [
+static ANSWERS: [(&str, &str); 15] = [
     ("{}", "No changes.\n"),
     (
         "{\"net\": {\"a\": {\"cidr\": \"x\"}}}",
@@ -108,6 +108,18 @@ static ANSWERS: [(&str, &str); 12] = [
     (
         "{\"net\": {\"a\": {\"cidr\": \"x\", \"more\": [[[[[[[[[[[[[[[[[[[[[[[[[[[[[[[[[]]]]]]]]]]]]]]]]]]]]]]]]]]]]]]]]]}}}",
         "error 9 at net.a.more: Evaluate(TooLarge)\n",
+    ),
+    (
+        "{\"net\": {\"a\": {\"cidr\": \"n${1 + 2}\", \"size\": \"${3 * 4}\", \"on\": \"${!true == false}\", \"more\": [\"$${x}\", \"${length([1, 2])}\"]}}}",
+        "+ net.a\n    cidr = \"n3\"\n    id = (known after apply)\n    more = [\"${x}\",2]\n    on = true\n    size = 12\nPlan: 1 to add, 0 to change, 0 to destroy.\n",
+    ),
+    (
+        "{\"net\": {\"a\": {\"cidr\": \"x\", \"more\": [1, \"${1 + null}\"], \"size\": \"${9223372036854775807 + 1}\"}}}",
+        "error 9 at net.a.more: Evaluate(WrongKind)\n",
+    ),
+    (
+        "{\"net\": {\"a\": {\"cidr\": \"x\", \"size\": \"${9223372036854775807 + 1}\"}}}",
+        "error 9 at net.a.size: Evaluate(Overflow)\n",
     ),
     (
         "{\"net\": {\"a\": {\"aa\": 1, \"more\": [], \"size\": \"7\"}}}",

@@ -1,5 +1,5 @@
 -- No number of a state's text is a float.
-use Rattle.std.proofs.Common.{◌≡◌, ℕ, pos, negsuc, ℤ, Bool, true, false, ◌||◌, cond, List, [], ◌∷◌, codes, refl, map as each, Ordering, Less, Equal, Greater}
+use Rattle.std.proofs.Common.{◌≡◌, ℕ, pos, negsuc, ℤ, Bool, true, false, ◌||◌, List, [], ◌∷◌, codes, refl, map as each, Ordering, Less, Equal, Greater}
 use Rattle.std.specs.Cmp.Lexicographic.{slice_cmp}
 use Rattle.std.specs.Ordering.{nat_cmp, match_ordering}
 use Rattle.serde_json.specs.Data as json
@@ -8,8 +8,11 @@ use Rattle.serde_json.specs.View.{items_of}
 use Rattle.serde_json.specs.Written.{has_float, items_have_float, members_have_float}
 use Rattle.tf_value.specs.Json.{value_data, items_data, entries_data}
 use Rattle.tf_value.specs.Tree.{Tree, null, boolean, whole as whole_number, text, list, map, unknown, Items, no_items, item, Entries, no_entries, entry}
+use Rattle.std.specs.Prelude.{Option, Some, None, option_map}
+use Rattle.tf_state.specs.Place.{KeyView, single, number, name}
 use Rattle.tf_state.specs.State.{RecordView, ResourceView, StateView}
-use Rattle.tf_state.specs.Text.{put_if, record_data, resource_data, state_data}
+use Rattle.tf_state.specs.Text.{put_some, key_data, status_data, flag_data, dependencies_data, record_data, resource_data, output_data, outputs_data, state_data}
+use Rattle.tf_state.specs.Types.{type_data, item_types, entry_types}
 
 neither : (b c : Bool) → b ≡ false → c ≡ false → (b || c) ≡ false
 neither b c e f = rw (e, f) refl
@@ -35,6 +38,24 @@ mutual
   entries_data-whole : (es : Entries) → members_have_float (entries_data es) ≡ false
   entries_data-whole no_entries = refl
   entries_data-whole (entry k t es) = neither _ _ (value_data-whole t) (entries_data-whole es)
+
+mutual
+  type_data-whole : (t : Tree) → has_float (type_data t) ≡ false
+  type_data-whole null = refl
+  type_data-whole (boolean b) = refl
+  type_data-whole (whole_number z) = refl
+  type_data-whole (text s) = refl
+  type_data-whole (list ts) = neither _ _ (item_types-whole ts) refl
+  type_data-whole (map es) = neither _ _ (entry_types-whole es) refl
+  type_data-whole unknown = refl
+
+  item_types-whole : (ts : Items) → items_have_float (item_types ts) ≡ false
+  item_types-whole no_items = refl
+  item_types-whole (item t ts) = neither _ _ (type_data-whole t) (item_types-whole ts)
+
+  entry_types-whole : (es : Entries) → members_have_float (entry_types es) ≡ false
+  entry_types-whole no_entries = refl
+  entry_types-whole (entry k t es) = neither _ _ (type_data-whole t) (entry_types-whole es)
 
 put_at : (o : Ordering) (a b c : json.Members) → members_have_float a ≡ false → members_have_float b ≡ false → members_have_float c ≡ false → members_have_float (match_ordering o a b c) ≡ false
 put_at Less a b c e f g = e
@@ -72,9 +93,14 @@ put_false k d (json.member l x ms) e f =
 put-whole : (k : List ℕ) (d : json.Data) (ms : json.Members) → IsWhole d → AreWhole ms → AreWhole (json.put k d ms)
 put-whole k d ms e f = record { fact = put_false k d ms e.fact f.fact }
 
-put_if-whole : (b : Bool) (k : List ℕ) (d : json.Data) (ms : json.Members) → IsWhole d → AreWhole ms → AreWhole (put_if b k d ms)
-put_if-whole true k d ms e f = put-whole k d ms e f
-put_if-whole false k d ms e f = f
+-- nothing, or something without floats
+abbrev MayBeWhole : Option json.Data → Type 0
+MayBeWhole None = Unit {0}
+MayBeWhole (Some d) = IsWhole d
+
+put_some-whole : (k : List ℕ) (o : Option json.Data) (ms : json.Members) → MayBeWhole o → AreWhole ms → AreWhole (put_some k o ms)
+put_some-whole k None ms e f = f
+put_some-whole k (Some d) ms e f = put-whole k d ms e f
 
 text-whole : (s : List ℕ) → IsWhole (json.string s)
 text-whole s = whole (json.string s) refl
@@ -82,10 +108,40 @@ text-whole s = whole (json.string s) refl
 number-whole : (n : ℕ) → IsWhole (json.number (json.unsigned n))
 number-whole n = whole (json.number (json.unsigned n)) refl
 
+key_data-whole : (k : KeyView) → MayBeWhole (key_data k)
+key_data-whole single = tt
+key_data-whole (number n) = number-whole n
+key_data-whole (name s) = text-whole s
+
+status_data-whole : (b : Bool) → MayBeWhole (status_data b)
+status_data-whole true = text-whole (codes "tainted")
+status_data-whole false = tt
+
+flag_data-whole : (b : Bool) → MayBeWhole (flag_data b)
+flag_data-whole true = whole (json.boolean true) refl
+flag_data-whole false = tt
+
+deposed-whole : (o : Option (List ℕ)) → MayBeWhole (option_map json.string o)
+deposed-whole None = tt
+deposed-whole (Some s) = text-whole s
+
+texts-whole : (ts : List (List ℕ)) → items_have_float (items_of (each json.string ts)) ≡ false
+texts-whole [] = refl
+texts-whole (t ∷ ts) = texts-whole ts
+
+dependencies_data-whole : (ts : List (List ℕ)) → MayBeWhole (dependencies_data ts)
+dependencies_data-whole [] = tt
+dependencies_data-whole (t ∷ ts) = whole (json.array (items_of (each json.string (t ∷ ts)))) (texts-whole ts)
+
 record_data-whole : (r : RecordView) → has_float (record_data r) ≡ false
 record_data-whole r =
-    (put-whole (codes "attributes") _ _ (whole (value_data r.attributes) (value_data-whole r.attributes)) (put-whole (codes "schema_version") _ _ (number-whole r.schema_version)
-    (put_if-whole r.tainted (codes "status") _ _ (text-whole (codes "tainted")) no_members-whole))).fact
+    let a = put_some-whole (codes "status") _ _ (status_data-whole r.tainted) no_members-whole in
+    let b = put_some-whole (codes "index_key") _ _ (key_data-whole r.place.key) a in
+    let c = put_some-whole (codes "deposed") _ _ (deposed-whole r.place.deposed) b in
+    let d = put_some-whole (codes "dependencies") _ _ (dependencies_data-whole r.dependencies) c in
+    let e = put_some-whole (codes "create_before_destroy") _ _ (flag_data-whole r.create_before_destroy) d in
+    let f = put-whole (codes "schema_version") _ _ (number-whole r.schema_version) e in
+    (put-whole (codes "attributes") _ _ (whole (value_data r.attributes) (value_data-whole r.attributes)) f).fact
 
 records-whole : (rs : List RecordView) → items_have_float (items_of (each record_data rs)) ≡ false
 records-whole [] = refl
@@ -100,8 +156,16 @@ resources-whole : (rs : List ResourceView) → items_have_float (items_of (each 
 resources-whole [] = refl
 resources-whole (r ∷ rs) = neither _ _ (resource_data-whole r) (resources-whole rs)
 
+output_data-whole : (t : Tree) → has_float (output_data t) ≡ false
+output_data-whole t =
+    (put-whole (codes "type") _ _ (whole (type_data t) (type_data-whole t)) (put-whole (codes "value") _ _ (whole (value_data t) (value_data-whole t)) no_members-whole)).fact
+
+outputs_data-whole : (es : Entries) → members_have_float (outputs_data es) ≡ false
+outputs_data-whole no_entries = refl
+outputs_data-whole (entry k t es) = neither _ _ (output_data-whole t) (outputs_data-whole es)
+
 pub state_data-whole : (s : StateView) → has_float (state_data s) ≡ false
 state_data-whole s =
-    (put-whole (codes "lineage") _ _ (text-whole s.lineage) (put-whole (codes "outputs") _ _ (whole (json.object json.no_members) refl)
+    (put-whole (codes "lineage") _ _ (text-whole s.lineage) (put-whole (codes "outputs") _ _ (whole (json.object (outputs_data s.outputs)) (outputs_data-whole s.outputs))
     (put-whole (codes "resources") _ _ (whole (json.array (items_of (each resource_data s.resources))) (resources-whole s.resources)) (put-whole (codes "serial") _ _ (number-whole s.serial)
     (put-whole (codes "terraform_version") _ _ (text-whole s.terraform_version) (put-whole (codes "version") _ _ (number-whole 4) no_members-whole)))))).fact

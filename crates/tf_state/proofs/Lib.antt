@@ -1,2 +1,17 @@
+pub mod Back
+pub mod ByTable
 pub mod Floats
+pub mod KnownForms
+pub mod Loops
+pub mod Ordered
+pub mod PlaceOrder
 pub mod Places
+pub mod RecordBack
+pub mod Plainness
+pub mod Properties
+pub mod Refusals
+pub mod Removal
+pub mod StateBack
+pub mod StateLaws
+pub mod TypeForms
+pub mod ValueForms

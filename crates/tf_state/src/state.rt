@@ -1,18 +1,26 @@
 //! What a state holds.
 
+use crate::key::Place;
 use crate::object::Object;
 use std::alloc::{AllocError, Global};
+use std::collections::{BTreeMap, BTreeSet};
 use tf_address::Label;
 
-/// One object of a resource that exists: its attributes, and how it came to be.
+/// One object of a resource that exists: which one it is, its attributes, and how it came to be.
 #[derive(Debug, Drop)]
 pub struct Record {
+    /// Its instance, and whether it is deposed.
+    pub place: Place,
     /// The attributes as the provider answered them.
     pub attributes: Object,
     /// The version of the schema that the attributes follow.
     pub schema_version: u32,
     /// Whether the object is damaged, so that the next apply replaces it.
     pub tainted: bool,
+    /// The addresses `TYPE.NAME` of the resources that it depends on, in byte order.
+    pub dependencies: BTreeSet<String>,
+    /// Whether its replacement is created before it is destroyed.
+    pub create_before_destroy: bool,
 }
 
 /// A resource with at least one object.
@@ -22,7 +30,7 @@ pub struct Resource {
     pub label: Label,
     /// The address of the provider that made it, as Terraform writes it.
     pub provider: String,
-    /// Its objects.
+    /// Its objects, in the order of their places.
     pub records: Vec<Record>,
 }
 
@@ -35,6 +43,8 @@ pub struct State {
     pub lineage: String,
     /// The version of Terraform that the file names, kept from state to state.
     pub terraform_version: String,
+    /// The outputs by name.
+    pub outputs: BTreeMap<String, Object>,
     /// The resources, by type and name.
     pub resources: Vec<Resource>,
 }
@@ -51,6 +61,7 @@ impl State {
             serial: 0,
             lineage: String::from_str(alloc, lineage)?,
             terraform_version: String::from_str(alloc, "1.0.0")?,
+            outputs: BTreeMap::new(alloc),
             resources: Vec::new(alloc),
         })
     }

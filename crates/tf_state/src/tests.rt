@@ -1,6 +1,7 @@
-use crate::{Object, Record, Resource, State, provider_address, write};
+use crate::{Key, Object, Place, Record, Resource, State, provider_address, write};
 use serde_json::Value as Json;
 use std::alloc::Global;
+use std::collections::BTreeSet;
 use std::test::Fail;
 use tf_address::Label;
 use tf_value::{from_json, is_known};
@@ -14,9 +15,15 @@ fn put_net(alloc: Global, state: &mut State, name: &str, tainted: bool) -> Resul
     }
     let mut records = Vec::new(alloc);
     records.push(Record {
+        place: Place {
+            key: Key::Single,
+            deposed: None,
+        },
         attributes: Object { value },
         schema_version: 0,
         tainted,
+        dependencies: BTreeSet::new(alloc),
+        create_before_destroy: false,
     })?;
     let resource = Resource {
         label: Label {
@@ -82,5 +89,47 @@ fn names_providers(rt: HostRuntime) -> Result<(), Fail> {
         let want = format!(in rt.alloc(); "provider[\"registry.terraform.io/hashicorp/{name}\"]")?;
         assert_eq!(rt; provider_address(rt.alloc(), kind)?.as_str(), want.as_str());
     }
+    Ok(())
+}
+
+#[test]
+fn finds_and_takes_out(rt: HostRuntime) -> Result<(), Fail> {
+    let mut state = State::empty(rt.alloc(), "L")?;
+    put_net(rt.alloc(), &mut state, "a", false)?;
+    put_net(rt.alloc(), &mut state, "b", true)?;
+    let label = Label {
+        kind: String::from_str(rt.alloc(), "sim_net")?,
+        name: String::from_str(rt.alloc(), "b")?,
+    };
+    let place = Place {
+        key: Key::Single,
+        deposed: None,
+    };
+    let numbered = Place {
+        key: Key::Number(0),
+        deposed: None,
+    };
+    assert!(rt; matches!(state.record(&label, &place), Some(record) if record.tainted));
+    assert!(rt; state.record(&label, &numbered).is_none());
+    match state.remove(&label) {
+        Some(mut resource) => {
+            assert!(rt; state.resource(&label).is_none());
+            assert!(rt; resource.remove(&numbered).is_none());
+            match resource.remove(&place) {
+                Some(mut record) => {
+                    record.place = numbered;
+                    resource.reserve(1)?;
+                    resource.put(record);
+                    state.reserve(1)?;
+                    state.put(resource);
+                }
+                None => return Err("no record".into()),
+            }
+        }
+        None => return Err("no resource".into()),
+    }
+    assert!(rt; state.record(&label, &place).is_none());
+    let text = write(rt.alloc(), &state)?;
+    assert!(rt; text.contains("\"index_key\": 0,"), "{text}");
     Ok(())
 }

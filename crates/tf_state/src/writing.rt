@@ -1,18 +1,19 @@
 //! The text of a state.
 
-ghost use Rattle.std.specs.Prelude.{◌≡◌, IfOk, map, string_bytes};
-ghost use Rattle.serde_json.specs.Data.{string};
-ghost use Rattle.serde_json.specs.View.{view};
-ghost use Rattle.tf_state.specs.State.{record_of, resource_of, state_of};
-ghost use Rattle.tf_state.specs.Text.{record_data, resource_data, state_data, state_text};
-ghost use Rattle.tf_value.specs.Json.{value_data};
+ghost use Rattle.std.specs.Prelude.{◌≡◌, IfOk, OnOk, map, option_map, string_bytes};
+ghost use Rattle.serde_json.specs.View.{view, members_view};
+ghost use Rattle.tf_state.specs.State.{outputs_of, record_of, resource_of, state_of};
+ghost use Rattle.tf_state.specs.Text.{output_data, outputs_data, record_data, resource_data, state_data, state_text};
 ghost use Rattle.tf_value.specs.Tree.{tree_of};
 
 use crate::object::Object;
+use crate::record_writing::{object_json, record_json};
 use crate::state::{Record, Resource, State};
+use crate::types::type_json;
+use crate::words::text;
 use serde_json::{Map, Value as Json, put};
 use std::alloc::{AllocError, Global};
-use tf_value::{JsonFault, to_json};
+use std::collections::BTreeMap;
 
 /// The one text of a state: Terraform's state file format, version 4, two spaces a level, keys in byte order,
 /// and one newline at the end. Refused only where there is no memory.
@@ -50,9 +51,37 @@ fn state_json(alloc: Global, state: &State) -> Result<Json, AllocError>
         &mut members,
         alloc,
         "outputs",
-        Json::Object(Map::new(alloc)),
+        Json::Object(outputs_json(alloc, &state.outputs)?),
     )?;
     put(&mut members, alloc, "lineage", text(alloc, &state.lineage)?)?;
+    Ok(Json::Object(members))
+}
+
+fn outputs_json(
+    alloc: Global,
+    outputs: &BTreeMap<String, Object>,
+) -> Result<Map<String, Json>, AllocError>
+    ensures { IfOk result (λ members. members_view members.entries ≡ outputs_data (outputs_of outputs.now.entries)) }
+{
+    let mut members = Map::new(alloc);
+    for (key, output) in outputs.iter() {
+        let name = key.clone()?;
+        drop(members.insert(name, output_json(alloc, output)?)?);
+    }
+    Ok(members)
+}
+
+fn output_json(alloc: Global, output: &Object) -> Result<Json, AllocError>
+    ensures { IfOk result (λ json. view json ≡ output_data (tree_of output.now.value)) }
+{
+    let mut members = Map::new(alloc);
+    put(&mut members, alloc, "value", object_json(alloc, output)?)?;
+    put(
+        &mut members,
+        alloc,
+        "type",
+        type_json(alloc, &output.value)?,
+    )?;
     Ok(Json::Object(members))
 }
 
@@ -106,42 +135,4 @@ fn records_json(alloc: Global, records: &[Record]) -> Result<Vec<Json>, AllocErr
         items.push(record_json(alloc, record)?)?;
     }
     Ok(items)
-}
-
-fn record_json(alloc: Global, instance: &Record) -> Result<Json, AllocError>
-    ensures { IfOk result (λ json. view json ≡ record_data (record_of instance.now)) }
-{
-    let mut members = Map::new(alloc);
-    if instance.tainted {
-        put(&mut members, alloc, "status", text(alloc, "tainted")?)?;
-    }
-    put(
-        &mut members,
-        alloc,
-        "schema_version",
-        Json::from(u64::from(instance.schema_version)),
-    )?;
-    put(
-        &mut members,
-        alloc,
-        "attributes",
-        object_json(alloc, &instance.attributes)?,
-    )?;
-    Ok(Json::Object(members))
-}
-
-fn object_json(alloc: Global, object: &Object) -> Result<Json, AllocError>
-    ensures { IfOk result (λ json. view json ≡ value_data (tree_of object.now.value)) }
-{
-    match to_json(alloc, &object.value) {
-        Ok(json) => Ok(json),
-        Err(JsonFault::OutOfMemory) => Err(AllocError),
-        Err(_) => unreachable!(),
-    }
-}
-
-fn text(alloc: Global, text: &str) -> Result<Json, AllocError>
-    ensures { IfOk result (λ json. view json ≡ string text.now) }
-{
-    Ok(Json::String(String::from_str(alloc, text)?))
 }

@@ -7,6 +7,7 @@ use Rattle.tf_provider.specs.Schema.{SchemaView}
 use Rattle.tf_provider.specs.Verdict.{well_formed}
 use Rattle.tf_provider.specs.declared.verdict.Verdict.{Verdict}
 use Rattle.tf_provider.specs.declared.verdict.Verdict.TheVariants as verdict
+use Rattle.tf_state.specs.Place.{single}
 use Rattle.tf_state.specs.Provider.{provider_text}
 use Rattle.tf_state.specs.State.{ResourceView, StateView, with_resource}
 use Rattle.tf_value.specs.Tree as tree
@@ -44,7 +45,20 @@ saved ms _ = None
 -- the resource that an action leaves, with the one object that was saved
 abbrev pub resource_after : Head → Saved → ResourceView
 resource_after h s =
-    record { label = h.label; provider = provider_text h.label.kind; records = record { attributes = s.0; schema_version = h.version; tainted = s.1 } ∷ [] }
+    record {
+      label = h.label;
+      provider = provider_text h.label.kind;
+      records =
+          record {
+            place = record { key = single; deposed = None };
+            attributes = s.0;
+            schema_version = h.version;
+            tainted = s.1;
+            dependencies = [];
+            create_before_destroy = false;
+          }
+          ∷ [];
+    }
 
 abbrev pub saved_resource : List Meaning → ActionView → Done → Option ResourceView
 saved_resource ms a d = option_map (resource_after (head_of a)) (saved ms d)

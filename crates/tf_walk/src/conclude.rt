@@ -19,8 +19,9 @@ use crate::ended::{Ended, Judged};
 use crate::one_line::one_line;
 use crate::report::Diagnostic;
 use crate::rooms::Room;
+use std::collections::BTreeSet;
 use tf_provider::{Op, Provider, Reply, Schema, Verdict, schema_for, well_formed};
-use tf_state::{Object, Record, Resource};
+use tf_state::{Key, Object, Place, Record, Resource};
 use tf_value::Value;
 
 /// What an action adds to the report.
@@ -185,9 +186,15 @@ fn fill(
     let resource = match object {
         Some(attributes) => {
             let record = Record {
+                place: Place {
+                    key: Key::Single,
+                    deposed: None,
+                },
                 attributes,
                 schema_version: version,
                 tainted,
+                dependencies: BTreeSet::new(*records.allocator()),
+                create_before_destroy: false,
             };
             records.push(record).unwrap();
             Some(Resource {

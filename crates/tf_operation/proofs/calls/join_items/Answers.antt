@@ -1,4 +1,4 @@
-use Rattle.std.proofs.Common.{◌≡◌, [], ◌∷◌, drop, length, refl, sym, ap, ◌∙◌, ◌+◌}
+use Rattle.std.proofs.Common.{◌≡◌, [], ◌∷◌, drop, sym, ap, ◌∙◌, ◌+◌}
 use Rattle.std.proofs.Math.ListN.{drop_of_length-le}
 use Rattle.tf_value.specs.Tree.{no_items, item, tree_of, items_view}
 use Rattle.tf_operation.specs.Answer.{item_behind, items_behind}

@@ -1,4 +1,4 @@
-use Rattle.std.proofs.Common.{◌≡◌, pos, sym, ap, ◌∙◌, subst}
+use Rattle.std.proofs.Common.{pos, sym, ap, ◌∙◌, subst}
 use Rattle.tf_value.specs.Tree.{tree_of}
 use Rattle.tf_value.proofs.Views.{tree_of-List, tree_of-Map}
 use Rattle.tf_operation.specs.Answer.{Answers, whole_value}

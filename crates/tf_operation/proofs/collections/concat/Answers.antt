@@ -1,7 +1,7 @@
-use Rattle.std.proofs.Common.{◌≡◌, Bool, false, cond, Some, Ok, option_map, sym, ap, ◌∙◌}
+use Rattle.std.proofs.Common.{◌≡◌, cond, Some, Ok, option_map, sym, ap, ◌∙◌}
 use Rattle.std.proofs.lemmas.List.{nil_from_length}
 use Rattle.std.specs.Vec.Iter.{into_iter_items}
-use Rattle.tf_value.specs.Tree.{unknown, item, no_items, items_view, tree_of}
+use Rattle.tf_value.specs.Tree.{unknown, item, items_view, tree_of}
 use Rattle.tf_value.proofs.Views.{tree_of-List}
 use Rattle.tf_operation.specs.Answer.{items_behind, list_value}
 use Rattle.tf_operation.specs.Functions.{concatenated, items_value}

@@ -1,4 +1,4 @@
-use Rattle.std.proofs.Common.{◌≡◌, Ok, sym, ap, ◌∙◌}
+use Rattle.std.proofs.Common.{Ok, sym, ap, ◌∙◌}
 use Rattle.tf_value.specs.Tree.{list, items_view, tree_of}
 use Rattle.tf_value.proofs.Views.{tree_of-List, tree_of-Map}
 use Rattle.tf_operation.specs.Functions.{keys_value}

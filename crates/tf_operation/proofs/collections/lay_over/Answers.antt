@@ -1,4 +1,4 @@
-use Rattle.std.proofs.Common.{◌≡◌, sym, ap, ◌∙◌}
+use Rattle.std.proofs.Common.{sym, ap, ◌∙◌}
 use Rattle.tf_value.specs.Tree.{entries_view}
 use Rattle.tf_value.proofs.Views.{entries_view-insert_entry}
 use Rattle.tf_operation.specs.Functions.{laid_over}

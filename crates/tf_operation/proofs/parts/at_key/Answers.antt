@@ -1,4 +1,4 @@
-use Rattle.std.proofs.Common.{◌≡◌, option_map, sym, ap, ◌∙◌}
+use Rattle.std.proofs.Common.{option_map, sym, ap, ◌∙◌}
 use Rattle.tf_value.specs.Tree.{tree_of}
 use Rattle.tf_value.proofs.Views.{tree_of-lookup}
 use Rattle.tf_operation.specs.Answer.{present_value}

@@ -1,10 +1,10 @@
 -- the first fault so far, with those of the arguments that are left
 use Rattle.std.proofs.Common.{◌≡◌, fold, option_map}
-use Rattle.serde_json.specs.View.{members_view}
+use Rattle.tf_expr.specs.Tree.{entries_view as arguments_view}
 use Rattle.tf_plan.specs.Object.{named_of}
 use Rattle.tf_plan.specs.Planned.{stray_faults, sooner}
 use Rattle.tf_plan.proofs.object.add_strays.Given as goal
 
 abbrev pub invariant-loop-name : goal.invariant-loop-name
 invariant-loop-name l =
-    fold sooner (option_map named_of l.fault) (stray_faults l.schema (members_view l.name-iterator)) ≡ fold sooner (option_map named_of l.fn.first) (stray_faults l.schema (members_view l.arguments.entries))
+    fold sooner (option_map named_of l.fault) (stray_faults l.schema (arguments_view l.name-iterator)) ≡ fold sooner (option_map named_of l.fn.first) (stray_faults l.schema (arguments_view l.arguments.entries))

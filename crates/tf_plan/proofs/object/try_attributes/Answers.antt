@@ -1,7 +1,6 @@
 use Rattle.std.proofs.Common.{◌≡◌, ℕ, ◌+◌, List, [], ◌∷◌, sym, ap, ◌∙◌, map, drop, option_map}
-use Rattle.serde_json.specs.Find.{get_member}
 use Rattle.std.proofs.lemmas.List.{drop_all}
-use Rattle.serde_json.specs.View.{view, members_view}
+use Rattle.tf_expr.specs.Tree.{get, tree_of as expr_of, entries_view as arguments_view}
 use Rattle.tf_provider.specs.Schema.{AttributeView, attribute_of}
 use Rattle.tf_value.specs.Tree.{Entries, tree_of, entries_view}
 use Rattle.tf_plan.specs.Argument.{attribute_value}
@@ -15,13 +14,13 @@ pub loop-attribute-preserved : goal.loop-attribute-preserved
 loop-attribute-preserved c =
     let xs = c.args.attributes.now in
     let i = c.loop-attribute.attribute-index in
-    let arguments = members_view c.args.arguments.now.entries in
+    let arguments = arguments_view c.args.arguments.now.entries in
     let a = c.attribute-item.result in
     let left : map attribute_of (drop i xs) ≡ attribute_of a ∷ map attribute_of (drop (i + 1) xs) = ap (map attribute_of) (drop-item xs i a c.loop-attribute-test.true c.attribute-item.is) in
     let before = rw left at c.loop-attribute.invariant in
-    let argument : option_map (λ json. view json.now) c.argument_named-argument.result ≡ get_member (attribute_of a).name arguments =
-    c.argument_named-argument.ensures ∙ ap (λ (k : List ℕ). get_member k arguments) c.as_str.ensures.value in
-    let planned = attribute_value (attribute_of a) (get_member (attribute_of a).name arguments) in
+    let argument : option_map (λ e. expr_of e.now) c.argument_named-argument.result ≡ get (attribute_of a).name arguments =
+    c.argument_named-argument.ensures ∙ ap (λ (k : List ℕ). get k arguments) c.as_str.ensures.value in
+    let planned = attribute_value (attribute_of a) (get (attribute_of a).name arguments) in
     let gives : Gives tree_of c.attribute_value-value.result planned = rw argument at c.attribute_value-value.ensures in
     let both = rw c.as_str-in-loop-attribute.ensures.value at (c.in_ok-tried.ensures planned gives) in
     so_far-step _ _ _ _ (attribute_of a) (map attribute_of (drop (i + 1) xs)) (map attribute_of xs) arguments before both.0 both.1

@@ -1,6 +1,6 @@
 -- the values and faults so far, with those of the attributes that are left
 use Rattle.std.proofs.Common.{map, drop, option_map}
-use Rattle.serde_json.specs.View.{members_view}
+use Rattle.tf_expr.specs.Tree.{entries_view as arguments_view}
 use Rattle.tf_provider.specs.Schema.{attribute_of}
 use Rattle.tf_value.specs.Tree.{entries_view}
 use Rattle.tf_plan.specs.Object.{named_of}
@@ -9,4 +9,4 @@ use Rattle.tf_plan.proofs.object.try_attributes.Given as goal
 
 abbrev pub invariant-loop-attribute : goal.invariant-loop-attribute
 invariant-loop-attribute l =
-    IsSoFar (entries_view l.tried.object.entries) (option_map named_of l.tried.fault) (map attribute_of (drop l.attribute-index l.attributes)) (map attribute_of l.attributes) (members_view l.arguments.entries)
+    IsSoFar (entries_view l.tried.object.entries) (option_map named_of l.tried.fault) (map attribute_of (drop l.attribute-index l.attributes)) (map attribute_of l.attributes) (arguments_view l.arguments.entries)

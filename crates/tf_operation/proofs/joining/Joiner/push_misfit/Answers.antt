@@ -1,4 +1,4 @@
-use Rattle.std.proofs.Common.{◌≡◌, Ok, sym, ap, ◌∙◌}
+use Rattle.std.proofs.Common.{sym, ap, ◌∙◌}
 use Rattle.tf_operation.specs.Joiner.{joined_so_far}
 use Rattle.tf_operation.proofs.Joined.{misfit-joins, unknown-stays, known-states}
 use Rattle.tf_operation.proofs.joining.Joiner.push_misfit.Goals as goal

@@ -1,4 +1,3 @@
-use Rattle.std.proofs.Common.{◌≡◌}
 use Rattle.tf_operation.proofs.Joined.{text-pushed, text-refused, others-stay}
 use Rattle.tf_operation.proofs.joining.Joiner.push_text.Goals as goal
 

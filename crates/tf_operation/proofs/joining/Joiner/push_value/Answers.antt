@@ -1,4 +1,4 @@
-use Rattle.std.proofs.Common.{◌≡◌, refl, ap, ◌∙◌, Some, sym}
+use Rattle.std.proofs.Common.{ap, ◌∙◌, Some, sym}
 use Rattle.tf_value.specs.Tree.{text, tree_of}
 use Rattle.tf_operation.specs.Answer.{is_unknown, item_behind}
 use Rattle.tf_operation.specs.Joining.{text_of, joined_value}

@@ -1,0 +1,28 @@
+#!/usr/bin/env bash
+# Times tf_state's read and write beside serde_json's parse and print of the same text, for states of several shapes,
+# and prints the best of three times each and the ratio. Wants `rt` and `python3`; works in a folder of its own.
+# With an argument, the least size of the texts in MB; 40 without.
+set -euo pipefail
+here="$(cd "$(dirname "$0")" && pwd)"
+megabytes="${1:-40}"
+work="$(mktemp -d)"
+trap 'rm -rf "$work"' EXIT
+mkdir -p "$work/repo/crates/bench_state/src"
+for crate in tf_address tf_value tf_json tf_state; do cp -r "$here/../crates/$crate" "$work/repo/crates/"; done
+cp "$here/state/main.rt.txt" "$work/repo/crates/bench_state/src/main.rt"
+printf 'tf_address:\ntf_json: serde_json json\ntf_value: serde_json\ntf_state: tf_value tf_address tf_json serde_json\nbench_state: tf_state serde_json anyhow\n' > "$work/repo/crates.txt"
+program="$work/repo/crates/bench_state/out/bench_state"
+(cd "$work/repo/crates/bench_state" && rt run < /dev/null) > "$work/log" 2>&1 || [ -x "$program" ] || { tail -20 "$work/log"; exit 1; }
+printf '%-10s %10s %-8s %12s %-8s %12s %7s\n' shape bytes call 'us' call 'us' ratio
+for shape in counted named dependent values; do
+    python3 "$here/state/make.py" "$shape" "$megabytes" > "$work/text"
+    "$program" < "$work/text" > "$work/times"
+    awk -v shape="$shape" '
+        $1 == "bytes" { bytes = $2 }
+        $1 == "same" && $2 != "true" { print shape, "was not written as it was read"; exit 1 }
+        $1 ~ /^(parse|print|read|write)$/ { if (!($1 in best) || $2 < best[$1]) best[$1] = $2 }
+        END {
+            printf "%-10s %10d %-8s %12d %-8s %12d %7.2f\n", shape, bytes, "parse", best["parse"], "read", best["read"], best["read"] / best["parse"]
+            printf "%-10s %10d %-8s %12d %-8s %12d %7.2f\n", shape, bytes, "print", best["print"], "write", best["write"], best["write"] / best["print"] }
+    ' "$work/times"
+done

@@ -1,0 +1,9 @@
+-- The resources taken, and those still to take, are all.
+use Rattle.std.proofs.Common.{◌≡◌, ◌++◌, map}
+use Rattle.tf_state.specs.Made.{resources_made}
+use Rattle.tf_state.specs.Reading.{with_records}
+use Rattle.tf_state.specs.State.{resource_of}
+use Rattle.tf_state.proofs.resource_reading.in_order.Given as goal
+
+abbrev pub invariant-loop-label : goal.invariant-loop-label
+invariant-loop-label l = map resource_of l.ordered.items ++ with_records (resources_made l.label-iterator) ≡ with_records (resources_made l.fn.resources.entries)

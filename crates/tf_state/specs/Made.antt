@@ -1,0 +1,34 @@
+-- Records, resources and outputs that were read, as plain data.
+use Rattle.std.specs.Prelude.{List, map, string_bytes}
+use Rattle.tf_address.specs.Label.{label_of}
+use Rattle.tf_address.specs.declared.label.Label.{Label}
+use Rattle.tf_value.specs.Tree.{tree_of}
+use Rattle.tf_state.specs.Place.{place_of}
+use Rattle.tf_state.specs.State.{RecordView, ResourceView, record_of}
+use Rattle.tf_state.specs.declared.body.Body.{Body}
+use Rattle.tf_state.specs.declared.body.Held.{Held}
+use Rattle.tf_state.specs.declared.key.Place.{Place}
+
+-- the record of a place with a body
+abbrev pub record_made : Place → Body → RecordView
+record_made p b =
+    record {
+      place = place_of p;
+      attributes = tree_of b.attributes.value;
+      schema_version = b.schema_version;
+      tainted = b.tainted;
+      dependencies = map string_bytes b.dependencies.keys;
+      create_before_destroy = b.create_before_destroy;
+    }
+
+-- the records under their places
+abbrev pub records_made : List (Place × Body) → List RecordView
+records_made es = map (λ e. record_made e.0 e.1) es
+
+-- the resource of an address with a provider and records
+abbrev pub resource_made : Label → Held → ResourceView
+resource_made l h = record { label = label_of l; provider = string_bytes h.provider; records = map record_of h.records.items }
+
+-- the resources under their addresses
+abbrev pub resources_made : List (Label × Held) → List ResourceView
+resources_made es = map (λ e. resource_made e.0 e.1) es

@@ -1,0 +1,289 @@
+-- What a JSON tree says as a state. Each function answers what a part is read as, and none where the format refuses it.
+use Rattle.std.specs.Prelude.{◌≡◌, ℕ, ◌^◌, ◌<◌, ◌≤◌, ◌⊎◌, Bool, true, false, ◌&&◌, ◌==◌, nat_lt, nat_le, if◌then◌else◌, List, [], ◌∷◌, length, filter, Option, Some, None, option_map, option_and_then, codes, IsUtf8}
+use Rattle.std.specs.Cmp.Lexicographic.{slice_cmp}
+use Rattle.std.specs.Ordering.{nat_cmp, match_ordering}
+use Rattle.std.specs.Str.{bytes_eq}
+use Rattle.std.specs.declared.cmp.Ordering.{Ordering}
+use Rattle.serde_json.specs.Data.{Data, null, boolean, number as json_number, unsigned, string, array, object, Items, no_items, item, Members, no_members, member}
+use Rattle.serde_json.specs.Find.{get}
+use Rattle.serde_json.specs.Read.{read}
+use Rattle.tf_address.specs.Label.{label_cmp}
+use Rattle.tf_address.specs.Name.{is_name}
+use Rattle.tf_value.specs.Json.{tree_from}
+use Rattle.tf_value.specs.Known.{known}
+use Rattle.tf_value.specs.Measure.{weight, depth, max_weight, max_depth}
+use Rattle.tf_value.specs.Tree.{Tree, map, Entries, no_entries, put}
+use Rattle.tf_state.specs.Place.{KeyView, single, number, name, PlaceView, place_cmp}
+use Rattle.tf_state.specs.State.{RecordView, ResourceView, StateView}
+use Rattle.tf_state.specs.Words.{is_shaped, is_deposed_key, is_address}
+use Rattle.tf_state.specs.declared.fault.StateFault.{StateFault}
+use Rattle.tf_state.specs.declared.fault.StateFault.TheVariants.{BadState, Limit, OutOfMemory}
+use Rattle.tf_state.specs.declared.shape.Shape.TheVariants as shapes
+
+-- ---- lists in order
+
+-- the list with one more, in its place; none where one of the same place is there
+abbrev pub put_new : {A : Type 0} → (A → A → Ordering) → A → List A → Option (List A)
+put_new cmp a [] = Some (a ∷ [])
+put_new cmp a (b ∷ bs) = match_ordering (cmp a b) (Some (a ∷ b ∷ bs)) None (option_map (λ cs. b ∷ cs) (put_new cmp a bs))
+
+-- the texts with one more, in byte order, each once
+abbrev pub put_text : List ℕ → List (List ℕ) → List (List ℕ)
+put_text s [] = s ∷ []
+put_text s (t ∷ ts) = match_ordering (slice_cmp nat_cmp s t) (s ∷ t ∷ ts) (t ∷ ts) (t ∷ put_text s ts)
+
+-- records stand by their places, resources by their addresses
+abbrev pub record_cmp : RecordView → RecordView → Ordering
+record_cmp a b = place_cmp a.place b.place
+
+abbrev pub resource_cmp : ResourceView → ResourceView → Ordering
+resource_cmp a b = label_cmp a.label b.label
+
+-- ---- values
+
+-- a value is within the limits of weight and depth
+abbrev pub is_within : Tree → Bool
+is_within t = nat_le (weight t) max_weight && nat_le (depth t) max_depth
+
+-- a value: its numbers are whole, and it is within the limits
+abbrev pub value_in : Data → Option Tree
+value_in d = if known (tree_from d) && is_within (tree_from d) then Some (tree_from d) else None
+
+-- the values that members are read as, added to those that were found
+abbrev pub values_in : (Data → Option Tree) → Members → Entries → Option Entries
+values_in read_one no_members found = Some found
+values_in read_one (member k d ms) found = option_and_then (λ t. values_in read_one ms (put k t found)) (read_one d)
+
+-- ---- properties of a record
+
+-- a number below a bound; an absent one is 0
+abbrev pub below_or_zero : ℕ → Option Data → Option ℕ
+below_or_zero bound None = Some 0
+below_or_zero bound (Some (json_number (unsigned n))) = if nat_lt n bound then Some n else None
+below_or_zero bound (Some _) = None
+
+-- a key is absent, a whole number of 0 or more below 2^63, or a text
+abbrev pub key_in : Option Data → Option KeyView
+key_in None = Some single
+key_in (Some (json_number (unsigned n))) = if nat_lt n (2 ^ 63) then Some (number n) else None
+key_in (Some (string s)) = Some (name s)
+key_in (Some _) = None
+
+-- a deposed key is absent, or eight lower-case hex digits
+abbrev pub deposed_in : Option Data → Option (Option (List ℕ))
+deposed_in None = Some None
+deposed_in (Some (string s)) = if is_deposed_key s then Some (Some s) else None
+deposed_in (Some _) = None
+
+-- the attributes are an object of values
+abbrev pub attributes_in : Option Data → Option Tree
+attributes_in (Some (object ms)) = option_map map (values_in value_in ms no_entries)
+attributes_in _ = None
+
+-- a status is absent, or `tainted`
+abbrev pub tainted_in : Option Data → Option Bool
+tainted_in None = Some false
+tainted_in (Some (string s)) = if bytes_eq s (codes "tainted") then Some true else None
+tainted_in (Some _) = None
+
+-- the flag is absent, or a truth value
+abbrev pub flag_in : Option Data → Option Bool
+flag_in None = Some false
+flag_in (Some (boolean b)) = Some b
+flag_in (Some _) = None
+
+-- an address is a text
+abbrev pub address_in : Data → Option (List ℕ)
+address_in (string s) = if is_address s then Some s else None
+address_in _ = None
+
+-- the addresses that items are, added to those that were found
+abbrev pub addresses_in : Items → List (List ℕ) → Option (List (List ℕ))
+addresses_in no_items found = Some found
+addresses_in (item d ds) found = option_and_then (λ s. addresses_in ds (put_text s found)) (address_in d)
+
+-- dependencies are absent, or an array of addresses
+abbrev pub dependencies_in : Option Data → Option (List (List ℕ))
+dependencies_in None = Some []
+dependencies_in (Some (array ds)) = addresses_in ds []
+dependencies_in (Some _) = None
+
+-- sensitive attributes are absent, or an empty array
+abbrev pub is_unsensitive : Option Data → Bool
+is_unsensitive None = true
+is_unsensitive (Some (array no_items)) = true
+is_unsensitive (Some _) = false
+
+-- ---- records
+
+-- the place of a record
+abbrev pub place_in : Data → Option PlaceView
+place_in d =
+    option_and_then (λ k. option_map (λ p. record { key = k; deposed = p }) (deposed_in (get (codes "deposed") d))) (key_in (get (codes "index_key") d))
+
+-- a record's object holds what a record may hold, and nothing sensitive
+abbrev pub is_record : Data → Bool
+is_record d = is_shaped shapes.Record d && is_unsensitive (get (codes "sensitive_attributes") d)
+
+-- a record of a place
+abbrev pub record_at : PlaceView → Data → Option RecordView
+record_at place d =
+    option_and_then
+    (λ attributes. option_and_then (λ version. option_and_then (λ tainted. option_and_then (λ dependencies. option_map
+    (λ flag. record { place = place; attributes = attributes; schema_version = version; tainted = tainted; dependencies = dependencies; create_before_destroy = flag }) (flag_in (get (codes "create_before_destroy") d)))
+    (dependencies_in (get (codes "dependencies") d))) (tainted_in (get (codes "status") d))) (below_or_zero (2 ^ 32) (get (codes "schema_version") d))) (attributes_in (get (codes "attributes") d))
+
+-- a record
+abbrev pub record_in : Data → Option RecordView
+record_in d = if is_record d then option_and_then (λ place. record_at place d) (place_in d) else None
+
+-- the records that items are, added to those that were found, none twice
+abbrev pub records_in : Items → List RecordView → Option (List RecordView)
+records_in no_items found = Some found
+records_in (item d ds) found = option_and_then (λ r. option_and_then (records_in ds) (put_new record_cmp r found)) (record_in d)
+
+-- the records of a resource are an array
+abbrev pub instances_in : Option Data → Option (List RecordView)
+instances_in (Some (array ds)) = records_in ds []
+instances_in _ = None
+
+-- ---- resources
+
+-- a text
+abbrev pub text_in : Option Data → Option (List ℕ)
+text_in (Some (string s)) = Some s
+text_in _ = None
+
+-- a text that is a name
+abbrev pub name_in : Option Data → Option (List ℕ)
+name_in (Some (string s)) = if is_name s then Some s else None
+name_in _ = None
+
+-- the mode of a resource that the engine manages
+abbrev pub is_managed : Option Data → Bool
+is_managed (Some (string s)) = bytes_eq s (codes "managed")
+is_managed _ = false
+
+-- a resource
+abbrev pub resource_in : Data → Option ResourceView
+resource_in d =
+    if is_shaped shapes.Resource d && is_managed (get (codes "mode") d)
+    then option_and_then
+    (λ kind. option_and_then (λ its_name. option_and_then (λ provider. option_map
+    (λ records. record { label = record { kind = kind; name = its_name }; provider = provider; records = records }) (instances_in (get (codes "instances") d)))
+    (text_in (get (codes "provider") d))) (name_in (get (codes "name") d))) (name_in (get (codes "type") d))
+    else None
+
+-- the resources that items are, added to those that were found, none twice
+abbrev pub resources_in : Items → List ResourceView → Option (List ResourceView)
+resources_in no_items found = Some found
+resources_in (item d ds) found = option_and_then (λ r. option_and_then (resources_in ds) (put_new resource_cmp r found)) (resource_in d)
+
+abbrev pub is_some_record : List RecordView → Bool
+is_some_record [] = false
+is_some_record (r ∷ rs) = true
+
+-- a resource without records is no part of the state
+abbrev pub with_records : List ResourceView → List ResourceView
+with_records = filter (λ r. is_some_record r.records)
+
+-- resources are absent, or an array
+abbrev pub all_resources_in : Option Data → Option (List ResourceView)
+all_resources_in None = Some []
+all_resources_in (Some (array ds)) = option_map with_records (resources_in ds [])
+all_resources_in (Some _) = None
+
+-- ---- outputs
+
+-- the value of an output, whatever its type says
+abbrev pub required_value : Option Data → Option Tree
+required_value None = None
+required_value (Some d) = value_in d
+
+abbrev pub output_in : Data → Option Tree
+output_in d = if is_shaped shapes.Output d then required_value (get (codes "value") d) else None
+
+-- outputs are absent, or an object
+abbrev pub outputs_in : Option Data → Option Entries
+outputs_in None = Some no_entries
+outputs_in (Some (object ms)) = values_in output_in ms no_entries
+outputs_in (Some _) = None
+
+-- ---- states
+
+-- the version of the format
+abbrev pub is_version : Option Data → Bool
+is_version (Some (json_number (unsigned n))) = n == 4
+is_version _ = false
+
+-- the results of checks are absent, or null
+abbrev pub is_unchecked : Option Data → Bool
+is_unchecked None = true
+is_unchecked (Some null) = true
+is_unchecked (Some _) = false
+
+-- a number below a bound
+abbrev pub below : ℕ → Option Data → Option ℕ
+below bound (Some (json_number (unsigned n))) = if nat_lt n bound then Some n else None
+below bound _ = None
+
+-- a text; an absent one is the default
+abbrev pub text_or : List ℕ → Option Data → Option (List ℕ)
+text_or default None = Some default
+text_or default (Some (string s)) = Some s
+text_or default (Some _) = None
+
+-- a state's object holds what a state may hold, in the one version of the format, and no results of checks
+abbrev pub is_state : Data → Bool
+is_state d = is_shaped shapes.State d && (is_version (get (codes "version") d) && is_unchecked (get (codes "check_results") d))
+
+-- a state
+abbrev pub state_in : Data → Option StateView
+state_in d =
+    if is_state d
+    then option_and_then
+    (λ serial. option_and_then (λ lineage. option_and_then (λ version. option_and_then (λ outputs. option_map
+    (λ resources. record { serial = serial; lineage = lineage; terraform_version = version; outputs = outputs; resources = resources }) (all_resources_in (get (codes "resources") d)))
+    (outputs_in (get (codes "outputs") d))) (text_or (codes "1.0.0") (get (codes "terraform_version") d))) (text_in (get (codes "lineage") d))) (below (2 ^ 32) (get (codes "serial") d))
+    else None
+
+-- ---- texts
+
+-- The bytes are the text of a state: they are UTF-8, and the JSON tree that they are says the state.
+abbrev pub Reads : List ℕ → StateView → Type 0
+Reads bytes s = (d : Data) × IsUtf8 bytes × (read bytes ≡ Some d) × (state_in d ≡ Some s)
+
+-- how many resources with records a state may have
+abbrev pub max_resources : ℕ
+max_resources = 4000
+
+-- the serial from which no other follows
+abbrev pub last_serial : ℕ
+last_serial = 4294967295
+
+-- A state can be planned from where it has few enough resources, and a serial that another follows.
+abbrev pub IsPlannable : StateView → Type 0
+IsPlannable s = (length s.resources ≤ max_resources) × (s.serial < last_serial)
+
+abbrev pub IsBeyond : StateView → Type 0
+IsBeyond s = (max_resources < length s.resources) ⊎ (last_serial ≤ s.serial)
+
+-- ---- refusals
+
+-- A part is refused where it is read as nothing. Memory may be wanting for any part.
+abbrev pub IsRefused : {A : Type 0} → Option A → StateFault → Type 0
+IsRefused o BadState = o ≡ None
+IsRefused o Limit = ⊥
+IsRefused o OutOfMemory = Unit {0}
+
+-- Why a text isn't read: it is no state's; or it is that of a state that can't be planned from; or there was no memory.
+abbrev pub IsUnread : List ℕ → StateFault → Type 0
+IsUnread bytes BadState = (s : StateView) → ¬ Reads bytes s
+IsUnread bytes Limit = (s : StateView) × Reads bytes s × IsBeyond s
+IsUnread bytes OutOfMemory = Unit {0}
+
+-- Why bytes are no JSON tree: they aren't UTF-8, or no JSON; or there was no memory.
+abbrev pub IsNoJson : List ℕ → StateFault → Type 0
+IsNoJson bytes BadState = (d : Data) → ¬ (IsUtf8 bytes × (read bytes ≡ Some d))
+IsNoJson bytes Limit = ⊥
+IsNoJson bytes OutOfMemory = Unit {0}

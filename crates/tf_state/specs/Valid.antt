@@ -1,0 +1,79 @@
+-- States that their texts give back.
+use Rattle.std.specs.Prelude.{◌≡◌, ℕ, ◌^◌, ◌<◌, true, List, [], ◌∷◌, Option, Some, None, ⊤}
+use Rattle.std.specs.Cmp.Lexicographic.{slice_cmp}
+use Rattle.std.specs.List.{AllByRecursion}
+use Rattle.std.specs.Ordering.{nat_cmp}
+use Rattle.std.specs.declared.cmp.Ordering.TheVariants.{Greater}
+use Rattle.tf_address.specs.Name.{is_name}
+use Rattle.tf_json.specs.Plain.{ArePlainMembers}
+use Rattle.tf_value.specs.Json.{entries_data}
+use Rattle.tf_value.specs.Known.{known}
+use Rattle.tf_value.specs.Measure.{IsWithinLimits}
+use Rattle.tf_value.specs.Tree.{Tree, map, Entries, no_entries, entry, IsHeld}
+use Rattle.tf_state.specs.Place.{KeyView, single, number, name}
+use Rattle.tf_state.specs.Reading.{is_some_record, record_cmp, resource_cmp}
+use Rattle.tf_state.specs.State.{RecordView, ResourceView, StateView}
+use Rattle.tf_state.specs.Words.{is_address, is_deposed_key}
+
+-- A value that may be saved: it is known, its whole numbers are those of 64 bits, and it is within the limits.
+abbrev pub IsSaved : Tree → Type 0
+IsSaved t = IsHeld t × (known t ≡ true) × IsWithinLimits t
+
+abbrev pub AreSaved : Entries → Type 0
+AreSaved no_entries = ⊤
+AreSaved (entry k t es) = IsSaved t × AreSaved es
+
+-- values by name: each may be saved, and the keys in them and their own stand strictly in byte order
+abbrev pub IsTable : Entries → Type 0
+IsTable es = ArePlainMembers (entries_data es) × AreSaved es
+
+-- attributes are values by name
+abbrev pub IsAttributes : Tree → Type 0
+IsAttributes (map es) = IsTable es
+IsAttributes _ = ⊥
+
+-- the position of an instance is below 2^63
+abbrev pub IsKey : KeyView → Type 0
+IsKey single = ⊤
+IsKey (number n) = n < 2 ^ 63
+IsKey (name s) = ⊤
+
+-- the key of a deposed object is eight lower-case hex digits
+abbrev pub IsDeposed : Option (List ℕ) → Type 0
+IsDeposed None = ⊤
+IsDeposed (Some s) = is_deposed_key s ≡ true
+
+-- addresses, each after those before it in byte order
+abbrev pub AreAddresses : List (List ℕ) → Type 0
+AreAddresses [] = ⊤
+AreAddresses (t ∷ ts) = (is_address t ≡ true) × AllByRecursion (λ u. slice_cmp nat_cmp u t ≡ Greater) ts × AreAddresses ts
+
+pub record IsRecord (r : RecordView) : Type 0 where
+  pub key : IsKey r.place.key
+  pub deposed : IsDeposed r.place.deposed
+  pub attributes : IsAttributes r.attributes
+  pub version : r.schema_version < 2 ^ 32
+  pub dependencies : AreAddresses r.dependencies
+
+-- records, each after those before it by its place
+abbrev pub AreRecords : List RecordView → Type 0
+AreRecords [] = ⊤
+AreRecords (r ∷ rs) = IsRecord r × AllByRecursion (λ q. record_cmp q r ≡ Greater) rs × AreRecords rs
+
+pub record IsResource (r : ResourceView) : Type 0 where
+  pub kind : is_name r.label.kind ≡ true
+  pub name : is_name r.label.name ≡ true
+  pub some : is_some_record r.records ≡ true
+  pub records : AreRecords r.records
+
+-- resources, each after those before it by its address
+abbrev pub AreResources : List ResourceView → Type 0
+AreResources [] = ⊤
+AreResources (r ∷ rs) = IsResource r × AllByRecursion (λ q. resource_cmp q r ≡ Greater) rs × AreResources rs
+
+-- A state is valid where its parts are such as a text can hold: names, keys and addresses of their forms, values
+-- that may be saved, and records and resources in order, none twice, no resource without records.
+pub record IsValid (s : StateView) : Type 0 where
+  pub serial : s.serial < 2 ^ 32
+  pub outputs : IsTable s.outputs
+  pub resources : AreResources s.resources

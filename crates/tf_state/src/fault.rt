@@ -1,0 +1,48 @@
+use std::alloc::{AllocError, AllocFailed};
+use std::error::Error;
+use std::fmt;
+
+/// Why a text isn't read as a state.
+#[derive(Debug, Clone, Copy, PartialEq, Eq)]
+pub enum StateFault {
+    /// The text is no state's.
+    BadState,
+    /// The state has more than 4,000 resources, or a serial from which no other follows.
+    Limit,
+    /// There was no memory.
+    OutOfMemory,
+}
+
+impl fmt::Display for StateFault {
+    fn fmt<W: fmt::Write>(&self, f: &mut fmt::Formatter<W>) -> fmt::Result {
+        f.write_str(match self {
+            StateFault::BadState => "the text is no state's",
+            StateFault::Limit => "the state is beyond the limits",
+            StateFault::OutOfMemory => "out of memory",
+        })
+    }
+}
+
+impl Error for StateFault {}
+
+impl From<AllocError> for StateFault {
+    ghost use Rattle.std.specs.Prelude.{◌≡◌};
+    ghost use Rattle.tf_state.specs.declared.fault.StateFault.TheVariants.{OutOfMemory};
+
+    ghost from_gives = { λ _ e. e ≡ OutOfMemory };
+
+    fn from(_error: AllocError) -> StateFault {
+        StateFault::OutOfMemory
+    }
+}
+
+impl<T: Drop> From<AllocFailed<T>> for StateFault {
+    ghost use Rattle.std.specs.Prelude.{◌≡◌};
+    ghost use Rattle.tf_state.specs.declared.fault.StateFault.TheVariants.{OutOfMemory};
+
+    ghost from_gives = { λ _ e. e ≡ OutOfMemory };
+
+    fn from(_error: AllocFailed<T>) -> StateFault {
+        StateFault::OutOfMemory
+    }
+}

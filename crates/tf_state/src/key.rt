@@ -1,0 +1,43 @@
+//! Which object of a resource a record is of.
+
+/// Which instance of a resource. The derived order is the order of addresses: the one without a key, then
+/// numbers, then names byte by byte.
+#[derive(Clone, Debug, PartialEq, Eq, PartialOrd, Ord, Drop)]
+pub enum Key {
+    /// The only instance of a resource without `count` and `for_each`.
+    Single,
+    /// An instance of a resource with `count`, by its position; below 2^63 in a state that reads back.
+    Number(u64),
+    /// An instance of a resource with `for_each`, by its key.
+    Name(String),
+}
+
+/// Which object of a resource: its instance, and whether it is deposed. The derived order is the order of
+/// writing: by instance, and at one instance the current object before deposed ones by their keys.
+#[derive(Clone, Debug, PartialEq, Eq, PartialOrd, Ord, Drop)]
+pub struct Place {
+    /// The instance.
+    pub key: Key,
+    /// The key of a deposed object, eight lower-case hex digits; none for the current object.
+    pub deposed: Option<String>,
+}
+
+impl Place {
+    ghost use Rattle.std.specs.Prelude.{◌≡◌};
+    ghost use Rattle.tf_state.specs.LookUp.{same_place};
+    ghost use Rattle.tf_state.specs.Place.{place_of, place_below};
+
+    /// Whether this object is written before another.
+    pub fn is_below(&self, other: &Place) -> bool
+        ensures { result ≡ place_below (place_of self.now) (place_of other.now) }
+    {
+        self < other
+    }
+
+    /// Whether this is the same object of a resource as another.
+    pub fn is(&self, other: &Place) -> bool
+        ensures { result ≡ same_place (place_of self.now) (place_of other.now) }
+    {
+        self.cmp(other).is_eq()
+    }
+}

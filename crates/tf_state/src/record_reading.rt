@@ -1,0 +1,116 @@
+//! Records, as they are read.
+
+ghost use Rattle.std.specs.Prelude.{◌≡◌, ◌++◌, [], Some, IfErr, IfOk, OnOk, map, option_map};
+ghost use Rattle.serde_json.specs.View.{view, items_view};
+ghost use Rattle.tf_state.specs.Made.{record_made, records_made};
+ghost use Rattle.tf_state.specs.Place.{place_of};
+ghost use Rattle.tf_state.specs.Reading.{IsRefused, instances_in, is_record, put_new, record_at, record_cmp, record_in, records_in};
+ghost use Rattle.tf_state.specs.State.{record_of};
+
+use crate::body::Body;
+use crate::fault::StateFault;
+use crate::key::Place;
+use crate::shape::{Shape, is_shaped};
+use crate::state::Record;
+use crate::value_reading::{
+    is_unsensitive, read_attributes, read_dependencies, read_flag, read_place, read_tainted,
+    read_version,
+};
+use serde_json::Value as Json;
+use std::alloc::{AllocError, Global};
+use std::collections::BTreeMap;
+
+/// The records of a resource, in the order of their places.
+pub(crate) fn read_instances(alloc: Global, json: Option<&Json>) -> Result<Vec<Record>, StateFault>
+    ensures ok { IfOk result (λ rs. instances_in (option_map (λ v. view v.now) json.entry) ≡ Some (map record_of rs.items)) }
+    ensures err { IfErr result (λ e. IsRefused (instances_in (option_map (λ v. view v.now) json.entry)) e) }
+{
+    match json {
+        Some(Json::Array(items)) => {
+            let records = read_records(alloc, items)?;
+            Ok(in_order(alloc, records)?)
+        }
+        _ => Err(StateFault::BadState),
+    }
+}
+
+fn in_order(alloc: Global, records: BTreeMap<Place, Body>) -> Result<Vec<Record>, AllocError>
+    ensures { IfOk result (λ rs. map record_of rs.items ≡ records_made records.entries) }
+{
+    let mut ordered = Vec::with_capacity(alloc, records.len())?;
+    for (place, body) in records {
+        ordered.push(Record {
+            place,
+            attributes: body.attributes,
+            schema_version: body.schema_version,
+            tainted: body.tainted,
+            dependencies: body.dependencies,
+            create_before_destroy: body.create_before_destroy,
+        })?;
+    }
+    Ok(ordered)
+}
+
+fn read_records(alloc: Global, items: &[Json]) -> Result<BTreeMap<Place, Body>, StateFault>
+    ensures ok { IfOk result (λ m. records_in (items_view items.now) [] ≡ Some (records_made m.entries)) }
+    ensures err { IfErr result (λ e. IsRefused (records_in (items_view items.now) []) e) }
+{
+    let mut records = BTreeMap::new(alloc);
+    for item in items {
+        let (place, body) = read_record(alloc, item)?;
+        add_record(&mut records, place, body)?;
+    }
+    Ok(records)
+}
+
+fn add_record(
+    records: &mut BTreeMap<Place, Body>,
+    place: Place,
+    body: Body,
+) -> Result<(), StateFault>
+    ensures ok { OnOk result (put_new record_cmp (record_made place body) (records_made records.old.entries) ≡ Some (records_made records.new.entries)) }
+    ensures err { IfErr result (λ e. IsRefused (put_new record_cmp (record_made place body) (records_made records.old.entries)) e) }
+{
+    let is_taken = records.insert(place, body)?.is_some();
+    if is_taken {
+        return Err(StateFault::BadState);
+    }
+    Ok(())
+}
+
+fn read_record(alloc: Global, json: &Json) -> Result<(Place, Body), StateFault>
+    ensures ok { IfOk result (λ r. record_in (view json.now) ≡ Some (record_made r.0 r.1)) }
+    ensures err { IfErr result (λ e. IsRefused (record_in (view json.now)) e) }
+{
+    if !is_record(json) {
+        return Err(StateFault::BadState);
+    }
+    let place = read_place(alloc, json)?;
+    let body = read_body(alloc, &place, json)?;
+    Ok((place, body))
+}
+
+fn is_record(json: &Json) -> bool
+    ensures { result ≡ is_record (view json.now) }
+{
+    is_shaped(json, Shape::Record) && is_unsensitive(json.get("sensitive_attributes"))
+}
+
+fn read_body(alloc: Global, place: &Place, json: &Json) -> Result<Body, StateFault>
+    ensures ok { IfOk result (λ b. record_at (place_of place.now) (view json.now) ≡ Some (record_made place.now b)) }
+    ensures err { IfErr result (λ e. IsRefused (record_at (place_of place.now) (view json.now)) e) }
+{
+    let _place = place;
+    let attributes = read_attributes(alloc, json.get("attributes"))?;
+    let schema_version = read_version(json.get("schema_version"))?;
+    let tainted = read_tainted(json.get("status"))?;
+    let dependencies = read_dependencies(alloc, json.get("dependencies"))?;
+    let create_before_destroy = read_flag(json.get("create_before_destroy"))?;
+    Ok(Body {
+        attributes,
+        schema_version,
+        tainted,
+        dependencies,
+        create_before_destroy,
+    })
+}

@@ -1,0 +1,227 @@
+//! Texts that are no state's, one for each rule.
+
+use crate::{StateFault, read};
+use std::alloc::Global;
+use std::test::Fail;
+
+// Whole texts.
+const WHOLE: [&str; 28] = [
+    "",
+    " ",
+    "[]",
+    "null",
+    "4",
+    "\"x\"",
+    "{",
+    "{}",
+    "{\"version\":4,\"serial\":0,\"lineage\":\"L\"}}",
+    "{\"version\":4,\"serial\":0,\"lineage\":\"L\",}",
+    "{\"serial\":0,\"lineage\":\"L\"}",
+    "{\"version\":3,\"serial\":0,\"lineage\":\"L\"}",
+    "{\"version\":\"4\",\"serial\":0,\"lineage\":\"L\"}",
+    "{\"version\":4.0,\"serial\":0,\"lineage\":\"L\"}",
+    "{\"version\":null,\"serial\":0,\"lineage\":\"L\"}",
+    "{\"version\":-4,\"serial\":0,\"lineage\":\"L\"}",
+    "{\"version\":4,\"lineage\":\"L\"}",
+    "{\"version\":4,\"serial\":-1,\"lineage\":\"L\"}",
+    "{\"version\":4,\"serial\":-0,\"lineage\":\"L\"}",
+    "{\"version\":4,\"serial\":4294967296,\"lineage\":\"L\"}",
+    "{\"version\":4,\"serial\":1.0,\"lineage\":\"L\"}",
+    "{\"version\":4,\"serial\":1e3,\"lineage\":\"L\"}",
+    "{\"version\":4,\"serial\":\"1\",\"lineage\":\"L\"}",
+    "{\"version\":4,\"serial\":null,\"lineage\":\"L\"}",
+    "{\"version\":4,\"serial\":01,\"lineage\":\"L\"}",
+    "{\"version\":4,\"serial\":0}",
+    "{\"version\":4,\"serial\":0,\"lineage\":1}",
+    "{\"version\":4,\"serial\":0,\"lineage\":null}",
+];
+
+// Further properties of a state that has what is required.
+const PROPERTIES: [&str; 22] = [
+    "\"terraform_version\":1",
+    "\"terraform_version\":null",
+    "\"outputs\":null",
+    "\"outputs\":[]",
+    "\"resources\":null",
+    "\"resources\":{}",
+    "\"check_results\":[]",
+    "\"check_results\":{}",
+    "\"check_results\":false",
+    "\"modules\":[]",
+    "\"//\":\"x\"",
+    "\"Serial\":1",
+    "\"outputs\":{\"o\":1}",
+    "\"outputs\":{\"o\":{}}",
+    "\"outputs\":{\"o\":{\"type\":\"string\"}}",
+    "\"outputs\":{\"o\":{\"value\":1,\"sensitive\":true}}",
+    "\"outputs\":{\"o\":{\"value\":1.5}}",
+    "\"outputs\":{\"o\":{\"value\":1e400}}",
+    "\"outputs\":{\"o\":{\"value\":9223372036854775808}}",
+    "\"outputs\":{\"o\":{\"value\":-9223372036854775809}}",
+    "\"outputs\":{\"o\":{\"value\":[-0]}}",
+    "\"outputs\":{\"o\":{\"value\":[[[[[[[[[[[[[[[[[[[[[[[[[[[[[[[[[]]]]]]]]]]]]]]]]]]]]]]]]]]]]]]]]]}}",
+];
+
+// Items of `resources`.
+const RESOURCES: [&str; 25] = [
+    "1",
+    "null",
+    "[]",
+    "{}",
+    "{\"type\":\"sim_net\",\"name\":\"a\",\"provider\":\"p\",\"instances\":[]}",
+    "{\"mode\":\"data\",\"type\":\"sim_net\",\"name\":\"a\",\"provider\":\"p\",\"instances\":[]}",
+    "{\"mode\":null,\"type\":\"sim_net\",\"name\":\"a\",\"provider\":\"p\",\"instances\":[]}",
+    "{\"mode\":\"managed\",\"name\":\"a\",\"provider\":\"p\",\"instances\":[]}",
+    "{\"mode\":\"managed\",\"type\":\"1a\",\"name\":\"a\",\"provider\":\"p\",\"instances\":[]}",
+    "{\"mode\":\"managed\",\"type\":\"\",\"name\":\"a\",\"provider\":\"p\",\"instances\":[]}",
+    "{\"mode\":\"managed\",\"type\":null,\"name\":\"a\",\"provider\":\"p\",\"instances\":[]}",
+    "{\"mode\":\"managed\",\"type\":\"sim_net\",\"provider\":\"p\",\"instances\":[]}",
+    "{\"mode\":\"managed\",\"type\":\"sim_net\",\"name\":\"a b\",\"provider\":\"p\",\"instances\":[]}",
+    "{\"mode\":\"managed\",\"type\":\"sim_net\",\"name\":\"a.b\",\"provider\":\"p\",\"instances\":[]}",
+    "{\"mode\":\"managed\",\"type\":\"sim_net\",\"name\":1,\"provider\":\"p\",\"instances\":[]}",
+    "{\"mode\":\"managed\",\"type\":\"sim_net\",\"name\":\"a\",\"instances\":[]}",
+    "{\"mode\":\"managed\",\"type\":\"sim_net\",\"name\":\"a\",\"provider\":null,\"instances\":[]}",
+    "{\"mode\":\"managed\",\"type\":\"sim_net\",\"name\":\"a\",\"provider\":[\"p\"],\"instances\":[]}",
+    "{\"mode\":\"managed\",\"type\":\"sim_net\",\"name\":\"a\",\"provider\":\"p\"}",
+    "{\"mode\":\"managed\",\"type\":\"sim_net\",\"name\":\"a\",\"provider\":\"p\",\"instances\":{}}",
+    "{\"mode\":\"managed\",\"type\":\"sim_net\",\"name\":\"a\",\"provider\":\"p\",\"instances\":null}",
+    "{\"mode\":\"managed\",\"type\":\"sim_net\",\"name\":\"a\",\"provider\":\"p\",\"instances\":[],\"module\":\"m\"}",
+    "{\"mode\":\"managed\",\"type\":\"sim_net\",\"name\":\"a\",\"provider\":\"p\",\"instances\":[],\"each\":\"list\"}",
+    "{\"mode\":\"managed\",\"type\":\"sim_net\",\"name\":\"a\",\"provider\":\"p\",\"instances\":[]},{\"mode\":\"managed\",\"type\":\"sim_net\",\"name\":\"a\",\"provider\":\"p\",\"instances\":[]}",
+    "{\"mode\":\"managed\",\"type\":\"sim_net\",\"name\":\"a\",\"provider\":\"p\",\"instances\":[]},{\"mode\":\"managed\",\"type\":\"sim_net\",\"name\":\"a\",\"provider\":\"p\",\"instances\":[{\"attributes\":{}}]}",
+];
+
+// Items of `instances` of a resource.
+const RECORDS: [&str; 55] = [
+    "1",
+    "null",
+    "{}",
+    "{\"attributes\":null}",
+    "{\"attributes\":[]}",
+    "{\"attributes\":{\"a\":1.5}}",
+    "{\"attributes\":{\"a\":{\"b\":[18446744073709551616]}}}",
+    "{\"attributes\":{},\"schema_version\":-1}",
+    "{\"attributes\":{},\"schema_version\":4294967296}",
+    "{\"attributes\":{},\"schema_version\":null}",
+    "{\"attributes\":{},\"schema_version\":\"0\"}",
+    "{\"attributes\":{},\"schema_version\":0.0}",
+    "{\"attributes\":{},\"index_key\":-1}",
+    "{\"attributes\":{},\"index_key\":null}",
+    "{\"attributes\":{},\"index_key\":true}",
+    "{\"attributes\":{},\"index_key\":1.5}",
+    "{\"attributes\":{},\"index_key\":9223372036854775808}",
+    "{\"attributes\":{},\"index_key\":[]}",
+    "{\"attributes\":{},\"index_key\":{}}",
+    "{\"attributes\":{},\"status\":\"ok\"}",
+    "{\"attributes\":{},\"status\":\"\"}",
+    "{\"attributes\":{},\"status\":null}",
+    "{\"attributes\":{},\"status\":\"Tainted\"}",
+    "{\"attributes\":{},\"status\":true}",
+    "{\"attributes\":{},\"deposed\":\"0000000\"}",
+    "{\"attributes\":{},\"deposed\":\"000000001\"}",
+    "{\"attributes\":{},\"deposed\":\"0000000A\"}",
+    "{\"attributes\":{},\"deposed\":\"0000000g\"}",
+    "{\"attributes\":{},\"deposed\":\"\"}",
+    "{\"attributes\":{},\"deposed\":null}",
+    "{\"attributes\":{},\"deposed\":1}",
+    "{\"attributes\":{},\"dependencies\":null}",
+    "{\"attributes\":{},\"dependencies\":\"a.b\"}",
+    "{\"attributes\":{},\"dependencies\":{}}",
+    "{\"attributes\":{},\"dependencies\":[1]}",
+    "{\"attributes\":{},\"dependencies\":[\"a\"]}",
+    "{\"attributes\":{},\"dependencies\":[\"a.b.c\"]}",
+    "{\"attributes\":{},\"dependencies\":[\"a.b[0]\"]}",
+    "{\"attributes\":{},\"dependencies\":[\".a\"]}",
+    "{\"attributes\":{},\"dependencies\":[\"a.\"]}",
+    "{\"attributes\":{},\"dependencies\":[\"a.b\",null]}",
+    "{\"attributes\":{},\"create_before_destroy\":null}",
+    "{\"attributes\":{},\"create_before_destroy\":\"true\"}",
+    "{\"attributes\":{},\"create_before_destroy\":0}",
+    "{\"attributes\":{},\"sensitive_attributes\":null}",
+    "{\"attributes\":{},\"sensitive_attributes\":{}}",
+    "{\"attributes\":{},\"sensitive_attributes\":[[]]}",
+    "{\"attributes\":{},\"private\":\"x\"}",
+    "{\"attributes\":{},\"identity\":{}}",
+    "{\"attributes\":{},\"Status\":\"tainted\"}",
+    "{\"attributes\":{}},{\"attributes\":{}}",
+    "{\"attributes\":{},\"index_key\":0},{\"attributes\":{},\"index_key\":0,\"status\":\"tainted\"}",
+    "{\"attributes\":{},\"index_key\":\"k\"},{\"attributes\":{},\"index_key\":\"k\"}",
+    "{\"attributes\":{},\"deposed\":\"00000001\"},{\"attributes\":{},\"deposed\":\"00000001\"}",
+    "{\"attributes\":{}},{\"attributes\":{},\"deposed\":\"00000001\"},{\"attributes\":{}}",
+];
+
+fn is_bad(alloc: Global, text: &str) -> bool {
+    matches!(read(alloc, text.as_bytes()), Err(StateFault::BadState))
+}
+
+#[test]
+fn refuses_whole_texts(rt: HostRuntime) {
+    for text in WHOLE {
+        assert!(rt; is_bad(rt.alloc(), text), "{text}");
+    }
+}
+
+#[test]
+fn refuses_properties(rt: HostRuntime) -> Result<(), Fail> {
+    for property in PROPERTIES {
+        let text = format!(in rt.alloc();
+            "{{\"version\":4,\"serial\":0,\"lineage\":\"L\",{property}}}"
+        )?;
+        assert!(rt; is_bad(rt.alloc(), &text), "{text}");
+    }
+    Ok(())
+}
+
+#[test]
+fn refuses_resources(rt: HostRuntime) -> Result<(), Fail> {
+    for resource in RESOURCES {
+        let text = format!(in rt.alloc();
+            "{{\"version\":4,\"serial\":0,\"lineage\":\"L\",\"resources\":[{resource}]}}"
+        )?;
+        assert!(rt; is_bad(rt.alloc(), &text), "{text}");
+    }
+    Ok(())
+}
+
+#[test]
+fn refuses_records(rt: HostRuntime) -> Result<(), Fail> {
+    for record in RECORDS {
+        let text = format!(in rt.alloc();
+            "{{\"version\":4,\"serial\":0,\"lineage\":\"L\",\"resources\":[{{\"mode\":\"managed\",\"type\":\"sim_net\",\"name\":\"a\",\"provider\":\"p\",\"instances\":[{record}]}}]}}"
+        )?;
+        assert!(rt; is_bad(rt.alloc(), &text), "{text}");
+    }
+    Ok(())
+}
+
+// No byte alone, and no byte in place of one of a state's text that JSON needs, makes a state.
+#[test]
+fn refuses_single_bytes(rt: HostRuntime) {
+    for byte in 0..=255u8 {
+        assert!(rt;
+            matches!(read(rt.alloc(), &[byte]), Err(StateFault::BadState)),
+            "{byte}"
+        );
+    }
+}
+
+#[test]
+fn refuses_bytes_that_are_no_text(rt: HostRuntime) {
+    let text = b"{\"version\":4,\"serial\":0,\"lineage\":\"\xff\"}";
+    assert!(rt; matches!(read(rt.alloc(), text), Err(StateFault::BadState)));
+}
+
+#[test]
+fn refuses_deep_texts(rt: HostRuntime) -> Result<(), Fail> {
+    for depth in [128usize, 1000, 100_000] {
+        let mut text = String::from_str(
+            rt.alloc(),
+            "{\"version\":4,\"serial\":0,\"lineage\":\"L\",\"outputs\":{\"o\":{\"value\":0,\"type\":",
+        )?;
+        for _ in 0..depth {
+            text.push('[')?;
+        }
+        assert!(rt; is_bad(rt.alloc(), &text));
+    }
+    Ok(())
+}
