@@ -4,8 +4,10 @@ pub mod Floats
 pub mod KnownForms
 pub mod Loops
 pub mod Ordered
+pub mod Orders
 pub mod PlaceOrder
 pub mod Places
+pub mod ReadValid
 pub mod RecordBack
 pub mod Plainness
 pub mod Properties

@@ -16,3 +16,7 @@ TextReadsAsState = (s : StateView) → IsValid s → IsUtf8 (state_text s) → R
 -- Two valid states with one text are one.
 abbrev pub StateOfTextIsOne : Type 0
 StateOfTextIsOne = (s t : StateView) → IsValid s → IsValid t → state_text s ≡ state_text t → s ≡ t
+
+-- What is read is valid.
+abbrev pub ReadIsValid : Type 0
+ReadIsValid = (bytes : List ℕ) (s : StateView) → Reads bytes s → IsValid s
