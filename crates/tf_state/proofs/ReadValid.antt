@@ -1,16 +1,16 @@
 -- What is read is valid.
-use Rattle.std.proofs.Common.{◌≡◌, ℕ, ◌^◌, ◌<◌, ◌≤◌, ℤ, pos, negsuc, Bool, true, false, ◌&&◌, cond, List, [], ◌∷◌, filter, Option, Some, None, Ordering, Less, Equal, Greater, nat_cmp, codes, refl, sym, ap, ◌∙◌, subst, leb-true, arith, rules}
+use Rattle.std.proofs.Common.{◌≡◌, ℕ, ◌^◌, ◌<◌, ℤ, pos, negsuc, Bool, true, false, ◌&&◌, cond, List, [], ◌∷◌, Option, Some, None, Ordering, Less, Equal, Greater, nat_cmp, codes, refl, sym, ap, ◌∙◌, subst, leb-true, arith, rules}
 use Rattle.std.specs.Cmp.Lexicographic.{slice_cmp}
 use Rattle.std.specs.Int.{w64}
 use Rattle.std.specs.List.{AllByRecursion}
 use Rattle.std.specs.Ordering.{match_ordering, ordering_reverse}
-use Rattle.std.specs.Prelude.{FitsSigned, option_and_then, ⊤}
+use Rattle.std.specs.Prelude.{FitsSigned, option_and_then}
 use Rattle.std.proofs.lemmas.Bool.{and_parts}
 use Rattle.std.proofs.lemmas.Cmp.{nat_list_cmp_total}
 use Rattle.std.proofs.lemmas.Int.{ints}
 use Rattle.serde_json.specs.Data as json
 use Rattle.serde_json.specs.Find.{get, of_integer}
-use Rattle.tf_json.specs.Plain.{IsPlain, ArePlain, ArePlainMembers, IsSorted, AreSorted, AreSortedMembers, AreAbove}
+use Rattle.tf_json.specs.Plain.{IsPlain, ArePlain, ArePlainMembers, IsSorted, AreSorted, AreSortedMembers}
 use Rattle.tf_json.proofs.Puts.{plain-put}
 use Rattle.tf_json.proofs.Sorted.{read_is_sorted, sorted-get}
 use Rattle.tf_address.specs.Name.{is_name}
@@ -24,8 +24,8 @@ use Rattle.tf_state.specs.Place.{KeyView}
 use Rattle.tf_state.specs.Reading.{put_text, put_new, record_cmp, resource_cmp, is_within, value_in, values_in, address_in, addresses_in, record_in, records_in, resource_in, resources_in, is_some_record, with_records, output_in, required_value, state_in}
 use Rattle.tf_state.specs.State.{RecordView, ResourceView, StateView}
 use Rattle.tf_state.specs.Table.{SaysKey, SaysDeposed, SaysAttributes, SaysDependencies, SaysNumberOrZero, SaysInstances, SaysResources, SaysOutputs}
-use Rattle.tf_state.specs.Valid.{IsSaved, AreSaved, IsTable, IsAttributes, IsKey, IsDeposed, AreAddresses, InOrder, IsRecord, AreRecords, IsResource, AreResources, IsValid}
-use Rattle.tf_state.specs.Words.{is_address, is_deposed_key, is_shaped}
+use Rattle.tf_state.specs.Valid.{IsSaved, AreSaved, IsTable, IsAttributes, IsKey, IsDeposed, AreAddresses, InOrder, IsRecord, AreRecords, AreResources, IsValid}
+use Rattle.tf_state.specs.Words.{is_address, is_shaped}
 use Rattle.tf_state.specs.declared.shape.Shape.TheVariants as shapes
 use Rattle.tf_state.proofs.ByTable.{records_are_by_table, resources_are_by_table, states_are_by_table}
 use Rattle.tf_state.proofs.Orders.{record_total, resource_total, put_new-in_order}
