@@ -1,6 +1,7 @@
 pub mod Back
 pub mod ByTable
 pub mod Floats
+pub mod Kept
 pub mod KnownForms
 pub mod Loops
 pub mod Ordered

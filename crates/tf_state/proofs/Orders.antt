@@ -81,7 +81,7 @@ resource_total = on_total (λ (r : ResourceView). r.label) label_total
 -- ---- what is put in order
 
 -- what is below something above which others stand is below them
-above_all : {A : Type 0} (cmp : A → A → Ordering) → IsTotalOrder cmp → (a b : A) (bs : List A) → cmp a b ≡ Less → AllByRecursion (λ c. cmp c b ≡ Greater) bs → AllByRecursion (λ c. cmp c a ≡ Greater) bs
+pub above_all : {A : Type 0} (cmp : A → A → Ordering) → IsTotalOrder cmp → (a b : A) (bs : List A) → cmp a b ≡ Less → AllByRecursion (λ c. cmp c b ≡ Greater) bs → AllByRecursion (λ c. cmp c a ≡ Greater) bs
 above_all cmp total a b [] below h = tt
 above_all cmp total a b (c ∷ bs) below h =
     let up : cmp b c ≡ Less = total.antisymm b c ∙ ap ordering_reverse h.0 in
