@@ -2,3 +2,4 @@ pub mod Gaps
 pub mod Pretty
 pub mod Puts
 pub mod ReadsBack
+pub mod Sorted

@@ -44,7 +44,7 @@ get-put_other k l d (member m e ms) apart = other_at (cmp l m) k l m d e ms refl
 
 -- ---- the order of keys
 
-above_later : (k l : List ℕ) (ms : Members) → cmp k l ≡ Less → AreAbove l ms → AreAbove k ms
+pub above_later : (k l : List ℕ) (ms : Members) → cmp k l ≡ Less → AreAbove l ms → AreAbove k ms
 above_later k l no_members e h = tt
 above_later k l (member m d ms) e h = (nat_list_cmp_total.trans k l m e h.0, above_later k l ms e h.1)
 
@@ -54,7 +54,7 @@ above_at Less l k m d e ms below h more = (below, h)
 above_at Equal l k m d e ms below h more = h
 above_at Greater l k m d e ms below h more = (h.0, more)
 
-above-put : (l k : List ℕ) (d : Data) (ms : Members) → cmp l k ≡ Less → AreAbove l ms → AreAbove l (put k d ms)
+pub above-put : (l k : List ℕ) (d : Data) (ms : Members) → cmp l k ≡ Less → AreAbove l ms → AreAbove l (put k d ms)
 above-put l k d no_members below h = (below, tt)
 above-put l k d (member m e ms) below h = above_at (cmp k m) l k m d e ms below h (above-put l k d ms below h.1)
 

@@ -34,6 +34,25 @@ abbrev mutual
   ArePlainMembers no_members = ⊤
   ArePlainMembers (member k d ms) = AreAbove k ms × IsPlain d × ArePlainMembers ms
 
+-- A tree is sorted where the keys of each object stand strictly in byte order.
+abbrev mutual
+  pub IsSorted : Data → Type 0
+  IsSorted (array ds) = AreSorted ds
+  IsSorted (object ms) = AreSortedMembers ms
+  IsSorted _ = ⊤
+
+  pub AreSorted : Items → Type 0
+  AreSorted no_items = ⊤
+  AreSorted (item d ds) = IsSorted d × AreSorted ds
+
+  pub AreSortedMembers : Members → Type 0
+  AreSortedMembers no_members = ⊤
+  AreSortedMembers (member k d ms) = AreAbove k ms × IsSorted d × AreSortedMembers ms
+
 -- The text of a plain tree that nests no deeper than a reader goes is read as that tree.
 abbrev pub TextReadsBack : Type 0
 TextReadsBack = (d : Data) → IsPlain d → depth d ≤ max_depth → read (text_of d) ≡ Some d
+
+-- A tree that a text is read as is sorted.
+abbrev pub ReadIsSorted : Type 0
+ReadIsSorted = (text : List ℕ) (d : Data) → read text ≡ Some d → IsSorted d

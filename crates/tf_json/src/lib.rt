@@ -4,7 +4,7 @@
 ghost use Rattle.serde_json.specs.View.{view};
 ghost use Rattle.serde_json.specs.Written.{has_float};
 ghost use Rattle.std.specs.Prelude.{◌≡◌, IfOk, false, string_bytes};
-ghost use Rattle.tf_json.specs.Plain.{TextReadsBack};
+ghost use Rattle.tf_json.specs.Plain.{ReadIsSorted, TextReadsBack};
 ghost use Rattle.tf_json.specs.Text.{text_of};
 
 use serde_json::Value;
@@ -27,6 +27,12 @@ pub fn text(alloc: Global, json: &Value) -> Result<String, AllocError>
 #[tactic(auto, using(crate::proofs::ReadsBack::text_reads_back))]
 pub fn texts_read_back()
     ensures { TextReadsBack }
+{}
+
+/// The keys of each object of a tree that a text is read as stand strictly in byte order. A law.
+#[tactic(auto, using(crate::proofs::Sorted::read_is_sorted))]
+pub fn read_trees_are_sorted()
+    ensures { ReadIsSorted }
 {}
 
 #[cfg(test)]

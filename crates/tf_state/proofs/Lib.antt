@@ -1,11 +1,14 @@
 pub mod Back
 pub mod ByTable
 pub mod Floats
+pub mod Kept
 pub mod KnownForms
 pub mod Loops
 pub mod Ordered
+pub mod Orders
 pub mod PlaceOrder
 pub mod Places
+pub mod ReadValid
 pub mod RecordBack
 pub mod Plainness
 pub mod Properties

@@ -3,6 +3,7 @@ use Rattle.std.specs.Prelude.{◌≡◌, ℕ, ◌^◌, ◌<◌, true, List, [], 
 use Rattle.std.specs.Cmp.Lexicographic.{slice_cmp}
 use Rattle.std.specs.List.{AllByRecursion}
 use Rattle.std.specs.Ordering.{nat_cmp}
+use Rattle.std.specs.declared.cmp.Ordering.{Ordering}
 use Rattle.std.specs.declared.cmp.Ordering.TheVariants.{Greater}
 use Rattle.tf_address.specs.Name.{is_name}
 use Rattle.tf_json.specs.Plain.{ArePlainMembers}
@@ -48,6 +49,11 @@ abbrev pub AreAddresses : List (List ℕ) → Type 0
 AreAddresses [] = ⊤
 AreAddresses (t ∷ ts) = (is_address t ≡ true) × AllByRecursion (λ u. slice_cmp nat_cmp u t ≡ Greater) ts × AreAddresses ts
 
+-- each has a property, and each stands after those before it
+abbrev pub InOrder : {A : Type 0} → (A → A → Ordering) → (A → Type 0) → List A → Type 0
+InOrder cmp P [] = ⊤
+InOrder cmp P (a ∷ later) = P a × AllByRecursion (λ b. cmp b a ≡ Greater) later × InOrder cmp P later
+
 pub record IsRecord (r : RecordView) : Type 0 where
   pub key : IsKey r.place.key
   pub deposed : IsDeposed r.place.deposed
@@ -57,8 +63,7 @@ pub record IsRecord (r : RecordView) : Type 0 where
 
 -- records, each after those before it by its place
 abbrev pub AreRecords : List RecordView → Type 0
-AreRecords [] = ⊤
-AreRecords (r ∷ rs) = IsRecord r × AllByRecursion (λ q. record_cmp q r ≡ Greater) rs × AreRecords rs
+AreRecords rs = InOrder record_cmp IsRecord rs
 
 pub record IsResource (r : ResourceView) : Type 0 where
   pub kind : is_name r.label.kind ≡ true
@@ -68,8 +73,7 @@ pub record IsResource (r : ResourceView) : Type 0 where
 
 -- resources, each after those before it by its address
 abbrev pub AreResources : List ResourceView → Type 0
-AreResources [] = ⊤
-AreResources (r ∷ rs) = IsResource r × AllByRecursion (λ q. resource_cmp q r ≡ Greater) rs × AreResources rs
+AreResources rs = InOrder resource_cmp IsResource rs
 
 -- A state is valid where its parts are such as a text can hold: names, keys and addresses of their forms, values
 -- that may be saved, and records and resources in order, none twice, no resource without records.

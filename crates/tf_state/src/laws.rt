@@ -1,6 +1,6 @@
 // Laws of states and their texts, proved for every state: each function's contract is a law, and its body does
 // nothing.
-ghost use Rattle.tf_state.specs.Laws.{StateOfTextIsOne, TextIsOfOne, TextReadsAsState};
+ghost use Rattle.tf_state.specs.Laws.{PutKeepsRecords, PutKeepsResources, ReadIsValid, RemoveKeepsRecords, RemoveKeepsResources, StateOfTextIsOne, TextIsOfOne, TextReadsAsState};
 ghost use Rattle.tf_state.specs.Table.{RecordsAreByTable, ResourcesAreByTable, StatesAreByTable};
 
 /// Bytes are the text of at most one state.
@@ -14,6 +14,19 @@ pub fn texts_are_of_one()
 pub fn texts_read_back()
     ensures back { TextReadsAsState }
     ensures one { StateOfTextIsOne }
+{}
+
+/// A state that is read is valid, so what is written for it reads as it.
+pub fn read_states_are_valid()
+    ensures { ReadIsValid }
+{}
+
+/// A put of what isn't there, and a remove, keep valid resources and records in order.
+pub fn puts_and_removes_keep_order()
+    ensures resources { PutKeepsResources }
+    ensures records { PutKeepsRecords }
+    ensures left_resources { RemoveKeepsResources }
+    ensures left_records { RemoveKeepsRecords }
 {}
 
 /// A JSON tree is read as a record, a resource or a state exactly where it says that one by the table of the format.

@@ -194,7 +194,7 @@ fn refuses_records(rt: HostRuntime) -> Result<(), Fail> {
     Ok(())
 }
 
-// No byte alone, and no byte in place of one of a state's text that JSON needs, makes a state.
+// No byte alone is a state.
 #[test]
 fn refuses_single_bytes(rt: HostRuntime) {
     for byte in 0..=255u8 {

@@ -1,0 +1,290 @@
+-- What is read is valid.
+use Rattle.std.proofs.Common.{◌≡◌, ℕ, ◌^◌, ◌<◌, ℤ, pos, negsuc, Bool, true, false, ◌&&◌, cond, List, [], ◌∷◌, Option, Some, None, Ordering, Less, Equal, Greater, nat_cmp, codes, refl, sym, ap, ◌∙◌, subst, leb-true, arith, rules}
+use Rattle.std.specs.Cmp.Lexicographic.{slice_cmp}
+use Rattle.std.specs.Int.{w64}
+use Rattle.std.specs.List.{AllByRecursion}
+use Rattle.std.specs.Ordering.{match_ordering, ordering_reverse}
+use Rattle.std.specs.Prelude.{FitsSigned, option_and_then}
+use Rattle.std.proofs.lemmas.Bool.{and_parts}
+use Rattle.std.proofs.lemmas.Cmp.{nat_list_cmp_total}
+use Rattle.std.proofs.lemmas.Int.{ints}
+use Rattle.serde_json.specs.Data as json
+use Rattle.serde_json.specs.Find.{get, of_integer}
+use Rattle.tf_json.specs.Plain.{IsPlain, ArePlain, ArePlainMembers, IsSorted, AreSorted, AreSortedMembers}
+use Rattle.tf_json.proofs.Puts.{plain-put}
+use Rattle.tf_json.proofs.Sorted.{read_is_sorted, sorted-get}
+use Rattle.tf_address.specs.Name.{is_name}
+use Rattle.tf_value.specs.Json.{IsJson, IsArray, IsObject, value_data, entries_data, tree_from}
+use Rattle.tf_value.specs.Known.{known}
+use Rattle.tf_value.specs.Measure.{weight, depth, max_weight, max_depth, IsWithinLimits}
+use Rattle.tf_value.specs.Tree.{Tree, null, boolean, whole, text, list, map, unknown, Items, no_items, item, Entries, no_entries, entry, put, IsHeld, AreHeld, AreHeldEntries}
+use Rattle.tf_value.proofs.Forms.{form_of, form-tree_from, IsJson-one_form}
+use Rattle.tf_state.specs.Laws.{ReadIsValid}
+use Rattle.tf_state.specs.Place.{KeyView}
+use Rattle.tf_state.specs.Reading.{put_text, put_new, record_cmp, resource_cmp, is_within, value_in, values_in, address_in, addresses_in, record_in, records_in, resource_in, resources_in, is_some_record, with_records, output_in, required_value, state_in}
+use Rattle.tf_state.specs.State.{RecordView, ResourceView, StateView}
+use Rattle.tf_state.specs.Table.{SaysKey, SaysDeposed, SaysAttributes, SaysDependencies, SaysNumberOrZero, SaysInstances, SaysResources, SaysOutputs}
+use Rattle.tf_state.specs.Valid.{IsSaved, AreSaved, IsTable, IsAttributes, IsKey, IsDeposed, AreAddresses, InOrder, IsRecord, AreRecords, AreResources, IsValid}
+use Rattle.tf_state.specs.Words.{is_address, is_shaped}
+use Rattle.tf_state.specs.declared.shape.Shape.TheVariants as shapes
+use Rattle.tf_state.proofs.ByTable.{records_are_by_table, resources_are_by_table, states_are_by_table}
+use Rattle.tf_state.proofs.Orders.{record_total, resource_total, put_new-in_order}
+use Rattle.tf_state.proofs.Properties.{inverted, guarded}
+
+-- ---- values
+
+below_pos : (n : ℕ) → FitsSigned w64 (pos n) → n < 2 ^ 64
+below_pos n h = first_of (omega (arith, ints), grind (arith, ints), search rules)
+
+below_negsuc : (n : ℕ) → FitsSigned w64 (negsuc n) → n < 2 ^ 63
+below_negsuc n h = first_of (omega (arith, ints), grind (arith, ints), search rules)
+
+integer-plain : (z : ℤ) → FitsSigned w64 z → IsPlain (json.number (of_integer z))
+integer-plain (pos n) h = below_pos n h
+integer-plain (negsuc n) h = below_negsuc n h
+
+mutual
+  form-plain : (t : Tree) (d : json.Data) → IsJson t d → IsSorted d → IsPlain d
+  form-plain null json.null h s = tt
+  form-plain (boolean b) (json.boolean c) h s = tt
+  form-plain (whole z) (json.number n) h s = subst (λ m. IsPlain (json.number m)) (sym h.1) (integer-plain z h.0)
+  form-plain (text u) (json.string v) h s = tt
+  form-plain (list ts) (json.array ds) h s = array-plain ts ds h s
+  form-plain (map es) (json.object ms) h s = object-plain es ms h s
+  form-plain _ _ h s = absurd (assumption)
+
+  array-plain : (ts : Items) (ds : json.Items) → IsArray ts ds → AreSorted ds → ArePlain ds
+  array-plain no_items json.no_items h s = tt
+  array-plain (item t ts) (json.item d ds) h s = (form-plain t d h.0 s.0, array-plain ts ds h.1 s.1)
+  array-plain _ _ h s = absurd (assumption)
+
+  object-plain : (es : Entries) (ms : json.Members) → IsObject es ms → AreSortedMembers ms → ArePlainMembers ms
+  object-plain no_entries json.no_members h s = tt
+  object-plain (entry k t es) (json.member l d ms) h s = (s.0, form-plain t d h.1 s.1, object-plain es ms h.2 s.2)
+  object-plain _ _ h s = absurd (assumption)
+
+mutual
+  form-held : (t : Tree) (d : json.Data) → IsJson t d → IsHeld t
+  form-held null d h = tt
+  form-held (boolean b) d h = tt
+  form-held (whole z) (json.number n) h = h.0
+  form-held (text u) d h = tt
+  form-held (list ts) (json.array ds) h = array-held ts ds h
+  form-held (map es) (json.object ms) h = object-held es ms h
+  form-held unknown d h = tt
+  form-held _ _ h = absurd (assumption)
+
+  array-held : (ts : Items) (ds : json.Items) → IsArray ts ds → AreHeld ts
+  array-held no_items d h = tt
+  array-held (item t ts) (json.item d ds) h = (form-held t d h.0, array-held ts ds h.1)
+  array-held _ _ h = absurd (assumption)
+
+  object-held : (es : Entries) (ms : json.Members) → IsObject es ms → AreHeldEntries es
+  object-held no_entries d h = tt
+  object-held (entry k t es) (json.member l d ms) h = (form-held t d h.1, object-held es ms h.2)
+  object-held _ _ h = absurd (assumption)
+
+within-limits : (t : Tree) → is_within t ≡ true → IsWithinLimits t
+within-limits t e = let parts = and_parts _ _ e in (leb-true (weight t) max_weight parts.0, leb-true (depth t) max_depth parts.1)
+
+same : {A : Type 0} (a b : A) → Some a ≡ Some b → a ≡ b
+same a b e = cc
+
+abbrev IsFine : Tree → Type 0
+IsFine t = IsSaved t × IsPlain (value_data t)
+
+value-fine : (d : json.Data) (t : Tree) → IsSorted d → value_in d ≡ Some t → IsFine t
+value-fine d t s e =
+    let g = guarded (known (tree_from d) && is_within (tree_from d)) (Some (tree_from d)) t e in
+    let parts = and_parts (known (tree_from d)) (is_within (tree_from d)) g.0 in
+    let u = tree_from d in
+    let form = form-tree_from d parts.0 in
+    let held = form-held u d form in
+    let shown : value_data u ≡ d = IsJson-one_form u (value_data u) d (form_of u held parts.0) form in
+    subst IsFine (same u t g.1) ((held, parts.0, within-limits u parts.1), subst IsPlain (sym shown) (form-plain u d form s))
+
+-- ---- tables
+
+shown-put : (o : Ordering) (a b c : Entries) → entries_data (match_ordering o a b c) ≡ match_ordering o (entries_data a) (entries_data b) (entries_data c)
+shown-put Less a b c = refl
+shown-put Equal a b c = refl
+shown-put Greater a b c = refl
+
+entries_data-put : (k : List ℕ) (t : Tree) (es : Entries) → entries_data (put k t es) ≡ json.put k (value_data t) (entries_data es)
+entries_data-put k t no_entries = refl
+entries_data-put k t (entry l u es) = shown-put (slice_cmp nat_cmp k l) _ _ _ ∙ rw (entries_data-put k t es) refl
+
+saved_at : (o : Ordering) (a b c : Entries) → AreSaved a → AreSaved b → AreSaved c → AreSaved (match_ordering o a b c)
+saved_at Less a b c p q r = p
+saved_at Equal a b c p q r = q
+saved_at Greater a b c p q r = r
+
+saved-put : (k : List ℕ) (t : Tree) (es : Entries) → IsSaved t → AreSaved es → AreSaved (put k t es)
+saved-put k t no_entries p h = (p, tt)
+saved-put k t (entry l u es) p h = saved_at (slice_cmp nat_cmp k l) (entry k t (entry l u es)) (entry l t es) (entry l u (put k t es)) (p, h) (p, h.1) (h.0, saved-put k t es p h.1)
+
+table-put : (k : List ℕ) (t : Tree) (es : Entries) → IsFine t → IsTable es → IsTable (put k t es)
+table-put k t es fine h =
+    (subst ArePlainMembers (sym (entries_data-put k t es)) (plain-put k (value_data t) (entries_data es) fine.1 h.0), saved-put k t es fine.0 h.1)
+
+table-read : (read_one : json.Data → Option Tree) → ((d : json.Data) (t : Tree) → IsSorted d → read_one d ≡ Some t → IsFine t) → (ms : json.Members) (found es : Entries) → AreSortedMembers ms → IsTable found → values_in read_one ms found ≡ Some es
+    → IsTable es
+table-read read_one fine json.no_members found es s h e = subst IsTable (same found es e) h
+table-read read_one fine (json.member k d ms) found es s h e =
+    let i = inverted (λ t. values_in read_one ms (put k t found)) (read_one d) es e in
+    table-read read_one fine ms (put k i.0 found) es s.2 (table-put k i.0 found (fine d i.0 s.1 i.1) h) i.2
+
+required-fine : (o : Option json.Data) (t : Tree) → ((e : json.Data) → o ≡ Some e → IsSorted e) → required_value o ≡ Some t → IsFine t
+required-fine None t s e = absurd (cc)
+required-fine (Some d) t s e = value-fine d t (s d refl) e
+
+output-fine : (d : json.Data) (t : Tree) → IsSorted d → output_in d ≡ Some t → IsFine t
+output-fine d t s e =
+    let g = guarded (is_shaped shapes.Output d) (required_value (get (codes "value") d)) t e in required-fine (get (codes "value") d) t (λ f is. sorted-get (codes "value") d f s is) g.1
+
+-- ---- records
+
+key-valid : (o : Option json.Data) (k : KeyView) → SaysKey o k → IsKey k
+key-valid None k h = subst IsKey (sym h) tt
+key-valid (Some (json.number (json.unsigned n))) k h = subst IsKey (sym h.0) h.1
+key-valid (Some (json.string s)) k h = subst IsKey (sym h) tt
+key-valid (Some _) k h = absurd (assumption)
+
+deposed-valid : (o : Option json.Data) (p : Option (List ℕ)) → SaysDeposed o p → IsDeposed p
+deposed-valid None p h = subst IsDeposed (sym h) tt
+deposed-valid (Some (json.string s)) p h = subst IsDeposed (sym h.0) h.1
+deposed-valid (Some _) p h = absurd (assumption)
+
+attributes-valid : (o : Option json.Data) (t : Tree) → ((e : json.Data) → o ≡ Some e → IsSorted e) → SaysAttributes o t → IsAttributes t
+attributes-valid (Some (json.object ms)) t s h = subst IsAttributes (sym h.1) (table-read value_in value-fine ms no_entries h.0 (s (json.object ms) refl) (tt, tt) h.2)
+attributes-valid _ t s h = absurd (assumption)
+
+version-valid : (o : Option json.Data) (n : ℕ) → SaysNumberOrZero (2 ^ 32) o n → n < 2 ^ 32
+version-valid None n h = omega arith
+version-valid (Some (json.number (json.unsigned m))) n h = let e = h.0 in let l = h.1 in omega arith
+version-valid (Some _) n h = absurd (assumption)
+
+all_texts_at : (P : List ℕ → Type 0) (o : Ordering) (s t : List ℕ) (ts later : List (List ℕ)) → P s → AllByRecursion P (t ∷ ts) → AllByRecursion P later → AllByRecursion P (match_ordering o (s ∷ t ∷ ts) (t ∷ ts) (t ∷ later))
+all_texts_at P Less s t ts later p h more = (p, h)
+all_texts_at P Equal s t ts later p h more = h
+all_texts_at P Greater s t ts later p h more = (h.0, more)
+
+put_text-all : (P : List ℕ → Type 0) (s : List ℕ) (ts : List (List ℕ)) → P s → AllByRecursion P ts → AllByRecursion P (put_text s ts)
+put_text-all P s [] p h = (p, tt)
+put_text-all P s (t ∷ ts) p h = all_texts_at P (slice_cmp nat_cmp s t) s t ts (put_text s ts) p h (put_text-all P s ts p h.1)
+
+texts_above : (s t : List ℕ) (ts : List (List ℕ)) → slice_cmp nat_cmp s t ≡ Less → AllByRecursion (λ u. slice_cmp nat_cmp u t ≡ Greater) ts → AllByRecursion (λ u. slice_cmp nat_cmp u s ≡ Greater) ts
+texts_above s t [] below h = tt
+texts_above s t (u ∷ ts) below h =
+    let up : slice_cmp nat_cmp t u ≡ Less = nat_list_cmp_total.antisymm t u ∙ ap ordering_reverse h.0 in
+    (nat_list_cmp_total.antisymm u s ∙ ap ordering_reverse (nat_list_cmp_total.trans s t u below up), texts_above s t ts below h.1)
+
+addresses_at : (o : Ordering) (s t : List ℕ) (ts : List (List ℕ)) → slice_cmp nat_cmp s t ≡ o → is_address s ≡ true → AreAddresses (t ∷ ts) → AreAddresses (put_text s ts) → AreAddresses (match_ordering o (s ∷ t ∷ ts) (t ∷ ts) (t ∷ put_text s ts))
+addresses_at Less s t ts is p h more = (p, (nat_list_cmp_total.antisymm t s ∙ ap ordering_reverse is, texts_above s t ts is h.1), h)
+addresses_at Equal s t ts is p h more = h
+addresses_at Greater s t ts is p h more = (h.0, put_text-all (λ u. slice_cmp nat_cmp u t ≡ Greater) s ts is h.1, more)
+
+addresses-put : (s : List ℕ) (ts : List (List ℕ)) → is_address s ≡ true → AreAddresses ts → AreAddresses (put_text s ts)
+addresses-put s [] p h = (p, tt, tt)
+addresses-put s (t ∷ ts) p h = addresses_at (slice_cmp nat_cmp s t) s t ts refl p h (addresses-put s ts p h.2)
+
+address-valid : (d : json.Data) (s : List ℕ) → address_in d ≡ Some s → is_address s ≡ true
+address-valid (json.string t) s e = let g = guarded (is_address t) (Some t) s e in subst (λ u. is_address u ≡ true) (same t s g.1) g.0
+address-valid _ s e = absurd (cc)
+
+addresses-read : (ds : json.Items) (found ts : List (List ℕ)) → AreAddresses found → addresses_in ds found ≡ Some ts → AreAddresses ts
+addresses-read json.no_items found ts h e = subst AreAddresses (same found ts e) h
+addresses-read (json.item d ds) found ts h e =
+    let i = inverted (λ s. addresses_in ds (put_text s found)) (address_in d) ts e in addresses-read ds (put_text i.0 found) ts (addresses-put i.0 found (address-valid d i.0 i.1) h) i.2
+
+dependencies-valid : (o : Option json.Data) (ts : List (List ℕ)) → SaysDependencies o ts → AreAddresses ts
+dependencies-valid None ts h = subst AreAddresses (sym h) tt
+dependencies-valid (Some (json.array ds)) ts h = addresses-read ds [] ts tt h
+dependencies-valid (Some _) ts h = absurd (assumption)
+
+record-valid : (d : json.Data) (r : RecordView) → IsSorted d → record_in d ≡ Some r → IsRecord r
+record-valid d r s e =
+    let says = (records_are_by_table d r).0 e in
+    record {
+      key = key-valid (get (codes "index_key") d) r.place.key says.index_key;
+      deposed = deposed-valid (get (codes "deposed") d) r.place.deposed says.deposed;
+      attributes = attributes-valid (get (codes "attributes") d) r.attributes (λ f is. sorted-get (codes "attributes") d f s is) says.attributes;
+      version = version-valid (get (codes "schema_version") d) r.schema_version says.schema_version;
+      dependencies = dependencies-valid (get (codes "dependencies") d) r.dependencies says.dependencies;
+    }
+
+records-read : (ds : json.Items) (found rs : List RecordView) → AreSorted ds → AreRecords found → records_in ds found ≡ Some rs → AreRecords rs
+records-read json.no_items found rs s h e = subst AreRecords (same found rs e) h
+records-read (json.item d ds) found rs s h e =
+    let i = inverted (λ r. option_and_then (records_in ds) (put_new record_cmp r found)) (record_in d) rs e in
+    let j = inverted (records_in ds) (put_new record_cmp i.0 found) rs i.2 in
+    records-read ds j.0 rs s.1 (put_new-in_order record_cmp record_total IsRecord i.0 found j.0 (record-valid d i.0 s.0 i.1) h j.1) j.2
+
+-- ---- resources
+
+-- a resource that may have no records
+record IsPart (r : ResourceView) : Type 0 where
+  kind : is_name r.label.kind ≡ true
+  name : is_name r.label.name ≡ true
+  records : AreRecords r.records
+
+instances-valid : (o : Option json.Data) (rs : List RecordView) → ((e : json.Data) → o ≡ Some e → IsSorted e) → SaysInstances o rs → AreRecords rs
+instances-valid (Some (json.array ds)) rs s h = records-read ds [] rs (s (json.array ds) refl) tt h
+instances-valid _ rs s h = absurd (assumption)
+
+resource-valid : (d : json.Data) (r : ResourceView) → IsSorted d → resource_in d ≡ Some r → IsPart r
+resource-valid d r s e =
+    let says = (resources_are_by_table d r).0 e in
+    record {
+      kind = says.kind.1;
+      name = says.name.1;
+      records = instances-valid (get (codes "instances") d) r.records (λ f is. sorted-get (codes "instances") d f s is) says.instances;
+    }
+
+resources-read : (ds : json.Items) (found rs : List ResourceView) → AreSorted ds → InOrder resource_cmp IsPart found → resources_in ds found ≡ Some rs → InOrder resource_cmp IsPart rs
+resources-read json.no_items found rs s h e = subst (InOrder resource_cmp IsPart) (same found rs e) h
+resources-read (json.item d ds) found rs s h e =
+    let i = inverted (λ r. option_and_then (resources_in ds) (put_new resource_cmp r found)) (resource_in d) rs e in
+    let j = inverted (resources_in ds) (put_new resource_cmp i.0 found) rs i.2 in
+    resources-read ds j.0 rs s.1 (put_new-in_order resource_cmp resource_total IsPart i.0 found j.0 (resource-valid d i.0 s.0 i.1) h j.1) j.2
+
+kept-all : (P : ResourceView → Type 0) (b : Bool) (r : ResourceView) (rest : List ResourceView) → P r → AllByRecursion P rest → AllByRecursion P (cond b (r ∷ rest) rest)
+kept-all P true r rest p h = (p, h)
+kept-all P false r rest p h = h
+
+with_records-all : (P : ResourceView → Type 0) (rs : List ResourceView) → AllByRecursion P rs → AllByRecursion P (with_records rs)
+with_records-all P [] h = tt
+with_records-all P (r ∷ rs) h = kept-all P (is_some_record r.records) r (with_records rs) h.0 (with_records-all P rs h.1)
+
+kept-order : (b : Bool) (r : ResourceView) (rest : List ResourceView) → is_some_record r.records ≡ b → IsPart r → AllByRecursion (λ q. resource_cmp q r ≡ Greater) rest → AreResources rest → AreResources (cond b (r ∷ rest) rest)
+kept-order true r rest some p h more = (record { kind = p.kind; name = p.name; some = some; records = p.records }, h, more)
+kept-order false r rest some p h more = more
+
+with_records-order : (rs : List ResourceView) → InOrder resource_cmp IsPart rs → AreResources (with_records rs)
+with_records-order [] h = tt
+with_records-order (r ∷ rs) h =
+    kept-order (is_some_record r.records) r (with_records rs) refl h.0 (with_records-all (λ q. resource_cmp q r ≡ Greater) rs h.1) (with_records-order rs h.2)
+
+resources-valid : (o : Option json.Data) (rs : List ResourceView) → ((e : json.Data) → o ≡ Some e → IsSorted e) → SaysResources o rs → AreResources rs
+resources-valid None rs s h = subst AreResources (sym h) tt
+resources-valid (Some (json.array ds)) rs s h = subst AreResources (sym h.2) (with_records-order h.0 (resources-read ds [] h.0 (s (json.array ds) refl) tt h.1))
+resources-valid (Some _) rs s h = absurd (assumption)
+
+outputs-valid : (o : Option json.Data) (es : Entries) → ((e : json.Data) → o ≡ Some e → IsSorted e) → SaysOutputs o es → IsTable es
+outputs-valid None es s h = subst IsTable (sym h) (tt, tt)
+outputs-valid (Some (json.object ms)) es s h = table-read output_in output-fine ms no_entries es (s (json.object ms) refl) (tt, tt) h
+outputs-valid (Some _) es s h = absurd (assumption)
+
+-- ---- states
+
+state-valid : (d : json.Data) (s : StateView) → IsSorted d → state_in d ≡ Some s → IsValid s
+state-valid d s sorted e =
+    let says = (states_are_by_table d s).0 e in
+    record {
+      serial = says.serial.1;
+      outputs = outputs-valid (get (codes "outputs") d) s.outputs (λ f is. sorted-get (codes "outputs") d f sorted is) says.outputs;
+      resources = resources-valid (get (codes "resources") d) s.resources (λ f is. sorted-get (codes "resources") d f sorted is) says.resources;
+    }
+
+pub read_is_valid : ReadIsValid
+read_is_valid bytes s reads = state-valid reads.0 s (read_is_sorted bytes reads.0 reads.2) reads.3
