@@ -27,7 +27,10 @@ mod writing;
 
 pub use fault::StateFault;
 pub use key::{Key, Place};
-pub use laws::{puts_and_removes_keep_order, read_states_are_valid, states_are_by_table, texts_are_of_one, texts_read_back};
+pub use laws::{
+    puts_and_removes_keep_order, read_states_are_valid, states_are_by_table, texts_are_of_one,
+    texts_read_back,
+};
 pub use object::Object;
 pub use provider::provider_address;
 pub use reading::read;
