@@ -1,26 +1,6 @@
 #!/usr/bin/env bash
-# Times tf_template beside the kit's serde_json, each on a megabyte of text in one run of one program, and prints
-# the speeds and their ratio. Wants `rt`; works in a folder of its own.
-set -euo pipefail
-here="$(cd "$(dirname "$0")" && pwd)"
-work="$(mktemp -d)"
-trap 'rm -rf "$work"' EXIT
-mkdir -p "$work/repo/crates/bench_template/src"
-cp -r "$here/../crates/tf_address" "$here/../crates/tf_template" "$work/repo/crates/"
-cp "$here/template/main.rt.txt" "$work/repo/crates/bench_template/src/main.rt"
-printf 'tf_address:\ntf_template: tf_address\nbench_template: tf_template serde_json anyhow\n' > "$work/repo/crates.txt"
-program="$work/repo/crates/bench_template/out/bench_template"
-(cd "$work/repo/crates/bench_template" && rt run) > "$work/log" 2>&1 || [ -x "$program" ] || { tail -20 "$work/log"; exit 1; }
-"$program" > "$work/times"
-awk '
-    !($1 in best) || $3 < best[$1] { best[$1] = $3; size[$1] = $2 }
-    END {
-        printf "%-6s %9s %9s %8s %7s\n", "what", "bytes", "us", "MB/s", "ratio"
-        json = size["json"] / best["json"]
-        n = split("short long json", order, " ")
-        for (i = 1; i <= n; i++) {
-            w = order[i]
-            printf "%-6s %9d %9d %8.1f %7.2f\n", w, size[w], best[w], size[w] / best[w], size[w] / best[w] / json
-        }
-    }
-' "$work/times"
+# Times tf_template beside the kit's serde_json, each on a megabyte of text in one run of one program.
+exec "$(dirname "$0")/beside_json.sh" template "short long json" \
+    'tf_address:' \
+    'tf_template: tf_address' \
+    'bench_template: tf_template serde_json anyhow'
