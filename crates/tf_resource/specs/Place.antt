@@ -1,13 +1,13 @@
 -- Which object of a resource a record is of, and in which order records stand.
-use Rattle.std.specs.Prelude.{ℕ, Bool, List, Option, Some, None, String, string_bytes, option_map}
+use Rattle.std.specs.Prelude.{ℕ, List, Option, Some, None, String, string_bytes, option_map}
 use Rattle.std.specs.Cmp.Lexicographic.{slice_cmp}
-use Rattle.std.specs.Ordering.{nat_cmp, ordering_then, is_lt}
+use Rattle.std.specs.Ordering.{nat_cmp, ordering_then}
 use Rattle.std.specs.declared.cmp.Ordering.{Ordering}
 use Rattle.std.specs.declared.cmp.Ordering.TheVariants.{Less, Equal, Greater}
 use Rattle.std.specs.declared.alloc.Global.{Global}
-use Rattle.tf_state.specs.declared.key.Key.{Key}
-use Rattle.tf_state.specs.declared.key.Key.TheVariants as keys
-use Rattle.tf_state.specs.declared.key.Place.{Place}
+use Rattle.tf_resource.specs.declared.key.Key.{Key}
+use Rattle.tf_resource.specs.declared.key.Key.TheVariants as keys
+use Rattle.tf_resource.specs.declared.key.Place.{Place}
 
 -- An instance of a resource has no key, a number or a name.
 pub data KeyView : Type 0 where
@@ -53,7 +53,3 @@ deposed_cmp (Some s) (Some t) = slice_cmp nat_cmp s t
 -- records stand by instance, and those of one instance by what is deposed
 abbrev pub place_cmp : PlaceView → PlaceView → Ordering
 place_cmp a b = ordering_then (key_cmp a.key b.key) (deposed_cmp a.deposed b.deposed)
-
--- one object stands before another
-abbrev pub place_below : PlaceView → PlaceView → Bool
-place_below a b = is_lt (place_cmp a b)

@@ -4,6 +4,7 @@ ghost use Rattle.std.specs.Prelude.{◌≡◌, true};
 ghost use Rattle.tf_value.specs.Known.{known};
 ghost use Rattle.tf_value.specs.Tree.{tree_of};
 
+use std::alloc::AllocError;
 use tf_value::Value;
 
 /// A value without an unknown part: the attributes of an object that exists. That no part of it is unknown
@@ -13,4 +14,14 @@ pub struct Object {
     /// The attributes by name.
     pub value: Value,
     pub ghost known: { known (tree_of value) ≡ true },
+}
+
+/// An equal object. Refused only where there is no memory.
+impl Clone for Object {
+    ghost is_clone = { λ o copy. tree_of copy.value ≡ tree_of o.value };
+
+    fn clone(&self) -> Result<Object, AllocError> {
+        let value = self.value.clone()?;
+        Ok(Object { value })
+    }
 }

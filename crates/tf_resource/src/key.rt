@@ -21,23 +21,3 @@ pub struct Place {
     /// The key of a deposed object, eight lower-case hex digits; none for the current object.
     pub deposed: Option<String>,
 }
-
-impl Place {
-    ghost use Rattle.std.specs.Prelude.{◌≡◌};
-    ghost use Rattle.tf_state.specs.LookUp.{same_place};
-    ghost use Rattle.tf_state.specs.Place.{place_of, place_below};
-
-    /// Whether this object is written before another.
-    pub fn is_below(&self, other: &Place) -> bool
-        ensures { result ≡ place_below (place_of self.now) (place_of other.now) }
-    {
-        self < other
-    }
-
-    /// Whether this is the same object of a resource as another.
-    pub fn is(&self, other: &Place) -> bool
-        ensures { result ≡ same_place (place_of self.now) (place_of other.now) }
-    {
-        self.cmp(other).is_eq()
-    }
-}

@@ -1,5 +1,5 @@
 ghost use Rattle.std.specs.Prelude.{◌≡◌, IfOk, string_bytes};
-ghost use Rattle.tf_state.specs.Provider.{provider_text, provider_name};
+ghost use Rattle.tf_resource.specs.Provider.{provider_text, provider_name};
 
 use std::alloc::{AllocError, Global};
 

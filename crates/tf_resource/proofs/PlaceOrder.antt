@@ -8,12 +8,12 @@ use Rattle.std.specs.declared.alloc.Global.{Global}
 use Rattle.tf_address.specs.Label.{label_of, label_cmp}
 use Rattle.tf_address.specs.declared.label.Label.{Label}
 use Rattle.tf_address.specs.contracts.label.LabelOrd.TheImpl as labels
-use Rattle.tf_state.specs.Place.{place_of, place_cmp, key_cmp, key_of, deposed_cmp, deposed_of}
-use Rattle.tf_state.specs.contracts.key.KeyOrd.TheImpl as keys
-use Rattle.tf_state.specs.contracts.key.PlaceOrd.TheImpl as places
-use Rattle.tf_state.specs.declared.key.Place.{Place}
-use Rattle.tf_state.specs.declared.key.Key.{Key}
-use Rattle.tf_state.specs.declared.key.Key.TheVariants.{Single, Number, Name}
+use Rattle.tf_resource.specs.Place.{place_of, place_cmp, key_cmp, key_of, deposed_cmp, deposed_of}
+use Rattle.tf_resource.specs.contracts.key.KeyOrd.TheImpl as keys
+use Rattle.tf_resource.specs.contracts.key.PlaceOrd.TheImpl as places
+use Rattle.tf_resource.specs.declared.key.Place.{Place}
+use Rattle.tf_resource.specs.declared.key.Key.{Key}
+use Rattle.tf_resource.specs.declared.key.Key.TheVariants.{Single, Number, Name}
 
 keys_ordered : (a b : Key) → key_cmp (key_of a) (key_of b) ≡ (keys.cmp-value).it a b
 keys_ordered Single Single = refl
