@@ -1,3 +1,4 @@
+pub mod Copies
 pub mod Edits
 pub mod OrderKept
 pub mod PlaceOrder

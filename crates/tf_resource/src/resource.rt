@@ -119,3 +119,21 @@ impl Resource {
             .binary_search_by(|record| record.place.cmp(place))
     }
 }
+
+/// An equal resource. Refused only where there is no memory.
+impl Clone for Resource {
+    ghost use Rattle.tf_resource.specs.Resource.{resource_of};
+
+    ghost is_clone = { λ r copy. resource_of copy ≡ resource_of r };
+
+    fn clone(&self) -> Result<Resource, AllocError> {
+        let label = self.label.clone()?;
+        let provider = self.provider.clone()?;
+        let records = self.records.clone()?;
+        Ok(Resource {
+            label,
+            provider,
+            records,
+        })
+    }
+}

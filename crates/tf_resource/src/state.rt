@@ -198,3 +198,24 @@ impl State {
         )
     }
 }
+
+/// An equal state. Refused only where there is no memory.
+impl Clone for State {
+    ghost use Rattle.tf_resource.specs.State.{state_of};
+
+    ghost is_clone = { λ s copy. state_of copy ≡ state_of s };
+
+    fn clone(&self) -> Result<State, AllocError> {
+        let lineage = self.lineage.clone()?;
+        let terraform_version = self.terraform_version.clone()?;
+        let outputs = self.outputs.clone()?;
+        let resources = self.resources.clone()?;
+        Ok(State {
+            serial: self.serial,
+            lineage,
+            terraform_version,
+            outputs,
+            resources,
+        })
+    }
+}
