@@ -1,1 +1,3 @@
 pub mod PlaceOrder
+pub mod Sorted
+pub mod Totals
