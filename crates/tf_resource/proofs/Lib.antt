@@ -1,3 +1,5 @@
+pub mod Edits
+pub mod OrderKept
 pub mod PlaceOrder
 pub mod Sorted
 pub mod Totals

@@ -1,5 +1,5 @@
 -- Lists in the order of a key: what stands before and after a key in them.
-use Rattle.std.proofs.Common.{◌≡◌, ℕ, zero, suc, ◌+◌, ◌<◌, ◌≤◌, Bool, true, false, List, [], ◌∷◌, length, get_or, map, take, drop, filter, Option, Some, None, Result, Ok, Err, IfOk, IfErr, Ordering, Less, Equal, Greater, refl, sym, ap, ap₂, ◌∙◌, subst, arith}
+use Rattle.std.proofs.Common.{◌≡◌, ℕ, zero, suc, ◌<◌, ◌≤◌, Bool, true, false, List, [], ◌∷◌, length, get_or, map, filter, Some, None, Result, Ok, Err, IfOk, IfErr, Ordering, Less, Equal, Greater, refl, sym, ap, ◌∙◌, arith}
 use Rattle.std.specs.Cmp.{IsTotalOrder}
 use Rattle.std.specs.List.{AllByRecursion, AllWithin, HoldsAt, find}
 use Rattle.std.specs.List.Sorted.{IsStrictlySortedBy, IsNonDecreasingBy, IsBinarySearchResult, IsSearchInRange}
@@ -20,28 +20,28 @@ find-later p x xs e = rw e refl
 
 module _ {A K : Type 0} (key : A → K) (cmp : K → K → Ordering) (k : K) where
   -- one more before the key
-  before-less : (x : A) (xs : List A) → cmp (key x) k ≡ Less → before key cmp k (x ∷ xs) ≡ x ∷ before key cmp k xs
+  pub before-less : (x : A) (xs : List A) → cmp (key x) k ≡ Less → before key cmp k (x ∷ xs) ≡ x ∷ before key cmp k xs
   before-less x xs e = filter-kept (λ a. is_lt (cmp (key a) k)) x xs (ap is_lt e)
 
-  after-less : (x : A) (xs : List A) → cmp (key x) k ≡ Less → after key cmp k (x ∷ xs) ≡ after key cmp k xs
+  pub after-less : (x : A) (xs : List A) → cmp (key x) k ≡ Less → after key cmp k (x ∷ xs) ≡ after key cmp k xs
   after-less x xs e = filter-left (λ a. is_gt (cmp (key a) k)) x xs (ap is_gt e)
 
   found-less : (x : A) (xs : List A) → cmp (key x) k ≡ Less → at_key key cmp k (x ∷ xs) ≡ at_key key cmp k xs
   found-less x xs e = find-later (λ a. is_eq (cmp (key a) k)) x xs (ap is_eq e)
 
-  before-equal : (x : A) (xs : List A) → cmp (key x) k ≡ Equal → before key cmp k (x ∷ xs) ≡ before key cmp k xs
+  pub before-equal : (x : A) (xs : List A) → cmp (key x) k ≡ Equal → before key cmp k (x ∷ xs) ≡ before key cmp k xs
   before-equal x xs e = filter-left (λ a. is_lt (cmp (key a) k)) x xs (ap is_lt e)
 
-  after-equal : (x : A) (xs : List A) → cmp (key x) k ≡ Equal → after key cmp k (x ∷ xs) ≡ after key cmp k xs
+  pub after-equal : (x : A) (xs : List A) → cmp (key x) k ≡ Equal → after key cmp k (x ∷ xs) ≡ after key cmp k xs
   after-equal x xs e = filter-left (λ a. is_gt (cmp (key a) k)) x xs (ap is_gt e)
 
   found-equal : (x : A) (xs : List A) → cmp (key x) k ≡ Equal → at_key key cmp k (x ∷ xs) ≡ Some x
   found-equal x xs e = find-here (λ a. is_eq (cmp (key a) k)) x xs (ap is_eq e)
 
-  before-greater : (x : A) (xs : List A) → cmp (key x) k ≡ Greater → before key cmp k (x ∷ xs) ≡ before key cmp k xs
+  pub before-greater : (x : A) (xs : List A) → cmp (key x) k ≡ Greater → before key cmp k (x ∷ xs) ≡ before key cmp k xs
   before-greater x xs e = filter-left (λ a. is_lt (cmp (key a) k)) x xs (ap is_lt e)
 
-  after-greater : (x : A) (xs : List A) → cmp (key x) k ≡ Greater → after key cmp k (x ∷ xs) ≡ x ∷ after key cmp k xs
+  pub after-greater : (x : A) (xs : List A) → cmp (key x) k ≡ Greater → after key cmp k (x ∷ xs) ≡ x ∷ after key cmp k xs
   after-greater x xs e = filter-kept (λ a. is_gt (cmp (key a) k)) x xs (ap is_gt e)
 
   found-greater : (x : A) (xs : List A) → cmp (key x) k ≡ Greater → at_key key cmp k (x ∷ xs) ≡ at_key key cmp k xs
@@ -54,7 +54,7 @@ module _ {A K : Type 0} (key : A → K) (cmp : K → K → Ordering) (k : K) whe
       let rest = all_after xs h.1 in
       (before-greater x xs h.0 ∙ rest.0, after-greater x xs h.0 ∙ ap (λ ys. x ∷ ys) rest.1, found-greater x xs h.0 ∙ rest.2)
 
-all_mono : {K : Type 0} (P Q : K → Type 0) (ks : List K) → ((k : K) → P k → Q k) → AllByRecursion P ks → AllByRecursion Q ks
+pub all_mono : {K : Type 0} (P Q : K → Type 0) (ks : List K) → ((k : K) → P k → Q k) → AllByRecursion P ks → AllByRecursion Q ks
 all_mono P Q [] f h = tt
 all_mono P Q (k ∷ ks) f h = (f k h.0, all_mono P Q ks f h.1)
 

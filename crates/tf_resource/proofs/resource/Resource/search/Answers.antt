@@ -1,4 +1,4 @@
-use Rattle.std.proofs.Common.{rules, ◌≡◌, sym, ◌∙◌}
+use Rattle.std.proofs.Common.{rules}
 use Rattle.std.proofs.lemmas.Fn.{always_returns_same}
 use Rattle.tf_resource.specs.Place.{place_cmp, place_of}
 use Rattle.tf_resource.specs.Record.{RecordView, record_of}

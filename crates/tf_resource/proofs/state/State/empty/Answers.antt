@@ -1,4 +1,3 @@
-use Rattle.std.proofs.Common.{◌≡◌}
 use Rattle.std.specs.List.Sorted.{IsStrictlySortedBy}
 use Rattle.tf_resource.proofs.state.State.empty.Goals as goal
 

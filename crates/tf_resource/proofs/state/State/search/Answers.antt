@@ -1,4 +1,4 @@
-use Rattle.std.proofs.Common.{rules, ◌≡◌, sym, ◌∙◌}
+use Rattle.std.proofs.Common.{rules}
 use Rattle.std.proofs.lemmas.Fn.{always_returns_same}
 use Rattle.tf_address.specs.Label.{label_cmp, label_of}
 use Rattle.tf_resource.specs.Resource.{ResourceView, resource_of}
