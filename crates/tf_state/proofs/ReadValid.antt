@@ -13,7 +13,6 @@ use Rattle.serde_json.specs.Find.{get, of_integer}
 use Rattle.tf_json.specs.Plain.{IsPlain, ArePlain, ArePlainMembers, IsSorted, AreSorted, AreSortedMembers}
 use Rattle.tf_json.proofs.Puts.{plain-put}
 use Rattle.tf_json.proofs.Sorted.{read_is_sorted, sorted-get}
-use Rattle.tf_address.specs.Name.{is_name}
 use Rattle.tf_value.specs.Json.{IsJson, IsArray, IsObject, value_data, entries_data, tree_from}
 use Rattle.tf_value.specs.Known.{known}
 use Rattle.tf_value.specs.Measure.{weight, depth, max_weight, max_depth, IsWithinLimits}

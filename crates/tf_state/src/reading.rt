@@ -79,13 +79,7 @@ fn read_state(alloc: Global, json: &Json) -> Result<State, StateFault>
     let terraform_version = read_terraform_version(alloc, json.get("terraform_version"))?;
     let outputs = read_outputs(alloc, json.get("outputs"))?;
     let resources = read_resources(alloc, json.get("resources"))?;
-    Ok(State::new(
-        serial,
-        lineage,
-        terraform_version,
-        outputs,
-        resources,
-    ))
+    Ok(State::new(serial, lineage, terraform_version, outputs, resources))
 }
 
 fn is_state(json: &Json) -> bool

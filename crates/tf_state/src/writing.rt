@@ -54,7 +54,12 @@ fn state_json(alloc: Global, state: &State) -> Result<Json, AllocError>
         "outputs",
         Json::Object(outputs_json(alloc, state.outputs())?),
     )?;
-    put(&mut members, alloc, "lineage", text(alloc, state.lineage())?)?;
+    put(
+        &mut members,
+        alloc,
+        "lineage",
+        text(alloc, state.lineage())?,
+    )?;
     Ok(Json::Object(members))
 }
 
