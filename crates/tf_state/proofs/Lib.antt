@@ -1,11 +1,14 @@
 pub mod Back
 pub mod ByTable
+pub mod Contents
 pub mod Floats
+pub mod Gathered
 pub mod Kept
 pub mod KnownForms
 pub mod Loops
 pub mod Ordered
 pub mod Orders
+pub mod Permuted
 pub mod PlaceOrder
 pub mod Places
 pub mod ReadValid
@@ -16,5 +19,6 @@ pub mod Refusals
 pub mod Removal
 pub mod StateBack
 pub mod StateLaws
+pub mod Tables
 pub mod TypeForms
 pub mod ValueForms
