@@ -1,4 +1,4 @@
-pub mod Copies
+pub mod Copied
 pub mod Edits
 pub mod OrderKept
 pub mod PlaceOrder

@@ -4,13 +4,17 @@
 //! left at each step, and a put can't make a second one.
 #![tactic(auto)]
 
+mod copies;
 mod key;
 mod object;
 mod provider;
 mod record;
 mod resource;
 mod state;
+#[cfg(test)]
+mod tests;
 
+pub use copies::copy;
 pub use key::{Key, Place};
 pub use object::Object;
 pub use provider::provider_address;

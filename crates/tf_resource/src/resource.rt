@@ -8,7 +8,6 @@ ghost use Rattle.tf_resource.specs.Record.{record_of};
 use crate::key::Place;
 use crate::record::Record;
 use std::alloc::AllocError;
-use std::cmp::Ordering;
 use std::mem;
 use tf_address::Label;
 

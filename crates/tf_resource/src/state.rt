@@ -10,7 +10,6 @@ use crate::object::Object;
 use crate::record::Record;
 use crate::resource::Resource;
 use std::alloc::{AllocError, Global};
-use std::cmp::Ordering;
 use std::collections::BTreeMap;
 use std::mem;
 use tf_address::Label;
@@ -191,11 +190,8 @@ impl State {
         ensures found { IfOk result (IsAt (λ r. r.label) label_cmp (label_of label.now) (state_of self.now).resources) }
         ensures absent { IfErr result (IsGapFor (λ r. r.label) label_cmp (label_of label.now) (state_of self.now).resources) }
     {
-        self.resources.binary_search_by(
-            |other: &Resource| -> Ordering
-                ensures { result ≡ label_cmp (resource_of other.now).label (label_of label.entry.now) }
-            { other.label().cmp(label) },
-        )
+        self.resources
+            .binary_search_by(|resource| resource.label().cmp(label))
     }
 }
 

@@ -1,19 +1,22 @@
 -- A tree is read as a record, a resource or a state exactly where it says that one by the table.
-use Rattle.std.proofs.Common.{◌≡◌, ℕ, ◌^◌, Bool, true, ◌&&◌, cond, List, Option, Some, None, option_map, codes, refl, ap}
+use Rattle.std.proofs.Common.{◌≡◌, ℕ, ◌^◌, Bool, true, ◌&&◌, cond, List, Option, Some, None, option_map, codes, refl, ap, sym, ◌∙◌, []}
 use Rattle.std.specs.Prelude.{option_and_then}
 use Rattle.std.proofs.lemmas.Bool.{and_parts}
-use Rattle.serde_json.specs.Data.{Data}
+use Rattle.serde_json.specs.Data.{Data, Items, no_items, item, array}
 use Rattle.serde_json.specs.Find.{get}
 use Rattle.tf_value.specs.Tree.{Tree, Entries}
 use Rattle.tf_resource.specs.Place.{KeyView, PlaceView}
-use Rattle.tf_state.specs.Reading.{text_in, below, name_in, text_or, below_or_zero, key_in, deposed_in, attributes_in, tainted_in, flag_in, dependencies_in, is_unsensitive, is_unchecked, is_managed, is_version, outputs_in, instances_in, all_resources_in, is_record, is_state, record_in, resource_in, state_in}
+use Rattle.tf_state.specs.Reading.{text_in, below, name_in, text_or, below_or_zero, key_in, deposed_in, attributes_in, tainted_in, flag_in, dependencies_in, is_unsensitive, is_unchecked, is_managed, is_version, outputs_in, instances_in, all_resources_in, put_new, record_cmp, records_in, resource_cmp, resources_in, with_records, is_record, is_state, record_in, resource_in, state_in}
 use Rattle.tf_resource.specs.Record.{RecordView}
 use Rattle.tf_resource.specs.Resource.{ResourceView}
 use Rattle.tf_resource.specs.State.{StateView}
-use Rattle.tf_state.specs.Table.{SaysRecord, SaysResource, SaysState, RecordsAreByTable, ResourcesAreByTable, StatesAreByTable}
+use Rattle.tf_state.specs.Table.{SaysInstances, SaysRecord, SaysResource, SaysResources, SaysState, RecordsAreByTable, ResourcesAreByTable, StatesAreByTable}
 use Rattle.tf_state.specs.Words.{is_shaped}
 use Rattle.tf_state.specs.declared.shape.Shape.TheVariants as shapes
-use Rattle.tf_state.proofs.Properties.{text_says, text_said, number_says, number_said, name_says, name_said, text_or_says, text_or_said, version_says, version_said, key_says, key_said, deposed_says, deposed_said, attributes_say, attributes_said, status_says, status_said, flag_says, flag_said, dependencies_say, dependencies_said, sensitive_says, sensitive_said, checks_say, checks_said, managed_says, managed_said, format_says, format_said, outputs_say, outputs_said, instances_say, instances_said, resources_say, resources_said}
+use Rattle.tf_state.proofs.Properties.{mapped, text_says, text_said, number_says, number_said, name_says, name_said, text_or_says, text_or_said, version_says, version_said, key_says, key_said, deposed_says, deposed_said, status_says, status_said, flag_says, flag_said, sensitive_says, sensitive_said, checks_say, checks_said, managed_says, managed_said, format_says, format_said}
+use Rattle.tf_state.proofs.Contents.{attributes_say, attributes_said, dependencies_say, dependencies_said, outputs_say, outputs_said}
+use Rattle.tf_state.proofs.Gathered.{gather, gathered-said, gathered-says}
+use Rattle.tf_state.proofs.Orders.{record_total, resource_total}
 
 same : {A : Type 0} (a b : A) → Some a ≡ Some b → a ≡ b
 same a b e = cc
@@ -82,6 +85,19 @@ record_said d r h =
 pub records_are_by_table : RecordsAreByTable
 records_are_by_table d r = (record_says d r, record_said d r)
 
+records-gathered : (ds : Items) (found : List RecordView) → records_in ds found ≡ gather record_in record_cmp ds found
+records-gathered no_items found = refl
+records-gathered (item d ds) found =
+    λ i. option_and_then (λ r. option_and_then (λ later. records-gathered ds later i) (put_new record_cmp r found)) (record_in d)
+
+instances_say : (o : Option Data) (rs : List RecordView) → instances_in o ≡ Some rs → SaysInstances o rs
+instances_say (Some (array ds)) rs e = gathered-says record_in SaysRecord record_cmp record_total record_says ds rs (sym (records-gathered ds []) ∙ e)
+instances_say _ rs e = absurd (cc)
+
+pub instances_said : (o : Option Data) (rs : List RecordView) → SaysInstances o rs → instances_in o ≡ Some rs
+instances_said (Some (array ds)) rs h = records-gathered ds [] ∙ gathered-said record_in SaysRecord record_cmp record_total record_said ds h.0 rs h.1 h.2
+instances_said _ rs h = absurd (assumption)
+
 -- ---- resources
 
 abbrev whole_resource : Bool → Option (List ℕ) → Option (List ℕ) → Option (List ℕ) → Option (List RecordView) → Option ResourceView
@@ -131,6 +147,24 @@ resource_said d r h =
 
 pub resources_are_by_table : ResourcesAreByTable
 resources_are_by_table d r = (resource_says d r, resource_said d r)
+
+resources-gathered : (ds : Items) (found : List ResourceView) → resources_in ds found ≡ gather resource_in resource_cmp ds found
+resources-gathered no_items found = refl
+resources-gathered (item d ds) found =
+    λ i. option_and_then (λ r. option_and_then (λ later. resources-gathered ds later i) (put_new resource_cmp r found)) (resource_in d)
+
+resources_say : (o : Option Data) (rs : List ResourceView) → all_resources_in o ≡ Some rs → SaysResources o rs
+resources_say None rs e = cc
+resources_say (Some (array ds)) rs e =
+    let m = mapped with_records (resources_in ds []) rs e in
+    let all = gathered-says resource_in SaysResource resource_cmp resource_total resource_says ds m.0 (sym (resources-gathered ds []) ∙ m.1) in (all.0, m.0, all.1, all.2, sym m.2)
+resources_say (Some _) rs e = absurd (cc)
+
+pub resources_said : (o : Option Data) (rs : List ResourceView) → SaysResources o rs → all_resources_in o ≡ Some rs
+resources_said None rs h = ap Some (sym h)
+resources_said (Some (array ds)) rs h =
+    ap (option_map with_records) (resources-gathered ds [] ∙ gathered-said resource_in SaysResource resource_cmp resource_total resource_said ds h.0 h.1 h.2 h.3) ∙ ap Some (sym h.4)
+resources_said (Some _) rs h = absurd (assumption)
 
 -- ---- states
 

@@ -1,11 +1,14 @@
 pub mod Back
 pub mod ByTable
+pub mod Contents
 pub mod Floats
+pub mod Gathered
 pub mod Kept
 pub mod KnownForms
 pub mod Loops
 pub mod Ordered
 pub mod Orders
+pub mod Permuted
 pub mod ReadValid
 pub mod RecordBack
 pub mod Plainness
@@ -13,5 +16,6 @@ pub mod Properties
 pub mod Refusals
 pub mod StateBack
 pub mod StateLaws
+pub mod Tables
 pub mod TypeForms
 pub mod ValueForms

@@ -1,17 +1,14 @@
 -- What is read of a property is what it says.
-use Rattle.std.proofs.Common.{◌≡◌, ℕ, ◌^◌, ◌<◌, Bool, true, false, cond, List, [], Option, Some, None, option_map, nat_lt, codes, refl, sym, ap, ◌∙◌, subst, lt-ltb, ltb-true}
+use Rattle.std.proofs.Common.{◌≡◌, ℕ, ◌^◌, ◌<◌, Bool, true, false, cond, List, Option, Some, None, option_map, nat_lt, codes, refl, sym, ap, ◌∙◌, subst, lt-ltb, ltb-true}
 use Rattle.std.specs.Prelude.{option_and_then}
 use Rattle.std.specs.Str.{bytes_eq}
 use Rattle.std.proofs.lemmas.Bool.{eqb-true}
 use Rattle.std.proofs.lemmas.Slice.Eq.{bytes_eq-Decides}
-use Rattle.serde_json.specs.Data.{Data, null, boolean, number as json_number, unsigned, string, array, object, no_items, item}
+use Rattle.serde_json.specs.Data.{Data, null, boolean, number as json_number, unsigned, string, array, no_items, item}
 use Rattle.tf_address.specs.Name.{is_name}
-use Rattle.tf_value.specs.Tree.{Tree, map, Entries, no_entries}
 use Rattle.tf_resource.specs.Place.{KeyView, number}
-use Rattle.tf_state.specs.Reading.{text_in, below, name_in, text_or, below_or_zero, key_in, deposed_in, attributes_in, value_in, values_in, tainted_in, flag_in, dependencies_in, is_unsensitive, is_unchecked, is_managed, is_version, outputs_in, instances_in, all_resources_in, resources_in, with_records}
-use Rattle.tf_resource.specs.Record.{RecordView}
-use Rattle.tf_resource.specs.Resource.{ResourceView}
-use Rattle.tf_state.specs.Table.{SaysText, SaysNumber, SaysName, SaysTextOr, SaysNumberOrZero, SaysKey, SaysDeposed, SaysAttributes, SaysStatus, SaysFlag, SaysDependencies, SaysNothingSensitive, SaysNoChecks, SaysOutputs, SaysInstances, SaysResources}
+use Rattle.tf_state.specs.Reading.{text_in, below, name_in, text_or, below_or_zero, key_in, deposed_in, tainted_in, flag_in, is_unsensitive, is_unchecked, is_managed, is_version}
+use Rattle.tf_state.specs.Table.{SaysText, SaysNumber, SaysName, SaysTextOr, SaysNumberOrZero, SaysKey, SaysDeposed, SaysStatus, SaysFlag, SaysNothingSensitive, SaysNoChecks}
 use Rattle.tf_state.specs.Words.{is_deposed_key}
 
 -- ---- chains
@@ -100,14 +97,6 @@ deposed_said None p h = ap Some (sym h)
 deposed_said (Some (string s)) p h = rw h.1 (ap Some (sym h.0))
 deposed_said (Some _) p h = absurd (assumption)
 
-pub attributes_say : (o : Option Data) (t : Tree) → attributes_in o ≡ Some t → SaysAttributes o t
-attributes_say (Some (object ms)) t e = let m = mapped map (values_in value_in ms no_entries) t e in (m.0, sym m.2, m.1)
-attributes_say _ t e = absurd (cc)
-
-pub attributes_said : (o : Option Data) (t : Tree) → SaysAttributes o t → attributes_in o ≡ Some t
-attributes_said (Some (object ms)) t h = ap (option_map map) h.2 ∙ ap Some (sym h.1)
-attributes_said _ t h = absurd (assumption)
-
 pub status_says : (o : Option Data) (b : Bool) → tainted_in o ≡ Some b → SaysStatus o b
 status_says None b e = cc
 status_says (Some (string s)) b e =
@@ -128,16 +117,6 @@ pub flag_said : (o : Option Data) (b : Bool) → SaysFlag o b → flag_in o ≡ 
 flag_said None b h = ap Some (sym h)
 flag_said (Some (boolean c)) b h = ap Some (sym h)
 flag_said (Some _) b h = absurd (assumption)
-
-pub dependencies_say : (o : Option Data) (ts : List (List ℕ)) → dependencies_in o ≡ Some ts → SaysDependencies o ts
-dependencies_say None ts e = cc
-dependencies_say (Some (array ds)) ts e = e
-dependencies_say (Some _) ts e = absurd (cc)
-
-pub dependencies_said : (o : Option Data) (ts : List (List ℕ)) → SaysDependencies o ts → dependencies_in o ≡ Some ts
-dependencies_said None ts h = ap Some (sym h)
-dependencies_said (Some (array ds)) ts h = h
-dependencies_said (Some _) ts h = absurd (assumption)
 
 pub sensitive_says : (o : Option Data) → is_unsensitive o ≡ true → SaysNothingSensitive o
 sensitive_says None e = tt
@@ -174,31 +153,3 @@ format_says _ e = absurd (cc)
 
 pub format_said : (o : Option Data) → o ≡ Some (json_number (unsigned 4)) → is_version o ≡ true
 format_said o h = ap is_version h
-
-pub outputs_say : (o : Option Data) (es : Entries) → outputs_in o ≡ Some es → SaysOutputs o es
-outputs_say None es e = cc
-outputs_say (Some (object ms)) es e = e
-outputs_say (Some _) es e = absurd (cc)
-
-pub outputs_said : (o : Option Data) (es : Entries) → SaysOutputs o es → outputs_in o ≡ Some es
-outputs_said None es h = ap Some (sym h)
-outputs_said (Some (object ms)) es h = h
-outputs_said (Some _) es h = absurd (assumption)
-
-pub instances_say : (o : Option Data) (rs : List RecordView) → instances_in o ≡ Some rs → SaysInstances o rs
-instances_say (Some (array ds)) rs e = e
-instances_say _ rs e = absurd (cc)
-
-pub instances_said : (o : Option Data) (rs : List RecordView) → SaysInstances o rs → instances_in o ≡ Some rs
-instances_said (Some (array ds)) rs h = h
-instances_said _ rs h = absurd (assumption)
-
-pub resources_say : (o : Option Data) (rs : List ResourceView) → all_resources_in o ≡ Some rs → SaysResources o rs
-resources_say None rs e = cc
-resources_say (Some (array ds)) rs e = let m = mapped with_records (resources_in ds []) rs e in (m.0, m.1, sym m.2)
-resources_say (Some _) rs e = absurd (cc)
-
-pub resources_said : (o : Option Data) (rs : List ResourceView) → SaysResources o rs → all_resources_in o ≡ Some rs
-resources_said None rs h = ap Some (sym h)
-resources_said (Some (array ds)) rs h = ap (option_map with_records) h.1 ∙ ap Some (sym h.2)
-resources_said (Some _) rs h = absurd (assumption)

@@ -1,5 +1,5 @@
 -- What is read is valid.
-use Rattle.std.proofs.Common.{◌≡◌, ℕ, ◌^◌, ◌<◌, ℤ, pos, negsuc, Bool, true, false, ◌&&◌, cond, List, [], ◌∷◌, Option, Some, None, Ordering, Less, Equal, Greater, nat_cmp, codes, refl, sym, ap, ◌∙◌, subst, leb-true, arith, rules}
+use Rattle.std.proofs.Common.{◌≡◌, ℕ, ◌^◌, ◌<◌, ℤ, pos, negsuc, Bool, true, false, ◌&&◌, cond, List, [], ◌∷◌, Option, Some, None, Ordering, Less, Equal, Greater, nat_cmp, codes, refl, sym, ap, ◌∙◌, subst, arith, rules}
 use Rattle.std.specs.Cmp.Lexicographic.{slice_cmp}
 use Rattle.std.specs.Int.{w64}
 use Rattle.std.specs.List.{AllByRecursion}
@@ -15,25 +15,26 @@ use Rattle.tf_json.proofs.Puts.{plain-put}
 use Rattle.tf_json.proofs.Sorted.{read_is_sorted, sorted-get}
 use Rattle.tf_value.specs.Json.{IsJson, IsArray, IsObject, value_data, entries_data, tree_from}
 use Rattle.tf_value.specs.Known.{known}
-use Rattle.tf_value.specs.Measure.{weight, depth, max_weight, max_depth, IsWithinLimits}
 use Rattle.tf_value.specs.Tree.{Tree, null, boolean, whole, text, list, map, unknown, Items, no_items, item, Entries, no_entries, entry, put, IsHeld, AreHeld, AreHeldEntries}
 use Rattle.tf_value.proofs.Forms.{form_of, form-tree_from, IsJson-one_form}
 use Rattle.tf_state.specs.Laws.{ReadIsValid}
 use Rattle.tf_address.specs.Label.{label_cmp}
 use Rattle.tf_resource.specs.Addresses.{AreByAddress}
 use Rattle.tf_resource.specs.Place.{KeyView, place_cmp}
-use Rattle.tf_state.specs.Reading.{put_text, put_new, record_cmp, resource_cmp, is_within, value_in, values_in, address_in, addresses_in, record_in, records_in, resource_in, resources_in, is_some_record, with_records, output_in, required_value, state_in}
 use Rattle.tf_resource.specs.Record.{RecordView}
 use Rattle.tf_resource.specs.Resource.{ResourceView}
 use Rattle.tf_resource.specs.State.{StateView}
-use Rattle.tf_state.specs.Table.{SaysKey, SaysDeposed, SaysAttributes, SaysDependencies, SaysNumberOrZero, SaysInstances, SaysResources, SaysOutputs}
+use Rattle.tf_resource.proofs.Totals.{place_total, label_total}
+use Rattle.tf_state.specs.Reading.{put_text, put_new, record_cmp, resource_cmp, is_within, value_in, values_in, attributes_in, address_in, addresses_in, dependencies_in, record_in, records_in, instances_in, resource_in, resources_in, all_resources_in, outputs_in, is_some_record, with_records, output_in, required_value, state_in}
+use Rattle.tf_state.specs.Table.{SaysKey, SaysDeposed, SaysNumberOrZero}
 use Rattle.tf_state.specs.Valid.{IsSaved, AreSaved, IsTable, IsAttributes, IsKey, IsDeposed, AreAddresses, IsRecord, AreRecords, IsResource, IsPresent, AreResources, IsValid}
 use Rattle.tf_state.specs.Words.{is_address, is_shaped}
 use Rattle.tf_state.specs.declared.shape.Shape.TheVariants as shapes
-use Rattle.tf_state.proofs.ByTable.{records_are_by_table, resources_are_by_table, states_are_by_table}
-use Rattle.tf_resource.proofs.Totals.{place_total, label_total}
+use Rattle.tf_state.proofs.ByTable.{instances_said, records_are_by_table, resources_are_by_table, resources_said, states_are_by_table}
+use Rattle.tf_state.proofs.Contents.{attributes_said, dependencies_said, outputs_said}
 use Rattle.tf_state.proofs.Orders.{nothing_ordered, order-filter, put_new-all, put_new-order}
-use Rattle.tf_state.proofs.Properties.{inverted, guarded}
+use Rattle.tf_state.proofs.Properties.{inverted, guarded, mapped}
+use Rattle.tf_state.proofs.ValueForms.{within-limits}
 
 -- ---- values
 
@@ -87,9 +88,6 @@ mutual
   object-held no_entries d h = tt
   object-held (entry k t es) (json.member l d ms) h = (form-held t d h.1, object-held es ms h.2)
   object-held _ _ h = absurd (assumption)
-
-within-limits : (t : Tree) → is_within t ≡ true → IsWithinLimits t
-within-limits t e = let parts = and_parts _ _ e in (leb-true (weight t) max_weight parts.0, leb-true (depth t) max_depth parts.1)
 
 same : {A : Type 0} (a b : A) → Some a ≡ Some b → a ≡ b
 same a b e = cc
@@ -159,9 +157,10 @@ deposed-valid None p h = subst IsDeposed (sym h) tt
 deposed-valid (Some (json.string s)) p h = subst IsDeposed (sym h.0) h.1
 deposed-valid (Some _) p h = absurd (assumption)
 
-attributes-valid : (o : Option json.Data) (t : Tree) → ((e : json.Data) → o ≡ Some e → IsSorted e) → SaysAttributes o t → IsAttributes t
-attributes-valid (Some (json.object ms)) t s h = subst IsAttributes (sym h.1) (table-read value_in value-fine ms no_entries h.0 (s (json.object ms) refl) (tt, tt) h.2)
-attributes-valid _ t s h = absurd (assumption)
+attributes-valid : (o : Option json.Data) (t : Tree) → ((e : json.Data) → o ≡ Some e → IsSorted e) → attributes_in o ≡ Some t → IsAttributes t
+attributes-valid (Some (json.object ms)) t s e =
+    let m = mapped map (values_in value_in ms no_entries) t e in subst IsAttributes m.2 (table-read value_in value-fine ms no_entries m.0 (s (json.object ms) refl) (tt, tt) m.1)
+attributes-valid _ t s e = absurd (cc)
 
 version-valid : (o : Option json.Data) (n : ℕ) → SaysNumberOrZero (2 ^ 32) o n → n < 2 ^ 32
 version-valid None n h = omega arith
@@ -201,10 +200,10 @@ addresses-read json.no_items found ts h e = subst AreAddresses (same found ts e)
 addresses-read (json.item d ds) found ts h e =
     let i = inverted (λ s. addresses_in ds (put_text s found)) (address_in d) ts e in addresses-read ds (put_text i.0 found) ts (addresses-put i.0 found (address-valid d i.0 i.1) h) i.2
 
-dependencies-valid : (o : Option json.Data) (ts : List (List ℕ)) → SaysDependencies o ts → AreAddresses ts
-dependencies-valid None ts h = subst AreAddresses (sym h) tt
-dependencies-valid (Some (json.array ds)) ts h = addresses-read ds [] ts tt h
-dependencies-valid (Some _) ts h = absurd (assumption)
+dependencies-valid : (o : Option json.Data) (ts : List (List ℕ)) → dependencies_in o ≡ Some ts → AreAddresses ts
+dependencies-valid None ts e = subst AreAddresses (same [] ts e) tt
+dependencies-valid (Some (json.array ds)) ts e = addresses-read ds [] ts tt e
+dependencies-valid (Some _) ts e = absurd (cc)
 
 record-valid : (d : json.Data) (r : RecordView) → IsSorted d → record_in d ≡ Some r → IsRecord r
 record-valid d r s e =
@@ -212,9 +211,9 @@ record-valid d r s e =
     record {
       key = key-valid (get (codes "index_key") d) r.place.key says.index_key;
       deposed = deposed-valid (get (codes "deposed") d) r.place.deposed says.deposed;
-      attributes = attributes-valid (get (codes "attributes") d) r.attributes (λ f is. sorted-get (codes "attributes") d f s is) says.attributes;
+      attributes = attributes-valid (get (codes "attributes") d) r.attributes (λ f is. sorted-get (codes "attributes") d f s is) (attributes_said (get (codes "attributes") d) r.attributes says.attributes);
       version = version-valid (get (codes "schema_version") d) r.schema_version says.schema_version;
-      dependencies = dependencies-valid (get (codes "dependencies") d) r.dependencies says.dependencies;
+      dependencies = dependencies-valid (get (codes "dependencies") d) r.dependencies (dependencies_said (get (codes "dependencies") d) r.dependencies says.dependencies);
     }
 
 records-read : (ds : json.Items) (found rs : List RecordView) → AreSorted ds → AreRecords found → records_in ds found ≡ Some rs → AreRecords rs
@@ -227,9 +226,9 @@ records-read (json.item d ds) found rs s h e =
 
 -- ---- resources
 
-instances-valid : (o : Option json.Data) (rs : List RecordView) → ((e : json.Data) → o ≡ Some e → IsSorted e) → SaysInstances o rs → AreRecords rs
-instances-valid (Some (json.array ds)) rs s h = records-read ds [] rs (s (json.array ds) refl) (tt, nothing_ordered place_cmp) h
-instances-valid _ rs s h = absurd (assumption)
+instances-valid : (o : Option json.Data) (rs : List RecordView) → ((e : json.Data) → o ≡ Some e → IsSorted e) → instances_in o ≡ Some rs → AreRecords rs
+instances-valid (Some (json.array ds)) rs s e = records-read ds [] rs (s (json.array ds) refl) (tt, nothing_ordered place_cmp) e
+instances-valid _ rs s e = absurd (cc)
 
 resource-valid : (d : json.Data) (r : ResourceView) → IsSorted d → resource_in d ≡ Some r → IsResource r
 resource-valid d r s e =
@@ -237,7 +236,7 @@ resource-valid d r s e =
     record {
       kind = says.kind.1;
       name = says.name.1;
-      records = instances-valid (get (codes "instances") d) r.records (λ f is. sorted-get (codes "instances") d f s is) says.instances;
+      records = instances-valid (get (codes "instances") d) r.records (λ f is. sorted-get (codes "instances") d f s is) (instances_said (get (codes "instances") d) r.records says.instances);
     }
 
 -- resources, each of which may be one without records
@@ -263,15 +262,17 @@ with_records-present (r ∷ rs) h = present_at (is_some_record r.records) r (wit
 with_records-valid : (rs : List ResourceView) → AreParts rs → AreResources (with_records rs)
 with_records-valid rs h = (with_records-present rs h.0, order-filter (λ r. r.label) label_cmp (λ r. is_some_record r.records) rs h.1)
 
-resources-valid : (o : Option json.Data) (rs : List ResourceView) → ((e : json.Data) → o ≡ Some e → IsSorted e) → SaysResources o rs → AreResources rs
-resources-valid None rs s h = subst AreResources (sym h) (tt, nothing_ordered label_cmp)
-resources-valid (Some (json.array ds)) rs s h = subst AreResources (sym h.2) (with_records-valid h.0 (resources-read ds [] h.0 (s (json.array ds) refl) (tt, nothing_ordered label_cmp) h.1))
-resources-valid (Some _) rs s h = absurd (assumption)
+resources-valid : (o : Option json.Data) (rs : List ResourceView) → ((e : json.Data) → o ≡ Some e → IsSorted e) → all_resources_in o ≡ Some rs → AreResources rs
+resources-valid None rs s e = subst AreResources (same [] rs e) (tt, nothing_ordered label_cmp)
+resources-valid (Some (json.array ds)) rs s e =
+    let m = mapped with_records (resources_in ds []) rs e in
+    subst AreResources m.2 (with_records-valid m.0 (resources-read ds [] m.0 (s (json.array ds) refl) (tt, nothing_ordered label_cmp) m.1))
+resources-valid (Some _) rs s e = absurd (cc)
 
-outputs-valid : (o : Option json.Data) (es : Entries) → ((e : json.Data) → o ≡ Some e → IsSorted e) → SaysOutputs o es → IsTable es
-outputs-valid None es s h = subst IsTable (sym h) (tt, tt)
-outputs-valid (Some (json.object ms)) es s h = table-read output_in output-fine ms no_entries es (s (json.object ms) refl) (tt, tt) h
-outputs-valid (Some _) es s h = absurd (assumption)
+outputs-valid : (o : Option json.Data) (es : Entries) → ((e : json.Data) → o ≡ Some e → IsSorted e) → outputs_in o ≡ Some es → IsTable es
+outputs-valid None es s e = subst IsTable (same no_entries es e) (tt, tt)
+outputs-valid (Some (json.object ms)) es s e = table-read output_in output-fine ms no_entries es (s (json.object ms) refl) (tt, tt) e
+outputs-valid (Some _) es s e = absurd (cc)
 
 -- ---- states
 
@@ -280,8 +281,8 @@ state-valid d s sorted e =
     let says = (states_are_by_table d s).0 e in
     record {
       serial = says.serial.1;
-      outputs = outputs-valid (get (codes "outputs") d) s.outputs (λ f is. sorted-get (codes "outputs") d f sorted is) says.outputs;
-      resources = resources-valid (get (codes "resources") d) s.resources (λ f is. sorted-get (codes "resources") d f sorted is) says.resources;
+      outputs = outputs-valid (get (codes "outputs") d) s.outputs (λ f is. sorted-get (codes "outputs") d f sorted is) (outputs_said (get (codes "outputs") d) s.outputs says.outputs);
+      resources = resources-valid (get (codes "resources") d) s.resources (λ f is. sorted-get (codes "resources") d f sorted is) (resources_said (get (codes "resources") d) s.resources says.resources);
     }
 
 pub read_is_valid : ReadIsValid

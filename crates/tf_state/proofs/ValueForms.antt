@@ -1,6 +1,6 @@
 -- What a JSON tree is read as, by the clauses of the crate of values.
-use Rattle.std.proofs.Common.{◌≡◌, ◌<◌, Bool, true, false, ◌&&◌, Some, None, cond, refl, subst, ⊎_elim}
-use Rattle.std.proofs.lemmas.Bool.{le-leb, lt-leb}
+use Rattle.std.proofs.Common.{◌≡◌, ◌<◌, Bool, true, false, ◌&&◌, Some, None, cond, refl, subst, leb-true, ⊎_elim}
+use Rattle.std.proofs.lemmas.Bool.{and_parts, le-leb, lt-leb}
 use Rattle.serde_json.specs.Data.{Data}
 use Rattle.tf_value.specs.Json.{value_from, tree_from, IsUnread}
 use Rattle.tf_value.specs.Known.{known}
@@ -12,6 +12,9 @@ use Rattle.tf_state.specs.Reading.{is_within, value_in}
 
 pub is_within-true : (t : Tree) → IsWithinLimits t → is_within t ≡ true
 is_within-true t w = rw (le-leb (weight t) max_weight w.0, le-leb (depth t) max_depth w.1) refl
+
+pub within-limits : (t : Tree) → is_within t ≡ true → IsWithinLimits t
+within-limits t e = let parts = and_parts _ _ e in (leb-true (weight t) max_weight parts.0, leb-true (depth t) max_depth parts.1)
 
 and_false : (b : Bool) → (b && false) ≡ false
 and_false true = refl

@@ -1,16 +1,74 @@
 -- The table of the format: what has to stand at each property of a tree that says a state, a resource or a record.
-use Rattle.std.specs.Prelude.{◌≡◌, ◌↔◌, ℕ, ◌^◌, ◌<◌, Bool, true, false, List, [], Option, Some, None, codes, ⊤}
-use Rattle.serde_json.specs.Data.{Data, null, boolean, number as json_number, unsigned, string, array, object, no_items}
+use Rattle.std.specs.Prelude.{◌≡◌, ◌↔◌, ℕ, ◌^◌, ◌<◌, Bool, true, false, if◌then◌else◌, List, [], ◌∷◌, Option, Some, None, codes, ⊤}
+use Rattle.std.specs.Cmp.Lexicographic.{slice_cmp}
+use Rattle.std.specs.List.{Contains}
+use Rattle.std.specs.List.Sorted.{IsPermutation, IsStrictlySortedBy}
+use Rattle.std.specs.Option.{option_or}
+use Rattle.std.specs.Ordering.{nat_cmp}
+use Rattle.std.specs.Str.{bytes_eq}
+use Rattle.std.specs.declared.cmp.Ordering.{Ordering}
+use Rattle.serde_json.specs.Data.{Data, null, boolean, number as json_number, unsigned, string, array, object, Items, no_items, item, Members, no_members, member}
 use Rattle.serde_json.specs.Find.{get}
 use Rattle.tf_address.specs.Name.{is_name}
-use Rattle.tf_value.specs.Tree.{Tree, map, Entries, no_entries}
+use Rattle.tf_value.specs.Json.{IsJson}
+use Rattle.tf_value.specs.Measure.{IsWithinLimits}
+use Rattle.tf_value.specs.Tree.{Tree, map, Entries, no_entries, entry, get as value_at}
 use Rattle.tf_resource.specs.Place.{KeyView, single, number, name}
-use Rattle.tf_state.specs.Reading.{addresses_in, output_in, record_in, records_in, resource_in, resources_in, state_in, value_in, values_in, with_records}
+use Rattle.tf_state.specs.Reading.{record_cmp, record_in, resource_cmp, resource_in, state_in, with_records}
 use Rattle.tf_resource.specs.Record.{RecordView}
 use Rattle.tf_resource.specs.Resource.{ResourceView}
 use Rattle.tf_resource.specs.State.{StateView}
-use Rattle.tf_state.specs.Words.{is_deposed_key, is_shaped}
+use Rattle.tf_state.specs.Words.{is_address, is_deposed_key, is_shaped}
 use Rattle.tf_state.specs.declared.shape.Shape.TheVariants as shapes
+
+-- ---- lists and tables
+
+-- each item of an array says what stands at its place in a list
+abbrev pub EachSays : {A : Type 0} → (Data → A → Type 0) → Items → List A → Type 0
+EachSays Says no_items [] = ⊤
+EachSays Says (item d ds) (x ∷ xs) = Says d x × EachSays Says ds xs
+EachSays Says _ _ = ⊥
+
+-- the second list is the first in ascending order, and no two in it are alike
+abbrev pub IsArranged : {A : Type 0} → (A → A → Ordering) → List A → List A → Type 0
+IsArranged cmp xs ys = IsPermutation xs ys × IsStrictlySortedBy cmp ys
+
+-- what one list holds the other holds too
+abbrev pub HoldTheSame : {A : Type 0} → List A → List A → Type 0
+HoldTheSame {A} xs ys = (x : A) → Contains xs x ↔ Contains ys x
+
+-- the names of a table
+abbrev pub names_of : Entries → List (List ℕ)
+names_of no_entries = []
+names_of (entry k t es) = k ∷ names_of es
+
+-- what the last member of a name holds
+abbrev pub last_member : List ℕ → Members → Option Data
+last_member k no_members = None
+last_member k (member l d ms) = option_or (last_member k ms) (if bytes_eq k l then Some d else None)
+
+-- each member says some value
+abbrev pub EachMemberSays : (Data → Tree → Type 0) → Members → Type 0
+EachMemberSays Says no_members = ⊤
+EachMemberSays Says (member k d ms) = ((t : Tree) × Says d t) × EachMemberSays Says ms
+
+-- where there is nothing there is no value, and what there is says the value
+abbrev pub SaysPart : (Data → Tree → Type 0) → Option Data → Option Tree → Type 0
+SaysPart Says None None = ⊤
+SaysPart Says (Some d) (Some t) = Says d t
+SaysPart Says _ _ = ⊥
+
+-- An object says a table: its members' names, strictly in byte order, each with the value that its member says. A
+-- tree that a text is read as has no name twice; of other trees each member has to say a value too, and the last one
+-- of a name counts.
+pub record SaysTable (Says : Data → Tree → Type 0) (ms : Members) (es : Entries) : Type 0 where
+  pub each : EachMemberSays Says ms
+  pub order : IsStrictlySortedBy (slice_cmp nat_cmp) (names_of es)
+  pub values : (k : List ℕ) → SaysPart Says (last_member k ms) (value_at k es)
+
+-- a value within the limits of weight and depth, of which the tree is the JSON form
+abbrev pub SaysValue : Data → Tree → Type 0
+SaysValue d t = IsJson t d × IsWithinLimits t
 
 -- ---- what may stand at a property
 
@@ -51,7 +109,7 @@ SaysDeposed _ p = ⊥
 
 -- an object, each member of which is a value
 abbrev pub SaysAttributes : Option Data → Tree → Type 0
-SaysAttributes (Some (object ms)) t = (es : Entries) × (t ≡ map es) × (values_in value_in ms no_entries ≡ Some es)
+SaysAttributes (Some (object ms)) t = (es : Entries) × (t ≡ map es) × SaysTable SaysValue ms es
 SaysAttributes _ t = ⊥
 
 -- nothing, or `tainted`
@@ -66,10 +124,14 @@ SaysFlag None b = b ≡ false
 SaysFlag (Some (boolean c)) b = b ≡ c
 SaysFlag _ b = ⊥
 
--- nothing, or an array of addresses
+-- a text that is an address
+abbrev pub SaysAddress : Data → List ℕ → Type 0
+SaysAddress d s = (d ≡ string s) × (is_address s ≡ true)
+
+-- nothing, or an array of addresses: these and no others, strictly in byte order
 abbrev pub SaysDependencies : Option Data → List (List ℕ) → Type 0
 SaysDependencies None ts = ts ≡ []
-SaysDependencies (Some (array ds)) ts = addresses_in ds [] ≡ Some ts
+SaysDependencies (Some (array ds)) ts = (said : List (List ℕ)) × EachSays SaysAddress ds said × HoldTheSame said ts × IsStrictlySortedBy (slice_cmp nat_cmp) ts
 SaysDependencies _ ts = ⊥
 
 -- nothing, or an empty array
@@ -84,25 +146,9 @@ SaysNoChecks None = ⊤
 SaysNoChecks (Some null) = ⊤
 SaysNoChecks _ = ⊥
 
--- nothing, or an object, each member of which is an output
-abbrev pub SaysOutputs : Option Data → Entries → Type 0
-SaysOutputs None es = es ≡ no_entries
-SaysOutputs (Some (object ms)) es = values_in output_in ms no_entries ≡ Some es
-SaysOutputs _ es = ⊥
-
--- an array of records, none of one place with another
-abbrev pub SaysInstances : Option Data → List RecordView → Type 0
-SaysInstances (Some (array ds)) rs = records_in ds [] ≡ Some rs
-SaysInstances _ rs = ⊥
-
--- nothing, or an array of resources, none of one address with another; those without records are left out
-abbrev pub SaysResources : Option Data → List ResourceView → Type 0
-SaysResources None rs = rs ≡ []
-SaysResources (Some (array ds)) rs = (all : List ResourceView) × (resources_in ds [] ≡ Some all) × (rs ≡ with_records all)
-SaysResources _ rs = ⊥
-
 -- ---- the objects
 
+-- the object of a record
 pub record SaysRecord (d : Data) (r : RecordView) : Type 0 where
   pub only : is_shaped shapes.Record d ≡ true
   pub sensitive_attributes : SaysNothingSensitive (get (codes "sensitive_attributes") d)
@@ -114,6 +160,12 @@ pub record SaysRecord (d : Data) (r : RecordView) : Type 0 where
   pub dependencies : SaysDependencies (get (codes "dependencies") d) r.dependencies
   pub create_before_destroy : SaysFlag (get (codes "create_before_destroy") d) r.create_before_destroy
 
+-- an array of records, which stand by their places, no two at one
+abbrev pub SaysInstances : Option Data → List RecordView → Type 0
+SaysInstances (Some (array ds)) rs = (said : List RecordView) × EachSays SaysRecord ds said × IsArranged record_cmp said rs
+SaysInstances _ rs = ⊥
+
+-- the object of a resource
 pub record SaysResource (d : Data) (r : ResourceView) : Type 0 where
   pub only : is_shaped shapes.Resource d ≡ true
   pub mode : SaysText (get (codes "mode") d) (codes "managed")
@@ -122,6 +174,24 @@ pub record SaysResource (d : Data) (r : ResourceView) : Type 0 where
   pub provider : SaysText (get (codes "provider") d) r.provider
   pub instances : SaysInstances (get (codes "instances") d) r.records
 
+-- nothing, or an array of resources, which stand by their addresses, no two at one; then those without records are left out
+abbrev pub SaysResources : Option Data → List ResourceView → Type 0
+SaysResources None rs = rs ≡ []
+SaysResources (Some (array ds)) rs = (said all : List ResourceView) × EachSays SaysResource ds said × IsArranged resource_cmp said all × (rs ≡ with_records all)
+SaysResources _ rs = ⊥
+
+-- the object of an output, whose value counts and whose type may be anything
+pub record SaysOutput (d : Data) (t : Tree) : Type 0 where
+  pub only : is_shaped shapes.Output d ≡ true
+  pub value : SaysPart SaysValue (get (codes "value") d) (Some t)
+
+-- nothing, or an object, each member of which is an output
+abbrev pub SaysOutputs : Option Data → Entries → Type 0
+SaysOutputs None es = es ≡ no_entries
+SaysOutputs (Some (object ms)) es = SaysTable SaysOutput ms es
+SaysOutputs _ es = ⊥
+
+-- the object of a state
 pub record SaysState (d : Data) (s : StateView) : Type 0 where
   pub only : is_shaped shapes.State d ≡ true
   pub version : get (codes "version") d ≡ Some (json_number (unsigned 4))

@@ -14,6 +14,11 @@ pub enum StateFault {
 }
 
 impl fmt::Display for StateFault {
+    ghost use Rattle.std.specs.Prelude.{Some};
+    ghost use Rattle.tf_state.specs.Fault.{fault_text};
+
+    ghost output = { λ fault. Some (fault_text fault) };
+
     fn fmt<W: fmt::Write>(&self, f: &mut fmt::Formatter<W>) -> fmt::Result {
         f.write_str(match self {
             StateFault::BadState => "the text is no state's",

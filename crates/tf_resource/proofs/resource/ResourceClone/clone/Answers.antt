@@ -5,7 +5,7 @@ use Rattle.tf_address.specs.Label.{label_of}
 use Rattle.tf_address.specs.contracts.label.LabelClone.TheImpl as LabelClone
 use Rattle.tf_address.specs.declared.label.Label.{Label}
 use Rattle.tf_resource.specs.Resource.{ResourceView}
-use Rattle.tf_resource.proofs.Copies.{copied, record_copied}
+use Rattle.tf_resource.proofs.Copied.{copied, record_copied}
 use Rattle.tf_resource.proofs.resource.ResourceClone.clone.Goals as goal
 
 resource_seen : (a b : Label) {p q : List ℕ} {rs ss : List RecordView} → (LabelClone.is_clone-value).it a b → q ≡ p → ss ≡ rs

@@ -2,7 +2,7 @@ use Rattle.std.proofs.Common.{◌≡◌, ℕ, List, sym, subst}
 use Rattle.tf_resource.specs.Addresses.{AreByAddress}
 use Rattle.tf_resource.specs.Resource.{ResourceView, resource_of}
 use Rattle.tf_resource.specs.State.{StateView}
-use Rattle.tf_resource.proofs.Copies.{copied, outputs_copied}
+use Rattle.tf_resource.proofs.Copied.{copied, outputs_copied}
 use Rattle.tf_resource.proofs.state.StateClone.clone.Goals as goal
 use Rattle.tf_value.specs.Tree.{Entries}
 

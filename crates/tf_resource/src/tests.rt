@@ -1,0 +1,159 @@
+use crate::{Key, Object, Place, Record, Resource, State, copy, provider_address};
+use std::alloc::Global;
+use std::collections::BTreeSet;
+use std::test::Fail;
+use tf_address::Label;
+use tf_value::Value;
+
+fn place(alloc: Global, key: Key, deposed: &str) -> Result<Place, Fail> {
+    let deposed = match deposed {
+        "" => None,
+        key => Some(String::from_str(alloc, key)?),
+    };
+    Ok(Place { key, deposed })
+}
+
+fn named(alloc: Global, name: &str) -> Result<Key, Fail> {
+    Ok(Key::Name(String::from_str(alloc, name)?))
+}
+
+fn record(alloc: Global, place: Place, schema_version: u32) -> Record {
+    Record {
+        place,
+        attributes: Object { value: Value::Null },
+        schema_version,
+        tainted: false,
+        dependencies: BTreeSet::new(alloc),
+        create_before_destroy: false,
+    }
+}
+
+fn label(alloc: Global, kind: &str, name: &str) -> Result<Label, Fail> {
+    Ok(Label {
+        kind: String::from_str(alloc, kind)?,
+        name: String::from_str(alloc, name)?,
+    })
+}
+
+// A resource with one record, of this schema version.
+fn resource(alloc: Global, kind: &str, name: &str, version: u32) -> Result<Resource, Fail> {
+    let mut resource = Resource::new(
+        label(alloc, kind, name)?,
+        provider_address(alloc, kind)?,
+        Vec::new(alloc),
+    );
+    resource.reserve(1)?;
+    drop(resource.put(record(alloc, place(alloc, Key::Single, "")?, version)));
+    Ok(resource)
+}
+
+// Records stand by key, numbers as numbers and before names, the current one before deposed ones, however they
+// are put in.
+#[test]
+fn keeps_records_by_place(rt: HostRuntime) -> Result<(), Fail> {
+    let alloc = rt.alloc();
+    let mut resource = Resource::new(
+        label(alloc, "sim_net", "a")?,
+        provider_address(alloc, "sim_net")?,
+        Vec::new(alloc),
+    );
+    for (version, key, deposed) in [
+        (7, named(alloc, "1")?, ""),
+        (4, Key::Number(2), "00000001"),
+        (1, Key::Single, ""),
+        (5, Key::Number(2), "0000000a"),
+        (6, Key::Number(10), ""),
+        (8, named(alloc, "Z")?, ""),
+        (3, Key::Number(2), ""),
+        (2, Key::Single, "ffffffff"),
+        (9, named(alloc, "a")?, ""),
+    ] {
+        resource.reserve(1)?;
+        let before = resource.put(record(alloc, place(alloc, key, deposed)?, version));
+        assert!(rt; before.is_none(), "{version}");
+    }
+    let mut versions = Vec::new(alloc);
+    for record in resource.records() {
+        versions.push(record.schema_version)?;
+    }
+    assert_eq!(rt; versions.as_slice(), [1, 2, 3, 4, 5, 6, 7, 8, 9].as_slice());
+    Ok(())
+}
+
+// A second put at a place gives the record that was there, and a remove leaves the others.
+#[test]
+fn replaces_and_removes_records(rt: HostRuntime) -> Result<(), Fail> {
+    let alloc = rt.alloc();
+    let mut resource = resource(alloc, "sim_net", "a", 1)?;
+    let current = place(alloc, Key::Single, "")?;
+    resource.reserve(2)?;
+    let before = resource.put(record(alloc, current.clone()?, 2));
+    assert_eq!(rt; before.map(|record| record.schema_version), Some(1));
+    let deposed = place(alloc, Key::Single, "00000002")?;
+    assert!(rt; resource.put(record(alloc, deposed.clone()?, 3)).is_none());
+    let taken = resource.remove(&current);
+    assert_eq!(rt; taken.map(|record| record.schema_version), Some(2));
+    assert!(rt; resource.remove(&current).is_none());
+    let left = resource.record(&deposed);
+    assert_eq!(rt; left.map(|record| record.schema_version), Some(3));
+    assert_eq!(rt; resource.records().len(), 1);
+    Ok(())
+}
+
+#[test]
+fn finds_each_of_many_resources(rt: HostRuntime) -> Result<(), Fail> {
+    let alloc = rt.alloc();
+    let mut state = State::empty(alloc, "L")?;
+    state.reserve(200)?;
+    for index in 0..200u32 {
+        let number = index * 77 % 200;
+        let name = format!(in alloc; "n{number}")?;
+        assert!(rt;
+            state
+                .put(resource(alloc, "sim_net", &name, number)?)
+                .is_none()
+        );
+    }
+    for number in 0..200u32 {
+        let name = format!(in alloc; "n{number}")?;
+        let label = label(alloc, "sim_net", &name)?;
+        let current = place(alloc, Key::Single, "")?;
+        let found = state.record(&label, &current);
+        assert_eq!(rt; found.map(|record| record.schema_version), Some(number));
+    }
+    let absent = label(alloc, "sim_net", "n")?;
+    assert!(rt; state.resource(&absent).is_none());
+    Ok(())
+}
+
+// A copy is a state of its own: what is taken out of it stays in the other.
+#[test]
+fn copies_stand_alone(rt: HostRuntime) -> Result<(), Fail> {
+    let alloc = rt.alloc();
+    let mut state = State::empty(alloc, "L")?;
+    state.set_serial(7);
+    state.reserve(1)?;
+    drop(state.put(resource(alloc, "sim_net", "a", 1)?));
+    let mut other = copy(&state)?;
+    assert_eq!(rt;
+        (other.serial(), other.lineage(), other.terraform_version()),
+        (7, "L", "1.0.0")
+    );
+    assert!(rt; other.remove(&label(alloc, "sim_net", "a")?).is_some());
+    assert_eq!(rt; (state.resources().len(), other.resources().len()), (1, 0));
+    Ok(())
+}
+
+#[test]
+fn names_providers(rt: HostRuntime) -> Result<(), Fail> {
+    for (kind, name) in [
+        ("sim_net", "sim"),
+        ("a_b_c", "a"),
+        ("null", "null"),
+        ("_x", ""),
+    ] {
+        let want = format!(in rt.alloc(); "provider[\"registry.terraform.io/hashicorp/{name}\"]")?;
+        assert_eq!(rt; provider_address(rt.alloc(), kind)?.as_str(), want.as_str());
+    }
+    Ok(())
+}
