@@ -5,6 +5,7 @@ use Rattle.std.specs.List.{AllByRecursion}
 use Rattle.std.specs.List.Sorted.{IsStrictlySortedBy}
 use Rattle.std.specs.Ordering.{match_ordering, ordering_reverse}
 use Rattle.std.specs.Prelude.{option_map}
+use Rattle.std.proofs.lemmas.List.Kept.{IsStrictlySortedBy-filter}
 use Rattle.tf_resource.specs.Record.{RecordView}
 use Rattle.tf_resource.specs.Resource.{ResourceView}
 use Rattle.tf_resource.proofs.Totals.{place_total, label_total}
@@ -19,11 +20,11 @@ resource_total = on_total (λ (r : ResourceView). r.label) label_total
 
 -- ---- of each element, and of each key
 
-pub all-from_keys : {A K : Type 0} (key : A → K) (P : K → Type 0) (xs : List A) → AllByRecursion P (map key xs) → AllByRecursion (λ x. P (key x)) xs
+all-from_keys : {A K : Type 0} (key : A → K) (P : K → Type 0) (xs : List A) → AllByRecursion P (map key xs) → AllByRecursion (λ x. P (key x)) xs
 all-from_keys key P [] h = tt
 all-from_keys key P (x ∷ xs) h = (h.0, all-from_keys key P xs h.1)
 
-pub all-of_keys : {A K : Type 0} (key : A → K) (P : K → Type 0) (xs : List A) → AllByRecursion (λ x. P (key x)) xs → AllByRecursion P (map key xs)
+all-of_keys : {A K : Type 0} (key : A → K) (P : K → Type 0) (xs : List A) → AllByRecursion (λ x. P (key x)) xs → AllByRecursion P (map key xs)
 all-of_keys key P [] h = tt
 all-of_keys key P (x ∷ xs) h = (h.0, all-of_keys key P xs h.1)
 
@@ -42,27 +43,29 @@ unfolding IsStrictlySortedBy
 nothing_ordered cmp = tt
 
 -- what comes before something comes before those after it
-pub below_all : {K : Type 0} (cmp : K → K → Ordering) → IsTotalOrder cmp → (x y : K) (zs : List K) → cmp x y ≡ Less → AllByRecursion (λ z. cmp y z ≡ Less) zs → AllByRecursion (λ z. cmp x z ≡ Less) zs
-below_all cmp total x y [] below h = tt
-below_all cmp total x y (z ∷ zs) below h = (total.trans x y z below h.0, below_all cmp total x y zs below h.1)
+below_all : {A : Type 0} (cmp : A → A → Ordering) → IsTotalOrder cmp → (a b : A) (cs : List A) → cmp a b ≡ Less → AllByRecursion (λ c. cmp b c ≡ Less) cs → AllByRecursion (λ c. cmp a c ≡ Less) cs
+below_all cmp total a b [] below h = tt
+below_all cmp total a b (c ∷ cs) below h = (total.trans a b c below h.0, below_all cmp total a b cs below h.1)
 
 -- those after something are above it
 pub above : {A K : Type 0} (key : A → K) (cmp : K → K → Ordering) → IsTotalOrder cmp → (a : A) (bs : List A) → AllByRecursion (λ y. cmp (key a) y ≡ Less) (map key bs) → AllByRecursion (λ b. cmp (key b) (key a) ≡ Greater) bs
 above key cmp total a [] h = tt
 above key cmp total a (b ∷ bs) h = (total.antisymm (key b) (key a) ∙ ap ordering_reverse h.0, above key cmp total a bs h.1)
 
-kept-order : {A K : Type 0} (key : A → K) (cmp : K → K → Ordering) (b : Bool) (x : A) (rest : List A) → AllByRecursion (λ y. cmp (key x) y ≡ Less) (map key rest) → IsStrictlySortedBy cmp (map key rest) → IsStrictlySortedBy cmp (map key (cond b (x ∷ rest) rest))
+-- elements stand in the order of their keys where the keys stand in order
+order-from_keys : {A K : Type 0} (key : A → K) (cmp : K → K → Ordering) (xs : List A) → IsStrictlySortedBy cmp (map key xs) → IsStrictlySortedBy (λ a b. cmp (key a) (key b)) xs
 unfolding IsStrictlySortedBy
-kept-order key cmp true x rest h more = (h, more)
-kept-order key cmp false x rest h more = more
+order-from_keys key cmp [] h = tt
+order-from_keys key cmp (x ∷ xs) h = (all-from_keys key (λ y. cmp (key x) y ≡ Less) xs h.0, order-from_keys key cmp xs h.1)
+
+order-of_keys : {A K : Type 0} (key : A → K) (cmp : K → K → Ordering) (xs : List A) → IsStrictlySortedBy (λ a b. cmp (key a) (key b)) xs → IsStrictlySortedBy cmp (map key xs)
+unfolding IsStrictlySortedBy
+order-of_keys key cmp [] h = tt
+order-of_keys key cmp (x ∷ xs) h = (all-of_keys key (λ y. cmp (key x) y ≡ Less) xs h.0, order-of_keys key cmp xs h.1)
 
 -- some of what stands in order stand in order
 pub order-filter : {A K : Type 0} (key : A → K) (cmp : K → K → Ordering) (p : A → Bool) (xs : List A) → IsStrictlySortedBy cmp (map key xs) → IsStrictlySortedBy cmp (map key (filter p xs))
-unfolding IsStrictlySortedBy
-order-filter key cmp p [] h = tt
-order-filter key cmp p (x ∷ xs) h =
-    let after = all-of_keys key (λ y. cmp (key x) y ≡ Less) (filter p xs) (all-filter (λ y. cmp (key x) (key y) ≡ Less) p xs (all-from_keys key (λ y. cmp (key x) y ≡ Less) xs h.0)) in
-    kept-order key cmp (p x) x (filter p xs) after (order-filter key cmp p xs h.1)
+order-filter key cmp p xs h = order-of_keys key cmp (filter p xs) (IsStrictlySortedBy-filter (λ a b. cmp (key a) (key b)) p xs (order-from_keys key cmp xs h))
 
 -- ---- one more
 
@@ -76,20 +79,22 @@ pub put_new-all : {A : Type 0} (cmp : A → A → Ordering) (P : A → Type 0) (
 put_new-all cmp P a [] cs p h e = let is : a ∷ [] ≡ cs = cc in subst (AllByRecursion P) is (p, tt)
 put_new-all cmp P a (b ∷ bs) cs p h e = all_at (cmp a b) P a b bs (put_new cmp a bs) cs p h (λ ds. put_new-all cmp P a bs ds p h.1) e
 
-order_at : {A K : Type 0} (key : A → K) (cmp : K → K → Ordering) → IsTotalOrder cmp → (o : Ordering) (a b : A) (bs cs : List A) → cmp (key a) (key b) ≡ o → IsStrictlySortedBy cmp (map key (b ∷ bs))
-    → ((ds : List A) → put_new (λ x y. cmp (key x) (key y)) a bs ≡ Some ds → IsStrictlySortedBy cmp (map key ds))
-    → match_ordering o (Some (a ∷ b ∷ bs)) None (option_map (λ ds. b ∷ ds) (put_new (λ x y. cmp (key x) (key y)) a bs)) ≡ Some cs → IsStrictlySortedBy cmp (map key cs)
+order_at : {A : Type 0} (cmp : A → A → Ordering) → IsTotalOrder cmp → (o : Ordering) (a b : A) (bs cs : List A) → cmp a b ≡ o → IsStrictlySortedBy cmp (b ∷ bs)
+    → ((ds : List A) → put_new cmp a bs ≡ Some ds → IsStrictlySortedBy cmp ds)
+    → match_ordering o (Some (a ∷ b ∷ bs)) None (option_map (λ ds. b ∷ ds) (put_new cmp a bs)) ≡ Some cs → IsStrictlySortedBy cmp cs
 unfolding IsStrictlySortedBy
-order_at key cmp total Less a b bs cs is h more e =
-    let all : a ∷ b ∷ bs ≡ cs = cc in subst (λ ds. IsStrictlySortedBy cmp (map key ds)) all ((is, below_all cmp total (key a) (key b) (map key bs) is h.0), h)
-order_at key cmp total Equal a b bs cs is h more e = absurd (cc)
-order_at key cmp total Greater a b bs cs is h more e =
-    let m = mapped (λ ds. b ∷ ds) (put_new (λ x y. cmp (key x) (key y)) a bs) cs e in
-    let less : cmp (key b) (key a) ≡ Less = total.antisymm (key b) (key a) ∙ ap ordering_reverse is in
-    let after = put_new-all (λ x y. cmp (key x) (key y)) (λ c. cmp (key b) (key c) ≡ Less) a bs m.0 less (all-from_keys key (λ y. cmp (key b) y ≡ Less) bs h.0) m.1 in
-    subst (λ ds. IsStrictlySortedBy cmp (map key ds)) m.2 (all-of_keys key (λ y. cmp (key b) y ≡ Less) m.0 after, more m.0 m.1)
+order_at cmp total Less a b bs cs is h more e =
+    let all : a ∷ b ∷ bs ≡ cs = cc in subst (IsStrictlySortedBy cmp) all ((is, below_all cmp total a b bs is h.0), h)
+order_at cmp total Equal a b bs cs is h more e = absurd (cc)
+order_at cmp total Greater a b bs cs is h more e =
+    let m = mapped (λ ds. b ∷ ds) (put_new cmp a bs) cs e in
+    let less : cmp b a ≡ Less = total.antisymm b a ∙ ap ordering_reverse is in
+    subst (IsStrictlySortedBy cmp) m.2 (put_new-all cmp (λ c. cmp b c ≡ Less) a bs m.0 less h.0 m.1, more m.0 m.1)
+
+pub put_new-sorted : {A : Type 0} (cmp : A → A → Ordering) → IsTotalOrder cmp → (a : A) (bs cs : List A) → IsStrictlySortedBy cmp bs → put_new cmp a bs ≡ Some cs → IsStrictlySortedBy cmp cs
+unfolding IsStrictlySortedBy
+put_new-sorted cmp total a [] cs h e = let is : a ∷ [] ≡ cs = cc in subst (IsStrictlySortedBy cmp) is (tt, tt)
+put_new-sorted cmp total a (b ∷ bs) cs h e = order_at cmp total (cmp a b) a b bs cs refl h (λ ds. put_new-sorted cmp total a bs ds h.1) e
 
 pub put_new-order : {A K : Type 0} (key : A → K) (cmp : K → K → Ordering) → IsTotalOrder cmp → (a : A) (bs cs : List A) → IsStrictlySortedBy cmp (map key bs) → put_new (λ x y. cmp (key x) (key y)) a bs ≡ Some cs → IsStrictlySortedBy cmp (map key cs)
-unfolding IsStrictlySortedBy
-put_new-order key cmp total a [] cs h e = let is : a ∷ [] ≡ cs = cc in subst (λ ds. IsStrictlySortedBy cmp (map key ds)) is (tt, tt)
-put_new-order key cmp total a (b ∷ bs) cs h e = order_at key cmp total (cmp (key a) (key b)) a b bs cs refl h (λ ds. put_new-order key cmp total a bs ds h.1) e
+put_new-order key cmp total a bs cs h e = order-of_keys key cmp cs (put_new-sorted (λ x y. cmp (key x) (key y)) (on_total key total) a bs cs (order-from_keys key cmp bs h) e)

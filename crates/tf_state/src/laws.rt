@@ -21,8 +21,8 @@ pub fn read_states_are_valid()
     ensures { ReadIsValid }
 {}
 
-/// A valid state stays valid where a resource with valid records is put into it, and where one is taken out; so does
-/// a resource with a record. What is put in may take the place of another.
+/// A valid state stays valid where a valid resource is put into it, be there one at its address or not, and where
+/// one is taken out; so does a valid resource with a record.
 pub fn puts_and_removes_keep_states_valid()
     ensures resources { PutKeepsState }
     ensures records { PutKeepsResource }
