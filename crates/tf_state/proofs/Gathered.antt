@@ -10,15 +10,12 @@ use Rattle.serde_json.specs.Data.{Data, Items, no_items, item, string}
 use Rattle.tf_state.specs.Reading.{put_new, put_text, address_in, addresses_in}
 use Rattle.tf_state.specs.Table.{EachSays, HoldTheSame, IsArranged, SaysAddress}
 use Rattle.tf_state.specs.Words.{is_address}
-use Rattle.tf_state.proofs.Permuted.{contains_cases, contains_first, contains_later, contains_nothing, first_is_free, moved_in, moved_out, one_order, put_new-free, put_new-permutes, put_new-sorted, put_text-has, put_text-keeps, put_text-only, put_text-sorted}
+use Rattle.tf_state.proofs.Orders.{put_new-sorted, nothing_ordered}
+use Rattle.tf_state.proofs.Permuted.{contains_cases, contains_first, contains_later, contains_nothing, first_is_free, moved_in, moved_out, one_order, put_new-free, put_new-permutes, put_text-has, put_text-keeps, put_text-only, put_text-sorted}
 use Rattle.tf_state.proofs.Properties.{inverted, guarded}
 
 same : {A : Type 0} (a b : A) → Some a ≡ Some b → a ≡ b
 same a b e = cc
-
-pub nothing-sorted : {A : Type 0} (cmp : A → A → Ordering) → IsStrictlySortedBy cmp []
-unfolding IsStrictlySortedBy
-nothing-sorted cmp = tt
 
 -- ---- items that are put in order, none twice
 
@@ -44,7 +41,7 @@ gather-onto {A} read_one Says cmp total says (item d ds) found xs s e =
 pub gathered-says : {A : Type 0} (read_one : Data → Option A) (Says : Data → A → Type 0) (cmp : A → A → Ordering) → IsTotalOrder cmp → ((d : Data) (x : A) → read_one d ≡ Some x → Says d x)
     → (ds : Items) (xs : List A) → gather read_one cmp ds [] ≡ Some xs → (said : List A) × EachSays Says ds said × IsArranged cmp said xs
 gathered-says read_one Says cmp total says ds xs e =
-    let all = gather-onto read_one Says cmp total says ds [] xs (nothing-sorted cmp) e in (all.0, all.1, (subst (λ ys. IsPermutation ys xs) (append-nil all.0) all.2, all.3))
+    let all = gather-onto read_one Says cmp total says ds [] xs (nothing_ordered cmp) e in (all.0, all.1, (subst (λ ys. IsPermutation ys xs) (append-nil all.0) all.2, all.3))
 
 put_next : {A : Type 0} (go : List A → Option (List A)) (new : Option (List A)) (xs : List A) → (new ≡ None → ⊥) → ((ys : List A) → new ≡ Some ys → go ys ≡ Some xs) → option_and_then go new ≡ Some xs
 put_next go None xs free more = absurd (free refl)
@@ -65,7 +62,7 @@ onto-gather _ _ _ total reads (item d ds) [] found xs s h p t = absurd (assumpti
 pub gathered-said : {A : Type 0} (read_one : Data → Option A) (Says : Data → A → Type 0) (cmp : A → A → Ordering) → IsTotalOrder cmp → ((d : Data) (x : A) → Says d x → read_one d ≡ Some x)
     → (ds : Items) (said xs : List A) → EachSays Says ds said → IsArranged cmp said xs → gather read_one cmp ds [] ≡ Some xs
 gathered-said read_one Says cmp total reads ds said xs h a =
-    onto-gather read_one Says cmp total reads ds said [] xs (nothing-sorted cmp) h (subst (λ ys. IsPermutation ys xs) (sym (append-nil said)) a.0) a.1
+    onto-gather read_one Says cmp total reads ds said [] xs (nothing_ordered cmp) h (subst (λ ys. IsPermutation ys xs) (sym (append-nil said)) a.0) a.1
 
 -- ---- addresses, some of which may stand twice
 
@@ -110,7 +107,7 @@ addresses-onto (item d ds) found ts s e =
 
 pub addresses-say : (ds : Items) (ts : List (List ℕ)) → addresses_in ds [] ≡ Some ts → (said : List (List ℕ)) × EachSays SaysAddress ds said × HoldTheSame said ts × IsStrictlySortedBy (slice_cmp nat_cmp) ts
 addresses-say ds ts e =
-    let all = addresses-onto ds [] ts (nothing-sorted (slice_cmp nat_cmp)) e in
+    let all = addresses-onto ds [] ts (nothing_ordered (slice_cmp nat_cmp)) e in
     (all.0, all.1, (λ u. (λ c. (all.2 u).0 (inl c), λ c. ⊎_elim (λ k. k) (λ k. absurd (contains_nothing u k)) ((all.2 u).1 c))), all.3)
 
 onto-addresses : (ds : Items) (said found ts : List (List ℕ)) → IsStrictlySortedBy (slice_cmp nat_cmp) found → EachSays SaysAddress ds said → HoldsBoth said found ts → IsStrictlySortedBy (slice_cmp nat_cmp) ts → addresses_in ds found ≡ Some ts
@@ -124,4 +121,4 @@ onto-addresses (item d ds) [] found ts s h both t = absurd (assumption)
 
 pub addresses-said : (ds : Items) (said ts : List (List ℕ)) → EachSays SaysAddress ds said → HoldTheSame said ts → IsStrictlySortedBy (slice_cmp nat_cmp) ts → addresses_in ds [] ≡ Some ts
 addresses-said ds said ts h held t =
-    onto-addresses ds said [] ts (nothing-sorted (slice_cmp nat_cmp)) h (λ u. (⊎_elim (λ c. (held u).0 c) (λ c. absurd (contains_nothing u c)), λ c. inl ((held u).1 c))) t
+    onto-addresses ds said [] ts (nothing_ordered (slice_cmp nat_cmp)) h (λ u. (⊎_elim (λ c. (held u).0 c) (λ c. absurd (contains_nothing u c)), λ c. inl ((held u).1 c))) t

@@ -11,8 +11,7 @@ use Rattle.std.proofs.lemmas.List.Sorted.{IsPermutation-append_right, IsPermutat
 use Rattle.std.proofs.lemmas.Map.Keys.{IsDistinct-IsPermutation, IsDistinct-from_sorted, IsDistinct-head, sorted_head, sorted_tail}
 use Rattle.std.proofs.lemmas.Map.Lookups.{exact_bytes}
 use Rattle.tf_state.specs.Reading.{put_new, put_text}
-use Rattle.tf_state.specs.Valid.{InOrder}
-use Rattle.tf_state.proofs.Orders.{put_new-in_order}
+use Rattle.tf_state.proofs.Orders.{put_new-sorted}
 use Rattle.tf_state.proofs.Properties.{mapped}
 
 -- ---- members of a list
@@ -65,30 +64,7 @@ one_order cmp total (x ∷ xs) (y ∷ ys) s t to from =
     let rest : xs ≡ ys = one_order cmp total xs ys (sorted_tail cmp x xs s) (sorted_tail cmp y ys t) (λ z h. tails cmp total x y z xs ys s is h (to z (contains_later x z xs h))) (λ z h. tails cmp total y x z ys xs t (sym is) h (from z (contains_later y z ys h))) in
     cc
 
--- ---- the two ways to say that a list ascends
-
-turned : {A : Type 0} (cmp : A → A → Ordering) → IsTotalOrder cmp → (a : A) (bs : List A) → AllByRecursion (λ b. cmp a b ≡ Less) bs → AllByRecursion (λ b. cmp b a ≡ Greater) bs
-turned cmp total a [] h = tt
-turned cmp total a (b ∷ bs) h = (total.antisymm b a ∙ ap ordering_reverse h.0, turned cmp total a bs h.1)
-
-turned_back : {A : Type 0} (cmp : A → A → Ordering) → IsTotalOrder cmp → (a : A) (bs : List A) → AllByRecursion (λ b. cmp b a ≡ Greater) bs → AllByRecursion (λ b. cmp a b ≡ Less) bs
-turned_back cmp total a [] h = tt
-turned_back cmp total a (b ∷ bs) h = (total.antisymm a b ∙ ap ordering_reverse h.0, turned_back cmp total a bs h.1)
-
-ordered : {A : Type 0} (cmp : A → A → Ordering) → IsTotalOrder cmp → (xs : List A) → IsStrictlySortedBy cmp xs → InOrder cmp (λ a. Unit {0}) xs
-unfolding IsStrictlySortedBy
-ordered cmp total [] h = tt
-ordered cmp total (x ∷ xs) h = (tt, turned cmp total x xs h.0, ordered cmp total xs h.1)
-
-sorted : {A : Type 0} (cmp : A → A → Ordering) → IsTotalOrder cmp → (xs : List A) → InOrder cmp (λ a. Unit {0}) xs → IsStrictlySortedBy cmp xs
-unfolding IsStrictlySortedBy
-sorted cmp total [] h = tt
-sorted cmp total (x ∷ xs) h = (turned_back cmp total x xs h.1, sorted cmp total xs h.2)
-
 -- ---- a put of what isn't there
-
-pub put_new-sorted : {A : Type 0} (cmp : A → A → Ordering) → IsTotalOrder cmp → (a : A) (bs cs : List A) → IsStrictlySortedBy cmp bs → put_new cmp a bs ≡ Some cs → IsStrictlySortedBy cmp cs
-put_new-sorted cmp total a bs cs s e = sorted cmp total cs (put_new-in_order cmp total (λ b. Unit {0}) a bs cs tt (ordered cmp total bs s) e)
 
 permutes_at : {A : Type 0} (o : Ordering) (a b : A) (bs cs : List A) (later : Option (List A)) → ((ds : List A) → later ≡ Some ds → IsPermutation (a ∷ bs) ds)
     → match_ordering o (Some (a ∷ b ∷ bs)) None (option_map (λ ds. b ∷ ds) later) ≡ Some cs → IsPermutation (a ∷ b ∷ bs) cs
