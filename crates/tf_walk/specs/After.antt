@@ -73,7 +73,7 @@ abbrev pub saved_resources : List Meaning → List ActionView → List Done → 
 saved_resources ms (a ∷ actions) (d ∷ done) = saved_one (saved_resource ms a d) (saved_resources ms actions done)
 saved_resources ms _ _ = []
 
--- a state with some resources more
+-- a state with these resources, each at its address
 abbrev pub with_resources : List ResourceView → StateView → StateView
 with_resources [] s = s
 with_resources (r ∷ rs) s = with_resource r (with_resources rs s)

@@ -126,7 +126,7 @@ fn add_diagnostic(diagnostics: &mut Vec<Diagnostic>, diagnostic: Option<Diagnost
     }
 }
 
-/// A state with some resources more, and a higher serial where there are any.
+/// A state with these resources, each at its address, and a higher serial where there are any.
 pub fn put_all(state: State, resources: Vec<Resource>) -> State
     requires fresh { (state_of state).serial ≡ 0 }
     requires room { HasRoomForResources (vec_len resources) state }
@@ -137,7 +137,7 @@ pub fn put_all(state: State, resources: Vec<Resource>) -> State
     raise(put_each(state, resources), changed)
 }
 
-/// A state with some resources more.
+/// A state with these resources, each at its address.
 fn put_each(mut state: State, mut resources: Vec<Resource>) -> State
     requires room { HasRoomForResources (vec_len resources) state }
     ensures put { state_of result ≡ with_resources (map resource_of resources.items) (state_of state) }
