@@ -11,7 +11,7 @@ use Rattle.tf_json.specs.Plain.{ArePlainMembers, AreAbove}
 use Rattle.tf_value.specs.Json.{value_data, entries_data}
 use Rattle.tf_value.specs.Tree.{Tree, map, Entries, no_entries, entry, put}
 use Rattle.tf_value.proofs.Forms.{value_from-value_data}
-use Rattle.tf_state.specs.Place.{KeyView, single, number, name}
+use Rattle.tf_resource.specs.Place.{KeyView, single, number, name}
 use Rattle.tf_state.specs.Reading.{value_in, values_in, key_in, deposed_in, attributes_in, addresses_in, dependencies_in, tainted_in, flag_in, put_text, put_new, below, below_or_zero, output_in}
 use Rattle.tf_state.specs.Text.{key_data, status_data, flag_data, dependencies_data, output_data, outputs_data}
 use Rattle.tf_state.specs.Valid.{IsSaved, AreSaved, IsTable, IsAttributes, IsKey, IsDeposed, AreAddresses}

@@ -6,14 +6,11 @@ pub mod KnownForms
 pub mod Loops
 pub mod Ordered
 pub mod Orders
-pub mod PlaceOrder
-pub mod Places
 pub mod ReadValid
 pub mod RecordBack
 pub mod Plainness
 pub mod Properties
 pub mod Refusals
-pub mod Removal
 pub mod StateBack
 pub mod StateLaws
 pub mod TypeForms

@@ -1,7 +1,8 @@
 -- A `BTreeMap` beside the list in order that it stands for.
-use Rattle.std.proofs.Common.{◌≡◌, true, false, List, [], ◌∷◌, map, Option, Some, None, option_map, Ordering, Less, Equal, Greater, is_eq, cond, refl, ap}
+use Rattle.std.proofs.Common.{◌≡◌, true, false, List, [], ◌∷◌, map, Option, Some, None, option_map, Ordering, Less, Equal, Greater, is_eq, cond, refl, ap, ◌∙◌}
 use Rattle.std.specs.BTreeMap.{insert_entry, is_at}
 use Rattle.std.specs.Cmp.{IsTotalOrder}
+use Rattle.std.specs.List.{AllByRecursion}
 use Rattle.std.specs.List.Sorted.{IsStrictlySortedBy}
 use Rattle.std.specs.Map.{keys_of, lookup}
 use Rattle.std.specs.Ordering.{match_ordering}
@@ -21,6 +22,18 @@ new_at : {K X A : Type 0} (o : Ordering) (f : K × X → A) (new e : K × X) (es
 new_at Less f new e es rest found later none more = refl
 new_at Equal f new e es rest found later none more = absurd (cc)
 new_at Greater f new e es rest found later none more = ap (option_map (λ cs. f e ∷ cs)) (more none)
+
+shown-below : {K X A L : Type 0} (R : K → K → Ordering) (cmp : L → L → Ordering) (see : A → L) (f : K × X → A) → SeesOrder R (λ a b. cmp (see a) (see b)) f → (e : K × X) (es : List (K × X)) → AllByRecursion (λ k. R e.0 k ≡ Less) (keys_of es)
+    → AllByRecursion (λ l. cmp (see (f e)) l ≡ Less) (map see (map f es))
+shown-below R cmp see f sees e [] h = tt
+shown-below R cmp see f sees e (d ∷ es) h = (sees e d ∙ h.0, shown-below R cmp see f sees e es h.1)
+
+-- what is seen of entries in the order of their keys stands in order
+pub shown-ordered : {K X A L : Type 0} (R : K → K → Ordering) (cmp : L → L → Ordering) (see : A → L) (f : K × X → A) → SeesOrder R (λ a b. cmp (see a) (see b)) f → (es : List (K × X)) → IsStrictlySortedBy R (keys_of es)
+    → IsStrictlySortedBy cmp (map see (map f es))
+unfolding IsStrictlySortedBy
+shown-ordered R cmp see f sees [] h = tt
+shown-ordered R cmp see f sees (e ∷ es) h = (shown-below R cmp see f sees e es h.0, shown-ordered R cmp see f sees es h.1)
 
 -- a key that isn't there goes in at its place
 pub put_new-insert_entry : {K X A : Type 0} (R : K → K → Ordering) (cmp : A → A → Ordering) (f : K × X → A) → SeesOrder R cmp f → (k : K) (v : X) (es : List (K × X)) → lookup (is_at (R k)) es ≡ None

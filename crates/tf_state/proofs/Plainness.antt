@@ -1,5 +1,6 @@
 -- The JSON tree of a valid state is plain, and nests no deeper than a reader goes.
 use Rattle.std.proofs.Common.{ℕ, ◌^◌, ◌*◌, ◌<◌, ◌≤◌, Bool, true, false, List, [], ◌∷◌, Option, Some, None, option_map, codes, map as each, arith}
+use Rattle.std.specs.List.{AllByRecursion}
 use Rattle.std.specs.Prelude.{⊤}
 use Rattle.serde_json.specs.Data.{Data, object, string, array, number as json_number, unsigned, Members, no_members, put, depth, items_depth, members_depth}
 use Rattle.serde_json.specs.View.{items_of}
@@ -8,11 +9,13 @@ use Rattle.tf_json.proofs.Puts.{plain-put, depth-put}
 use Rattle.tf_value.specs.Json.{value_data, items_data, entries_data}
 use Rattle.tf_value.specs.Measure as measure
 use Rattle.tf_value.specs.Tree.{Tree, null, boolean as truth, whole, text, list, map, unknown, Items, no_items, item, Entries, no_entries, entry}
-use Rattle.tf_state.specs.Place.{KeyView, single, number, name}
-use Rattle.tf_state.specs.State.{RecordView, ResourceView, StateView}
+use Rattle.tf_resource.specs.Place.{KeyView, single, number, name}
+use Rattle.tf_resource.specs.Record.{RecordView}
+use Rattle.tf_resource.specs.Resource.{ResourceView}
+use Rattle.tf_resource.specs.State.{StateView}
 use Rattle.tf_state.specs.Text.{put_some, key_data, status_data, flag_data, dependencies_data, record_data, resource_data, output_data, outputs_data, state_data}
 use Rattle.tf_state.specs.Types.{type_data, item_types, entry_types}
-use Rattle.tf_state.specs.Valid.{AreSaved, IsAttributes, IsKey, IsRecord, AreRecords, IsResource, AreResources, IsValid}
+use Rattle.tf_state.specs.Valid.{AreSaved, IsAttributes, IsKey, IsRecord, IsResource, IsPresent, IsValid}
 
 -- ---- types
 
@@ -107,25 +110,25 @@ record-plain r h =
     (plain_some (codes "deposed") (option_map string r.place.deposed) _ (deposed-plain r.place.deposed) (plain_some (codes "index_key") (key_data r.place.key) _ (key-plain r.place.key h.key)
     (plain_some (codes "status") (status_data r.tainted) no_members (status-plain r.tainted) tt))))))
 
-records-plain : (rs : List RecordView) → AreRecords rs → ArePlain (items_of (each record_data rs))
+records-plain : (rs : List RecordView) → AllByRecursion IsRecord rs → ArePlain (items_of (each record_data rs))
 records-plain [] h = tt
-records-plain (r ∷ rs) h = (record-plain r h.0, records-plain rs h.2)
+records-plain (r ∷ rs) h = (record-plain r h.0, records-plain rs h.1)
 
 resource-plain : (r : ResourceView) → IsResource r → IsPlain (resource_data r)
 resource-plain r h =
-    (and_put (codes "instances") (array (items_of (each record_data r.records))) _ (records-plain r.records h.records) (and_put (codes "mode") (string (codes "managed")) _ tt
+    (and_put (codes "instances") (array (items_of (each record_data r.records))) _ (records-plain r.records h.records.0) (and_put (codes "mode") (string (codes "managed")) _ tt
     (and_put (codes "name") (string r.label.name) _ tt (and_put (codes "provider") (string r.provider) _ tt (and_put (codes "type") (string r.label.kind) _ tt nothing_put))))).fact
 
-resources-plain : (rs : List ResourceView) → AreResources rs → ArePlain (items_of (each resource_data rs))
+resources-plain : (rs : List ResourceView) → AllByRecursion IsPresent rs → ArePlain (items_of (each resource_data rs))
 resources-plain [] h = tt
-resources-plain (r ∷ rs) h = (resource-plain r h.0, resources-plain rs h.2)
+resources-plain (r ∷ rs) h = (resource-plain r h.0.0, resources-plain rs h.1)
 
 pub state-plain : (s : StateView) → IsValid s → IsPlain (state_data s)
 state-plain s h =
     let serial : s.serial < 2 ^ 64 = let small = h.serial in omega arith in
     let four : 4 < 2 ^ 64 = omega arith in
     (and_put (codes "lineage") (string s.lineage) _ tt (and_put (codes "outputs") (object (outputs_data s.outputs)) _ (outputs-plain s.outputs h.outputs.0)
-    (and_put (codes "resources") (array (items_of (each resource_data s.resources))) _ (resources-plain s.resources h.resources) (and_put (codes "serial") (json_number (unsigned s.serial)) _ serial
+    (and_put (codes "resources") (array (items_of (each resource_data s.resources))) _ (resources-plain s.resources h.resources.0) (and_put (codes "serial") (json_number (unsigned s.serial)) _ serial
     (and_put (codes "terraform_version") (string s.terraform_version) _ tt (and_put (codes "version") (json_number (unsigned 4)) _ four nothing_put)))))).fact
 
 -- ---- depth
@@ -230,21 +233,21 @@ record-depth r h =
     (depth_some (codes "status") (status_data r.tainted) no_members 33 (status-depth r.tainted) nothing)))))) in
     omega (arith, all)
 
-records-depth : (rs : List RecordView) → AreRecords rs → items_depth (items_of (each record_data rs)) ≤ 34
+records-depth : (rs : List RecordView) → AllByRecursion IsRecord rs → items_depth (items_of (each record_data rs)) ≤ 34
 records-depth [] h = omega arith
-records-depth (r ∷ rs) h = omega (arith, record-depth r h.0, records-depth rs h.2)
+records-depth (r ∷ rs) h = omega (arith, record-depth r h.0, records-depth rs h.1)
 
 resource-depth : (r : ResourceView) → IsResource r → depth (resource_data r) ≤ 36
 resource-depth r h =
-    let many : depth (array (items_of (each record_data r.records))) ≤ 35 = omega (arith, records-depth r.records h.records) in
+    let many : depth (array (items_of (each record_data r.records))) ≤ 35 = omega (arith, records-depth r.records h.records.0) in
     omega (arith, many)
 
-resources-depth : (rs : List ResourceView) → AreResources rs → items_depth (items_of (each resource_data rs)) ≤ 36
+resources-depth : (rs : List ResourceView) → AllByRecursion IsPresent rs → items_depth (items_of (each resource_data rs)) ≤ 36
 resources-depth [] h = omega arith
-resources-depth (r ∷ rs) h = omega (arith, resource-depth r h.0, resources-depth rs h.2)
+resources-depth (r ∷ rs) h = omega (arith, resource-depth r h.0.0, resources-depth rs h.1)
 
 pub state-depth : (s : StateView) → IsValid s → depth (state_data s) ≤ 127
 state-depth s h =
     let outputs : depth (object (outputs_data s.outputs)) ≤ 66 = omega (arith, outputs-depth s.outputs h.outputs.1) in
-    let resources : depth (array (items_of (each resource_data s.resources))) ≤ 66 = omega (arith, resources-depth s.resources h.resources) in
+    let resources : depth (array (items_of (each resource_data s.resources))) ≤ 66 = omega (arith, resources-depth s.resources h.resources.0) in
     omega (arith, outputs, resources)

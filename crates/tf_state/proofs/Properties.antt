@@ -7,9 +7,10 @@ use Rattle.std.proofs.lemmas.Slice.Eq.{bytes_eq-Decides}
 use Rattle.serde_json.specs.Data.{Data, null, boolean, number as json_number, unsigned, string, array, object, no_items, item}
 use Rattle.tf_address.specs.Name.{is_name}
 use Rattle.tf_value.specs.Tree.{Tree, map, Entries, no_entries}
-use Rattle.tf_state.specs.Place.{KeyView, number}
+use Rattle.tf_resource.specs.Place.{KeyView, number}
 use Rattle.tf_state.specs.Reading.{text_in, below, name_in, text_or, below_or_zero, key_in, deposed_in, attributes_in, value_in, values_in, tainted_in, flag_in, dependencies_in, is_unsensitive, is_unchecked, is_managed, is_version, outputs_in, instances_in, all_resources_in, resources_in, with_records}
-use Rattle.tf_state.specs.State.{RecordView, ResourceView}
+use Rattle.tf_resource.specs.Record.{RecordView}
+use Rattle.tf_resource.specs.Resource.{ResourceView}
 use Rattle.tf_state.specs.Table.{SaysText, SaysNumber, SaysName, SaysTextOr, SaysNumberOrZero, SaysKey, SaysDeposed, SaysAttributes, SaysStatus, SaysFlag, SaysDependencies, SaysNothingSensitive, SaysNoChecks, SaysOutputs, SaysInstances, SaysResources}
 use Rattle.tf_state.specs.Words.{is_deposed_key}
 

@@ -13,22 +13,26 @@ use Rattle.serde_json.specs.Find.{get, of_integer}
 use Rattle.tf_json.specs.Plain.{IsPlain, ArePlain, ArePlainMembers, IsSorted, AreSorted, AreSortedMembers}
 use Rattle.tf_json.proofs.Puts.{plain-put}
 use Rattle.tf_json.proofs.Sorted.{read_is_sorted, sorted-get}
-use Rattle.tf_address.specs.Name.{is_name}
 use Rattle.tf_value.specs.Json.{IsJson, IsArray, IsObject, value_data, entries_data, tree_from}
 use Rattle.tf_value.specs.Known.{known}
 use Rattle.tf_value.specs.Measure.{weight, depth, max_weight, max_depth, IsWithinLimits}
 use Rattle.tf_value.specs.Tree.{Tree, null, boolean, whole, text, list, map, unknown, Items, no_items, item, Entries, no_entries, entry, put, IsHeld, AreHeld, AreHeldEntries}
 use Rattle.tf_value.proofs.Forms.{form_of, form-tree_from, IsJson-one_form}
 use Rattle.tf_state.specs.Laws.{ReadIsValid}
-use Rattle.tf_state.specs.Place.{KeyView}
+use Rattle.tf_address.specs.Label.{label_cmp}
+use Rattle.tf_resource.specs.Addresses.{AreByAddress}
+use Rattle.tf_resource.specs.Place.{KeyView, place_cmp}
 use Rattle.tf_state.specs.Reading.{put_text, put_new, record_cmp, resource_cmp, is_within, value_in, values_in, address_in, addresses_in, record_in, records_in, resource_in, resources_in, is_some_record, with_records, output_in, required_value, state_in}
-use Rattle.tf_state.specs.State.{RecordView, ResourceView, StateView}
+use Rattle.tf_resource.specs.Record.{RecordView}
+use Rattle.tf_resource.specs.Resource.{ResourceView}
+use Rattle.tf_resource.specs.State.{StateView}
 use Rattle.tf_state.specs.Table.{SaysKey, SaysDeposed, SaysAttributes, SaysDependencies, SaysNumberOrZero, SaysInstances, SaysResources, SaysOutputs}
-use Rattle.tf_state.specs.Valid.{IsSaved, AreSaved, IsTable, IsAttributes, IsKey, IsDeposed, AreAddresses, InOrder, IsRecord, AreRecords, AreResources, IsValid}
+use Rattle.tf_state.specs.Valid.{IsSaved, AreSaved, IsTable, IsAttributes, IsKey, IsDeposed, AreAddresses, IsRecord, AreRecords, IsResource, IsPresent, AreResources, IsValid}
 use Rattle.tf_state.specs.Words.{is_address, is_shaped}
 use Rattle.tf_state.specs.declared.shape.Shape.TheVariants as shapes
 use Rattle.tf_state.proofs.ByTable.{records_are_by_table, resources_are_by_table, states_are_by_table}
-use Rattle.tf_state.proofs.Orders.{record_total, resource_total, put_new-in_order}
+use Rattle.tf_resource.proofs.Totals.{place_total, label_total}
+use Rattle.tf_state.proofs.Orders.{nothing_ordered, order-filter, put_new-all, put_new-order}
 use Rattle.tf_state.proofs.Properties.{inverted, guarded}
 
 -- ---- values
@@ -218,21 +222,16 @@ records-read json.no_items found rs s h e = subst AreRecords (same found rs e) h
 records-read (json.item d ds) found rs s h e =
     let i = inverted (λ r. option_and_then (records_in ds) (put_new record_cmp r found)) (record_in d) rs e in
     let j = inverted (records_in ds) (put_new record_cmp i.0 found) rs i.2 in
-    records-read ds j.0 rs s.1 (put_new-in_order record_cmp record_total IsRecord i.0 found j.0 (record-valid d i.0 s.0 i.1) h j.1) j.2
+    let each = put_new-all record_cmp IsRecord i.0 found j.0 (record-valid d i.0 s.0 i.1) h.0 j.1 in
+    records-read ds j.0 rs s.1 (each, put_new-order (λ r. r.place) place_cmp place_total i.0 found j.0 h.1 j.1) j.2
 
 -- ---- resources
 
--- a resource that may have no records
-record IsPart (r : ResourceView) : Type 0 where
-  kind : is_name r.label.kind ≡ true
-  name : is_name r.label.name ≡ true
-  records : AreRecords r.records
-
 instances-valid : (o : Option json.Data) (rs : List RecordView) → ((e : json.Data) → o ≡ Some e → IsSorted e) → SaysInstances o rs → AreRecords rs
-instances-valid (Some (json.array ds)) rs s h = records-read ds [] rs (s (json.array ds) refl) tt h
+instances-valid (Some (json.array ds)) rs s h = records-read ds [] rs (s (json.array ds) refl) (tt, nothing_ordered place_cmp) h
 instances-valid _ rs s h = absurd (assumption)
 
-resource-valid : (d : json.Data) (r : ResourceView) → IsSorted d → resource_in d ≡ Some r → IsPart r
+resource-valid : (d : json.Data) (r : ResourceView) → IsSorted d → resource_in d ≡ Some r → IsResource r
 resource-valid d r s e =
     let says = (resources_are_by_table d r).0 e in
     record {
@@ -241,33 +240,32 @@ resource-valid d r s e =
       records = instances-valid (get (codes "instances") d) r.records (λ f is. sorted-get (codes "instances") d f s is) says.instances;
     }
 
-resources-read : (ds : json.Items) (found rs : List ResourceView) → AreSorted ds → InOrder resource_cmp IsPart found → resources_in ds found ≡ Some rs → InOrder resource_cmp IsPart rs
-resources-read json.no_items found rs s h e = subst (InOrder resource_cmp IsPart) (same found rs e) h
+-- resources, each of which may be one without records
+abbrev AreParts : List ResourceView → Type 0
+AreParts rs = AllByRecursion IsResource rs × AreByAddress rs
+
+resources-read : (ds : json.Items) (found rs : List ResourceView) → AreSorted ds → AreParts found → resources_in ds found ≡ Some rs → AreParts rs
+resources-read json.no_items found rs s h e = subst AreParts (same found rs e) h
 resources-read (json.item d ds) found rs s h e =
     let i = inverted (λ r. option_and_then (resources_in ds) (put_new resource_cmp r found)) (resource_in d) rs e in
     let j = inverted (resources_in ds) (put_new resource_cmp i.0 found) rs i.2 in
-    resources-read ds j.0 rs s.1 (put_new-in_order resource_cmp resource_total IsPart i.0 found j.0 (resource-valid d i.0 s.0 i.1) h j.1) j.2
+    let each = put_new-all resource_cmp IsResource i.0 found j.0 (resource-valid d i.0 s.0 i.1) h.0 j.1 in
+    resources-read ds j.0 rs s.1 (each, put_new-order (λ r. r.label) label_cmp label_total i.0 found j.0 h.1 j.1) j.2
 
-kept-all : (P : ResourceView → Type 0) (b : Bool) (r : ResourceView) (rest : List ResourceView) → P r → AllByRecursion P rest → AllByRecursion P (cond b (r ∷ rest) rest)
-kept-all P true r rest p h = (p, h)
-kept-all P false r rest p h = h
+present_at : (b : Bool) (r : ResourceView) (rest : List ResourceView) → is_some_record r.records ≡ b → IsResource r → AllByRecursion IsPresent rest → AllByRecursion IsPresent (cond b (r ∷ rest) rest)
+present_at true r rest some p more = ((p, some), more)
+present_at false r rest some p more = more
 
-with_records-all : (P : ResourceView → Type 0) (rs : List ResourceView) → AllByRecursion P rs → AllByRecursion P (with_records rs)
-with_records-all P [] h = tt
-with_records-all P (r ∷ rs) h = kept-all P (is_some_record r.records) r (with_records rs) h.0 (with_records-all P rs h.1)
+with_records-present : (rs : List ResourceView) → AllByRecursion IsResource rs → AllByRecursion IsPresent (with_records rs)
+with_records-present [] h = tt
+with_records-present (r ∷ rs) h = present_at (is_some_record r.records) r (with_records rs) refl h.0 (with_records-present rs h.1)
 
-kept-order : (b : Bool) (r : ResourceView) (rest : List ResourceView) → is_some_record r.records ≡ b → IsPart r → AllByRecursion (λ q. resource_cmp q r ≡ Greater) rest → AreResources rest → AreResources (cond b (r ∷ rest) rest)
-kept-order true r rest some p h more = (record { kind = p.kind; name = p.name; some = some; records = p.records }, h, more)
-kept-order false r rest some p h more = more
-
-with_records-order : (rs : List ResourceView) → InOrder resource_cmp IsPart rs → AreResources (with_records rs)
-with_records-order [] h = tt
-with_records-order (r ∷ rs) h =
-    kept-order (is_some_record r.records) r (with_records rs) refl h.0 (with_records-all (λ q. resource_cmp q r ≡ Greater) rs h.1) (with_records-order rs h.2)
+with_records-valid : (rs : List ResourceView) → AreParts rs → AreResources (with_records rs)
+with_records-valid rs h = (with_records-present rs h.0, order-filter (λ r. r.label) label_cmp (λ r. is_some_record r.records) rs h.1)
 
 resources-valid : (o : Option json.Data) (rs : List ResourceView) → ((e : json.Data) → o ≡ Some e → IsSorted e) → SaysResources o rs → AreResources rs
-resources-valid None rs s h = subst AreResources (sym h) tt
-resources-valid (Some (json.array ds)) rs s h = subst AreResources (sym h.2) (with_records-order h.0 (resources-read ds [] h.0 (s (json.array ds) refl) tt h.1))
+resources-valid None rs s h = subst AreResources (sym h) (tt, nothing_ordered label_cmp)
+resources-valid (Some (json.array ds)) rs s h = subst AreResources (sym h.2) (with_records-valid h.0 (resources-read ds [] h.0 (s (json.array ds) refl) (tt, nothing_ordered label_cmp) h.1))
 resources-valid (Some _) rs s h = absurd (assumption)
 
 outputs-valid : (o : Option json.Data) (es : Entries) → ((e : json.Data) → o ≡ Some e → IsSorted e) → SaysOutputs o es → IsTable es

@@ -5,7 +5,7 @@ use Rattle.serde_json.specs.Read.{read}
 use Rattle.tf_json.proofs.ReadsBack.{text_reads_back}
 use Rattle.tf_state.specs.Laws.{TextIsOfOne, TextReadsAsState, StateOfTextIsOne}
 use Rattle.tf_state.specs.Reading.{state_in}
-use Rattle.tf_state.specs.State.{StateView}
+use Rattle.tf_resource.specs.State.{StateView}
 use Rattle.tf_state.specs.Text.{state_data, state_text}
 use Rattle.tf_state.specs.Valid.{IsValid}
 use Rattle.tf_state.proofs.Plainness.{state-plain, state-depth}

@@ -7,10 +7,10 @@ use Rattle.tf_value.specs.Tree.{tree_of, items_view, entries_view}
 use Rattle.tf_value.specs.declared.value.Value.{Value}
 use Rattle.tf_value.proofs.Views.{Entry}
 use Rattle.tf_value.proofs.JsonForms.{listed}
-use Rattle.tf_state.specs.State.{outputs_of}
+use Rattle.tf_resource.specs.State.{outputs_of}
 use Rattle.tf_state.specs.Text.{output_data, outputs_data}
 use Rattle.tf_state.specs.Types.{type_data, item_types, entry_types}
-use Rattle.tf_state.specs.declared.object.Object.{Object}
+use Rattle.tf_resource.specs.declared.object.Object.{Object}
 
 types-is : (vs : List Value) → json_items_of (each (λ v. type_data (tree_of v)) vs) ≡ item_types (items_view vs)
 types-is [] = refl

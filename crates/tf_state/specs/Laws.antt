@@ -1,12 +1,13 @@
 -- What holds of states and their texts, whatever they are.
-use Rattle.std.specs.Prelude.{◌≡◌, ℕ, List, None, IsUtf8}
+use Rattle.std.specs.Prelude.{◌≡◌, ℕ, List, IsUtf8}
 use Rattle.tf_address.specs.Label.{LabelView}
-use Rattle.tf_state.specs.LookUp.{record_at, resource_at, same_label, same_place, with_record_among, without_first}
-use Rattle.tf_state.specs.Place.{PlaceView}
+use Rattle.tf_resource.specs.Place.{PlaceView}
+use Rattle.tf_resource.specs.Record.{RecordView}
+use Rattle.tf_resource.specs.Resource.{ResourceView, with_record, without_record}
+use Rattle.tf_resource.specs.State.{StateView, with_resource, without_resource}
 use Rattle.tf_state.specs.Reading.{Reads}
-use Rattle.tf_state.specs.State.{RecordView, ResourceView, StateView, with_resource_among}
 use Rattle.tf_state.specs.Text.{state_text}
-use Rattle.tf_state.specs.Valid.{AreRecords, AreResources, IsRecord, IsResource, IsValid}
+use Rattle.tf_state.specs.Valid.{IsPresent, IsRecord, IsResource, IsValid}
 
 -- Bytes are the text of at most one state.
 abbrev pub TextIsOfOne : Type 0
@@ -24,16 +25,18 @@ StateOfTextIsOne = (s t : StateView) → IsValid s → IsValid t → state_text 
 abbrev pub ReadIsValid : Type 0
 ReadIsValid = (bytes : List ℕ) (s : StateView) → Reads bytes s → IsValid s
 
--- A resource that is put where none is at its address, and a record where none is at its place, keep the others' order.
-abbrev pub PutKeepsResources : Type 0
-PutKeepsResources = (r : ResourceView) (rs : List ResourceView) → IsResource r → AreResources rs → resource_at r.label rs ≡ None → AreResources (with_resource_among r rs)
+-- A valid state with a resource put in, at its address, is valid.
+abbrev pub PutKeepsState : Type 0
+PutKeepsState = (new : ResourceView) (s : StateView) → IsPresent new → IsValid s → IsValid (with_resource new s)
 
-abbrev pub PutKeepsRecords : Type 0
-PutKeepsRecords = (r : RecordView) (rs : List RecordView) → IsRecord r → AreRecords rs → record_at r.place rs ≡ None → AreRecords (with_record_among r rs)
+-- A valid resource with a record put in, at its place, is valid, and has a record.
+abbrev pub PutKeepsResource : Type 0
+PutKeepsResource = (new : RecordView) (r : ResourceView) → IsRecord new → IsResource r → IsPresent (with_record new r)
 
--- What is left after a remove is in order.
-abbrev pub RemoveKeepsResources : Type 0
-RemoveKeepsResources = (label : LabelView) (rs : List ResourceView) → AreResources rs → AreResources (without_first (λ r. same_label label r.label) rs)
+-- A valid state without the resource at an address is valid.
+abbrev pub RemoveKeepsState : Type 0
+RemoveKeepsState = (label : LabelView) (s : StateView) → IsValid s → IsValid (without_resource label s)
 
-abbrev pub RemoveKeepsRecords : Type 0
-RemoveKeepsRecords = (place : PlaceView) (rs : List RecordView) → AreRecords rs → AreRecords (without_first (λ r. same_place place r.place) rs)
+-- A valid resource without the record at a place is valid, though it may be left without records.
+abbrev pub RemoveKeepsResource : Type 0
+RemoveKeepsResource = (place : PlaceView) (r : ResourceView) → IsResource r → IsResource (without_record place r)

@@ -1,10 +1,6 @@
 pub mod Laws
-pub mod LookUp
 pub mod Made
-pub mod Place
-pub mod Provider
 pub mod Reading
-pub mod State
 pub mod Table
 pub mod Text
 pub mod Types

@@ -4,9 +4,11 @@ use Rattle.serde_json.specs.Data.{Data, null, boolean, number as json_number, un
 use Rattle.serde_json.specs.Find.{get}
 use Rattle.tf_address.specs.Name.{is_name}
 use Rattle.tf_value.specs.Tree.{Tree, map, Entries, no_entries}
-use Rattle.tf_state.specs.Place.{KeyView, single, number, name}
+use Rattle.tf_resource.specs.Place.{KeyView, single, number, name}
 use Rattle.tf_state.specs.Reading.{addresses_in, output_in, record_in, records_in, resource_in, resources_in, state_in, value_in, values_in, with_records}
-use Rattle.tf_state.specs.State.{RecordView, ResourceView, StateView}
+use Rattle.tf_resource.specs.Record.{RecordView}
+use Rattle.tf_resource.specs.Resource.{ResourceView}
+use Rattle.tf_resource.specs.State.{StateView}
 use Rattle.tf_state.specs.Words.{is_deposed_key, is_shaped}
 use Rattle.tf_state.specs.declared.shape.Shape.TheVariants as shapes
 

@@ -5,8 +5,10 @@ use Rattle.serde_json.specs.View.{items_of}
 use Rattle.tf_json.specs.Text.{text_of}
 use Rattle.tf_value.specs.Json.{value_data}
 use Rattle.tf_value.specs.Tree.{Tree, Entries, no_entries, entry}
-use Rattle.tf_state.specs.Place.{KeyView, single, number, name}
-use Rattle.tf_state.specs.State.{RecordView, ResourceView, StateView}
+use Rattle.tf_resource.specs.Place.{KeyView, single, number, name}
+use Rattle.tf_resource.specs.Record.{RecordView}
+use Rattle.tf_resource.specs.Resource.{ResourceView}
+use Rattle.tf_resource.specs.State.{StateView}
 use Rattle.tf_state.specs.Types.{type_data}
 
 -- the members with a value at a key, where there is a value

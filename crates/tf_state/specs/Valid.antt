@@ -3,7 +3,6 @@ use Rattle.std.specs.Prelude.{◌≡◌, ℕ, ◌^◌, ◌<◌, true, List, [], 
 use Rattle.std.specs.Cmp.Lexicographic.{slice_cmp}
 use Rattle.std.specs.List.{AllByRecursion}
 use Rattle.std.specs.Ordering.{nat_cmp}
-use Rattle.std.specs.declared.cmp.Ordering.{Ordering}
 use Rattle.std.specs.declared.cmp.Ordering.TheVariants.{Greater}
 use Rattle.tf_address.specs.Name.{is_name}
 use Rattle.tf_json.specs.Plain.{ArePlainMembers}
@@ -11,9 +10,13 @@ use Rattle.tf_value.specs.Json.{entries_data}
 use Rattle.tf_value.specs.Known.{known}
 use Rattle.tf_value.specs.Measure.{IsWithinLimits}
 use Rattle.tf_value.specs.Tree.{Tree, map, Entries, no_entries, entry, IsHeld}
-use Rattle.tf_state.specs.Place.{KeyView, single, number, name}
-use Rattle.tf_state.specs.Reading.{is_some_record, record_cmp, resource_cmp}
-use Rattle.tf_state.specs.State.{RecordView, ResourceView, StateView}
+use Rattle.tf_resource.specs.Addresses.{AreByAddress}
+use Rattle.tf_resource.specs.Place.{KeyView, single, number, name}
+use Rattle.tf_resource.specs.Places.{AreByPlace}
+use Rattle.tf_state.specs.Reading.{is_some_record}
+use Rattle.tf_resource.specs.Record.{RecordView}
+use Rattle.tf_resource.specs.Resource.{ResourceView}
+use Rattle.tf_resource.specs.State.{StateView}
 use Rattle.tf_state.specs.Words.{is_address, is_deposed_key}
 
 -- A value that may be saved: it is known, its whole numbers are those of 64 bits, and it is within the limits.
@@ -49,11 +52,6 @@ abbrev pub AreAddresses : List (List ℕ) → Type 0
 AreAddresses [] = ⊤
 AreAddresses (t ∷ ts) = (is_address t ≡ true) × AllByRecursion (λ u. slice_cmp nat_cmp u t ≡ Greater) ts × AreAddresses ts
 
--- each has a property, and each stands after those before it
-abbrev pub InOrder : {A : Type 0} → (A → A → Ordering) → (A → Type 0) → List A → Type 0
-InOrder cmp P [] = ⊤
-InOrder cmp P (a ∷ later) = P a × AllByRecursion (λ b. cmp b a ≡ Greater) later × InOrder cmp P later
-
 pub record IsRecord (r : RecordView) : Type 0 where
   pub key : IsKey r.place.key
   pub deposed : IsDeposed r.place.deposed
@@ -61,19 +59,23 @@ pub record IsRecord (r : RecordView) : Type 0 where
   pub version : r.schema_version < 2 ^ 32
   pub dependencies : AreAddresses r.dependencies
 
--- records, each after those before it by its place
+-- records, in the order of their places, no two at one
 abbrev pub AreRecords : List RecordView → Type 0
-AreRecords rs = InOrder record_cmp IsRecord rs
+AreRecords rs = AllByRecursion IsRecord rs × AreByPlace rs
 
+-- a resource, which may be one without records
 pub record IsResource (r : ResourceView) : Type 0 where
   pub kind : is_name r.label.kind ≡ true
   pub name : is_name r.label.name ≡ true
-  pub some : is_some_record r.records ≡ true
   pub records : AreRecords r.records
 
--- resources, each after those before it by its address
+-- a resource with a record
+abbrev pub IsPresent : ResourceView → Type 0
+IsPresent r = IsResource r × (is_some_record r.records ≡ true)
+
+-- resources with records, in the order of their addresses, no two at one
 abbrev pub AreResources : List ResourceView → Type 0
-AreResources rs = InOrder resource_cmp IsResource rs
+AreResources rs = AllByRecursion IsPresent rs × AreByAddress rs
 
 -- A state is valid where its parts are such as a text can hold: names, keys and addresses of their forms, values
 -- that may be saved, and records and resources in order, none twice, no resource without records.

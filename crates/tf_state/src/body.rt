@@ -1,6 +1,10 @@
-use crate::object::Object;
-use crate::state::Record;
+ghost use Rattle.std.specs.List.Sorted.{IsStrictlySortedBy-prop};
+ghost use Rattle.std.specs.Prelude.{map};
+ghost use Rattle.tf_resource.specs.Places.{AreByPlace};
+ghost use Rattle.tf_resource.specs.Record.{record_of};
+
 use std::collections::BTreeSet;
+use tf_resource::{Object, Record};
 
 /// What a record says of an object, beside which one it is.
 #[derive(Drop)]
@@ -17,4 +21,5 @@ pub(crate) struct Body {
 pub(crate) struct Held {
     pub provider: String,
     pub records: Vec<Record>,
+    pub ghost ordered: { AreByPlace (map record_of records.items) } by { IsStrictlySortedBy-prop _ _ },
 }

@@ -1,6 +1,6 @@
 // Laws of states and their texts, proved for every state: each function's contract is a law, and its body does
 // nothing.
-ghost use Rattle.tf_state.specs.Laws.{PutKeepsRecords, PutKeepsResources, ReadIsValid, RemoveKeepsRecords, RemoveKeepsResources, StateOfTextIsOne, TextIsOfOne, TextReadsAsState};
+ghost use Rattle.tf_state.specs.Laws.{PutKeepsResource, PutKeepsState, ReadIsValid, RemoveKeepsResource, RemoveKeepsState, StateOfTextIsOne, TextIsOfOne, TextReadsAsState};
 ghost use Rattle.tf_state.specs.Table.{RecordsAreByTable, ResourcesAreByTable, StatesAreByTable};
 
 /// Bytes are the text of at most one state.
@@ -21,12 +21,13 @@ pub fn read_states_are_valid()
     ensures { ReadIsValid }
 {}
 
-/// A put of what isn't there, and a remove, keep valid resources and records in order.
-pub fn puts_and_removes_keep_order()
-    ensures resources { PutKeepsResources }
-    ensures records { PutKeepsRecords }
-    ensures left_resources { RemoveKeepsResources }
-    ensures left_records { RemoveKeepsRecords }
+/// A valid state stays valid where a resource with valid records is put into it, and where one is taken out; so does
+/// a resource with a record. What is put in may take the place of another.
+pub fn puts_and_removes_keep_states_valid()
+    ensures resources { PutKeepsState }
+    ensures records { PutKeepsResource }
+    ensures left_resources { RemoveKeepsState }
+    ensures left_records { RemoveKeepsResource }
 {}
 
 /// A JSON tree is read as a record, a resource or a state exactly where it says that one by the table of the format.

@@ -1,15 +1,11 @@
-//! The state of what was created, and its text in Terraform's state file format, version 4.
+//! The text of a state in Terraform's state file format, version 4: reading it, writing it, and the laws of both.
 #![tactic(auto)]
 
 #[cfg(test)]
 mod accepted;
 mod body;
 mod fault;
-mod finding;
-mod key;
 mod laws;
-mod object;
-mod provider;
 mod reading;
 mod record_reading;
 mod record_writing;
@@ -17,7 +13,6 @@ mod record_writing;
 mod refused;
 mod resource_reading;
 mod shape;
-mod state;
 #[cfg(test)]
 mod tests;
 mod types;
@@ -26,13 +21,10 @@ mod words;
 mod writing;
 
 pub use fault::StateFault;
-pub use key::{Key, Place};
 pub use laws::{
-    puts_and_removes_keep_order, read_states_are_valid, states_are_by_table, texts_are_of_one,
-    texts_read_back,
+    puts_and_removes_keep_states_valid, read_states_are_valid, states_are_by_table,
+    texts_are_of_one, texts_read_back,
 };
-pub use object::Object;
-pub use provider::provider_address;
 pub use reading::read;
-pub use state::{Record, Resource, State};
+pub use tf_resource::{Key, Object, Place, Record, Resource, State, provider_address};
 pub use writing::write;

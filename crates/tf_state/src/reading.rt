@@ -6,18 +6,17 @@ ghost use Rattle.serde_json.specs.Data.{Data};
 ghost use Rattle.serde_json.specs.Read.{read};
 ghost use Rattle.serde_json.specs.View.{view, members_view};
 ghost use Rattle.tf_state.specs.Reading.{IsBeyond, IsNoJson, IsPlannable, IsRefused, IsUnread, Reads, is_state, is_unchecked, is_version, output_in, outputs_in, required_value, state_in, text_or, values_in};
-ghost use Rattle.tf_state.specs.State.{outputs_of, state_of};
+ghost use Rattle.tf_resource.specs.State.{outputs_of, state_of};
 ghost use Rattle.tf_value.specs.Tree.{no_entries, tree_of};
 
 use crate::fault::StateFault;
-use crate::object::Object;
 use crate::resource_reading::read_resources;
 use crate::shape::{Shape, is_shaped};
-use crate::state::State;
 use crate::value_reading::{read_serial, read_text, read_value};
 use serde_json::{Map, Value as Json};
 use std::alloc::Global;
 use std::collections::BTreeMap;
+use tf_resource::{Object, State};
 
 /// The most resources with records that a state may have.
 const MAX_RESOURCES: usize = 4_000;
@@ -54,7 +53,7 @@ fn is_plannable(state: &State) -> bool
     ensures within { OnTrue result (IsPlannable (state_of state.now)) }
     ensures beyond { OnFalse result (IsBeyond (state_of state.now)) }
 {
-    state.resources.len() <= MAX_RESOURCES && state.serial < u32::MAX
+    state.resources().len() <= MAX_RESOURCES && state.serial() < u32::MAX
 }
 
 fn read_json(alloc: Global, bytes: &[u8]) -> Result<Json, StateFault>
@@ -80,13 +79,7 @@ fn read_state(alloc: Global, json: &Json) -> Result<State, StateFault>
     let terraform_version = read_terraform_version(alloc, json.get("terraform_version"))?;
     let outputs = read_outputs(alloc, json.get("outputs"))?;
     let resources = read_resources(alloc, json.get("resources"))?;
-    Ok(State {
-        serial,
-        lineage,
-        terraform_version,
-        outputs,
-        resources,
-    })
+    Ok(State::new(serial, lineage, terraform_version, outputs, resources))
 }
 
 fn is_state(json: &Json) -> bool

@@ -3,15 +3,14 @@
 ghost use Rattle.std.specs.Prelude.{◌≡◌, ◌++◌, [], Some, IfErr, IfOk, OnOk, map, option_map};
 ghost use Rattle.serde_json.specs.View.{view, items_view};
 ghost use Rattle.tf_state.specs.Made.{record_made, records_made};
-ghost use Rattle.tf_state.specs.Place.{place_of};
+ghost use Rattle.tf_resource.specs.Place.{place_of};
+ghost use Rattle.tf_resource.specs.Places.{AreByPlace};
 ghost use Rattle.tf_state.specs.Reading.{IsRefused, instances_in, is_record, put_new, record_at, record_cmp, record_in, records_in};
-ghost use Rattle.tf_state.specs.State.{record_of};
+ghost use Rattle.tf_resource.specs.Record.{record_of};
 
 use crate::body::Body;
 use crate::fault::StateFault;
-use crate::key::Place;
 use crate::shape::{Shape, is_shaped};
-use crate::state::Record;
 use crate::value_reading::{
     is_unsensitive, read_attributes, read_dependencies, read_flag, read_place, read_tainted,
     read_version,
@@ -19,10 +18,12 @@ use crate::value_reading::{
 use serde_json::Value as Json;
 use std::alloc::{AllocError, Global};
 use std::collections::BTreeMap;
+use tf_resource::{Place, Record};
 
 /// The records of a resource, in the order of their places.
 pub(crate) fn read_instances(alloc: Global, json: Option<&Json>) -> Result<Vec<Record>, StateFault>
     ensures ok { IfOk result (λ rs. instances_in (option_map (λ v. view v.now) json.entry) ≡ Some (map record_of rs.items)) }
+    ensures ordered { IfOk result (λ rs. AreByPlace (map record_of rs.items)) }
     ensures err { IfErr result (λ e. IsRefused (instances_in (option_map (λ v. view v.now) json.entry)) e) }
 {
     match json {
@@ -35,7 +36,8 @@ pub(crate) fn read_instances(alloc: Global, json: Option<&Json>) -> Result<Vec<R
 }
 
 fn in_order(alloc: Global, records: BTreeMap<Place, Body>) -> Result<Vec<Record>, AllocError>
-    ensures { IfOk result (λ rs. map record_of rs.items ≡ records_made records.entries) }
+    ensures all { IfOk result (λ rs. map record_of rs.items ≡ records_made records.entries) }
+    ensures ordered { IfOk result (λ rs. AreByPlace (map record_of rs.items)) }
 {
     let mut ordered = Vec::with_capacity(alloc, records.len())?;
     for (place, body) in records {

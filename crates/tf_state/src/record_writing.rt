@@ -3,19 +3,17 @@
 ghost use Rattle.std.specs.Prelude.{◌≡◌, IfOk, OnOk, map, option_map, string_bytes};
 ghost use Rattle.serde_json.specs.Data.{string};
 ghost use Rattle.serde_json.specs.View.{view, members_view};
-ghost use Rattle.tf_state.specs.Place.{deposed_of, key_of};
-ghost use Rattle.tf_state.specs.State.{record_of};
+ghost use Rattle.tf_resource.specs.Place.{deposed_of, key_of};
+ghost use Rattle.tf_resource.specs.Record.{record_of};
 ghost use Rattle.tf_state.specs.Text.{dependencies_data, flag_data, key_data, put_some, record_data, status_data};
 ghost use Rattle.tf_value.specs.Json.{value_data};
 ghost use Rattle.tf_value.specs.Tree.{tree_of};
 
-use crate::key::Key;
-use crate::object::Object;
-use crate::state::Record;
 use crate::words::text;
 use serde_json::{Map, Value as Json, put};
 use std::alloc::{AllocError, Global};
 use std::collections::BTreeSet;
+use tf_resource::{Key, Object, Record};
 use tf_value::{JsonFault, to_json};
 
 pub(crate) fn record_json(alloc: Global, instance: &Record) -> Result<Json, AllocError>

@@ -4,18 +4,20 @@ ghost use Rattle.std.specs.Prelude.{◌≡◌, [], Some, IfErr, IfOk, OnOk, map,
 ghost use Rattle.serde_json.specs.View.{view, items_view};
 ghost use Rattle.tf_state.specs.Made.{resource_made, resources_made};
 ghost use Rattle.tf_state.specs.Reading.{IsRefused, all_resources_in, is_managed, is_some_record, put_new, resource_cmp, resource_in, resources_in, with_records};
-ghost use Rattle.tf_state.specs.State.{record_of, resource_of};
+ghost use Rattle.tf_resource.specs.Addresses.{AreByAddress};
+ghost use Rattle.tf_resource.specs.Record.{record_of};
+ghost use Rattle.tf_resource.specs.Resource.{resource_of};
 
 use crate::body::Held;
 use crate::fault::StateFault;
 use crate::record_reading::read_instances;
 use crate::shape::{Shape, is_shaped};
-use crate::state::{Record, Resource};
 use crate::value_reading::{read_name, read_text};
 use serde_json::Value as Json;
 use std::alloc::{AllocError, Global};
 use std::collections::BTreeMap;
 use tf_address::Label;
+use tf_resource::{Record, Resource};
 
 /// The resources of a state that have records, in the order of their addresses.
 pub(crate) fn read_resources(
@@ -23,6 +25,7 @@ pub(crate) fn read_resources(
     json: Option<&Json>,
 ) -> Result<Vec<Resource>, StateFault>
     ensures ok { IfOk result (λ rs. all_resources_in (option_map (λ v. view v.now) json.entry) ≡ Some (map resource_of rs.items)) }
+    ensures ordered { IfOk result (λ rs. AreByAddress (map resource_of rs.items)) }
     ensures err { IfErr result (λ e. IsRefused (all_resources_in (option_map (λ v. view v.now) json.entry)) e) }
 {
     match json {
@@ -36,16 +39,13 @@ pub(crate) fn read_resources(
 }
 
 fn in_order(alloc: Global, resources: BTreeMap<Label, Held>) -> Result<Vec<Resource>, AllocError>
-    ensures { IfOk result (λ rs. map resource_of rs.items ≡ with_records (resources_made resources.entries)) }
+    ensures all { IfOk result (λ rs. map resource_of rs.items ≡ with_records (resources_made resources.entries)) }
+    ensures ordered { IfOk result (λ rs. AreByAddress (map resource_of rs.items)) }
 {
     let mut ordered = Vec::with_capacity(alloc, resources.len())?;
     for (label, held) in resources {
         if has_records(&held.records) {
-            ordered.push(Resource {
-                label,
-                provider: held.provider,
-                records: held.records,
-            })?;
+            ordered.push(Resource::new(label, held.provider, held.records))?;
         }
     }
     Ok(ordered)

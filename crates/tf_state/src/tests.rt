@@ -25,14 +25,11 @@ fn put_net(alloc: Global, state: &mut State, name: &str, tainted: bool) -> Resul
         dependencies: BTreeSet::new(alloc),
         create_before_destroy: false,
     })?;
-    let resource = Resource {
-        label: Label {
-            kind: String::from_str(alloc, "sim_net")?,
-            name: String::from_str(alloc, name)?,
-        },
-        provider: provider_address(alloc, "sim_net")?,
-        records,
+    let label = Label {
+        kind: String::from_str(alloc, "sim_net")?,
+        name: String::from_str(alloc, name)?,
     };
+    let resource = Resource::new(label, provider_address(alloc, "sim_net")?, records);
     state.reserve(1)?;
     state.put(resource);
     Ok(())
@@ -46,7 +43,7 @@ fn writes_states(rt: HostRuntime) -> Result<(), Fail> {
         "{\n  \"lineage\": \"L\",\n  \"outputs\": {},\n  \"resources\": [],\n  \"serial\": 0,\n  \"terraform_version\": \"1.0.0\",\n  \"version\": 4\n}\n"
     );
     put_net(rt.alloc(), &mut state, "a", false)?;
-    state.serial = 1;
+    state.set_serial(1);
     assert_eq!(rt;
         write(rt.alloc(), &state)?.as_str(),
         "{\n  \"lineage\": \"L\",\n  \"outputs\": {},\n  \"resources\": [\n    {\n      \"instances\": [\n        {\n          \"attributes\": {\n            \"cidr\": \"x\",\n            \"id\": \"net-x\",\n            \"tag\": null\n          },\n          \"schema_version\": 0\n        }\n      ],\n      \"mode\": \"managed\",\n      \"name\": \"a\",\n      \"provider\": \"provider[\\\"registry.terraform.io/hashicorp/sim\\\"]\",\n      \"type\": \"sim_net\"\n    }\n  ],\n  \"serial\": 1,\n  \"terraform_version\": \"1.0.0\",\n  \"version\": 4\n}\n"
@@ -61,8 +58,8 @@ fn keeps_resources_in_order(rt: HostRuntime) -> Result<(), Fail> {
         put_net(rt.alloc(), &mut state, name, false)?;
     }
     let mut seen = String::new(rt.alloc());
-    for resource in &state.resources {
-        seen.push_str(resource.label.name.as_str())?;
+    for resource in state.resources() {
+        seen.push_str(resource.label().name.as_str())?;
     }
     assert_eq!(rt; seen.as_str(), "abc");
     Ok(())

@@ -2,18 +2,19 @@
 
 ghost use Rattle.std.specs.Prelude.{◌≡◌, IfOk, OnOk, map, option_map, string_bytes};
 ghost use Rattle.serde_json.specs.View.{view, members_view};
-ghost use Rattle.tf_state.specs.State.{outputs_of, record_of, resource_of, state_of};
+ghost use Rattle.tf_resource.specs.Record.{record_of};
+ghost use Rattle.tf_resource.specs.Resource.{resource_of};
+ghost use Rattle.tf_resource.specs.State.{outputs_of, state_of};
 ghost use Rattle.tf_state.specs.Text.{output_data, outputs_data, record_data, resource_data, state_data, state_text};
 ghost use Rattle.tf_value.specs.Tree.{tree_of};
 
-use crate::object::Object;
 use crate::record_writing::{object_json, record_json};
-use crate::state::{Record, Resource, State};
 use crate::types::type_json;
 use crate::words::text;
 use serde_json::{Map, Value as Json, put};
 use std::alloc::{AllocError, Global};
 use std::collections::BTreeMap;
+use tf_resource::{Object, Record, Resource, State};
 
 /// The one text of a state: Terraform's state file format, version 4, two spaces a level, keys in byte order,
 /// and one newline at the end. Refused only where there is no memory.
@@ -33,27 +34,32 @@ fn state_json(alloc: Global, state: &State) -> Result<Json, AllocError>
         &mut members,
         alloc,
         "terraform_version",
-        text(alloc, &state.terraform_version)?,
+        text(alloc, state.terraform_version())?,
     )?;
     put(
         &mut members,
         alloc,
         "serial",
-        Json::from(u64::from(state.serial)),
+        Json::from(u64::from(state.serial())),
     )?;
     put(
         &mut members,
         alloc,
         "resources",
-        Json::Array(resources_json(alloc, &state.resources)?),
+        Json::Array(resources_json(alloc, state.resources())?),
     )?;
     put(
         &mut members,
         alloc,
         "outputs",
-        Json::Object(outputs_json(alloc, &state.outputs)?),
+        Json::Object(outputs_json(alloc, state.outputs())?),
     )?;
-    put(&mut members, alloc, "lineage", text(alloc, &state.lineage)?)?;
+    put(
+        &mut members,
+        alloc,
+        "lineage",
+        text(alloc, state.lineage())?,
+    )?;
     Ok(Json::Object(members))
 }
 
@@ -103,26 +109,26 @@ fn resource_json(alloc: Global, resource: &Resource) -> Result<Json, AllocError>
         &mut members,
         alloc,
         "type",
-        text(alloc, &resource.label.kind)?,
+        text(alloc, &resource.label().kind)?,
     )?;
     put(
         &mut members,
         alloc,
         "provider",
-        text(alloc, &resource.provider)?,
+        text(alloc, resource.provider())?,
     )?;
     put(
         &mut members,
         alloc,
         "name",
-        text(alloc, &resource.label.name)?,
+        text(alloc, &resource.label().name)?,
     )?;
     put(&mut members, alloc, "mode", text(alloc, "managed")?)?;
     put(
         &mut members,
         alloc,
         "instances",
-        Json::Array(records_json(alloc, &resource.records)?),
+        Json::Array(records_json(alloc, resource.records())?),
     )?;
     Ok(Json::Object(members))
 }

@@ -8,7 +8,7 @@ use Rattle.serde_json.proofs.Views.{members_view-insert_entry}
 use Rattle.tf_value.specs.Tree.{tree_of}
 use Rattle.tf_value.proofs.JsonForms.{put_last}
 use Rattle.tf_state.specs.Text.{output_data}
-use Rattle.tf_state.specs.declared.object.Object.{Object}
+use Rattle.tf_resource.specs.declared.object.Object.{Object}
 use Rattle.tf_state.proofs.TypeForms.{listed_outputs}
 use Rattle.tf_state.proofs.writing.outputs_json.Goals as goal
 

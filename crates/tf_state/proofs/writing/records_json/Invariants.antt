@@ -1,7 +1,7 @@
 -- the JSON of the records so far
 use Rattle.std.proofs.Common.{◌≡◌, map, take}
 use Rattle.serde_json.specs.View.{view}
-use Rattle.tf_state.specs.State.{record_of}
+use Rattle.tf_resource.specs.Record.{record_of}
 use Rattle.tf_state.specs.Text.{record_data}
 use Rattle.tf_state.proofs.writing.records_json.Given as goal
 

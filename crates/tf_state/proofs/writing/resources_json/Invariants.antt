@@ -1,7 +1,7 @@
 -- the JSON of the resources so far
 use Rattle.std.proofs.Common.{◌≡◌, map, take}
 use Rattle.serde_json.specs.View.{view}
-use Rattle.tf_state.specs.State.{resource_of}
+use Rattle.tf_resource.specs.Resource.{resource_of}
 use Rattle.tf_state.specs.Text.{resource_data}
 use Rattle.tf_state.proofs.writing.resources_json.Given as goal
 

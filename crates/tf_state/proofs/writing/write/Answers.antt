@@ -1,5 +1,5 @@
 use Rattle.tf_state.proofs.Floats.{state_data-whole}
-use Rattle.tf_state.specs.State.{state_of}
+use Rattle.tf_resource.specs.State.{state_of}
 use Rattle.tf_state.proofs.writing.write.Goals as goal
 
 pub text-requires : goal.text-requires

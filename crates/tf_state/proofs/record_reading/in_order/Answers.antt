@@ -1,0 +1,18 @@
+use Rattle.std.proofs.Common.{◌≡◌, ◌++◌, map, sym, ap, ◌∙◌, subst, append-nil}
+use Rattle.tf_resource.proofs.PlaceOrder.{places_ordered}
+use Rattle.tf_resource.specs.Place.{place_cmp}
+use Rattle.tf_resource.specs.Places.{AreByPlace}
+use Rattle.tf_resource.specs.Record.{RecordView, record_of}
+use Rattle.tf_resource.specs.contracts.key.PlaceOrd.TheImpl as places
+use Rattle.tf_state.specs.Made.{record_made, records_made}
+use Rattle.tf_state.proofs.Ordered.{shown-ordered}
+use Rattle.tf_state.proofs.record_reading.in_order.Goals as goal
+
+-- the entries of a map are in order, and the records show their places
+pub returns-clause-ordered : goal.returns-clause-ordered
+returns-clause-ordered c =
+    let taken = map record_of c.loop-place.ordered.items in
+    let all : taken ≡ records_made c.args.records.entries =
+    sym (append-nil taken) ∙ ap (λ es. taken ++ records_made es) (sym c.in-None.ensures.steps.0) ∙ c.loop-place.invariant in
+    subst AreByPlace (sym all)
+    (shown-ordered (places.cmp-value).it place_cmp (λ (r : RecordView). r.place) (λ e. record_made e.0 e.1) (λ d e. places_ordered d.0 e.0) c.args.records.entries c.len.ensures.ordered)
