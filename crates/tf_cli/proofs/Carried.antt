@@ -7,7 +7,8 @@ use Rattle.tf_cli.specs.declared.applied.Applied.{Applied}
 use Rattle.tf_config.specs.Config.{Blocks}
 use Rattle.tf_plan.specs.Plan.{PlanView, plan_text, planned}
 use Rattle.tf_provider.specs.Meaning.{Meaning}
-use Rattle.tf_state.specs.State.{ResourceView, StateView, empty_state, state_of}
+use Rattle.tf_resource.specs.Resource.{ResourceView}
+use Rattle.tf_resource.specs.State.{StateView, empty_state, state_of}
 use Rattle.tf_state.specs.Text.{state_text}
 use Rattle.tf_walk.specs.After.{is_any, raised, saved_resources, with_resources}
 use Rattle.tf_walk.specs.Report.{IsWalked}
@@ -23,10 +24,10 @@ zero-test : (n : ℕ) → not (n == 0) ≡ false → n ≡ 0
 zero-test n e = grind (arith, e)
 
 -- the state is the prior one exactly where its serial is 0
-changed-exactly : (ms : List Meaning) (plan : PlanView) (w : Walked) (changed : Bool) → IsWalked ms plan w → changed ≡ not ((report_of w).state.serial == 0) → (changed ≡ false) ↔ (state_of (report_of w).state ≡ empty_state plan.lineage)
+changed-exactly : (ms : List Meaning) (plan : PlanView) (w : Walked) (changed : Bool) → IsWalked ms plan w → changed ≡ not ((state_of (report_of w).state).serial == 0) → (changed ≡ false) ↔ (state_of (report_of w).state ≡ empty_state plan.lineage)
 changed-exactly ms plan (Torn report) changed walked is = absurd walked
 changed-exactly ms plan (Whole report) changed (done, told, journal) is = (
-  (λ e. told.state ∙ empty-raised (saved_resources ms plan.actions done) (empty_state plan.lineage) (sym (ap (λ (s : StateView). s.serial) told.state) ∙ zero-test report.state.serial (sym is ∙ e))),
+  (λ e. told.state ∙ empty-raised (saved_resources ms plan.actions done) (empty_state plan.lineage) (sym (ap (λ (s : StateView). s.serial) told.state) ∙ zero-test (state_of report.state).serial (sym is ∙ e))),
   (λ e. is ∙ ap (λ (s : StateView). not (s.serial == 0)) e),
 )
 
@@ -36,7 +37,7 @@ pub is_applied : (ms : List Meaning) (blocks : Blocks) (lineage : List ℕ) (pla
     → IsWalked ms plan walked
     → a.walked ≡ walked
     → IfOk a.state (λ text. string_bytes text ≡ state_text (state_of (report_of walked).state))
-    → a.changed ≡ not ((report_of walked).state.serial == 0)
+    → a.changed ≡ not ((state_of (report_of walked).state).serial == 0)
     → IsApplied ms blocks lineage a
 is_applied ms blocks lineage plan walked a is plan_shown was_walked same text changed = record {
   plan = plan_shown ∙ ap (λ (p : PlanView). plan_text p.actions) is;

@@ -5,7 +5,7 @@ ghost use Rattle.tf_cli.specs.Accepted.{IsAccepted, Refuses};
 ghost use Rattle.tf_cli.specs.Applies.{IsApplied};
 ghost use Rattle.tf_cli.specs.Shown.{report_of};
 ghost use Rattle.tf_config.specs.Config.{Blocks};
-ghost use Rattle.tf_state.specs.State.{state_of};
+ghost use Rattle.tf_resource.specs.State.{state_of};
 ghost use Rattle.tf_state.specs.Text.{state_text};
 
 use crate::applied::Applied;
@@ -47,11 +47,11 @@ fn answer_of(alloc: Global, plan: String, walked: Walked) -> Applied
     ensures plan { result.plan ≡ plan }
     ensures walked { result.walked ≡ walked }
     ensures text { IfOk result.state (λ text. string_bytes text ≡ state_text (state_of (report_of walked).state)) }
-    ensures changed { result.changed ≡ not ((report_of walked).state.serial == 0) }
+    ensures changed { result.changed ≡ not ((state_of (report_of walked).state).serial == 0) }
 {
     let report = report_of(&walked);
     let state = write(alloc, &report.state);
-    let changed = report.state.serial != 0;
+    let changed = report.state.serial() != 0;
     Applied {
         plan,
         walked,

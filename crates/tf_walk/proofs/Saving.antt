@@ -1,5 +1,6 @@
 -- What a call saves.
-use Rattle.std.proofs.Common.{◌≡◌, Bool, true, false, not, refl, sym, ap, ℕ}
+use Rattle.std.proofs.Common.{◌≡◌, ◌≤◌, Bool, true, false, not, List, [], ◌∷◌, length, map, refl, sym, ap, ℕ, arith}
+use Rattle.std.specs.List.Sorted.{IsStrictlySortedBy}
 use Rattle.std.specs.Prelude.{Option, Some, None, option_map, option_and_then, if◌then◌else◌}
 use Rattle.std.specs.Option.{option_map_or}
 use Rattle.tf_provider.specs.Meaning.{Asked, Answer, object, gone, failed}
@@ -7,10 +8,13 @@ use Rattle.tf_provider.specs.Schema.{SchemaView}
 use Rattle.tf_provider.specs.Verdict.{verdict_on, well_formed, contradiction, is_destroy}
 use Rattle.tf_provider.specs.declared.verdict.Verdict.{Verdict}
 use Rattle.tf_provider.specs.declared.verdict.Verdict.TheVariants as verdict
+use Rattle.tf_resource.specs.Places.{AreByPlace}
+use Rattle.tf_resource.specs.Record.{record_of}
+use Rattle.tf_resource.specs.Resource.{ResourceView}
+use Rattle.tf_resource.specs.declared.object.Object.{Object}
+use Rattle.tf_resource.specs.declared.record.Record.{Record}
 use Rattle.tf_value.specs.Tree as tree
-use Rattle.tf_state.specs.declared.object.Object.{Object}
 use Rattle.tf_value.specs.Tree.{tree_of}
-use Rattle.tf_state.specs.State.{ResourceView}
 use Rattle.tf_walk.specs.After.{Saved, saved_reply, resource_after}
 use Rattle.tf_walk.specs.Room.{Head}
 use Rattle.tf_walk.specs.Settled.{settled}
@@ -52,3 +56,10 @@ settled-saved (Some t) fallback b e = ap (option_map {U = Saved} (λ u. (u, b)))
 pub kept : (h : Head) (b : Bool) (o : Option Object) → option_map {U = ResourceView} (λ x. resource_after h (tree_of x.value, b)) o ≡ option_map (resource_after h) (option_map {U = Saved} (λ t. (t, b)) (option_map (λ x. tree_of x.value) o))
 kept h b None = refl
 kept h b (Some x) = refl
+
+-- one record at most stands in order
+pub alone : (rs : List Record) → length rs ≤ 1 → AreByPlace (map record_of rs)
+unfolding IsStrictlySortedBy
+alone [] h = tt
+alone (r ∷ []) h = (tt, tt)
+alone (r ∷ s ∷ rs) h = absurd (omega (arith, h))

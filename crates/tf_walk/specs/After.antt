@@ -7,9 +7,10 @@ use Rattle.tf_provider.specs.Schema.{SchemaView}
 use Rattle.tf_provider.specs.Verdict.{well_formed}
 use Rattle.tf_provider.specs.declared.verdict.Verdict.{Verdict}
 use Rattle.tf_provider.specs.declared.verdict.Verdict.TheVariants as verdict
-use Rattle.tf_state.specs.Place.{single}
-use Rattle.tf_state.specs.Provider.{provider_text}
-use Rattle.tf_state.specs.State.{ResourceView, StateView, with_resource}
+use Rattle.tf_resource.specs.Place.{single}
+use Rattle.tf_resource.specs.Provider.{provider_text}
+use Rattle.tf_resource.specs.Resource.{ResourceView}
+use Rattle.tf_resource.specs.State.{StateView, with_resource}
 use Rattle.tf_value.specs.Tree as tree
 use Rattle.tf_walk.specs.Room.{Head, head_of}
 use Rattle.tf_walk.specs.Settled.{settled}
@@ -72,7 +73,7 @@ abbrev pub saved_resources : List Meaning → List ActionView → List Done → 
 saved_resources ms (a ∷ actions) (d ∷ done) = saved_one (saved_resource ms a d) (saved_resources ms actions done)
 saved_resources ms _ _ = []
 
--- a state with some resources more
+-- a state with these resources, each at its address
 abbrev pub with_resources : List ResourceView → StateView → StateView
 with_resources [] s = s
 with_resources (r ∷ rs) s = with_resource r (with_resources rs s)

@@ -1,10 +1,11 @@
 -- A report before the first call: nothing stands in it, and it has room for what the actions add.
-use Rattle.std.specs.Prelude.{◌≡◌, ◌≤◌, ◌+◌, ℕ, [], vec_len, vec_capacity}
+use Rattle.std.specs.Prelude.{◌≡◌, ◌≤◌, ℕ, [], vec_capacity}
+use Rattle.tf_resource.specs.State.{HasRoomForResources, state_of}
 use Rattle.tf_walk.specs.declared.draft.Draft.{Draft}
 
 pub record IsBlank (count : ℕ) (d : Draft) : Type 0 where
-  pub serial : d.state.serial ≡ 0
-  pub state_room : vec_len d.state.resources + count ≤ vec_capacity d.state.resources
+  pub serial : (state_of d.state).serial ≡ 0
+  pub state_room : HasRoomForResources count d.state
   pub resources : d.resources.items ≡ []
   pub resources_room : count ≤ vec_capacity d.resources
   pub outcomes : d.outcomes.items ≡ []

@@ -1,7 +1,8 @@
 //! The report on all actions is put together, without taking memory.
 
 ghost use Rattle.std.specs.Prelude.{◌≡◌, ◌+◌, ◌++◌, ◌<◌, ◌≤◌, ◌^◌, [], length, map, count_by, vec_len, vec_capacity};
-ghost use Rattle.tf_state.specs.State.{resource_of, state_of};
+ghost use Rattle.tf_resource.specs.Resource.{resource_of};
+ghost use Rattle.tf_resource.specs.State.{HasRoomForResources, state_of};
 ghost use Rattle.tf_walk.specs.Addition.{AreJudged, listed, saved_in, told_in};
 ghost use Rattle.tf_walk.specs.After.{is_any, raised, with_resources};
 ghost use Rattle.tf_walk.specs.Diagnostics.{diagnostic_of};
@@ -17,7 +18,7 @@ use crate::ended::Ended;
 use crate::report::{Diagnostic, Excuse, Outcome};
 use crate::rooms::Room;
 use tf_provider::Provider;
-use tf_state::{Resource, State};
+use tf_resource::{Resource, State};
 
 /// How each action ended, in action order.
 pub fn tell_outcomes(outcomes: &mut Vec<Outcome>, results: &[Option<Ended>])
@@ -125,10 +126,10 @@ fn add_diagnostic(diagnostics: &mut Vec<Diagnostic>, diagnostic: Option<Diagnost
     }
 }
 
-/// A state with some resources more, and a higher serial where there are any.
+/// A state with these resources, each at its address, and a higher serial where there are any.
 pub fn put_all(state: State, resources: Vec<Resource>) -> State
-    requires fresh { state.serial ≡ 0 }
-    requires room { vec_len state.resources + vec_len resources ≤ vec_capacity state.resources }
+    requires fresh { (state_of state).serial ≡ 0 }
+    requires room { HasRoomForResources (vec_len resources) state }
     ensures { state_of result
         ≡ raised (is_any (map resource_of resources.items)) (with_resources (map resource_of resources.items) (state_of state)) }
 {
@@ -136,25 +137,25 @@ pub fn put_all(state: State, resources: Vec<Resource>) -> State
     raise(put_each(state, resources), changed)
 }
 
-/// A state with some resources more.
+/// A state with these resources, each at its address.
 fn put_each(mut state: State, mut resources: Vec<Resource>) -> State
-    requires room { vec_len state.resources + vec_len resources ≤ vec_capacity state.resources }
+    requires room { HasRoomForResources (vec_len resources) state }
     ensures put { state_of result ≡ with_resources (map resource_of resources.items) (state_of state) }
-    ensures serial { result.serial ≡ state.serial }
+    ensures serial { (state_of result).serial ≡ (state_of state).serial }
 {
     while let Some(resource) = resources.pop() {
-        state.put(resource);
+        drop(state.put(resource));
     }
     state
 }
 
 /// A state, with a higher serial where it changed.
 fn raise(mut state: State, changed: bool) -> State
-    requires { state.serial ≡ 0 }
+    requires { (state_of state).serial ≡ 0 }
     ensures { state_of result ≡ raised changed (state_of state) }
 {
     if changed {
-        state.serial = 1;
+        state.set_serial(1);
     }
     state
 }
