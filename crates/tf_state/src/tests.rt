@@ -7,6 +7,7 @@ use tf_address::Label;
 use tf_value::{from_json, is_known};
 
 // Puts a net of this name, with the cidr `x`, into a state.
+#[tactic(auto, using(crate::proofs::Orders::one_record))]
 fn put_net(alloc: Global, state: &mut State, name: &str, tainted: bool) -> Result<(), Fail> {
     let json = Json::from_str(alloc, "{\"cidr\": \"x\", \"id\": \"net-x\", \"tag\": null}")?;
     let value = from_json(alloc, &json)?;
