@@ -7,7 +7,7 @@ ghost use Rattle.tf_resource.specs.Record.{record_of};
 
 use crate::key::Place;
 use crate::record::Record;
-use std::alloc::AllocError;
+use std::alloc::{AllocError, Global};
 use std::mem;
 use tf_address::Label;
 
@@ -21,11 +21,23 @@ pub struct Resource {
 }
 
 impl Resource {
-    ghost use Rattle.std.specs.Prelude.{◌+◌, ◌<◌, ℕ, IfErr, IfOk, OnOk, option_map, string_bytes};
+    ghost use Rattle.std.specs.Prelude.{◌+◌, [], ◌<◌, ℕ, IfErr, IfOk, OnOk, option_map, string_bytes};
     ghost use Rattle.tf_address.specs.Label.{label_of};
     ghost use Rattle.tf_resource.specs.Order.{IsAt, IsGapFor};
     ghost use Rattle.tf_resource.specs.Place.{place_cmp, place_of};
     ghost use Rattle.tf_resource.specs.Resource.{HasRoomForRecords, record_at, resource_of, with_record, without_record};
+
+    /// A resource at an address, with the address of its provider, and without records yet.
+    pub fn empty(alloc: Global, label: Label, provider: String) -> Resource
+        ensures { resource_of result ≡ record { label = label_of label; provider = string_bytes provider; records = [] } }
+    {
+        let records = Vec::new(alloc);
+        Resource {
+            label,
+            provider,
+            records,
+        }
+    }
 
     /// A resource at an address, with the address of its provider, and with records in the order of their places.
     pub fn new(label: Label, provider: String, records: Vec<Record>) -> Resource

@@ -37,14 +37,19 @@ fn label(alloc: Global, kind: &str, name: &str) -> Result<Label, Fail> {
 
 // A resource with one record, of this schema version.
 fn resource(alloc: Global, kind: &str, name: &str, version: u32) -> Result<Resource, Fail> {
-    let mut resource = Resource::new(
+    let mut resource = Resource::empty(
+        alloc,
         label(alloc, kind, name)?,
         provider_address(alloc, kind)?,
-        Vec::new(alloc),
     );
     resource.reserve(1)?;
     drop(resource.put(record(alloc, place(alloc, Key::Single, "")?, version)));
     Ok(resource)
+}
+
+fn put(state: &mut State, resource: Resource) -> Result<bool, Fail> {
+    state.reserve(1)?;
+    Ok(state.put(resource).is_some())
 }
 
 // Records stand by key, numbers as numbers and before names, the current one before deposed ones, however they
@@ -52,10 +57,10 @@ fn resource(alloc: Global, kind: &str, name: &str, version: u32) -> Result<Resou
 #[test]
 fn keeps_records_by_place(rt: HostRuntime) -> Result<(), Fail> {
     let alloc = rt.alloc();
-    let mut resource = Resource::new(
+    let mut resource = Resource::empty(
+        alloc,
         label(alloc, "sim_net", "a")?,
         provider_address(alloc, "sim_net")?,
-        Vec::new(alloc),
     );
     for (version, key, deposed) in [
         (7, named(alloc, "1")?, ""),
@@ -86,10 +91,11 @@ fn replaces_and_removes_records(rt: HostRuntime) -> Result<(), Fail> {
     let alloc = rt.alloc();
     let mut resource = resource(alloc, "sim_net", "a", 1)?;
     let current = place(alloc, Key::Single, "")?;
-    resource.reserve(2)?;
+    resource.reserve(1)?;
     let before = resource.put(record(alloc, current.clone()?, 2));
     assert_eq!(rt; before.map(|record| record.schema_version), Some(1));
     let deposed = place(alloc, Key::Single, "00000002")?;
+    resource.reserve(1)?;
     assert!(rt; resource.put(record(alloc, deposed.clone()?, 3)).is_none());
     let taken = resource.remove(&current);
     assert_eq!(rt; taken.map(|record| record.schema_version), Some(2));
@@ -104,15 +110,11 @@ fn replaces_and_removes_records(rt: HostRuntime) -> Result<(), Fail> {
 fn finds_each_of_many_resources(rt: HostRuntime) -> Result<(), Fail> {
     let alloc = rt.alloc();
     let mut state = State::empty(alloc, "L")?;
-    state.reserve(200)?;
     for index in 0..200u32 {
         let number = index * 77 % 200;
         let name = format!(in alloc; "n{number}")?;
-        assert!(rt;
-            state
-                .put(resource(alloc, "sim_net", &name, number)?)
-                .is_none()
-        );
+        let was_there = put(&mut state, resource(alloc, "sim_net", &name, number)?)?;
+        assert!(rt; !was_there, "{name}");
     }
     for number in 0..200u32 {
         let name = format!(in alloc; "n{number}")?;

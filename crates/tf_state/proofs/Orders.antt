@@ -1,14 +1,12 @@
 -- The orders of records and resources are total, and what is put in order stays in order.
-use Rattle.std.proofs.Common.{◌≡◌, Bool, true, false, cond, List, [], ◌∷◌, ◌++◌, Option, Some, None, map, filter, Ordering, Less, Equal, Greater, refl, ap, ◌∙◌, subst}
+use Rattle.std.proofs.Common.{◌≡◌, Bool, true, false, cond, List, [], ◌∷◌, Option, Some, None, map, filter, Ordering, Less, Equal, Greater, refl, ap, ◌∙◌, subst}
 use Rattle.std.specs.Cmp.{IsTotalOrder, on_total}
 use Rattle.std.specs.List.{AllByRecursion}
 use Rattle.std.specs.List.Sorted.{IsStrictlySortedBy}
 use Rattle.std.specs.Ordering.{match_ordering, ordering_reverse}
 use Rattle.std.specs.Prelude.{option_map}
 use Rattle.std.proofs.lemmas.List.Kept.{IsStrictlySortedBy-filter}
-use Rattle.tf_resource.specs.Places.{AreByPlace}
-use Rattle.tf_resource.specs.Record.{RecordView, record_of}
-use Rattle.tf_resource.specs.declared.record.Record.{Record}
+use Rattle.tf_resource.specs.Record.{RecordView}
 use Rattle.tf_resource.specs.Resource.{ResourceView}
 use Rattle.tf_resource.proofs.Totals.{place_total, label_total}
 use Rattle.tf_state.specs.Reading.{put_new, record_cmp, resource_cmp}
@@ -100,8 +98,3 @@ put_new-sorted cmp total a (b ∷ bs) cs h e = order_at cmp total (cmp a b) a b 
 
 pub put_new-order : {A K : Type 0} (key : A → K) (cmp : K → K → Ordering) → IsTotalOrder cmp → (a : A) (bs cs : List A) → IsStrictlySortedBy cmp (map key bs) → put_new (λ x y. cmp (key x) (key y)) a bs ≡ Some cs → IsStrictlySortedBy cmp (map key cs)
 put_new-order key cmp total a bs cs h e = order-of_keys key cmp cs (put_new-sorted (λ x y. cmp (key x) (key y)) (on_total key total) a bs cs (order-from_keys key cmp bs h) e)
-
--- one record, put into a list of none, is in order
-pub one_record : (rs qs : List Record) (r : Record) → rs ≡ [] → qs ≡ rs ++ r ∷ [] → AreByPlace (map record_of qs)
-unfolding IsStrictlySortedBy
-one_record rs qs r none is = rw (is, none) (tt, tt)
