@@ -8,9 +8,9 @@ megabytes="${1:-40}"
 work="$(mktemp -d)"
 trap 'rm -rf "$work"' EXIT
 mkdir -p "$work/repo/crates/bench_state/src"
-for crate in tf_address tf_value tf_json tf_state; do cp -r "$here/../crates/$crate" "$work/repo/crates/"; done
+for crate in tf_address tf_value tf_json tf_resource tf_state; do cp -r "$here/../crates/$crate" "$work/repo/crates/"; done
 cp "$here/state/main.rt.txt" "$work/repo/crates/bench_state/src/main.rt"
-printf 'tf_address:\ntf_json: serde_json json\ntf_value: serde_json\ntf_state: tf_value tf_address tf_json serde_json\nbench_state: tf_state serde_json anyhow\n' > "$work/repo/crates.txt"
+printf 'tf_address:\ntf_json: serde_json json\ntf_value: serde_json\ntf_resource: tf_address tf_value\ntf_state: tf_value tf_address tf_resource tf_json serde_json\nbench_state: tf_state serde_json anyhow\n' > "$work/repo/crates.txt"
 program="$work/repo/crates/bench_state/out/bench_state"
 (cd "$work/repo/crates/bench_state" && rt run < /dev/null) > "$work/log" 2>&1 || [ -x "$program" ] || { tail -20 "$work/log"; exit 1; }
 printf '%-10s %10s %-8s %12s %-8s %12s %7s\n' shape bytes call 'us' call 'us' ratio
