@@ -26,5 +26,5 @@ pub use laws::{
     texts_are_of_one, texts_read_back,
 };
 pub use reading::read;
-pub use tf_resource::{Key, Object, Place, Record, Resource, State, provider_address};
+pub use tf_resource::{Key, Object, Place, Record, Resource, State, copy, provider_address};
 pub use writing::write;
