@@ -1,6 +1,6 @@
 #!/usr/bin/env bash
 # Times tf_state's read and write beside serde_json's parse and print of the same text, for states of several shapes,
-# and prints the best of three times each and the ratio. Wants `rt` and `python3`; works in a folder of its own.
+# and prints the best of three times each and the ratio, and the most memory that the program held. Wants `rt` and `python3`; works in a folder of its own.
 # With an argument, the least size of the texts in MB; 40 without.
 set -euo pipefail
 here="$(cd "$(dirname "$0")" && pwd)"
@@ -16,13 +16,15 @@ program="$work/repo/crates/bench_state/out/bench_state"
 printf '%-10s %10s %-8s %12s %-8s %12s %7s\n' shape bytes call 'us' call 'us' ratio
 for shape in counted named dependent values; do
     python3 "$here/state/make.py" "$shape" "$megabytes" > "$work/text"
-    "$program" < "$work/text" > "$work/times"
+    python3 -c 'import resource, subprocess, sys; subprocess.check_call(sys.argv[1]); print("peak", 1024 * resource.getrusage(resource.RUSAGE_CHILDREN).ru_maxrss)' "$program" < "$work/text" > "$work/times"
     awk -v shape="$shape" '
         $1 == "bytes" { bytes = $2 }
+        $1 == "peak" { peak = $2 }
         $1 == "same" && $2 != "true" { print shape, "was not written as it was read"; exit 1 }
         $1 ~ /^(parse|print|read|write)$/ { if (!($1 in best) || $2 < best[$1]) best[$1] = $2 }
         END {
             printf "%-10s %10d %-8s %12d %-8s %12d %7.2f\n", shape, bytes, "parse", best["parse"], "read", best["read"], best["read"] / best["parse"]
-            printf "%-10s %10d %-8s %12d %-8s %12d %7.2f\n", shape, bytes, "print", best["print"], "write", best["write"], best["write"] / best["print"] }
+            printf "%-10s %10d %-8s %12d %-8s %12d %7.2f\n", shape, bytes, "print", best["print"], "write", best["write"], best["write"] / best["print"]
+            printf "%-10s %10d %-8s %12d %-8s %12s %7.2f\n", shape, bytes, "memory", peak, "", "", peak / bytes }
     ' "$work/times"
 done

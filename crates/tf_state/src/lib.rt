@@ -6,6 +6,8 @@ mod accepted;
 mod body;
 mod fault;
 mod laws;
+#[cfg(test)]
+mod memory;
 mod reading;
 mod record_reading;
 mod record_writing;
