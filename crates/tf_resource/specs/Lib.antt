@@ -1,4 +1,5 @@
 pub mod Addresses
+pub mod Laws
 pub mod Order
 pub mod Place
 pub mod Places

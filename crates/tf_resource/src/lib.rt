@@ -6,6 +6,7 @@
 
 mod copies;
 mod key;
+mod laws;
 mod object;
 mod provider;
 mod record;
@@ -16,6 +17,7 @@ mod tests;
 
 pub use copies::copy;
 pub use key::{Key, Place};
+pub use laws::{puts_and_removes_change_one_record, puts_and_removes_change_one_resource};
 pub use object::Object;
 pub use provider::provider_address;
 pub use record::Record;
