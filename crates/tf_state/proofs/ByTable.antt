@@ -6,11 +6,12 @@ use Rattle.serde_json.specs.Data.{Data, Items, no_items, item, array}
 use Rattle.serde_json.specs.Find.{get}
 use Rattle.tf_value.specs.Tree.{Tree, Entries}
 use Rattle.tf_resource.specs.Place.{KeyView, PlaceView}
-use Rattle.tf_state.specs.Reading.{text_in, below, name_in, text_or, below_or_zero, key_in, deposed_in, attributes_in, tainted_in, flag_in, dependencies_in, is_unsensitive, is_unchecked, is_managed, is_version, outputs_in, instances_in, all_resources_in, put_new, record_cmp, records_in, resource_cmp, resources_in, with_records, is_record, is_state, record_in, resource_in, state_in}
+use Rattle.tf_state.specs.Arrangement.{record_cmp, resource_cmp, with_records}
+use Rattle.tf_state.specs.Reading.{text_in, below, name_in, text_or, below_or_zero, key_in, deposed_in, attributes_in, tainted_in, flag_in, dependencies_in, is_unsensitive, is_unchecked, is_managed, is_version, outputs_in, instances_in, all_resources_in, put_new, records_in, resources_in, is_record, is_state, record_in, resource_in, state_in}
 use Rattle.tf_resource.specs.Record.{RecordView}
 use Rattle.tf_resource.specs.Resource.{ResourceView}
 use Rattle.tf_resource.specs.State.{StateView}
-use Rattle.tf_state.specs.Table.{SaysInstances, SaysRecord, SaysResource, SaysResources, SaysState, RecordsAreByTable, ResourcesAreByTable, StatesAreByTable}
+use Rattle.tf_state.specs.Table.{SaysInstances, SaysRecord, SaysResource, SaysResources, SaysState}
 use Rattle.tf_state.specs.Words.{is_shaped}
 use Rattle.tf_state.specs.declared.shape.Shape.TheVariants as shapes
 use Rattle.tf_state.proofs.Properties.{mapped, text_says, text_said, number_says, number_said, name_says, name_said, text_or_says, text_or_said, version_says, version_said, key_says, key_said, deposed_says, deposed_said, status_says, status_said, flag_says, flag_said, sensitive_says, sensitive_said, checks_say, checks_said, managed_says, managed_said, format_says, format_said}
@@ -60,7 +61,7 @@ record_parts true (Some k) (Some p) (Some a) (Some v) (Some t) (Some ds) (Some f
     }
 record_parts _ _ _ _ _ _ _ _ r e = absurd (cc)
 
-record_says : (d : Data) (r : RecordView) → record_in d ≡ Some r → SaysRecord d r
+pub record_says : (d : Data) (r : RecordView) → record_in d ≡ Some r → SaysRecord d r
 record_says d r e =
     let parts = record_parts (is_record d) (key_in (get (codes "index_key") d)) (deposed_in (get (codes "deposed") d)) (attributes_in (get (codes "attributes") d)) (below_or_zero (2 ^ 32) (get (codes "schema_version") d))
     (tainted_in (get (codes "status") d)) (dependencies_in (get (codes "dependencies") d)) (flag_in (get (codes "create_before_destroy") d)) r e in
@@ -77,13 +78,10 @@ record_says d r e =
       create_before_destroy = flag_says (get (codes "create_before_destroy") d) r.create_before_destroy parts.flag;
     }
 
-record_said : (d : Data) (r : RecordView) → SaysRecord d r → record_in d ≡ Some r
+pub record_said : (d : Data) (r : RecordView) → SaysRecord d r → record_in d ≡ Some r
 record_said d r h =
     rw (h.only, sensitive_said (get (codes "sensitive_attributes") d) h.sensitive_attributes, key_said (get (codes "index_key") d) r.place.key h.index_key, deposed_said (get (codes "deposed") d) r.place.deposed h.deposed, attributes_said (get (codes "attributes") d) r.attributes h.attributes, version_said (2 ^ 32) (get (codes "schema_version") d) r.schema_version h.schema_version, status_said (get (codes "status") d) r.tainted h.status, dependencies_said (get (codes "dependencies") d) r.dependencies h.dependencies, flag_said (get (codes "create_before_destroy") d) r.create_before_destroy h.create_before_destroy)
     refl
-
-pub records_are_by_table : RecordsAreByTable
-records_are_by_table d r = (record_says d r, record_said d r)
 
 records-gathered : (ds : Items) (found : List RecordView) → records_in ds found ≡ gather record_in record_cmp ds found
 records-gathered no_items found = refl
@@ -127,7 +125,7 @@ resource_parts true (Some k) (Some n) (Some p) (Some rs) r e =
     }
 resource_parts _ _ _ _ _ r e = absurd (cc)
 
-resource_says : (d : Data) (r : ResourceView) → resource_in d ≡ Some r → SaysResource d r
+pub resource_says : (d : Data) (r : ResourceView) → resource_in d ≡ Some r → SaysResource d r
 resource_says d r e =
     let parts = resource_parts (is_shaped shapes.Resource d && is_managed (get (codes "mode") d)) (name_in (get (codes "type") d)) (name_in (get (codes "name") d)) (text_in (get (codes "provider") d)) (instances_in (get (codes "instances") d)) r e in
     let shape = and_parts (is_shaped shapes.Resource d) (is_managed (get (codes "mode") d)) parts.holds in
@@ -140,13 +138,10 @@ resource_says d r e =
       instances = instances_say (get (codes "instances") d) r.records parts.records;
     }
 
-resource_said : (d : Data) (r : ResourceView) → SaysResource d r → resource_in d ≡ Some r
+pub resource_said : (d : Data) (r : ResourceView) → SaysResource d r → resource_in d ≡ Some r
 resource_said d r h =
     rw (h.only, managed_said (get (codes "mode") d) h.mode, name_said (get (codes "type") d) r.label.kind h.kind, name_said (get (codes "name") d) r.label.name h.name, text_said (get (codes "provider") d) r.provider h.provider, instances_said (get (codes "instances") d) r.records h.instances)
     refl
-
-pub resources_are_by_table : ResourcesAreByTable
-resources_are_by_table d r = (resource_says d r, resource_said d r)
 
 resources-gathered : (ds : Items) (found : List ResourceView) → resources_in ds found ≡ gather resource_in resource_cmp ds found
 resources-gathered no_items found = refl
@@ -199,7 +194,7 @@ state_parts true (Some n) (Some l) (Some v) (Some es) (Some rs) s e =
     }
 state_parts _ _ _ _ _ _ s e = absurd (cc)
 
-state_says : (d : Data) (s : StateView) → state_in d ≡ Some s → SaysState d s
+pub state_says : (d : Data) (s : StateView) → state_in d ≡ Some s → SaysState d s
 state_says d s e =
     let parts = state_parts (is_state d) (below (2 ^ 32) (get (codes "serial") d)) (text_in (get (codes "lineage") d)) (text_or (codes "1.0.0") (get (codes "terraform_version") d)) (outputs_in (get (codes "outputs") d))
     (all_resources_in (get (codes "resources") d)) s e in
@@ -216,10 +211,7 @@ state_says d s e =
       resources = resources_say (get (codes "resources") d) s.resources parts.resources;
     }
 
-state_said : (d : Data) (s : StateView) → SaysState d s → state_in d ≡ Some s
+pub state_said : (d : Data) (s : StateView) → SaysState d s → state_in d ≡ Some s
 state_said d s h =
     rw (h.only, format_said (get (codes "version") d) h.version, checks_said (get (codes "check_results") d) h.check_results, number_said (2 ^ 32) (get (codes "serial") d) s.serial h.serial, text_said (get (codes "lineage") d) s.lineage h.lineage, text_or_said (codes "1.0.0") (get (codes "terraform_version") d) s.terraform_version h.terraform_version, outputs_said (get (codes "outputs") d) s.outputs h.outputs, resources_said (get (codes "resources") d) s.resources h.resources)
     refl
-
-pub states_are_by_table : StatesAreByTable
-states_are_by_table d s = (state_says d s, state_said d s)

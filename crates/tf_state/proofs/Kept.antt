@@ -10,7 +10,7 @@ use Rattle.tf_resource.specs.Resource.{ResourceView, with_record}
 use Rattle.tf_resource.proofs.OrderKept.{with-sorted, without-sorted}
 use Rattle.tf_resource.proofs.Totals.{place_total, label_total}
 use Rattle.tf_state.specs.Laws.{PutKeepsState, PutKeepsResource, RemoveKeepsState, RemoveKeepsResource}
-use Rattle.tf_state.specs.Reading.{is_some_record}
+use Rattle.tf_state.specs.Arrangement.{is_some_record}
 use Rattle.tf_state.specs.Valid.{AreRecords, AreResources, IsPresent, IsRecord, IsResource}
 use Rattle.tf_state.proofs.Orders.{all-filter}
 

@@ -9,7 +9,8 @@ use Rattle.std.proofs.lemmas.List.Kept.{IsStrictlySortedBy-filter}
 use Rattle.tf_resource.specs.Record.{RecordView}
 use Rattle.tf_resource.specs.Resource.{ResourceView}
 use Rattle.tf_resource.proofs.Totals.{place_total, label_total}
-use Rattle.tf_state.specs.Reading.{put_new, record_cmp, resource_cmp}
+use Rattle.tf_state.specs.Arrangement.{record_cmp, resource_cmp}
+use Rattle.tf_state.specs.Reading.{put_new}
 use Rattle.tf_state.proofs.Properties.{mapped}
 
 pub record_total : IsTotalOrder record_cmp

@@ -25,12 +25,13 @@ use Rattle.tf_resource.specs.Record.{RecordView}
 use Rattle.tf_resource.specs.Resource.{ResourceView}
 use Rattle.tf_resource.specs.State.{StateView}
 use Rattle.tf_resource.proofs.Totals.{place_total, label_total}
-use Rattle.tf_state.specs.Reading.{put_text, put_new, record_cmp, resource_cmp, is_within, value_in, values_in, attributes_in, address_in, addresses_in, dependencies_in, record_in, records_in, instances_in, resource_in, resources_in, all_resources_in, outputs_in, is_some_record, with_records, output_in, required_value, state_in}
+use Rattle.tf_state.specs.Arrangement.{record_cmp, resource_cmp, is_some_record, with_records}
+use Rattle.tf_state.specs.Reading.{put_text, put_new, is_within, value_in, values_in, attributes_in, address_in, addresses_in, dependencies_in, record_in, records_in, instances_in, resource_in, resources_in, all_resources_in, outputs_in, output_in, required_value, state_in}
 use Rattle.tf_state.specs.Table.{SaysKey, SaysDeposed, SaysNumberOrZero}
 use Rattle.tf_state.specs.Valid.{IsSaved, AreSaved, IsTable, IsAttributes, IsKey, IsDeposed, AreAddresses, IsRecord, AreRecords, IsResource, IsPresent, AreResources, IsValid}
 use Rattle.tf_state.specs.Words.{is_address, is_shaped}
 use Rattle.tf_state.specs.declared.shape.Shape.TheVariants as shapes
-use Rattle.tf_state.proofs.ByTable.{instances_said, records_are_by_table, resources_are_by_table, resources_said, states_are_by_table}
+use Rattle.tf_state.proofs.ByTable.{instances_said, record_says, resource_says, resources_said, state_said, state_says}
 use Rattle.tf_state.proofs.Contents.{attributes_said, dependencies_said, outputs_said}
 use Rattle.tf_state.proofs.Orders.{nothing_ordered, order-filter, put_new-all, put_new-order}
 use Rattle.tf_state.proofs.Properties.{inverted, guarded, mapped}
@@ -207,7 +208,7 @@ dependencies-valid (Some _) ts e = absurd (cc)
 
 record-valid : (d : json.Data) (r : RecordView) → IsSorted d → record_in d ≡ Some r → IsRecord r
 record-valid d r s e =
-    let says = (records_are_by_table d r).0 e in
+    let says = record_says d r e in
     record {
       key = key-valid (get (codes "index_key") d) r.place.key says.index_key;
       deposed = deposed-valid (get (codes "deposed") d) r.place.deposed says.deposed;
@@ -232,7 +233,7 @@ instances-valid _ rs s e = absurd (cc)
 
 resource-valid : (d : json.Data) (r : ResourceView) → IsSorted d → resource_in d ≡ Some r → IsResource r
 resource-valid d r s e =
-    let says = (resources_are_by_table d r).0 e in
+    let says = resource_says d r e in
     record {
       kind = says.kind.1;
       name = says.name.1;
@@ -278,7 +279,7 @@ outputs-valid (Some _) es s e = absurd (cc)
 
 state-valid : (d : json.Data) (s : StateView) → IsSorted d → state_in d ≡ Some s → IsValid s
 state-valid d s sorted e =
-    let says = (states_are_by_table d s).0 e in
+    let says = state_says d s e in
     record {
       serial = says.serial.1;
       outputs = outputs-valid (get (codes "outputs") d) s.outputs (λ f is. sorted-get (codes "outputs") d f sorted is) (outputs_said (get (codes "outputs") d) s.outputs says.outputs);
@@ -286,4 +287,4 @@ state-valid d s sorted e =
     }
 
 pub read_is_valid : ReadIsValid
-read_is_valid bytes s reads = state-valid reads.0 s (read_is_sorted bytes reads.0 reads.2) reads.3
+read_is_valid bytes s reads = state-valid reads.0 s (read_is_sorted bytes reads.0 reads.2) (state_said reads.0 s reads.3)

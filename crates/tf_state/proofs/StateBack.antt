@@ -4,7 +4,8 @@ use Rattle.std.specs.List.{AllByRecursion}
 use Rattle.std.specs.Prelude.{option_and_then}
 use Rattle.std.proofs.lemmas.Map.Keys.{sorted_head, sorted_tail}
 use Rattle.serde_json.specs.View.{items_of}
-use Rattle.tf_state.specs.Reading.{record_cmp, resource_cmp, records_in, resource_in, resources_in, with_records, state_in, put_new}
+use Rattle.tf_state.specs.Arrangement.{record_cmp, resource_cmp, with_records}
+use Rattle.tf_state.specs.Reading.{records_in, resource_in, resources_in, state_in, put_new}
 use Rattle.tf_address.specs.Label.{label_cmp}
 use Rattle.tf_resource.proofs.Totals.{place_total, label_total}
 use Rattle.tf_resource.specs.Addresses.{AreByAddress, addresses_of}

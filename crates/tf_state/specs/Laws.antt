@@ -5,7 +5,7 @@ use Rattle.tf_resource.specs.Place.{PlaceView}
 use Rattle.tf_resource.specs.Record.{RecordView}
 use Rattle.tf_resource.specs.Resource.{ResourceView, with_record, without_record}
 use Rattle.tf_resource.specs.State.{StateView, with_resource, without_resource}
-use Rattle.tf_state.specs.Reading.{Reads}
+use Rattle.tf_state.specs.Table.{Reads}
 use Rattle.tf_state.specs.Text.{state_text}
 use Rattle.tf_state.specs.Valid.{IsPresent, IsRecord, IsResource, IsValid}
 

@@ -1,3 +1,4 @@
+pub mod Arrangement
 pub mod Fault
 pub mod Laws
 pub mod Made

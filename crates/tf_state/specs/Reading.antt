@@ -1,4 +1,5 @@
--- What a JSON tree says as a state. Each function answers what a part is read as, and none where the format refuses it.
+-- The table of the format as functions: each answers what a part is read as, and none where the format refuses it. They
+-- say what the table says (`Table`), and what the functions that read are shown to answer.
 use Rattle.std.specs.Prelude.{◌≡◌, ℕ, ◌^◌, ◌<◌, ◌≤◌, ◌⊎◌, Bool, true, false, ◌&&◌, ◌==◌, nat_lt, nat_le, if◌then◌else◌, List, [], ◌∷◌, length, filter, Option, Some, None, option_map, option_and_then, codes, IsUtf8}
 use Rattle.std.specs.Cmp.Lexicographic.{slice_cmp}
 use Rattle.std.specs.Ordering.{nat_cmp, match_ordering}
@@ -17,6 +18,7 @@ use Rattle.tf_resource.specs.Place.{KeyView, single, number, name, PlaceView, pl
 use Rattle.tf_resource.specs.Record.{RecordView}
 use Rattle.tf_resource.specs.Resource.{ResourceView}
 use Rattle.tf_resource.specs.State.{StateView}
+use Rattle.tf_state.specs.Arrangement.{record_cmp, resource_cmp, with_records}
 use Rattle.tf_state.specs.Words.{is_shaped, is_deposed_key, is_address}
 use Rattle.tf_state.specs.declared.fault.StateFault.{StateFault}
 use Rattle.tf_state.specs.declared.fault.StateFault.TheVariants.{BadState, Limit, OutOfMemory}
@@ -33,13 +35,6 @@ put_new cmp a (b ∷ bs) = match_ordering (cmp a b) (Some (a ∷ b ∷ bs)) None
 abbrev pub put_text : List ℕ → List (List ℕ) → List (List ℕ)
 put_text s [] = s ∷ []
 put_text s (t ∷ ts) = match_ordering (slice_cmp nat_cmp s t) (s ∷ t ∷ ts) (t ∷ ts) (t ∷ put_text s ts)
-
--- records stand by their places, resources by their addresses
-abbrev pub record_cmp : RecordView → RecordView → Ordering
-record_cmp a b = place_cmp a.place b.place
-
-abbrev pub resource_cmp : ResourceView → ResourceView → Ordering
-resource_cmp a b = label_cmp a.label b.label
 
 -- ---- values
 
@@ -181,14 +176,6 @@ abbrev pub resources_in : Items → List ResourceView → Option (List ResourceV
 resources_in no_items found = Some found
 resources_in (item d ds) found = option_and_then (λ r. option_and_then (resources_in ds) (put_new resource_cmp r found)) (resource_in d)
 
-abbrev pub is_some_record : List RecordView → Bool
-is_some_record [] = false
-is_some_record (r ∷ rs) = true
-
--- a resource without records is no part of the state
-abbrev pub with_records : List ResourceView → List ResourceView
-with_records = filter (λ r. is_some_record r.records)
-
 -- resources are absent, or an array
 abbrev pub all_resources_in : Option Data → Option (List ResourceView)
 all_resources_in None = Some []
@@ -249,27 +236,6 @@ state_in d =
     (outputs_in (get (codes "outputs") d))) (text_or (codes "1.0.0") (get (codes "terraform_version") d))) (text_in (get (codes "lineage") d))) (below (2 ^ 32) (get (codes "serial") d))
     else None
 
--- ---- texts
-
--- The bytes are the text of a state: they are UTF-8, and the JSON tree that they are says the state.
-abbrev pub Reads : List ℕ → StateView → Type 0
-Reads bytes s = (d : Data) × IsUtf8 bytes × (read bytes ≡ Some d) × (state_in d ≡ Some s)
-
--- how many resources with records a state may have
-abbrev pub max_resources : ℕ
-max_resources = 4000
-
--- the serial from which no other follows
-abbrev pub last_serial : ℕ
-last_serial = 4294967295
-
--- A state can be planned from where it has few enough resources, and a serial that another follows.
-abbrev pub IsPlannable : StateView → Type 0
-IsPlannable s = (length s.resources ≤ max_resources) × (s.serial < last_serial)
-
-abbrev pub IsBeyond : StateView → Type 0
-IsBeyond s = (max_resources < length s.resources) ⊎ (last_serial ≤ s.serial)
-
 -- ---- refusals
 
 -- A part is refused where it is read as nothing. Memory may be wanting for any part.
@@ -277,12 +243,6 @@ abbrev pub IsRefused : {A : Type 0} → Option A → StateFault → Type 0
 IsRefused o BadState = o ≡ None
 IsRefused o Limit = ⊥
 IsRefused o OutOfMemory = Unit {0}
-
--- Why a text isn't read: it is no state's; or it is that of a state that can't be planned from; or there was no memory.
-abbrev pub IsUnread : List ℕ → StateFault → Type 0
-IsUnread bytes BadState = (s : StateView) → ¬ Reads bytes s
-IsUnread bytes Limit = (s : StateView) × Reads bytes s × IsBeyond s
-IsUnread bytes OutOfMemory = Unit {0}
 
 -- Why bytes are no JSON tree: they aren't UTF-8, or no JSON; or there was no memory.
 abbrev pub IsNoJson : List ℕ → StateFault → Type 0

@@ -1,5 +1,6 @@
--- The table of the format: what has to stand at each property of a tree that says a state, a resource or a record.
-use Rattle.std.specs.Prelude.{◌≡◌, ◌↔◌, ℕ, ◌^◌, ◌<◌, Bool, true, false, if◌then◌else◌, List, [], ◌∷◌, Option, Some, None, codes, ⊤}
+-- The table of the format: what has to stand at each property of a tree that says a state, a resource or a record, and
+-- which texts say a state.
+use Rattle.std.specs.Prelude.{◌≡◌, ◌↔◌, ℕ, ◌^◌, ◌<◌, ◌≤◌, ◌⊎◌, IsUtf8, length, Bool, true, false, if◌then◌else◌, List, [], ◌∷◌, Option, Some, None, codes, ⊤}
 use Rattle.std.specs.Cmp.Lexicographic.{slice_cmp}
 use Rattle.std.specs.List.{Contains}
 use Rattle.std.specs.List.Sorted.{IsPermutation, IsStrictlySortedBy}
@@ -9,16 +10,19 @@ use Rattle.std.specs.Str.{bytes_eq}
 use Rattle.std.specs.declared.cmp.Ordering.{Ordering}
 use Rattle.serde_json.specs.Data.{Data, null, boolean, number as json_number, unsigned, string, array, object, Items, no_items, item, Members, no_members, member}
 use Rattle.serde_json.specs.Find.{get}
+use Rattle.serde_json.specs.Read.{read}
 use Rattle.tf_address.specs.Name.{is_name}
 use Rattle.tf_value.specs.Json.{IsJson}
 use Rattle.tf_value.specs.Measure.{IsWithinLimits}
 use Rattle.tf_value.specs.Tree.{Tree, map, Entries, no_entries, entry, get as value_at}
 use Rattle.tf_resource.specs.Place.{KeyView, single, number, name}
-use Rattle.tf_state.specs.Reading.{record_cmp, record_in, resource_cmp, resource_in, state_in, with_records}
+use Rattle.tf_state.specs.Arrangement.{record_cmp, resource_cmp, with_records}
 use Rattle.tf_resource.specs.Record.{RecordView}
 use Rattle.tf_resource.specs.Resource.{ResourceView}
 use Rattle.tf_resource.specs.State.{StateView}
 use Rattle.tf_state.specs.Words.{is_address, is_deposed_key, is_shaped}
+use Rattle.tf_state.specs.declared.fault.StateFault.{StateFault}
+use Rattle.tf_state.specs.declared.fault.StateFault.TheVariants.{BadState, Limit, OutOfMemory}
 use Rattle.tf_state.specs.declared.shape.Shape.TheVariants as shapes
 
 -- ---- lists and tables
@@ -202,12 +206,29 @@ pub record SaysState (d : Data) (s : StateView) : Type 0 where
   pub outputs : SaysOutputs (get (codes "outputs") d) s.outputs
   pub resources : SaysResources (get (codes "resources") d) s.resources
 
--- A tree is read as a record, a resource or a state exactly where it says that one by the table.
-abbrev pub RecordsAreByTable : Type 0
-RecordsAreByTable = (d : Data) (r : RecordView) → (record_in d ≡ Some r) ↔ SaysRecord d r
+-- ---- texts
 
-abbrev pub ResourcesAreByTable : Type 0
-ResourcesAreByTable = (d : Data) (r : ResourceView) → (resource_in d ≡ Some r) ↔ SaysResource d r
+-- The bytes are the text of a state: they are UTF-8, and the JSON tree that they are says the state.
+abbrev pub Reads : List ℕ → StateView → Type 0
+Reads bytes s = (d : Data) × IsUtf8 bytes × (read bytes ≡ Some d) × SaysState d s
 
-abbrev pub StatesAreByTable : Type 0
-StatesAreByTable = (d : Data) (s : StateView) → (state_in d ≡ Some s) ↔ SaysState d s
+-- how many resources with records a state may have
+abbrev pub max_resources : ℕ
+max_resources = 4000
+
+-- the serial from which no other follows
+abbrev pub last_serial : ℕ
+last_serial = 4294967295
+
+-- A state can be planned from where it has few enough resources, and a serial that another follows.
+abbrev pub IsPlannable : StateView → Type 0
+IsPlannable s = (length s.resources ≤ max_resources) × (s.serial < last_serial)
+
+abbrev pub IsBeyond : StateView → Type 0
+IsBeyond s = (max_resources < length s.resources) ⊎ (last_serial ≤ s.serial)
+
+-- Why a text isn't read: it is no state's; or it is that of a state that can't be planned from; or there was no memory.
+abbrev pub IsUnread : List ℕ → StateFault → Type 0
+IsUnread bytes BadState = (s : StateView) → ¬ Reads bytes s
+IsUnread bytes Limit = (s : StateView) × Reads bytes s × IsBeyond s
+IsUnread bytes OutOfMemory = Unit {0}

@@ -13,7 +13,7 @@ use Rattle.tf_value.specs.Tree.{Tree, map, Entries, no_entries, entry, IsHeld}
 use Rattle.tf_resource.specs.Addresses.{AreByAddress}
 use Rattle.tf_resource.specs.Place.{KeyView, single, number, name}
 use Rattle.tf_resource.specs.Places.{AreByPlace}
-use Rattle.tf_state.specs.Reading.{is_some_record}
+use Rattle.tf_state.specs.Arrangement.{is_some_record}
 use Rattle.tf_resource.specs.Record.{RecordView}
 use Rattle.tf_resource.specs.Resource.{ResourceView}
 use Rattle.tf_resource.specs.State.{StateView}

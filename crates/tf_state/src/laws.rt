@@ -1,10 +1,8 @@
 // Laws of states and their texts, proved for every state: each function's contract is a law, and its body does
 // nothing.
 ghost use Rattle.tf_state.specs.Laws.{PutKeepsResource, PutKeepsState, ReadIsValid, RemoveKeepsResource, RemoveKeepsState, StateOfTextIsOne, TextIsOfOne, TextReadsAsState};
-ghost use Rattle.tf_state.specs.Table.{RecordsAreByTable, ResourcesAreByTable, StatesAreByTable};
 
 /// Bytes are the text of at most one state.
-#[tactic(auto, using(crate::proofs::StateLaws::text_is_of_one))]
 pub fn texts_are_of_one()
     ensures { TextIsOfOne }
 {}
@@ -28,11 +26,4 @@ pub fn puts_and_removes_keep_states_valid()
     ensures records { PutKeepsResource }
     ensures left_resources { RemoveKeepsState }
     ensures left_records { RemoveKeepsResource }
-{}
-
-/// A JSON tree is read as a record, a resource or a state exactly where it says that one by the table of the format.
-pub fn states_are_by_table()
-    ensures records { RecordsAreByTable }
-    ensures resources { ResourcesAreByTable }
-    ensures states { StatesAreByTable }
 {}

@@ -24,8 +24,7 @@ mod writing;
 
 pub use fault::StateFault;
 pub use laws::{
-    puts_and_removes_keep_states_valid, read_states_are_valid, states_are_by_table,
-    texts_are_of_one, texts_read_back,
+    puts_and_removes_keep_states_valid, read_states_are_valid, texts_are_of_one, texts_read_back,
 };
 pub use reading::read;
 pub use tf_resource::{Key, Object, Place, Record, Resource, State, copy, provider_address};

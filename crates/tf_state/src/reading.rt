@@ -5,7 +5,8 @@ ghost use Rattle.std.specs.Bool.{OnFalse, OnTrue};
 ghost use Rattle.serde_json.specs.Data.{Data};
 ghost use Rattle.serde_json.specs.Read.{read};
 ghost use Rattle.serde_json.specs.View.{view, members_view};
-ghost use Rattle.tf_state.specs.Reading.{IsBeyond, IsNoJson, IsPlannable, IsRefused, IsUnread, Reads, is_state, is_unchecked, is_version, output_in, outputs_in, required_value, state_in, text_or, values_in};
+ghost use Rattle.tf_state.specs.Reading.{IsNoJson, IsRefused, is_state, is_unchecked, is_version, output_in, outputs_in, required_value, state_in, text_or, values_in};
+ghost use Rattle.tf_state.specs.Table.{IsBeyond, IsPlannable, IsUnread, Reads};
 ghost use Rattle.tf_resource.specs.State.{outputs_of, state_of};
 ghost use Rattle.tf_value.specs.Tree.{no_entries, tree_of};
 
@@ -30,7 +31,7 @@ const MAX_RESOURCES: usize = 4_000;
 ///   `tf_value`, or two resources have one address, or two records of a resource one place.
 /// - `Limit` where they are, and the state has more than 4,000 resources with records, or the serial 4294967295.
 /// - `OutOfMemory` only where there is no memory.
-#[tactic(auto, using(crate::proofs::Refusals::no_json))]
+#[tactic(auto, using(crate::proofs::Refusals::no_json, crate::proofs::Refusals::no_state, crate::proofs::Refusals::reads_by_table, crate::proofs::Refusals::beyond_limits))]
 pub fn read(alloc: Global, bytes: &[u8]) -> Result<State, StateFault>
     // The bytes are the text of the state.
     ensures ok { IfOk result (λ state. Reads bytes.now (state_of state)) }

@@ -5,7 +5,8 @@ ghost use Rattle.serde_json.specs.View.{view, items_view};
 ghost use Rattle.tf_state.specs.Made.{record_made, records_made};
 ghost use Rattle.tf_resource.specs.Place.{place_of};
 ghost use Rattle.tf_resource.specs.Places.{AreByPlace};
-ghost use Rattle.tf_state.specs.Reading.{IsRefused, instances_in, is_record, put_new, record_at, record_cmp, record_in, records_in};
+ghost use Rattle.tf_state.specs.Arrangement.{record_cmp};
+ghost use Rattle.tf_state.specs.Reading.{IsRefused, instances_in, is_record, put_new, record_at, record_in, records_in};
 ghost use Rattle.tf_resource.specs.Record.{record_of};
 
 use crate::body::Body;

@@ -3,7 +3,8 @@
 ghost use Rattle.std.specs.Prelude.{◌≡◌, [], Some, IfErr, IfOk, OnOk, map, option_map};
 ghost use Rattle.serde_json.specs.View.{view, items_view};
 ghost use Rattle.tf_state.specs.Made.{resource_made, resources_made};
-ghost use Rattle.tf_state.specs.Reading.{IsRefused, all_resources_in, is_managed, is_some_record, put_new, resource_cmp, resource_in, resources_in, with_records};
+ghost use Rattle.tf_state.specs.Arrangement.{is_some_record, resource_cmp, with_records};
+ghost use Rattle.tf_state.specs.Reading.{IsRefused, all_resources_in, is_managed, put_new, resource_in, resources_in};
 ghost use Rattle.tf_resource.specs.Addresses.{AreByAddress};
 ghost use Rattle.tf_resource.specs.Record.{record_of};
 ghost use Rattle.tf_resource.specs.Resource.{resource_of};

@@ -1,6 +1,6 @@
 use Rattle.std.proofs.Common.{Some, sym, ap, ◌∙◌}
 use Rattle.std.specs.Prelude.{is_some}
-use Rattle.tf_state.specs.Reading.{record_cmp}
+use Rattle.tf_state.specs.Arrangement.{record_cmp}
 use Rattle.tf_state.specs.Made.{record_made, records_made}
 use Rattle.tf_resource.specs.contracts.key.PlaceOrd.TheImpl as places
 use Rattle.tf_resource.specs.contracts.key.PlaceOrd.TheImpl.Laws.{total-law}

@@ -1,6 +1,6 @@
 use Rattle.std.proofs.Common.{Some, sym, ap, ◌∙◌}
 use Rattle.std.specs.Prelude.{is_some}
-use Rattle.tf_state.specs.Reading.{resource_cmp}
+use Rattle.tf_state.specs.Arrangement.{resource_cmp}
 use Rattle.tf_state.specs.Made.{resource_made, resources_made}
 use Rattle.tf_address.specs.contracts.label.LabelOrd.TheImpl as labels
 use Rattle.tf_address.specs.contracts.label.LabelOrd.TheImpl.Laws.{total-law}

@@ -5,7 +5,7 @@ use Rattle.tf_resource.proofs.PlaceOrder.{labels_ordered}
 use Rattle.tf_resource.specs.Addresses.{AreByAddress}
 use Rattle.tf_resource.specs.Resource.{ResourceView, resource_of}
 use Rattle.tf_state.specs.Made.{resource_made, resources_made}
-use Rattle.tf_state.specs.Reading.{is_some_record, with_records}
+use Rattle.tf_state.specs.Arrangement.{is_some_record, with_records}
 use Rattle.tf_state.proofs.Ordered.{shown-ordered}
 use Rattle.tf_state.proofs.Orders.{order-filter}
 use Rattle.tf_state.proofs.resource_reading.in_order.Goals as goal

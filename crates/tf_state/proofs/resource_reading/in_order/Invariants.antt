@@ -1,7 +1,7 @@
 -- The resources taken, and those still to take, are all.
 use Rattle.std.proofs.Common.{◌≡◌, ◌++◌, map}
 use Rattle.tf_state.specs.Made.{resources_made}
-use Rattle.tf_state.specs.Reading.{with_records}
+use Rattle.tf_state.specs.Arrangement.{with_records}
 use Rattle.tf_resource.specs.Resource.{resource_of}
 use Rattle.tf_state.proofs.resource_reading.in_order.Given as goal
 

@@ -1,0 +1,22 @@
+-- In which order records and resources stand, and which resources are part of a state.
+use Rattle.std.specs.Prelude.{Bool, true, false, List, [], ◌∷◌, filter}
+use Rattle.std.specs.declared.cmp.Ordering.{Ordering}
+use Rattle.tf_address.specs.Label.{label_cmp}
+use Rattle.tf_resource.specs.Place.{place_cmp}
+use Rattle.tf_resource.specs.Record.{RecordView}
+use Rattle.tf_resource.specs.Resource.{ResourceView}
+
+-- records stand by their places, resources by their addresses
+abbrev pub record_cmp : RecordView → RecordView → Ordering
+record_cmp a b = place_cmp a.place b.place
+
+abbrev pub resource_cmp : ResourceView → ResourceView → Ordering
+resource_cmp a b = label_cmp a.label b.label
+
+abbrev pub is_some_record : List RecordView → Bool
+is_some_record [] = false
+is_some_record (r ∷ rs) = true
+
+-- a resource without records is no part of the state
+abbrev pub with_records : List ResourceView → List ResourceView
+with_records = filter (λ r. is_some_record r.records)
