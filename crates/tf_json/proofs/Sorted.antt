@@ -1,15 +1,14 @@
 -- What a text is read as is sorted.
-use Rattle.std.proofs.Common.{◌≡◌, ℕ, List, [], ◌∷◌, Option, Some, None, Ordering, Less, Equal, Greater, refl, sym, ap, ◌∙◌, subst}
+use Rattle.std.proofs.Common.{◌≡◌, ℕ, List, Option, Some, None, Ordering, Less, Equal, Greater, refl, ◌∙◌, subst}
 use Rattle.std.specs.Prelude.{option_map, option_and_then, ⊤}
 use Rattle.std.specs.Ordering.{match_ordering}
 use Rattle.std.proofs.lemmas.Cmp.{nat_list_cmp_total}
 use Rattle.json.specs.Json as json
 use Rattle.json.specs.Lex.{tokens}
-use Rattle.json.specs.Token.{Token}
-use Rattle.serde_json.specs.Data.{Data, null, boolean, number, string, array, object, Items, no_items, item, Members, no_members, member, put}
+use Rattle.serde_json.specs.Data.{Data, number, array, object, item, Members, no_members, member, put}
 use Rattle.serde_json.specs.Find.{get, get_member}
-use Rattle.serde_json.specs.Read.{read, number_of, of_json, of_items, of_members, max_depth}
-use Rattle.tf_json.specs.Plain.{IsSorted, AreSorted, AreSortedMembers, AreAbove, ReadIsSorted}
+use Rattle.serde_json.specs.Read.{number_of, of_json, of_items, of_members, max_depth}
+use Rattle.tf_json.specs.Plain.{IsSorted, AreSorted, AreSortedMembers, ReadIsSorted}
 use Rattle.tf_json.proofs.Puts.{cmp, above_later, above-put}
 
 sorted_at : (o : Ordering) (k m : List ℕ) (d e : Data) (ms : Members) → cmp k m ≡ o → IsSorted d → AreSortedMembers (member m e ms) → AreSortedMembers (put k d ms)

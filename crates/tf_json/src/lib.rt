@@ -1,23 +1,28 @@
 //! The one text of a JSON tree: pretty, as `serde_json` lays it out, and a newline at its end.
 #![tactic(auto)]
 
-ghost use Rattle.serde_json.specs.View.{view};
-ghost use Rattle.serde_json.specs.Written.{has_float};
-ghost use Rattle.std.specs.Prelude.{◌≡◌, IfOk, false, string_bytes};
+ghost use Rattle.serde.specs.Event.{Log};
+ghost use Rattle.std.specs.Prelude.{List, [], IfOk, Some, string_bytes};
 ghost use Rattle.tf_json.specs.Plain.{ReadIsSorted, TextReadsBack};
-ghost use Rattle.tf_json.specs.Text.{text_of};
+ghost use Rattle.tf_json.specs.Text.{IsTextOfEvents, IsTextOfSentTree};
 
-use serde_json::Value;
-use std::alloc::{AllocError, Global};
+use serde::Serialize;
+use serde_json::Error;
+use std::alloc::Global;
 
-/// The text of a tree without floats: two spaces a level, an object's members in byte order of their keys,
-/// `[]` and `{}` for empty ones, and one newline at the end. Refused only where there is no memory.
-#[tactic(auto, using(crate::proofs::Pretty::exact))]
-pub fn text(alloc: Global, json: &Value) -> Result<String, AllocError>
-    requires { has_float (view json.now) ≡ false }
-    ensures { IfOk result (λ s. string_bytes s ≡ text_of (view json.now)) }
+/// The text of what the value sends to be written: two spaces a level, `[]` and `{}` for empty ones, and one newline
+/// at the end. Where the value sends a tree without floats, it is the tree's text, an object's members in the order
+/// of the tree. Refused where there is no memory, and where what is sent cannot stand as JSON.
+#[tactic(auto, using(crate::proofs::Pretty::text_of_events, crate::proofs::Pretty::text_of_sent_tree))]
+pub fn text<T: Serialize>(alloc: Global, value: &T) -> Result<String, Error>
+    // The tokens of the events that the value sends, in the pretty layout.
+    ensures events { IfOk result (λ s. (log : Log)
+        × T.writes value.now (Some []) log × IsTextOfEvents log (string_bytes s)) }
+    // Where those are the events of a tree without floats, the tree's own text.
+    ensures tree { IfOk result (λ s. (log : Log)
+        × T.writes value.now (Some []) log × IsTextOfSentTree log (string_bytes s)) }
 {
-    let mut text = json.to_string_pretty(alloc)?;
+    let mut text = serde_json::to_string_pretty(alloc, value)?;
     text.push('\n')?;
     Ok(text)
 }
