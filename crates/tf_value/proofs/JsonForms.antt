@@ -1,5 +1,5 @@
 -- Values beside their JSON forms.
-use Rattle.std.proofs.Common.{◌≡◌, ℕ, ◌≤◌, List, length, take, [], ◌∷◌, ◌++◌, String, Global, Greater, string_bytes, string_cmp, nat_cmp, map as each, refl, ap, ◌∙◌}
+use Rattle.std.proofs.Common.{◌≡◌, ℕ, suc, ◌≤◌, List, length, take, [], ◌∷◌, ◌++◌, String, Global, Greater, string_bytes, string_cmp, nat_cmp, map as each, refl, ap, ◌∙◌}
 use Rattle.std.proofs.lemmas.Cmp.{nat_list_cmp_total}
 use Rattle.std.proofs.lemmas.List.{take_all}
 use Rattle.std.specs.Cmp.Lexicographic.{slice_cmp}
@@ -7,6 +7,7 @@ use Rattle.std.specs.List.Sorted.{IsStrictlySortedBy}
 use Rattle.std.specs.Map.{keys_of}
 use Rattle.std.specs.Ordering.{ordering_reverse}
 use Rattle.serde_json.specs.Data as json
+use Rattle.serde_json.specs.Events.{items_len, members_len}
 use Rattle.serde_json.specs.View.{view, items_view as json_items, items_of as json_items_of, members_view, members_of}
 use Rattle.serde_json.proofs.Views.{Entry as Member}
 use Rattle.tf_value.specs.Tree.{Entries, items_of, tree_of, items_view, entries_view}
@@ -50,6 +51,15 @@ written_entries = listed (λ v. value_data (tree_of v))
 pub written_entries-is : (es : List Entry) → written_entries es ≡ entries_data (entries_view es)
 written_entries-is [] = refl
 written_entries-is (e ∷ es) = rw (written_entries-is es)
+
+-- a form has as many items, or members, as the value
+pub items_len-is : (vs : List Value) → items_len (items_data (items_view vs)) ≡ length vs
+items_len-is [] = refl
+items_len-is (v ∷ vs) = ap suc (items_len-is vs)
+
+pub members_len-is : (es : List Entry) → members_len (entries_data (entries_view es)) ≡ length es
+members_len-is [] = refl
+members_len-is (e ∷ es) = ap suc (members_len-is es)
 
 -- a key that is above those before it goes last
 pub put_last : {V : Type 0} (f : V → json.Data) (done : List (String Global × V)) (e : String Global × V) (more : List (String Global × V)) → IsStrictlySortedBy string_cmp (keys_of (done ++ e ∷ more))

@@ -10,6 +10,7 @@ mod laws;
 mod measure;
 mod reading;
 mod refinement;
+mod sending;
 #[cfg(test)]
 mod tests;
 mod value;
