@@ -5,6 +5,7 @@ pub mod Floats
 pub mod Gathered
 pub mod Kept
 pub mod KnownForms
+pub mod Lengths
 pub mod Loops
 pub mod Ordered
 pub mod Orders
@@ -14,8 +15,8 @@ pub mod RecordBack
 pub mod Plainness
 pub mod Properties
 pub mod Refusals
+pub mod Sent
 pub mod StateBack
 pub mod StateLaws
 pub mod Tables
-pub mod TypeForms
 pub mod ValueForms

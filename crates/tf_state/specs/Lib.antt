@@ -3,6 +3,7 @@ pub mod Fault
 pub mod Laws
 pub mod Made
 pub mod Reading
+pub mod Sending
 pub mod Table
 pub mod Text
 pub mod Types

@@ -19,7 +19,6 @@ mod shape;
 mod tests;
 mod types;
 mod value_reading;
-mod words;
 mod writing;
 
 pub use fault::StateFault;

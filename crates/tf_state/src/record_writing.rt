@@ -1,124 +1,112 @@
-//! The JSON form of a record.
+//! The JSON form of a record, sent member by member in byte order.
 
-ghost use Rattle.std.specs.Prelude.{◌≡◌, IfOk, OnOk, map, option_map, string_bytes};
-ghost use Rattle.serde_json.specs.Data.{string};
-ghost use Rattle.serde_json.specs.View.{view, members_view};
+ghost use Rattle.std.specs.Prelude.{◌≡◌, OnOk, codes, map, option_map, string_bytes};
+ghost use Rattle.serde_json.specs.Data.{array, string};
+ghost use Rattle.serde_json.specs.Events.{SendsValue};
+ghost use Rattle.serde_json.specs.View.{items_of};
 ghost use Rattle.tf_resource.specs.Place.{deposed_of, key_of};
 ghost use Rattle.tf_resource.specs.Record.{record_of};
-ghost use Rattle.tf_state.specs.Text.{dependencies_data, flag_data, key_data, put_some, record_data, status_data};
-ghost use Rattle.tf_value.specs.Json.{value_data};
-ghost use Rattle.tf_value.specs.Tree.{tree_of};
+ghost use Rattle.tf_state.specs.Sending.{SendsSome, member_count};
+ghost use Rattle.tf_state.specs.Text.{dependencies_data, flag_data, key_data, record_data, status_data};
 
-use crate::words::text;
-use serde_json::{Map, Value as Json, put};
-use std::alloc::{AllocError, Global};
+use serde::{Serialize, Serializer};
 use std::collections::BTreeSet;
-use tf_resource::{Key, Object, Record};
-use tf_value::{JsonFault, to_json};
+use tf_resource::{Key, Record};
 
-pub(crate) fn record_json(alloc: Global, instance: &Record) -> Result<Json, AllocError>
-    ensures { IfOk result (λ json. view json ≡ record_data (record_of instance.now)) }
+pub(crate) fn send_record<S: Serializer>(instance: &Record, out: &mut S) -> Result<(), S::Error>
+    ensures { OnOk result (SendsValue (record_data (record_of instance.now)) (S.written out.old) (S.written out.new)) }
 {
-    let mut members = Map::new(alloc);
-    let status = status_json(alloc, instance.tainted)?;
-    put_some(&mut members, alloc, "status", status)?;
-    let key = key_json(alloc, &instance.place.key)?;
-    put_some(&mut members, alloc, "index_key", key)?;
-    let deposed = deposed_json(alloc, &instance.place.deposed)?;
-    put_some(&mut members, alloc, "deposed", deposed)?;
-    let dependencies = dependencies_json(alloc, &instance.dependencies)?;
-    put_some(&mut members, alloc, "dependencies", dependencies)?;
-    let flag = flag_json(instance.create_before_destroy);
-    put_some(&mut members, alloc, "create_before_destroy", flag)?;
-    let version = Json::from(u64::from(instance.schema_version));
-    put(&mut members, alloc, "schema_version", version)?;
-    let attributes = object_json(alloc, &instance.attributes)?;
-    put(&mut members, alloc, "attributes", attributes)?;
-    Ok(Json::Object(members))
+    out.begin_map(Some(member_count(instance)))?;
+    out.key("attributes")?;
+    instance.attributes.value.serialize(out)?;
+    send_flag(instance.create_before_destroy, out)?;
+    send_dependencies(&instance.dependencies, out)?;
+    send_deposed(&instance.place.deposed, out)?;
+    send_key(&instance.place.key, out)?;
+    out.key("schema_version")?;
+    out.u64(u64::from(instance.schema_version))?;
+    send_status(instance.tainted, out)?;
+    out.end_map()
 }
 
-fn put_some(
-    members: &mut Map<String, Json>,
-    alloc: Global,
-    key: &str,
-    json: Option<Json>,
-) -> Result<(), AllocError>
-    ensures { OnOk result (members_view members.new.entries
-        ≡ put_some key.now (option_map view json) (members_view members.old.entries)) }
+/// How many members a record is written with.
+fn member_count(instance: &Record) -> usize
+    ensures { result ≡ member_count (record_of instance.now) }
 {
-    match json {
-        Some(json) => put(members, alloc, key, json),
+    2 + usize::from(instance.create_before_destroy)
+        + usize::from(!instance.dependencies.is_empty())
+        + usize::from(instance.place.deposed.is_some())
+        + usize::from(instance.place.key != Key::Single)
+        + usize::from(instance.tainted)
+}
+
+fn send_flag<S: Serializer>(create_before_destroy: bool, out: &mut S) -> Result<(), S::Error>
+    ensures { OnOk result (SendsSome (codes "create_before_destroy") (flag_data create_before_destroy) (S.written out.old) (S.written out.new)) }
+{
+    if !create_before_destroy {
+        return Ok(());
+    }
+    out.key("create_before_destroy")?;
+    out.bool(true)
+}
+
+fn send_dependencies<S: Serializer>(
+    dependencies: &BTreeSet<String>,
+    out: &mut S,
+) -> Result<(), S::Error>
+    ensures { OnOk result (SendsSome (codes "dependencies") (dependencies_data (map string_bytes dependencies.now.keys)) (S.written out.old) (S.written out.new)) }
+{
+    if dependencies.is_empty() {
+        return Ok(());
+    }
+    out.key("dependencies")?;
+    send_texts(dependencies, out)
+}
+
+fn send_texts<S: Serializer>(texts: &BTreeSet<String>, out: &mut S) -> Result<(), S::Error>
+    ensures { OnOk result (SendsValue (array (items_of (map string (map string_bytes texts.now.keys)))) (S.written out.old) (S.written out.new)) }
+{
+    out.begin_seq(Some(texts.len()))?;
+    for text in texts.iter() {
+        out.str(text.as_str())?;
+    }
+    out.end_seq()
+}
+
+fn send_deposed<S: Serializer>(deposed: &Option<String>, out: &mut S) -> Result<(), S::Error>
+    ensures { OnOk result (SendsSome (codes "deposed") (option_map string (deposed_of deposed.now)) (S.written out.old) (S.written out.new)) }
+{
+    match deposed {
+        Some(key) => {
+            out.key("deposed")?;
+            out.str(key.as_str())
+        }
         None => Ok(()),
     }
 }
 
-fn status_json(alloc: Global, tainted: bool) -> Result<Option<Json>, AllocError>
-    ensures { IfOk result (λ json. option_map view json ≡ status_data tainted) }
-{
-    if tainted {
-        Ok(Some(text(alloc, "tainted")?))
-    } else {
-        Ok(None)
-    }
-}
-
-fn key_json(alloc: Global, key: &Key) -> Result<Option<Json>, AllocError>
-    ensures { IfOk result (λ json. option_map view json ≡ key_data (key_of key.now)) }
+fn send_key<S: Serializer>(key: &Key, out: &mut S) -> Result<(), S::Error>
+    ensures { OnOk result (SendsSome (codes "index_key") (key_data (key_of key.now)) (S.written out.old) (S.written out.new)) }
 {
     match key {
-        Key::Single => Ok(None),
-        Key::Number(number) => Ok(Some(Json::from(*number))),
-        Key::Name(name) => Ok(Some(text(alloc, name)?)),
+        Key::Single => Ok(()),
+        Key::Number(number) => {
+            out.key("index_key")?;
+            out.u64(*number)
+        }
+        Key::Name(name) => {
+            out.key("index_key")?;
+            out.str(name.as_str())
+        }
     }
 }
 
-fn deposed_json(alloc: Global, deposed: &Option<String>) -> Result<Option<Json>, AllocError>
-    ensures { IfOk result (λ json. option_map view json ≡ option_map string (deposed_of deposed.now)) }
+fn send_status<S: Serializer>(tainted: bool, out: &mut S) -> Result<(), S::Error>
+    ensures { OnOk result (SendsSome (codes "status") (status_data tainted) (S.written out.old) (S.written out.new)) }
 {
-    match deposed {
-        Some(key) => Ok(Some(text(alloc, key)?)),
-        None => Ok(None),
+    if !tainted {
+        return Ok(());
     }
-}
-
-fn dependencies_json(
-    alloc: Global,
-    dependencies: &BTreeSet<String>,
-) -> Result<Option<Json>, AllocError>
-    ensures { IfOk result (λ json. option_map view json ≡ dependencies_data (map string_bytes dependencies.now.keys)) }
-{
-    if dependencies.is_empty() {
-        return Ok(None);
-    }
-    Ok(Some(Json::Array(texts_json(alloc, dependencies)?)))
-}
-
-fn texts_json(alloc: Global, texts: &BTreeSet<String>) -> Result<Vec<Json>, AllocError>
-    ensures { IfOk result (λ items. map view items.items ≡ map string (map string_bytes texts.now.keys)) }
-{
-    let mut items = Vec::with_capacity(alloc, texts.len())?;
-    for name in texts.iter() {
-        items.push(text(alloc, name)?)?;
-    }
-    Ok(items)
-}
-
-fn flag_json(create_before_destroy: bool) -> Option<Json>
-    ensures { option_map view result ≡ flag_data create_before_destroy }
-{
-    if create_before_destroy {
-        Some(Json::Bool(true))
-    } else {
-        None
-    }
-}
-
-pub(crate) fn object_json(alloc: Global, object: &Object) -> Result<Json, AllocError>
-    ensures { IfOk result (λ json. view json ≡ value_data (tree_of object.now.value)) }
-{
-    match to_json(alloc, &object.value) {
-        Ok(json) => Ok(json),
-        Err(JsonFault::OutOfMemory) => Err(AllocError),
-        Err(_) => unreachable!(),
-    }
+    out.key("status")?;
+    out.str("tainted")
 }

@@ -1,62 +1,62 @@
 //! The types that a state names beside the values of outputs.
 
-ghost use Rattle.std.specs.Prelude.{◌≡◌, IfOk, string_bytes};
-ghost use Rattle.serde_json.specs.View.{view, items_view as json_items, members_view};
-ghost use Rattle.tf_state.specs.Types.{type_data, item_types, entry_types, pair_data};
+ghost use Rattle.std.specs.Prelude.{◌≡◌, OnOk};
+ghost use Rattle.serde_json.specs.Data.{array, object};
+ghost use Rattle.serde_json.specs.Events.{SendsValue};
+ghost use Rattle.tf_state.specs.Types.{type_data, item_types, entry_types};
 ghost use Rattle.tf_value.specs.Tree.{tree_of, items_view, entries_view};
 
-use crate::words::text;
-use serde_json::{Map, Value as Json};
-use std::alloc::{AllocError, Global};
+use serde::Serializer;
 use std::collections::BTreeMap;
 use tf_value::Value;
 
 /// The type of a value, as a state names it.
 #[cycle(types)]
-pub(crate) fn type_json(alloc: Global, value: &Value) -> Result<Json, AllocError>
-    ensures { IfOk result (λ json. view json ≡ type_data (tree_of value.now)) }
+pub(crate) fn send_type<S: Serializer>(value: &Value, out: &mut S) -> Result<(), S::Error>
+    ensures { OnOk result (SendsValue (type_data (tree_of value.now)) (S.written out.old) (S.written out.new)) }
 {
     match value {
-        Value::Null | Value::Unknown => text(alloc, "dynamic"),
-        Value::Bool(_) => text(alloc, "bool"),
-        Value::Int(_) => text(alloc, "number"),
-        Value::Text(_) => text(alloc, "string"),
-        Value::List(items) => pair(alloc, "tuple", Json::Array(item_types(alloc, items)?)),
-        Value::Map(entries) => pair(alloc, "object", Json::Object(entry_types(alloc, entries)?)),
+        Value::Null | Value::Unknown => out.str("dynamic"),
+        Value::Bool(_) => out.str("bool"),
+        Value::Int(_) => out.str("number"),
+        Value::Text(_) => out.str("string"),
+        Value::List(items) => {
+            out.begin_seq(Some(2))?;
+            out.str("tuple")?;
+            send_item_types(items, out)?;
+            out.end_seq()
+        }
+        Value::Map(entries) => {
+            out.begin_seq(Some(2))?;
+            out.str("object")?;
+            send_entry_types(entries, out)?;
+            out.end_seq()
+        }
     }
 }
 
 #[cycle(types)]
-fn item_types(alloc: Global, items: &Vec<Value>) -> Result<Vec<Json>, AllocError>
-    ensures { IfOk result (λ types. json_items types.items ≡ item_types (items_view items.now.items)) }
+fn send_item_types<S: Serializer>(items: &Vec<Value>, out: &mut S) -> Result<(), S::Error>
+    ensures { OnOk result (SendsValue (array (item_types (items_view items.now.items))) (S.written out.old) (S.written out.new)) }
 {
-    let mut types = Vec::with_capacity(alloc, items.len())?;
+    out.begin_seq(Some(items.len()))?;
     for item in items {
-        types.push(type_json(alloc, item)?)?;
+        send_type(item, out)?;
     }
-    Ok(types)
+    out.end_seq()
 }
 
 #[cycle(types)]
-fn entry_types(
-    alloc: Global,
+fn send_entry_types<S: Serializer>(
     entries: &BTreeMap<String, Value>,
-) -> Result<Map<String, Json>, AllocError>
-    ensures { IfOk result (λ types. members_view types.entries ≡ entry_types (entries_view entries.now.entries)) }
+    out: &mut S,
+) -> Result<(), S::Error>
+    ensures { OnOk result (SendsValue (object (entry_types (entries_view entries.now.entries))) (S.written out.old) (S.written out.new)) }
 {
-    let mut types = BTreeMap::new(alloc);
+    out.begin_map(Some(entries.len()))?;
     for (key, value) in entries.iter() {
-        let name = key.clone()?;
-        drop(types.insert(name, type_json(alloc, value)?)?);
+        out.key(key.as_str())?;
+        send_type(value, out)?;
     }
-    Ok(types)
-}
-
-fn pair(alloc: Global, word: &str, json: Json) -> Result<Json, AllocError>
-    ensures { IfOk result (λ pair. view pair ≡ pair_data word.now (view json)) }
-{
-    let mut items = Vec::with_capacity(alloc, 2)?;
-    items.push(text(alloc, word)?)?;
-    items.push(json)?;
-    Ok(Json::Array(items))
+    out.end_map()
 }

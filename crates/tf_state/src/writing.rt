@@ -1,17 +1,18 @@
 //! The text of a state.
 
-ghost use Rattle.std.specs.Prelude.{◌≡◌, IfOk, OnOk, map, option_map, string_bytes};
-ghost use Rattle.serde_json.specs.View.{view, members_view};
+ghost use Rattle.std.specs.Prelude.{◌≡◌, IfOk, OnOk, map, string_bytes};
+ghost use Rattle.serde_json.specs.Data.{array, object};
+ghost use Rattle.serde_json.specs.Events.{SendsValue};
+ghost use Rattle.serde_json.specs.View.{items_of};
 ghost use Rattle.tf_resource.specs.Record.{record_of};
 ghost use Rattle.tf_resource.specs.Resource.{resource_of};
 ghost use Rattle.tf_resource.specs.State.{outputs_of, state_of};
 ghost use Rattle.tf_state.specs.Text.{output_data, outputs_data, record_data, resource_data, state_data, state_text};
 ghost use Rattle.tf_value.specs.Tree.{tree_of};
 
-use crate::record_writing::{object_json, record_json};
-use crate::types::type_json;
-use crate::words::text;
-use serde_json::{Map, Value as Json, put};
+use crate::record_writing::send_record;
+use crate::types::send_type;
+use serde::{Described, Serialize, Serializer};
 use std::alloc::{AllocError, Global};
 use std::collections::BTreeMap;
 use tf_resource::{Object, Record, Resource, State};
@@ -21,124 +22,106 @@ use tf_resource::{Object, Record, Resource, State};
 pub fn write(alloc: Global, state: &State) -> Result<String, AllocError>
     ensures { IfOk result (λ text. string_bytes text ≡ state_text (state_of state.now)) }
 {
-    let json = state_json(alloc, state)?;
-    tf_json::text(alloc, &json)
+    match tf_json::text(alloc, &StateFile { state }) {
+        Ok(text) => Ok(text),
+        // What is sent is well formed, so that only memory can be wanting.
+        Err(_) => Err(AllocError),
+    }
 }
 
-fn state_json(alloc: Global, state: &State) -> Result<Json, AllocError>
-    ensures { IfOk result (λ json. view json ≡ state_data (state_of state.now)) }
+/// A state as it stands in its file.
+#[derive(Drop)]
+struct StateFile<'a> {
+    state: &'a State,
+}
+
+impl Described for StateFile<'_> {
+    ghost writes = { λ file. SendsValue (state_data (state_of file.state.now)) };
+}
+
+impl Serialize for StateFile<'_> {
+    fn serialize<S: Serializer>(&self, out: &mut S) -> Result<(), S::Error> {
+        send_state(self.state, out)
+    }
+}
+
+fn send_state<S: Serializer>(state: &State, out: &mut S) -> Result<(), S::Error>
+    ensures { OnOk result (SendsValue (state_data (state_of state.now)) (S.written out.old) (S.written out.new)) }
 {
-    let mut members = Map::new(alloc);
-    put(&mut members, alloc, "version", Json::from(4u64))?;
-    put(
-        &mut members,
-        alloc,
-        "terraform_version",
-        text(alloc, state.terraform_version())?,
-    )?;
-    put(
-        &mut members,
-        alloc,
-        "serial",
-        Json::from(u64::from(state.serial())),
-    )?;
-    put(
-        &mut members,
-        alloc,
-        "resources",
-        Json::Array(resources_json(alloc, state.resources())?),
-    )?;
-    put(
-        &mut members,
-        alloc,
-        "outputs",
-        Json::Object(outputs_json(alloc, state.outputs())?),
-    )?;
-    put(
-        &mut members,
-        alloc,
-        "lineage",
-        text(alloc, state.lineage())?,
-    )?;
-    Ok(Json::Object(members))
+    out.begin_map(Some(6))?;
+    out.key("lineage")?;
+    out.str(state.lineage())?;
+    out.key("outputs")?;
+    send_outputs(state.outputs(), out)?;
+    out.key("resources")?;
+    send_resources(state.resources(), out)?;
+    out.key("serial")?;
+    out.u64(u64::from(state.serial()))?;
+    out.key("terraform_version")?;
+    out.str(state.terraform_version())?;
+    out.key("version")?;
+    out.u64(4)?;
+    out.end_map()
 }
 
-fn outputs_json(
-    alloc: Global,
+fn send_outputs<S: Serializer>(
     outputs: &BTreeMap<String, Object>,
-) -> Result<Map<String, Json>, AllocError>
-    ensures { IfOk result (λ members. members_view members.entries ≡ outputs_data (outputs_of outputs.now.entries)) }
+    out: &mut S,
+) -> Result<(), S::Error>
+    ensures { OnOk result (SendsValue (object (outputs_data (outputs_of outputs.now.entries))) (S.written out.old) (S.written out.new)) }
 {
-    let mut members = Map::new(alloc);
-    for (key, output) in outputs.iter() {
-        let name = key.clone()?;
-        drop(members.insert(name, output_json(alloc, output)?)?);
+    out.begin_map(Some(outputs.len()))?;
+    for (name, output) in outputs.iter() {
+        out.key(name.as_str())?;
+        send_output(output, out)?;
     }
-    Ok(members)
+    out.end_map()
 }
 
-fn output_json(alloc: Global, output: &Object) -> Result<Json, AllocError>
-    ensures { IfOk result (λ json. view json ≡ output_data (tree_of output.now.value)) }
+fn send_output<S: Serializer>(output: &Object, out: &mut S) -> Result<(), S::Error>
+    ensures { OnOk result (SendsValue (output_data (tree_of output.now.value)) (S.written out.old) (S.written out.new)) }
 {
-    let mut members = Map::new(alloc);
-    put(&mut members, alloc, "value", object_json(alloc, output)?)?;
-    put(
-        &mut members,
-        alloc,
-        "type",
-        type_json(alloc, &output.value)?,
-    )?;
-    Ok(Json::Object(members))
+    out.begin_map(Some(2))?;
+    out.key("type")?;
+    send_type(&output.value, out)?;
+    out.key("value")?;
+    output.value.serialize(out)?;
+    out.end_map()
 }
 
-fn resources_json(alloc: Global, resources: &[Resource]) -> Result<Vec<Json>, AllocError>
-    ensures { IfOk result (λ items. map view items.items ≡ map resource_data (map resource_of resources.now)) }
+fn send_resources<S: Serializer>(resources: &[Resource], out: &mut S) -> Result<(), S::Error>
+    ensures { OnOk result (SendsValue (array (items_of (map resource_data (map resource_of resources.now)))) (S.written out.old) (S.written out.new)) }
 {
-    let mut items = Vec::with_capacity(alloc, resources.len())?;
+    out.begin_seq(Some(resources.len()))?;
     for resource in resources {
-        items.push(resource_json(alloc, resource)?)?;
+        send_resource(resource, out)?;
     }
-    Ok(items)
+    out.end_seq()
 }
 
-fn resource_json(alloc: Global, resource: &Resource) -> Result<Json, AllocError>
-    ensures { IfOk result (λ json. view json ≡ resource_data (resource_of resource.now)) }
+fn send_resource<S: Serializer>(resource: &Resource, out: &mut S) -> Result<(), S::Error>
+    ensures { OnOk result (SendsValue (resource_data (resource_of resource.now)) (S.written out.old) (S.written out.new)) }
 {
-    let mut members = Map::new(alloc);
-    put(
-        &mut members,
-        alloc,
-        "type",
-        text(alloc, &resource.label().kind)?,
-    )?;
-    put(
-        &mut members,
-        alloc,
-        "provider",
-        text(alloc, resource.provider())?,
-    )?;
-    put(
-        &mut members,
-        alloc,
-        "name",
-        text(alloc, &resource.label().name)?,
-    )?;
-    put(&mut members, alloc, "mode", text(alloc, "managed")?)?;
-    put(
-        &mut members,
-        alloc,
-        "instances",
-        Json::Array(records_json(alloc, resource.records())?),
-    )?;
-    Ok(Json::Object(members))
+    out.begin_map(Some(5))?;
+    out.key("instances")?;
+    send_records(resource.records(), out)?;
+    out.key("mode")?;
+    out.str("managed")?;
+    out.key("name")?;
+    out.str(&resource.label().name)?;
+    out.key("provider")?;
+    out.str(resource.provider())?;
+    out.key("type")?;
+    out.str(&resource.label().kind)?;
+    out.end_map()
 }
 
-fn records_json(alloc: Global, records: &[Record]) -> Result<Vec<Json>, AllocError>
-    ensures { IfOk result (λ items. map view items.items ≡ map record_data (map record_of records.now)) }
+fn send_records<S: Serializer>(records: &[Record], out: &mut S) -> Result<(), S::Error>
+    ensures { OnOk result (SendsValue (array (items_of (map record_data (map record_of records.now)))) (S.written out.old) (S.written out.new)) }
 {
-    let mut items = Vec::with_capacity(alloc, records.len())?;
+    out.begin_seq(Some(records.len()))?;
     for record in records {
-        items.push(record_json(alloc, record)?)?;
+        send_record(record, out)?;
     }
-    Ok(items)
+    out.end_seq()
 }

@@ -1,38 +1,38 @@
-use Rattle.std.proofs.Common.{◌≡◌, [], ◌∷◌, ◌++◌, string_bytes, sym, ap, ◌∙◌, subst, append_assoc}
-use Rattle.std.proofs.lemmas.List.{append-nil}
-use Rattle.std.specs.List.Sorted.{IsStrictlySortedBy}
-use Rattle.std.specs.Map.{keys_of}
-use Rattle.std.specs.String.{string_cmp}
-use Rattle.serde_json.specs.View.{members_view}
-use Rattle.serde_json.proofs.Views.{members_view-insert_entry}
-use Rattle.tf_value.specs.Tree.{tree_of}
-use Rattle.tf_value.proofs.Views.{Entry}
-use Rattle.tf_value.proofs.JsonForms.{put_last}
-use Rattle.tf_state.specs.Types.{type_data}
-use Rattle.tf_state.proofs.TypeForms.{all_types, listed_types}
+use Rattle.std.proofs.Common.{◌≡◌, [], length, drop, Some, sym, ◌∙◌, subst, arith, rules}
+use Rattle.std.proofs.lemmas.List.{drop_all}
+use Rattle.std.proofs.lemmas.Result.{on_ok_weaker}
+use Rattle.serde.specs.Event.{Logs, seq_begins, map_begins}
+use Rattle.serde_json.specs.Events.{SendsItems, SendsMembers}
+use Rattle.tf_state.specs.Types.{item_types, entry_types}
+use Rattle.tf_value.specs.Tree.{items_view, entries_view}
+use Rattle.tf_state.proofs.Lengths.{item_types-len, entry_types-len}
 use Rattle.tf_state.proofs.types.+types.Goals as goal
 
-pub entry_types-loop-key-preserved : goal.entry_types-loop-key-preserved
-entry_types-loop-key-preserved t c =
-    let l = c.loop-key in
-    let done = l.invariant.0 in
-    let e : Entry = (c.in-Some.key.now, c.in-Some.value.now) in
-    let left = c.next.new.self in
-    let all : c.args.entries.now.entries ≡ done ++ e ∷ left = l.invariant.1 ∙ ap (λ es. done ++ es) c.in-Some.ensures.steps in
-    let last = put_last (λ v. type_data (tree_of v)) done e left (subst (λ es. IsStrictlySortedBy string_cmp (keys_of es)) all c.iter-key-items.ensures.ordered) in
-    let named : string_bytes c.in_ok-name.name ≡ string_bytes e.0 = c.in_ok-name.ensures.cases in (
-      done ++ e ∷ [],
-      all ∙ sym (append_assoc done (e ∷ []) left),
-      ap members_view c.in_ok-insert.ensures.entries ∙ members_view-insert_entry l.types.entries c.in_ok-name.name c.in_ok-type_json.field-0 ∙ rw (named, c.in_ok-type_json.ensures, l.invariant.2) last,
-    )
+pub send_item_types-returns : goal.send_item_types-returns
+send_item_types-returns g t c =
+    let xs = c.deref-item-items.result.now in
+    let first = g.S.Serializer.written c.begin_seq.new.self in
+    let end = g.S.Serializer.written c.end_seq.new.self in
+    let len : c.len.result ≡ length c.args.items.now.items = search rules in
+    let begun = subst (λ n. Logs (g.S.Serializer.written c.args.out.now) first (seq_begins (Some n))) (len ∙ sym (item_types-len c.args.items.now.items)) c.in_ok-begin_seq.ensures in
+    let none : drop c.loop-item.item-index xs ≡ [] = drop_all c.loop-item.item-index xs (omega arith) in
+    on_ok_weaker c.end_seq.result (λ e. (
+      first,
+      begun,
+      subst (λ ys. SendsItems (item_types (items_view ys)) first end) c.deref-item-items.ensures.value
+          (c.loop-item.invariant end (subst (λ ys. SendsItems (item_types (items_view ys)) (g.S.Serializer.written c.loop-item.out) end) (sym none) e)),
+    )) c.end_seq.ensures
 
-pub entry_types-returns : goal.entry_types-returns
-entry_types-returns t c =
-    let l = c.loop-key in
-    let done = l.invariant.0 in
-    let all : c.args.entries.now.entries ≡ done = l.invariant.1 ∙ ap (λ es. done ++ es) c.in-None.ensures.steps.0 ∙ append-nil done in
-    l.invariant.2 ∙ rw (← all) (listed_types c.args.entries.now.entries)
-
-pub item_types-returns : goal.item_types-returns
-item_types-returns t c =
-    all_types c.args.items.now.items c.loop-item.item-index _ (rw (← c.deref-item-items.ensures.value) c.loop-item-test.false) (rw (← c.deref-item-items.ensures.value) c.loop-item.invariant)
+pub send_entry_types-returns : goal.send_entry_types-returns
+send_entry_types-returns g t c =
+    let first = g.S.Serializer.written c.begin_map.new.self in
+    let end = g.S.Serializer.written c.end_map.new.self in
+    let len : c.len.result ≡ length c.args.entries.now.entries = search rules in
+    let all : c.into_iter-key-iterator.result ≡ c.args.entries.now.entries = search rules in
+    let begun = subst (λ n. Logs (g.S.Serializer.written c.args.out.now) first (map_begins (Some n))) (len ∙ sym (entry_types-len c.args.entries.now.entries)) c.in_ok-begin_map.ensures in
+    on_ok_weaker c.end_map.result (λ e. (
+      first,
+      begun,
+      subst (λ ys. SendsMembers (entry_types (entries_view ys)) first end) all
+          (c.loop-key.invariant end (subst (λ ys. SendsMembers (entry_types (entries_view ys)) (g.S.Serializer.written c.loop-key.out) end) (sym c.in-None.ensures.steps.0) e)),
+    )) c.end_map.ensures

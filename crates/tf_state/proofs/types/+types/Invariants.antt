@@ -1,15 +1,16 @@
--- The types of the items and the entries so far.
-use Rattle.std.proofs.Common.{◌≡◌, List, ◌++◌, take, map}
-use Rattle.serde_json.specs.View.{view, members_view}
-use Rattle.tf_value.specs.Tree.{tree_of}
-use Rattle.tf_value.proofs.Views.{Entry}
-use Rattle.tf_value.proofs.JsonForms.{listed}
-use Rattle.tf_state.specs.Types.{type_data}
+-- whatever ends it well from here ends it well from the start
+use Rattle.std.proofs.Common.{drop}
+use Rattle.serde.specs.Event.{Log}
+use Rattle.serde_json.specs.Events.{SendsItems, SendsMembers}
+use Rattle.tf_state.specs.Types.{item_types, entry_types}
+use Rattle.tf_value.specs.Tree.{items_view, entries_view}
 use Rattle.tf_state.proofs.types.+types.Given as goal
 
-abbrev pub invariant-item_types-loop-item : goal.invariant-item_types-loop-item
-invariant-item_types-loop-item l = map view l.types.items ≡ map (λ v. type_data (tree_of v)) (take l.item-index l.item-items)
+abbrev pub invariant-send_item_types-loop-item : goal.invariant-send_item_types-loop-item
+invariant-send_item_types-loop-item g l =
+    (end : Log) → SendsItems (item_types (items_view (drop l.item-index l.item-items))) (g.S.Serializer.written l.out) end → SendsItems (item_types (items_view l.item-items)) (g.S.Serializer.written l.initial.out) end
 
-abbrev pub invariant-entry_types-loop-key : goal.invariant-entry_types-loop-key
-invariant-entry_types-loop-key l =
-    (done : List Entry) × (l.entries.entries ≡ done ++ l.key-iterator) × (members_view l.types.entries ≡ listed (λ v. type_data (tree_of v)) done)
+abbrev pub invariant-send_entry_types-loop-key : goal.invariant-send_entry_types-loop-key
+invariant-send_entry_types-loop-key g l =
+    (end : Log) → SendsMembers (entry_types (entries_view l.key-iterator)) (g.S.Serializer.written l.out) end
+    → SendsMembers (entry_types (entries_view l.initial.key-iterator)) (g.S.Serializer.written l.initial.out) end

@@ -1,0 +1,13 @@
+-- whatever ends it well from here ends it well from the start
+use Rattle.std.proofs.Common.{map, drop}
+use Rattle.serde.specs.Event.{Log}
+use Rattle.serde_json.specs.Events.{SendsItems}
+use Rattle.serde_json.specs.View.{items_of}
+use Rattle.tf_resource.specs.Record.{record_of}
+use Rattle.tf_state.specs.Text.{record_data}
+use Rattle.tf_state.proofs.writing.send_records.Given as goal
+
+abbrev pub invariant-loop-record : goal.invariant-loop-record
+invariant-loop-record g l =
+    (end : Log) → SendsItems (items_of (map record_data (map record_of (drop l.record-index l.records)))) (g.S.Serializer.written l.out) end
+    → SendsItems (items_of (map record_data (map record_of l.records))) (g.S.Serializer.written l.initial.out) end

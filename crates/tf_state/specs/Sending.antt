@@ -1,0 +1,23 @@
+-- Members that are sent where there is a value for them.
+use Rattle.std.specs.Prelude.{◌≡◌, ◌+◌, ℕ, List, Option, Some, None, option_map}
+use Rattle.serde.specs.Event.{Log, Logs, field_key}
+use Rattle.serde.specs.declared.name.Case.TheVariants.{AsIs}
+use Rattle.serde_json.specs.Data.{Data, string}
+use Rattle.serde_json.specs.Events.{SendsValue}
+use Rattle.tf_resource.specs.Record.{RecordView}
+use Rattle.tf_state.specs.Text.{dependencies_data, flag_data, key_data, status_data}
+
+-- a member is sent where there is a value for it, and nothing where there is none
+abbrev pub SendsSome : List ℕ → Option Data → Log → Log → Type 0
+SendsSome key None old new = new ≡ old
+SendsSome key (Some d) old new = (named : Log) × Logs old named (field_key key AsIs) × SendsValue d named new
+
+abbrev pub one_if_some : Option Data → ℕ
+one_if_some None = 0
+one_if_some (Some d) = 1
+
+-- how many members a record has: two always, the others where there is something to say
+abbrev pub member_count : RecordView → ℕ
+member_count r =
+    2 + one_if_some (flag_data r.create_before_destroy) + one_if_some (dependencies_data r.dependencies) + one_if_some (option_map string r.place.deposed)
+    + one_if_some (key_data r.place.key) + one_if_some (status_data r.tainted)
