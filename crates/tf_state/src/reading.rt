@@ -12,7 +12,7 @@ ghost use Rattle.tf_value.specs.Tree.{no_entries, tree_of};
 
 use crate::fault::StateFault;
 use crate::resource_reading::read_resources;
-use crate::shape::{Shape, is_shaped};
+use crate::shape::{Shape, is_shaped, take_member};
 use crate::value_reading::{read_serial, read_text, read_value};
 use serde_json::{Map, Value as Json};
 use std::alloc::Global;
@@ -43,7 +43,7 @@ pub fn read(alloc: Global, bytes: &[u8]) -> Result<State, StateFault>
     ensures err { IfErr result (λ e. IsUnread bytes.now e) }
 {
     let json = read_json(alloc, bytes)?;
-    let state = read_state(alloc, &json)?;
+    let state = read_state(alloc, json)?;
     if !is_plannable(&state) {
         return Err(StateFault::Limit);
     }
@@ -68,18 +68,18 @@ fn read_json(alloc: Global, bytes: &[u8]) -> Result<Json, StateFault>
     }
 }
 
-fn read_state(alloc: Global, json: &Json) -> Result<State, StateFault>
-    ensures ok { IfOk result (λ s. state_in (view json.now) ≡ Some (state_of s)) }
-    ensures err { IfErr result (λ e. IsRefused (state_in (view json.now)) e) }
+fn read_state(alloc: Global, json: Json) -> Result<State, StateFault>
+    ensures ok { IfOk result (λ s. state_in (view json) ≡ Some (state_of s)) }
+    ensures err { IfErr result (λ e. IsRefused (state_in (view json)) e) }
 {
-    if !is_state(json) {
+    if !is_state(&json) {
         return Err(StateFault::BadState);
     }
     let serial = read_serial(json.get("serial"))?;
     let lineage = read_text(alloc, json.get("lineage"))?;
     let terraform_version = read_terraform_version(alloc, json.get("terraform_version"))?;
     let outputs = read_outputs(alloc, json.get("outputs"))?;
-    let resources = read_resources(alloc, json.get("resources"))?;
+    let resources = read_resources(alloc, take_member(json, "resources"))?;
     Ok(State::new(serial, lineage, terraform_version, outputs, resources))
 }
 

@@ -21,11 +21,11 @@ use std::alloc::{AllocError, Global};
 use std::collections::BTreeMap;
 use tf_resource::{Place, Record};
 
-/// The records of a resource, in the order of their places.
-pub(crate) fn read_instances(alloc: Global, json: Option<&Json>) -> Result<Vec<Record>, StateFault>
-    ensures ok { IfOk result (λ rs. instances_in (option_map (λ v. view v.now) json.entry) ≡ Some (map record_of rs.items)) }
+/// The records of a resource, in the order of their places. Each part of the tree goes once it is read.
+pub(crate) fn read_instances(alloc: Global, json: Option<Json>) -> Result<Vec<Record>, StateFault>
+    ensures ok { IfOk result (λ rs. instances_in (option_map view json) ≡ Some (map record_of rs.items)) }
     ensures ordered { IfOk result (λ rs. AreByPlace (map record_of rs.items)) }
-    ensures err { IfErr result (λ e. IsRefused (instances_in (option_map (λ v. view v.now) json.entry)) e) }
+    ensures err { IfErr result (λ e. IsRefused (instances_in (option_map view json)) e) }
 {
     match json {
         Some(Json::Array(items)) => {
@@ -54,13 +54,13 @@ fn in_order(alloc: Global, records: BTreeMap<Place, Body>) -> Result<Vec<Record>
     Ok(ordered)
 }
 
-fn read_records(alloc: Global, items: &[Json]) -> Result<BTreeMap<Place, Body>, StateFault>
-    ensures ok { IfOk result (λ m. records_in (items_view items.now) [] ≡ Some (records_made m.entries)) }
-    ensures err { IfErr result (λ e. IsRefused (records_in (items_view items.now) []) e) }
+fn read_records(alloc: Global, items: Vec<Json>) -> Result<BTreeMap<Place, Body>, StateFault>
+    ensures ok { IfOk result (λ m. records_in (items_view items.items) [] ≡ Some (records_made m.entries)) }
+    ensures err { IfErr result (λ e. IsRefused (records_in (items_view items.items) []) e) }
 {
     let mut records = BTreeMap::new(alloc);
     for item in items {
-        let (place, body) = read_record(alloc, item)?;
+        let (place, body) = read_record(alloc, &item)?;
         add_record(&mut records, place, body)?;
     }
     Ok(records)

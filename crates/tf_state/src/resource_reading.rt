@@ -12,7 +12,7 @@ ghost use Rattle.tf_resource.specs.Resource.{resource_of};
 use crate::body::Held;
 use crate::fault::StateFault;
 use crate::record_reading::read_instances;
-use crate::shape::{Shape, is_shaped};
+use crate::shape::{Shape, is_shaped, take_member};
 use crate::value_reading::{read_name, read_text};
 use serde_json::Value as Json;
 use std::alloc::{AllocError, Global};
@@ -20,14 +20,12 @@ use std::collections::BTreeMap;
 use tf_address::Label;
 use tf_resource::{Record, Resource};
 
-/// The resources of a state that have records, in the order of their addresses.
-pub(crate) fn read_resources(
-    alloc: Global,
-    json: Option<&Json>,
-) -> Result<Vec<Resource>, StateFault>
-    ensures ok { IfOk result (λ rs. all_resources_in (option_map (λ v. view v.now) json.entry) ≡ Some (map resource_of rs.items)) }
+/// The resources of a state that have records, in the order of their addresses. Each part of the tree goes once it
+/// is read.
+pub(crate) fn read_resources(alloc: Global, json: Option<Json>) -> Result<Vec<Resource>, StateFault>
+    ensures ok { IfOk result (λ rs. all_resources_in (option_map view json) ≡ Some (map resource_of rs.items)) }
     ensures ordered { IfOk result (λ rs. AreByAddress (map resource_of rs.items)) }
-    ensures err { IfErr result (λ e. IsRefused (all_resources_in (option_map (λ v. view v.now) json.entry)) e) }
+    ensures err { IfErr result (λ e. IsRefused (all_resources_in (option_map view json)) e) }
 {
     match json {
         None => Ok(Vec::new(alloc)),
@@ -61,9 +59,9 @@ fn has_records(records: &[Record]) -> bool
     }
 }
 
-fn read_each(alloc: Global, items: &[Json]) -> Result<BTreeMap<Label, Held>, StateFault>
-    ensures ok { IfOk result (λ m. resources_in (items_view items.now) [] ≡ Some (resources_made m.entries)) }
-    ensures err { IfErr result (λ e. IsRefused (resources_in (items_view items.now) []) e) }
+fn read_each(alloc: Global, items: Vec<Json>) -> Result<BTreeMap<Label, Held>, StateFault>
+    ensures ok { IfOk result (λ m. resources_in (items_view items.items) [] ≡ Some (resources_made m.entries)) }
+    ensures err { IfErr result (λ e. IsRefused (resources_in (items_view items.items) []) e) }
 {
     let mut resources = BTreeMap::new(alloc);
     for item in items {
@@ -88,17 +86,17 @@ fn add_resource(
     Ok(())
 }
 
-fn read_resource(alloc: Global, json: &Json) -> Result<(Label, Held), StateFault>
-    ensures ok { IfOk result (λ r. resource_in (view json.now) ≡ Some (resource_made r.0 r.1)) }
-    ensures err { IfErr result (λ e. IsRefused (resource_in (view json.now)) e) }
+fn read_resource(alloc: Global, json: Json) -> Result<(Label, Held), StateFault>
+    ensures ok { IfOk result (λ r. resource_in (view json) ≡ Some (resource_made r.0 r.1)) }
+    ensures err { IfErr result (λ e. IsRefused (resource_in (view json)) e) }
 {
-    if !is_shaped(json, Shape::Resource) || !is_managed(json.get("mode")) {
+    if !is_shaped(&json, Shape::Resource) || !is_managed(json.get("mode")) {
         return Err(StateFault::BadState);
     }
     let kind = read_name(alloc, json.get("type"))?;
     let name = read_name(alloc, json.get("name"))?;
     let provider = read_text(alloc, json.get("provider"))?;
-    let records = read_instances(alloc, json.get("instances"))?;
+    let records = read_instances(alloc, take_member(json, "instances"))?;
     Ok((Label { kind, name }, Held { provider, records }))
 }
 

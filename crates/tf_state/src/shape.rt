@@ -1,8 +1,9 @@
 //! The objects of a state's JSON, and the texts in it.
 
 ghost use Rattle.std.specs.List.{list_all, list_any};
-ghost use Rattle.std.specs.Prelude.{◌≡◌};
+ghost use Rattle.std.specs.Prelude.{◌≡◌, option_map};
 ghost use Rattle.std.specs.Str.{bytes_eq};
+ghost use Rattle.serde_json.specs.Find.{get};
 ghost use Rattle.serde_json.specs.View.{view, members_view};
 ghost use Rattle.tf_state.specs.Words.{has_only, is_address, is_deposed_key, is_hex, is_shaped, properties_of};
 
@@ -70,6 +71,16 @@ fn is_property(shape: Shape, name: &str) -> bool
                 | "sensitive_attributes"
                 | "status"
         ),
+    }
+}
+
+/// A member of an object, where it has one; the rest of the object goes.
+pub(crate) fn take_member(mut json: Json, key: &str) -> Option<Json>
+    ensures { option_map view result ≡ get key.now (view json) }
+{
+    match json.get_mut(key) {
+        Some(member) => Some(member.take()),
+        None => None,
     }
 }
 
