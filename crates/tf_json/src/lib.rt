@@ -10,9 +10,9 @@ use serde::Serialize;
 use serde_json::Error;
 use std::alloc::Global;
 
-/// The text of what the value sends to be written: two spaces a level, `[]` and `{}` for empty ones, and one newline
-/// at the end. Where the value sends a tree without floats, it is the tree's text, an object's members in the order
-/// of the tree. Refused where there is no memory, and where what is sent cannot stand as JSON.
+/// The text of what the value sends to be written, with no tree in between: two spaces a level, `[]` and `{}` for
+/// empty ones, members in the order in which they are sent, and one newline at the end. Refused where there is no
+/// memory, where what is sent cannot stand as JSON, and where the value's own `serialize` refuses.
 #[tactic(auto, using(crate::proofs::Pretty::text_of_events, crate::proofs::Pretty::text_of_sent_tree))]
 pub fn text<T: Serialize>(alloc: Global, value: &T) -> Result<String, Error>
     // The tokens of the events that the value sends, in the pretty layout.
@@ -41,19 +41,4 @@ pub fn read_trees_are_sorted()
 {}
 
 #[cfg(test)]
-mod tests {
-    use super::*;
-    use serde_json::json;
-    use std::test::Fail;
-
-    #[test]
-    fn lays_out(rt: HostRuntime) -> Result<(), Fail> {
-        let json = json!(in rt.alloc(); {"b": [], "a": {}, "c": [1, {"d": null}]})?;
-        let found = text(rt.alloc(), &json)?;
-        assert_eq!(rt;
-            found.as_str(),
-            "{\n  \"a\": {},\n  \"b\": [],\n  \"c\": [\n    1,\n    {\n      \"d\": null\n    }\n  ]\n}\n"
-        );
-        Ok(())
-    }
-}
+mod tests;
