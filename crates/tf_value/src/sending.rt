@@ -15,8 +15,8 @@ impl Described for Value {
     ghost writes = { λ v. SendsValue (value_data (tree_of v)) };
 }
 
-/// A value is written as its JSON form, with null where a part is unknown; who must not lose what is unknown asks
-/// `is_known` first. Refused only where the serializer refuses.
+/// A value is written as its JSON form, with null where a part is unknown: callers who must not lose that ask
+/// `is_known` first. An error is one of the serializer's, and no contract says when it comes.
 impl Serialize for Value {
     fn serialize<S: Serializer>(&self, out: &mut S) -> Result<(), S::Error> {
         send(self, out)

@@ -194,6 +194,36 @@ fn unknown_is_not_written(rt: HostRuntime) -> Result<(), Fail> {
 }
 
 #[test]
+fn sent(rt: HostRuntime) -> Result<(), Fail> {
+    let alloc = rt.alloc();
+    for text in [
+        "null",
+        "false",
+        "0",
+        "-1",
+        "9223372036854775807",
+        "-9223372036854775808",
+        "\"a\\n\\\"\"",
+        "[]",
+        "{}",
+        "[1,[-2,null],{},\"b\"]",
+        "{\"a\":{\"b\":[true]},\"c\":-3}",
+    ] {
+        let value = read(alloc, text)??;
+        let json = to_json(alloc, &value)?;
+        let short = serde_json::to_string(alloc, &value)?;
+        assert_eq!(rt; short.as_str(), text);
+        assert_eq!(rt; short, json.to_string(alloc)?, "{text}");
+        let long = serde_json::to_string_pretty(alloc, &value)?;
+        assert_eq!(rt; long, json.to_string_pretty(alloc)?, "{text}, with spaces");
+    }
+    let planned = pair(alloc, Value::Unknown, Value::Unknown)?;
+    let text = serde_json::to_string(alloc, &planned)?;
+    assert_eq!(rt; text.as_str(), "[null,{\"k\":null}]");
+    Ok(())
+}
+
+#[test]
 fn derives(rt: HostRuntime) -> Result<(), Fail> {
     let alloc = rt.alloc();
     let attribute = Attribute {
