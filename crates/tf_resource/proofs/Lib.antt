@@ -1,5 +1,6 @@
 pub mod Copied
 pub mod Edits
+pub mod Equal
 pub mod OneChanged
 pub mod OrderKept
 pub mod PlaceOrder

@@ -6,6 +6,11 @@ use Rattle.std.specs.List.Sorted.{IsStrictlySortedBy, IsNonDecreasingBy, IsBinar
 use Rattle.std.specs.Ordering.{is_lt, is_eq, is_gt, ordering_index, ordering_reverse}
 use Rattle.tf_resource.specs.Order.{at_key, before, after, IsAt, IsGapFor}
 
+-- nothing is in order
+pub none_sorted : {K : Type 0} (cmp : K → K → Ordering) → IsStrictlySortedBy cmp []
+unfolding IsStrictlySortedBy
+none_sorted cmp = tt
+
 filter-kept : {A : Type 0} (p : A → Bool) (x : A) (xs : List A) → p x ≡ true → filter p (x ∷ xs) ≡ x ∷ filter p xs
 filter-kept p x xs e = rw e refl
 

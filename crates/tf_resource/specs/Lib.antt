@@ -1,4 +1,5 @@
 pub mod Addresses
+pub mod Equality
 pub mod Laws
 pub mod Order
 pub mod Place

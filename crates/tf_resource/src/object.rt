@@ -25,3 +25,28 @@ impl Clone for Object {
         Ok(Object { value })
     }
 }
+
+/// Two objects are equal exactly where their attributes are the same.
+impl PartialEq for Object {
+    ghost use Rattle.std.specs.Ordering.{on};
+    ghost use Rattle.std.specs.Prelude.{◌↔◌, IsTrue};
+    ghost use Rattle.tf_resource.specs.Equality.{attributes_of, same_objects_part};
+    ghost use Rattle.tf_value.specs.Tree.{same};
+
+    ghost eq = { on attributes_of same };
+
+    ghost laws = { same_objects_part };
+
+    fn eq(&self, other: &Object) -> bool
+        ensures value { result ≡ same (attributes_of self.now) (attributes_of other.now) }
+        ensures exact { IsTrue result ↔ (attributes_of self.now ≡ attributes_of other.now) }
+    {
+        self.value == other.value
+    }
+}
+
+impl Eq for Object {
+    ghost use Rattle.tf_resource.specs.Equality.{same_objects};
+
+    ghost laws = { same_objects };
+}

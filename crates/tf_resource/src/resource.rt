@@ -148,3 +148,30 @@ impl Clone for Resource {
         })
     }
 }
+
+/// Two resources are equal exactly where all that they say is the same: the address, the provider and the records.
+impl PartialEq for Resource {
+    ghost use Rattle.std.specs.Ordering.{on};
+    ghost use Rattle.std.specs.Prelude.{◌↔◌, IsTrue};
+    ghost use Rattle.tf_resource.specs.Equality.{same_resource, same_resources_part};
+    ghost use Rattle.tf_resource.specs.Resource.{resource_of};
+
+    ghost eq = { on resource_of same_resource };
+
+    ghost laws = { same_resources_part };
+
+    fn eq(&self, other: &Resource) -> bool
+        ensures value { result ≡ same_resource (resource_of self.now) (resource_of other.now) }
+        ensures exact { IsTrue result ↔ (resource_of self.now ≡ resource_of other.now) }
+    {
+        self.label == other.label
+            && self.provider == other.provider
+            && self.records == other.records
+    }
+}
+
+impl Eq for Resource {
+    ghost use Rattle.tf_resource.specs.Equality.{same_resources};
+
+    ghost laws = { same_resources };
+}

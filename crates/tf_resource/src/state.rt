@@ -215,3 +215,33 @@ impl Clone for State {
         })
     }
 }
+
+/// Two states are equal exactly where all that they say is the same: the serial, the lineage, the version, the
+/// outputs and the resources. So an apply can tell whether it changed anything, and raises the serial exactly then.
+impl PartialEq for State {
+    ghost use Rattle.std.specs.Ordering.{on};
+    ghost use Rattle.std.specs.Prelude.{◌↔◌, IsTrue};
+    ghost use Rattle.tf_resource.specs.Equality.{same_state, same_states_part};
+    ghost use Rattle.tf_resource.specs.State.{state_of};
+
+    ghost eq = { on state_of same_state };
+
+    ghost laws = { same_states_part };
+
+    fn eq(&self, other: &State) -> bool
+        ensures value { result ≡ same_state (state_of self.now) (state_of other.now) }
+        ensures exact { IsTrue result ↔ (state_of self.now ≡ state_of other.now) }
+    {
+        self.serial == other.serial
+            && self.lineage == other.lineage
+            && self.terraform_version == other.terraform_version
+            && self.outputs == other.outputs
+            && self.resources == other.resources
+    }
+}
+
+impl Eq for State {
+    ghost use Rattle.tf_resource.specs.Equality.{same_states};
+
+    ghost laws = { same_states };
+}

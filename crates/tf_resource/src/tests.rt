@@ -1,6 +1,6 @@
 use crate::{Key, Object, Place, Record, Resource, State, copy, provider_address};
 use std::alloc::Global;
-use std::collections::BTreeSet;
+use std::collections::{BTreeMap, BTreeSet};
 use std::test::Fail;
 use tf_address::Label;
 use tf_value::Value;
@@ -143,6 +143,95 @@ fn copies_stand_alone(rt: HostRuntime) -> Result<(), Fail> {
     );
     assert!(rt; other.remove(&label(alloc, "sim_net", "a")?).is_some());
     assert_eq!(rt; (state.resources().len(), other.resources().len()), (1, 0));
+    Ok(())
+}
+
+fn either(alloc: Global, is_other: bool, usual: &str) -> Result<String, Fail> {
+    Ok(String::from_str(alloc, if is_other { "other" } else { usual })?)
+}
+
+// A record of which one part, if any, is another than usual.
+fn record_but(alloc: Global, other: &str) -> Result<Record, Fail> {
+    let key = if other == "instance" {
+        Key::Number(0)
+    } else {
+        Key::Single
+    };
+    let deposed = if other == "deposed" { "00000001" } else { "" };
+    let mut dependencies = BTreeSet::new(alloc);
+    dependencies.insert(either(alloc, other == "dependency", "sim_net.b")?)?;
+    Ok(Record {
+        place: place(alloc, key, deposed)?,
+        attributes: Object {
+            value: Value::Bool(other == "attributes"),
+        },
+        schema_version: if other == "schema version" { 2 } else { 1 },
+        tainted: other == "tainted",
+        dependencies,
+        create_before_destroy: other == "create before destroy",
+    })
+}
+
+// A state of which one part, if any, is another than usual.
+#[tactic(auto, using(crate::proofs::Sorted::none_sorted))]
+fn state_but(alloc: Global, other: &str) -> Result<State, Fail> {
+    let name = either(alloc, other == "output's name", "id")?;
+    let value = Value::Bool(other == "output");
+    let mut outputs = BTreeMap::new(alloc);
+    drop(outputs.insert(name, Object { value })?);
+    let mut state = State::new(
+        if other == "serial" { 8 } else { 7 },
+        either(alloc, other == "lineage", "L")?,
+        either(alloc, other == "version", "1.0.0")?,
+        outputs,
+        Vec::new(alloc),
+    );
+    let kind = either(alloc, other == "type", "sim_net")?;
+    let name = either(alloc, other == "name", "a")?;
+    let provider = either(alloc, other == "provider", "P")?;
+    let mut resource = Resource::empty(alloc, Label { kind, name }, provider);
+    if other != "no record" {
+        resource.reserve(1)?;
+        drop(resource.put(record_but(alloc, other)?));
+    }
+    if other != "no resource" {
+        put(&mut state, resource)?;
+    }
+    Ok(state)
+}
+
+// States are equal where no part differs, and one part that differs is enough.
+#[test]
+fn tells_states_apart(rt: HostRuntime) -> Result<(), Fail> {
+    let alloc = rt.alloc();
+    let usual = state_but(alloc, "")?;
+    let same = state_but(alloc, "")?;
+    assert!(rt; usual == same);
+    for part in [
+        "serial",
+        "lineage",
+        "version",
+        "output's name",
+        "output",
+        "no resource",
+        "type",
+        "name",
+        "provider",
+        "no record",
+        "instance",
+        "deposed",
+        "attributes",
+        "schema version",
+        "tainted",
+        "dependency",
+        "create before destroy",
+    ] {
+        let other = state_but(alloc, part)?;
+        assert!(rt; usual != other, "{part}");
+        assert!(rt; other != usual, "{part}");
+        let same = copy(&other)?;
+        assert!(rt; other == same, "{part}");
+    }
     Ok(())
 }
 
