@@ -1,10 +1,11 @@
 -- Which texts are read, and why others aren't.
-use Rattle.std.proofs.Common.{◌≡◌, List, ℕ, Option, Some, None, ap, sym, ◌∙◌}
+use Rattle.std.proofs.Common.{◌≡◌, true, List, ℕ, Option, Some, None, ap, sym, ◌∙◌}
 use Rattle.std.specs.Prelude.{IsUtf8}
 use Rattle.serde_json.specs.Data.{Data}
 use Rattle.serde_json.specs.Read.{read}
 use Rattle.tf_resource.specs.State.{StateView}
-use Rattle.tf_state.specs.Reading.{IsNoJson, IsRefused, state_in}
+use Rattle.tf_resource.specs.Place.{PlaceView}
+use Rattle.tf_state.specs.Reading.{IsNoJson, IsRefused, is_record, place_in, record_at, record_in, state_in}
 use Rattle.tf_state.specs.Table.{IsBeyond, IsUnread, Reads, SaysState}
 use Rattle.tf_state.specs.declared.fault.StateFault.{StateFault}
 use Rattle.tf_state.specs.declared.fault.StateFault.TheVariants.{BadState, Limit, OutOfMemory}
@@ -31,3 +32,7 @@ no_state bytes d OutOfMemory is h = tt
 
 pub beyond_limits : (bytes : List ℕ) (d : Data) (s : StateView) → IsUtf8 bytes → read bytes ≡ Some d → state_in d ≡ Some s → IsBeyond s → IsUnread bytes Limit
 beyond_limits bytes d s utf8 is h b = (s, reads_by_table bytes d s utf8 is h, b)
+
+-- what is refused behind its place is refused
+pub refused_behind : (d : Data) (p : PlaceView) (e : StateFault) → is_record d ≡ true → place_in d ≡ Some p → IsRefused (record_at p d) e → IsRefused (record_in d) e
+refused_behind d p e is at h = rw (is, at) h

@@ -4,6 +4,7 @@ ghost use Rattle.std.specs.Prelude.{◌≡◌, ◌++◌, [], Some, IfErr, IfOk, 
 ghost use Rattle.serde_json.specs.View.{view, items_view};
 ghost use Rattle.tf_state.specs.Made.{record_made, records_made};
 ghost use Rattle.tf_resource.specs.Place.{place_of};
+ghost use Rattle.tf_resource.specs.declared.key.Place.{Place};
 ghost use Rattle.tf_resource.specs.Places.{AreByPlace};
 ghost use Rattle.tf_state.specs.Arrangement.{record_cmp};
 ghost use Rattle.tf_state.specs.Reading.{IsRefused, instances_in, is_record, put_new, record_at, record_in, records_in};
@@ -89,7 +90,7 @@ fn read_record(alloc: Global, json: &Json) -> Result<(Place, Body), StateFault>
         return Err(StateFault::BadState);
     }
     let place = read_place(alloc, json)?;
-    let body = read_body(alloc, &place, json)?;
+    let body = read_body(alloc, json)?;
     Ok((place, body))
 }
 
@@ -99,11 +100,10 @@ fn is_record(json: &Json) -> bool
     is_shaped(json, Shape::Record) && is_unsensitive(json.get("sensitive_attributes"))
 }
 
-fn read_body(alloc: Global, place: &Place, json: &Json) -> Result<Body, StateFault>
-    ensures ok { IfOk result (λ b. record_at (place_of place.now) (view json.now) ≡ Some (record_made place.now b)) }
-    ensures err { IfErr result (λ e. IsRefused (record_at (place_of place.now) (view json.now)) e) }
+fn read_body(alloc: Global, json: &Json) -> Result<Body, StateFault>
+    ensures ok { IfOk result (λ b. (p : Place) → record_at (place_of p) (view json.now) ≡ Some (record_made p b)) }
+    ensures err { IfErr result (λ e. (p : Place) → IsRefused (record_at (place_of p) (view json.now)) e) }
 {
-    let _place = place;
     let attributes = read_attributes(alloc, json.get("attributes"))?;
     let schema_version = read_version(json.get("schema_version"))?;
     let tainted = read_tainted(json.get("status"))?;
