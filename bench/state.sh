@@ -1,6 +1,7 @@
 #!/usr/bin/env bash
 # Times tf_state's read and write beside serde_json's parse and print of the same text, for states of several shapes,
-# and prints the best of three times each and the ratio, and the most memory that the program held. Wants `rt` and `python3`; works in a folder of its own.
+# and prints the best of three times each and the ratio, and the most memory in bytes that a run of either alone held,
+# the text in it. Wants `rt` and `python3`; works in a folder of its own.
 # With an argument, the least size of the texts in MB; 40 without.
 set -euo pipefail
 here="$(cd "$(dirname "$0")" && pwd)"
@@ -10,21 +11,21 @@ trap 'rm -rf "$work"' EXIT
 mkdir -p "$work/repo/crates/bench_state/src"
 for crate in tf_address tf_value tf_json tf_resource tf_state; do cp -r "$here/../crates/$crate" "$work/repo/crates/"; done
 cp "$here/state/main.rt.txt" "$work/repo/crates/bench_state/src/main.rt"
-printf 'tf_address:\ntf_json: serde_json json\ntf_value: serde_json\ntf_resource: tf_address tf_value\ntf_state: tf_value tf_address tf_resource tf_json serde_json\nbench_state: tf_state serde_json anyhow\n' > "$work/repo/crates.txt"
+{ grep -E '^(tf_address|tf_json|tf_value|tf_resource|tf_state):' "$here/../crates.txt"; echo 'bench_state: tf_state serde_json anyhow'; } > "$work/repo/crates.txt"
 program="$work/repo/crates/bench_state/out/bench_state"
 (cd "$work/repo/crates/bench_state" && rt run < /dev/null) > "$work/log" 2>&1 || [ -x "$program" ] || { tail -20 "$work/log"; exit 1; }
-printf '%-10s %10s %-8s %12s %-8s %12s %7s\n' shape bytes call 'us' call 'us' ratio
+peak() { python3 -c 'import resource, subprocess, sys; subprocess.check_call(sys.argv[1:], stdout=subprocess.DEVNULL); print(1024 * resource.getrusage(resource.RUSAGE_CHILDREN).ru_maxrss)' "$program" "$1" < "$work/text"; }
+printf '%-10s %10s %-8s %12s %-8s %12s %7s\n' shape bytes json us state us ratio
 for shape in counted named dependent values; do
-    python3 "$here/state/make.py" "$shape" "$megabytes" > "$work/text"
-    python3 -c 'import resource, subprocess, sys; subprocess.check_call(sys.argv[1]); print("peak", 1024 * resource.getrusage(resource.RUSAGE_CHILDREN).ru_maxrss)' "$program" < "$work/text" > "$work/times"
-    awk -v shape="$shape" '
+    python3 "$here/state/make.py" "$shape" "$megabytes" | "$program" text > "$work/text"
+    "$program" < "$work/text" > "$work/times"
+    awk -v shape="$shape" -v json="$(peak json)" -v state="$(peak state)" '
         $1 == "bytes" { bytes = $2 }
-        $1 == "peak" { peak = $2 }
         $1 == "same" && $2 != "true" { print shape, "was not written as it was read"; exit 1 }
         $1 ~ /^(parse|print|read|write)$/ { if (!($1 in best) || $2 < best[$1]) best[$1] = $2 }
         END {
             printf "%-10s %10d %-8s %12d %-8s %12d %7.2f\n", shape, bytes, "parse", best["parse"], "read", best["read"], best["read"] / best["parse"]
             printf "%-10s %10d %-8s %12d %-8s %12d %7.2f\n", shape, bytes, "print", best["print"], "write", best["write"], best["write"] / best["print"]
-            printf "%-10s %10d %-8s %12d %-8s %12s %7.2f\n", shape, bytes, "memory", peak, "", "", peak / bytes }
+            printf "%-10s %10d %-8s %12d %-8s %12d %7.2f\n", shape, bytes, "memory", json, "memory", state, state / json }
     ' "$work/times"
 done
