@@ -7,8 +7,8 @@ use Rattle.tf_cli.specs.declared.applied.Applied.{Applied}
 use Rattle.tf_config.specs.Config.{Blocks}
 use Rattle.tf_plan.specs.Plan.{PlanView, plan_text, planned}
 use Rattle.tf_provider.specs.Meaning.{Meaning}
-use Rattle.tf_resource.specs.Resource.{ResourceView}
-use Rattle.tf_resource.specs.State.{StateView, empty_state, state_of}
+use Rattle.tf_state_data.specs.Resource.{ResourceView}
+use Rattle.tf_state_data.specs.State.{StateView, empty_state, state_of}
 use Rattle.tf_state.specs.Text.{state_text}
 use Rattle.tf_walk.specs.After.{is_any, raised, saved_resources, with_resources}
 use Rattle.tf_walk.specs.Report.{IsWalked}

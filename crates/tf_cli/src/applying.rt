@@ -5,7 +5,7 @@ ghost use Rattle.tf_cli.specs.Accepted.{IsAccepted, Refuses};
 ghost use Rattle.tf_cli.specs.Applies.{IsApplied};
 ghost use Rattle.tf_cli.specs.Shown.{report_of};
 ghost use Rattle.tf_config.specs.Config.{Blocks};
-ghost use Rattle.tf_resource.specs.State.{state_of};
+ghost use Rattle.tf_state_data.specs.State.{state_of};
 ghost use Rattle.tf_state.specs.Text.{state_text};
 
 use crate::applied::Applied;

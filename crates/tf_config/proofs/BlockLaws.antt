@@ -7,7 +7,7 @@ use Rattle.std.specs.List.Sorted.{IsStrictlySortedBy}
 use Rattle.std.specs.Ordering.{match_ordering, ordering_reverse}
 use Rattle.serde_json.specs.Data.{Data, null, boolean, number, string, array, object}
 use Rattle.tf_expr.specs.Tree.{Entries}
-use Rattle.tf_text.proofs.Walks.{Builds-keeps}
+use Rattle.tf_json_path.proofs.Walks.{Builds-keeps}
 use Rattle.tf_config.specs.Config.{BlockView, Blocks, address_cmp, put_block}
 use Rattle.tf_config.specs.Configuration.{BuildsFrom, IsBody, AddsResource, AddsType, AddsTypes, AddsSection, IsConfiguration}
 use Rattle.tf_config.specs.Words.{section_of}

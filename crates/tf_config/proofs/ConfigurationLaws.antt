@@ -6,7 +6,7 @@ use Rattle.tf_expr.proofs.Faultless.{expr_met, expr_from_met, expr_one}
 use Rattle.tf_expr.proofs.Within.{AllMet-demanded_as, AllMet-from_demanded_as}
 use Rattle.tf_expr.specs.Reading.{expr_checks}
 use Rattle.tf_expr.specs.Tree.{Entries, no_entries, put}
-use Rattle.tf_text.proofs.Walks.{Builds-met, Builds-from_met, Builds-same}
+use Rattle.tf_json_path.proofs.Walks.{Builds-met, Builds-from_met, Builds-same}
 use Rattle.tf_config.specs.Config.{Blocks, put_block}
 use Rattle.tf_config.specs.Configuration.{PropertyChecks, below, object_checks, checks_of_property, property_checks, resource_checks, type_checks, checks_of_section, section_checks, configuration_checks, BuildsFrom, AddsAs, AddsProperty, IsBody, AddsResource, AddsType, AddsTypes, AddsSection, IsConfiguration}
 use Rattle.tf_config.specs.Demand.{AreMet, IsMet, of_expression}

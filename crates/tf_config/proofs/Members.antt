@@ -3,8 +3,8 @@ use Rattle.std.proofs.Common.{◌≡◌, ℕ, List, ◌∷◌, ◌++◌, string_
 use Rattle.serde_json.proofs.Views.{Entry}
 use Rattle.serde_json.specs.Data.{Data}
 use Rattle.serde_json.specs.View.{view, members_view}
-use Rattle.tf_text.proofs.Walks.{Builds-met}
-use Rattle.tf_text.specs.Walk.{each, Builds}
+use Rattle.tf_json_path.proofs.Walks.{Builds-met}
+use Rattle.tf_json_path.specs.Walk.{each, Builds}
 use Rattle.tf_config.proofs.Refusals.{Refuses-at}
 use Rattle.tf_config.specs.Configuration.{PropertyChecks, below}
 use Rattle.tf_config.specs.Demand.{AreMet, IsMet, Refuses}

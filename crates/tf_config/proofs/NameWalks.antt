@@ -1,6 +1,6 @@
 -- Checking names one after another: those so far are known, and the others are left.
 use Rattle.std.proofs.Common.{◌≡◌, ◌∙◌, List, [], ◌++◌, refl, sym, subst, append_assoc}
-use Rattle.tf_text.proofs.Checks.{AllMet-append, IsFirst-left, IsFirst-right}
+use Rattle.tf_json_path.proofs.Checks.{AllMet-append, IsFirst-left, IsFirst-right}
 use Rattle.tf_config.specs.KnownNames.{NameChecks, AreNamesMet, AreNamesWrong, AreKnown, RefusesNames}
 use Rattle.tf_config.specs.Refusal.{Told, no_memory, workers, fault}
 

@@ -4,8 +4,8 @@ use Rattle.serde_json.specs.Data.{Data}
 use Rattle.tf_expr.specs.Demand as expr
 use Rattle.tf_expr.specs.declared.fault.Cause.{Cause}
 use Rattle.tf_expr.specs.declared.fault.Cause.TheVariants.{BadShape, At, TooDeep}
-use Rattle.tf_text.proofs.Checks.{IsFirst-unmet, IsFirst-same}
-use Rattle.tf_text.specs.Check.{IsFirst}
+use Rattle.tf_json_path.proofs.Checks.{IsFirst-unmet, IsFirst-same}
+use Rattle.tf_json_path.specs.Check.{IsFirst}
 use Rattle.tf_config.proofs.ConfigurationLaws.{configuration_met, configuration_same}
 use Rattle.tf_config.specs.Config.{Blocks}
 use Rattle.tf_config.specs.Configuration.{configuration_checks, IsConfiguration}

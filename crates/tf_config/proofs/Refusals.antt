@@ -7,9 +7,9 @@ use Rattle.tf_expr.proofs.Within.{IsFirst-demanded_as}
 use Rattle.tf_expr.specs.Demand as expr
 use Rattle.tf_expr.specs.Fault as faults
 use Rattle.tf_expr.specs.Within.{demanded_as}
-use Rattle.tf_text.proofs.Checks.{IsFirst-left, IsFirst-right}
-use Rattle.tf_text.proofs.Walks.{fails_at}
-use Rattle.tf_text.specs.Walk.{each}
+use Rattle.tf_json_path.proofs.Checks.{IsFirst-left, IsFirst-right}
+use Rattle.tf_json_path.proofs.Walks.{fails_at}
+use Rattle.tf_json_path.specs.Walk.{each}
 use Rattle.tf_config.specs.Demand.{Checks, AreMet, IsMet, Fails, Refuses, of_expression, refused_expression, way_of}
 use Rattle.tf_config.specs.Refusal.{Told, no_memory, workers, fault}
 

@@ -5,8 +5,8 @@ use Rattle.tf_address.specs.Name.{is_name}
 use Rattle.tf_expr.specs.Reading.{expr_checks, IsExpr}
 use Rattle.tf_expr.specs.Tree.{Tree, Entries, no_entries, put}
 use Rattle.tf_expr.specs.Within.{demanded_as}
-use Rattle.tf_text.specs.Check.{demanded}
-use Rattle.tf_text.specs.Walk.{each, Builds}
+use Rattle.tf_json_path.specs.Check.{demanded}
+use Rattle.tf_json_path.specs.Walk.{each, Builds}
 use Rattle.tf_config.specs.Config.{Blocks, put_block}
 use Rattle.tf_config.specs.Demand.{Checks, nothing_fits, a_name, a_type_name, of_expression}
 use Rattle.tf_config.specs.Words.{section_of, property_of, is_type_name}

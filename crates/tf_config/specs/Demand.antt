@@ -5,7 +5,7 @@ use Rattle.tf_expr.specs.Demand as expr
 use Rattle.tf_expr.specs.Fault as faults
 use Rattle.tf_expr.specs.declared.fault.Cause.{Cause}
 use Rattle.tf_expr.specs.declared.fault.Cause.TheVariants as causes
-use Rattle.tf_text.specs.Check.{Check, AllMet, IsFirst}
+use Rattle.tf_json_path.specs.Check.{Check, AllMet, IsFirst}
 use Rattle.tf_config.specs.Refusal.{DetailView, bare, at, Told, no_memory, workers, fault, told}
 use Rattle.tf_config.specs.Words.{is_type_name}
 use Rattle.tf_config.specs.declared.refusal.Refusal.{Refusal}

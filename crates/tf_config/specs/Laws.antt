@@ -6,7 +6,7 @@ use Rattle.serde_json.specs.Data.{Data}
 use Rattle.tf_expr.specs.Demand as expr
 use Rattle.tf_template.specs.Spelling.{SpellsTemplate}
 use Rattle.tf_template.specs.Tree.{Woven}
-use Rattle.tf_text.specs.Check.{IsFirst}
+use Rattle.tf_json_path.specs.Check.{IsFirst}
 use Rattle.tf_config.specs.Config.{Blocks, address_cmp}
 use Rattle.tf_config.specs.Configuration.{configuration_checks, IsConfiguration}
 use Rattle.tf_config.specs.Demand.{Demand, of_expression, AreMet, IsMet, Way, bad_template, too_deep}

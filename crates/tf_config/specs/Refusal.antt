@@ -1,6 +1,6 @@
 -- What a refusal tells, without where it lies in memory.
 use Rattle.std.specs.Prelude.{ℕ, List, map, string_bytes}
-use Rattle.tf_operation.specs.declared.fault.EvalFault.{EvalFault}
+use Rattle.tf_operators.specs.declared.fault.EvalFault.{EvalFault}
 use Rattle.tf_config.specs.declared.refusal.Detail.{Detail}
 use Rattle.tf_config.specs.declared.refusal.Detail.TheVariants as details
 use Rattle.tf_config.specs.declared.refusal.Refusal.{Refusal}

@@ -5,8 +5,8 @@ ghost use Rattle.tf_config.specs.Config.{arguments_of};
 ghost use Rattle.tf_config.specs.Demand.{Refuses};
 ghost use Rattle.tf_config.specs.Refusal.{told};
 ghost use Rattle.tf_expr.specs.Tree.{no_entries};
-ghost use Rattle.tf_text.specs.Place.{place_of};
-ghost use Rattle.tf_text.specs.Walk.{each, Builds};
+ghost use Rattle.tf_json_path.specs.Place.{place_of};
+ghost use Rattle.tf_json_path.specs.Walk.{each, Builds};
 
 use crate::config::Block;
 use crate::demand::{bad_shape, demand_name};
@@ -16,7 +16,7 @@ use serde_json::{Map, Value};
 use std::alloc::Global;
 use std::collections::BTreeMap;
 use tf_expr::read_expr_at;
-use tf_text::Path;
+use tf_json_path::Path;
 
 /// The body of a resource, which stands at the path.
 pub(crate) fn read_body<'a>(

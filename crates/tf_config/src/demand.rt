@@ -1,14 +1,14 @@
 ghost use Rattle.tf_config.specs.Demand.{Judges, TellsAt, bad_shape, unknown_name, a_name, a_type_name};
 ghost use Rattle.tf_config.specs.Configuration.{whole_file};
 ghost use Rattle.tf_config.specs.Refusal.{bare, told, detail_of};
-ghost use Rattle.tf_text.specs.Check.{demanded};
-ghost use Rattle.tf_text.specs.Place.{dotted, place_of};
+ghost use Rattle.tf_json_path.specs.Check.{demanded};
+ghost use Rattle.tf_json_path.specs.Place.{dotted, place_of};
 
 use crate::refusal::{Detail, Refusal};
 use crate::words;
 use std::alloc::Global;
 use tf_address::is_name;
-use tf_text::Path;
+use tf_json_path::Path;
 
 pub(crate) const NOT_JSON: u8 = 1;
 

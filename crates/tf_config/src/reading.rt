@@ -7,8 +7,8 @@ ghost use Rattle.tf_config.specs.Demand.{Refuses};
 ghost use Rattle.tf_config.specs.KnownNames.{KnownBlocks};
 ghost use Rattle.tf_config.specs.Reading.{max_blocks, max_bytes, IsRefused, IsTree, TellsNotJson};
 ghost use Rattle.tf_config.specs.Refusal.{told};
-ghost use Rattle.tf_text.specs.Place.{place_of};
-ghost use Rattle.tf_text.specs.Walk.{each, Builds};
+ghost use Rattle.tf_json_path.specs.Place.{place_of};
+ghost use Rattle.tf_json_path.specs.Walk.{each, Builds};
 
 use crate::body::read_body;
 use crate::config::Config;
@@ -22,7 +22,7 @@ use serde_json::{Map, Value};
 use std::alloc::Global;
 use std::collections::BTreeMap;
 use tf_address::Label;
-use tf_text::Path;
+use tf_json_path::Path;
 
 /// The longest configuration that is read, in bytes.
 const MAX_BYTES: usize = 4_194_304;

@@ -7,7 +7,7 @@ use crate::names::NameList;
 use std::alloc::{AllocError, AllocFailed};
 use std::fmt;
 use tf_expr::{Cause as ExprCause, ExprFault};
-use tf_operation::EvalFault;
+use tf_operators::EvalFault;
 
 /// Why nothing was called: what was wrong with what the user gave, or with the machine.
 #[derive(Debug, Drop)]

@@ -3,8 +3,8 @@ use Rattle.std.proofs.Common.{◌≡◌, ◌^◌, ℕ, ℤ, pos, negsuc, ◌+◌
 use Rattle.std.specs.Fmt.{decimal}
 use Rattle.serde_json.specs.Data as json
 use Rattle.tf_template.proofs.Alone.{one_template}
-use Rattle.tf_text.proofs.Checks.{AllMet-append, AllMet-left, AllMet-right, IsFirst-unmet}
-use Rattle.tf_text.specs.Check.{Check, IsFirst}
+use Rattle.tf_json_path.proofs.Checks.{AllMet-append, AllMet-left, AllMet-right, IsFirst-unmet}
+use Rattle.tf_json_path.specs.Check.{Check, IsFirst}
 use Rattle.tf_value.specs.Json.{whole_from}
 use Rattle.tf_value.specs.Known.{known}
 use Rattle.tf_value.specs.Tree as values

@@ -2,12 +2,12 @@
 use Rattle.std.proofs.Common.{◌≡◌, List, [], ◌∷◌, Ok, refl}
 use Rattle.tf_value.specs.Tree as values
 use Rattle.tf_value.specs.Refinement.{Refines, RefinesItems, RefinesEntries}
-use Rattle.tf_operation.specs.Answer.{Answer, list_value, map_value}
-use Rattle.tf_operation.specs.Laws.{ListGrows, MapGrows}
-use Rattle.tf_meaning.specs.Environment.{Environment, RefinesTo}
-use Rattle.tf_meaning.specs.Growth as templates
-use Rattle.tf_meaning.specs.Meaning.{and_then}
-use Rattle.tf_meaning.proofs.Alone.{split}
+use Rattle.tf_operators.specs.Answer.{Answer, list_value, map_value}
+use Rattle.tf_operators.specs.Laws.{ListGrows, MapGrows}
+use Rattle.tf_eval.specs.Environment.{Environment, RefinesTo}
+use Rattle.tf_eval.specs.Growth as templates
+use Rattle.tf_eval.specs.Meaning.{and_then}
+use Rattle.tf_eval.proofs.Alone.{split}
 use Rattle.tf_expr.specs.Meaning.{meaning, meanings, below}
 use Rattle.tf_expr.specs.Tree.{Tree, null, boolean, whole, template, list, map, Trees, no_trees, tree, Entries, no_entries, entry}
 

@@ -4,13 +4,13 @@ use Rattle.std.specs.Cmp.Lexicographic.{slice_cmp}
 use Rattle.std.specs.List.Sorted.{IsStrictlySortedBy}
 use Rattle.std.specs.Map.{keys_of}
 use Rattle.tf_value.specs.Tree as values
-use Rattle.tf_operation.specs.Answer.{Gives}
-use Rattle.tf_operation.specs.declared.fault.EvalFault.{EvalFault}
-use Rattle.tf_operation.specs.declared.fault.EvalFault.TheVariants.{Overflow, WrongKind, Missing, Arity, TooLarge, OutOfMemory}
-use Rattle.tf_meaning.specs.Answering.{Fails}
-use Rattle.tf_meaning.specs.Environment.{Environment}
-use Rattle.tf_meaning.specs.Meaning.{and_then}
-use Rattle.tf_meaning.proofs.Alone.{split}
+use Rattle.tf_operators.specs.Answer.{Gives}
+use Rattle.tf_operators.specs.declared.fault.EvalFault.{EvalFault}
+use Rattle.tf_operators.specs.declared.fault.EvalFault.TheVariants.{Overflow, WrongKind, Missing, Arity, TooLarge, OutOfMemory}
+use Rattle.tf_eval.specs.Answering.{Fails}
+use Rattle.tf_eval.specs.Environment.{Environment}
+use Rattle.tf_eval.specs.Meaning.{and_then}
+use Rattle.tf_eval.proofs.Alone.{split}
 use Rattle.tf_expr.specs.Meaning.{meaning, below}
 use Rattle.tf_expr.specs.Tree.{tree_of, entries_view}
 use Rattle.tf_expr.proofs.Views.{Entry, is_above}

@@ -2,10 +2,10 @@
 use Rattle.std.specs.Prelude.{◌≡◌, List, [], ◌∷◌, Result, Ok}
 use Rattle.tf_value.specs.Tree as values
 use Rattle.tf_value.specs.Refinement.{Refines}
-use Rattle.tf_operation.specs.Answer.{Answer, list_value, map_value}
-use Rattle.tf_operation.specs.declared.fault.EvalFault.{EvalFault}
-use Rattle.tf_meaning.specs.Environment.{Environment, RefinesTo}
-use Rattle.tf_meaning.specs.Meaning.{and_then, template_meaning}
+use Rattle.tf_operators.specs.Answer.{Answer, list_value, map_value}
+use Rattle.tf_operators.specs.declared.fault.EvalFault.{EvalFault}
+use Rattle.tf_eval.specs.Environment.{Environment, RefinesTo}
+use Rattle.tf_eval.specs.Meaning.{and_then, template_meaning}
 use Rattle.tf_expr.specs.Tree.{Tree, null, boolean, whole, template, list, map, Trees, no_trees, tree, Entries, no_entries, entry}
 
 -- A scalar stands for itself, a text for the value of its template. A list's elements and a map's entries are

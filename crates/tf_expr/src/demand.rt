@@ -6,16 +6,16 @@ ghost use Rattle.tf_expr.specs.Demand.{Refuses, TellsAt, a_plain_name, a_templat
 ghost use Rattle.tf_expr.specs.Fault.{told};
 ghost use Rattle.tf_expr.specs.Opening.{opens, IsPlain};
 ghost use Rattle.tf_template.specs.Tree.{template_view};
-ghost use Rattle.tf_text.specs.Check.{demanded};
-ghost use Rattle.tf_text.specs.Place.{dotted, place_of};
+ghost use Rattle.tf_json_path.specs.Check.{demanded};
+ghost use Rattle.tf_json_path.specs.Place.{dotted, place_of};
 ghost use Rattle.tf_value.specs.Json.{whole_from};
 ghost use Rattle.tf_value.specs.Tree.{whole};
 
 use crate::fault::{Cause, ExprFault};
 use serde_json::Number;
 use std::alloc::Global;
+use tf_json_path::Path;
 use tf_template::{ReadFault, Template, read_template};
-use tf_text::Path;
 
 // A fault at a place, or that there is no memory to write the place out.
 fn refused(alloc: Global, path: &Path<'_>, cause: Cause) -> ExprFault

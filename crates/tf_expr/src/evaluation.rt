@@ -2,16 +2,16 @@
 
 ghost use Rattle.std.specs.Prelude.{map as each};
 ghost use Rattle.tf_value.specs.Tree.{tree_of as value_of, entries_view as entries_of_values};
-ghost use Rattle.tf_operation.specs.Answer.{Gives};
-ghost use Rattle.tf_meaning.specs.Answering.{GivesAs};
+ghost use Rattle.tf_operators.specs.Answer.{Gives};
+ghost use Rattle.tf_eval.specs.Answering.{GivesAs};
 ghost use Rattle.tf_expr.specs.Meaning.{meaning, meanings, below};
 ghost use Rattle.tf_expr.specs.Tree.{tree_of, trees_view, entries_view};
 
 use crate::expr::Expr;
 use std::alloc::Global;
 use std::collections::BTreeMap;
-use tf_meaning::{EvalFault, Scope, eval};
-use tf_operation::{list, map};
+use tf_eval::{EvalFault, Scope, eval};
+use tf_operators::{list, map};
 use tf_value::Value;
 
 /// The value of an expression in a scope.

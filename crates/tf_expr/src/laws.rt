@@ -3,7 +3,7 @@
 ghost use Rattle.tf_expr.specs.Meaning.{KnowledgeGrows};
 ghost use Rattle.tf_expr.specs.Laws.{ExpressionIsFaultless, ExpressionIsOne, FaultlessIsExpression, FaultyIsNone, FirstPlaceIsOne};
 
-use tf_operation::laws::collections_grow;
+use tf_operators::laws::collections_grow;
 use tf_value::refinement_is_an_order;
 
 /// A JSON tree is an expression exactly where all checks of it are met, and one expression at most.
@@ -26,6 +26,6 @@ pub fn knowledge_grows()
     ensures { KnowledgeGrows }
 {
     refinement_is_an_order();
-    tf_meaning::knowledge_grows();
+    tf_eval::knowledge_grows();
     collections_grow();
 }

@@ -20,7 +20,7 @@ pub use evaluation::eval_expr;
 pub use expr::{Expr, find};
 pub use fault::{Cause, ExprFault};
 pub use reading::{read_expr, read_expr_at};
-pub use tf_meaning::{Constant, Constants, EvalFault, Scope, eval};
+pub use tf_eval::{Constant, Constants, EvalFault, Scope, eval};
 pub use tf_template::{
     MAX_DEPTH, Operator, Prefix, ReadFault, Reference, Template, Term, functions, read_template,
     references,

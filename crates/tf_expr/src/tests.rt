@@ -3,7 +3,7 @@ use crate::{Cause, Constants, Expr, ExprFault, copy, eval_expr, read_expr, read_
 use serde_json::Value;
 use std::alloc::Global;
 use std::test::Fail;
-use tf_text::Path;
+use tf_json_path::Path;
 
 // The expression that a JSON text is, or what is wrong with it.
 fn shown(alloc: Global, text: &str) -> Result<String, Fail> {

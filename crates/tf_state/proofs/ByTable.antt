@@ -5,12 +5,12 @@ use Rattle.std.proofs.lemmas.Bool.{and_parts}
 use Rattle.serde_json.specs.Data.{Data, Items, no_items, item, array}
 use Rattle.serde_json.specs.Find.{get}
 use Rattle.tf_value.specs.Tree.{Tree, Entries}
-use Rattle.tf_resource.specs.Place.{KeyView, PlaceView}
+use Rattle.tf_state_data.specs.Place.{KeyView, PlaceView}
 use Rattle.tf_state.specs.Arrangement.{record_cmp, resource_cmp, with_records}
 use Rattle.tf_state.specs.Reading.{text_in, below, name_in, text_or, below_or_zero, key_in, deposed_in, attributes_in, tainted_in, flag_in, dependencies_in, is_unsensitive, is_unchecked, is_managed, is_version, outputs_in, instances_in, all_resources_in, put_new, records_in, resources_in, is_record, is_state, record_in, resource_in, state_in}
-use Rattle.tf_resource.specs.Record.{RecordView}
-use Rattle.tf_resource.specs.Resource.{ResourceView}
-use Rattle.tf_resource.specs.State.{StateView}
+use Rattle.tf_state_data.specs.Record.{RecordView}
+use Rattle.tf_state_data.specs.Resource.{ResourceView}
+use Rattle.tf_state_data.specs.State.{StateView}
 use Rattle.tf_state.specs.Table.{SaysInstances, SaysRecord, SaysResource, SaysResources, SaysState}
 use Rattle.tf_state.specs.Words.{is_shaped}
 use Rattle.tf_state.specs.declared.shape.Shape.TheVariants as shapes

@@ -3,12 +3,12 @@ use Rattle.std.proofs.Common.{◌≡◌, true, List, [], ◌∷◌, ◌++◌, Or
 use Rattle.std.specs.List.{AllByRecursion}
 use Rattle.std.specs.Ordering.{is_lt, is_gt}
 use Rattle.tf_address.specs.Label.{label_cmp}
-use Rattle.tf_resource.specs.Order.{before, after, with_one, without_one}
-use Rattle.tf_resource.specs.Place.{place_cmp}
-use Rattle.tf_resource.specs.Record.{RecordView}
-use Rattle.tf_resource.specs.Resource.{ResourceView, with_record}
-use Rattle.tf_resource.proofs.OrderKept.{with-sorted, without-sorted}
-use Rattle.tf_resource.proofs.Totals.{place_total, label_total}
+use Rattle.tf_state_data.specs.Order.{before, after, with_one, without_one}
+use Rattle.tf_state_data.specs.Place.{place_cmp}
+use Rattle.tf_state_data.specs.Record.{RecordView}
+use Rattle.tf_state_data.specs.Resource.{ResourceView, with_record}
+use Rattle.tf_state_data.proofs.OrderKept.{with-sorted, without-sorted}
+use Rattle.tf_state_data.proofs.Totals.{place_total, label_total}
 use Rattle.tf_state.specs.Laws.{PutKeepsState, PutKeepsResource, RemoveKeepsState, RemoveKeepsResource}
 use Rattle.tf_state.specs.Arrangement.{is_some_record}
 use Rattle.tf_state.specs.Valid.{AreRecords, AreResources, IsPresent, IsRecord, IsResource}

@@ -3,8 +3,8 @@ use Rattle.std.proofs.Common.{◌≡◌, suc, List, [], ◌∷◌, String, Globa
 use Rattle.serde_json.specs.Data.{Data}
 use Rattle.serde_json.specs.Events.{items_len, members_len}
 use Rattle.serde_json.specs.View.{items_of as json_items_of}
-use Rattle.tf_resource.specs.State.{outputs_of}
-use Rattle.tf_resource.specs.declared.object.Object.{Object}
+use Rattle.tf_state_data.specs.State.{outputs_of}
+use Rattle.tf_state_data.specs.declared.object.Object.{Object}
 use Rattle.tf_state.specs.Text.{outputs_data}
 use Rattle.tf_state.specs.Types.{item_types, entry_types}
 use Rattle.tf_value.specs.Tree.{items_view, entries_view}

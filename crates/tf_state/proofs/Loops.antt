@@ -9,8 +9,8 @@ use Rattle.serde_json.specs.View.{view, items_view}
 use Rattle.serde_json.specs.declared.value.Value.{Value}
 use Rattle.tf_value.specs.Tree.{put, tree_of}
 use Rattle.tf_state.specs.Reading.{put_text, is_unsensitive}
-use Rattle.tf_resource.specs.State.{outputs_of}
-use Rattle.tf_resource.specs.declared.object.Object.{Object}
+use Rattle.tf_state_data.specs.State.{outputs_of}
+use Rattle.tf_state_data.specs.declared.object.Object.{Object}
 
 -- the items from a place on are the one there and those from the next place on
 pub next_item : (vs : List Value) (i : ℕ) (v : Value) → i < length vs → v ≡ get_or vs i v → items_view (drop i vs) ≡ item (view v) (items_view (drop (i + 1) vs))

@@ -4,15 +4,15 @@ use Rattle.std.specs.List.{AllByRecursion}
 use Rattle.std.specs.Prelude.{⊤}
 use Rattle.serde_json.specs.Data.{Data, object, string, array, number as json_number, unsigned, Members, no_members, put, depth, items_depth, members_depth}
 use Rattle.serde_json.specs.View.{items_of}
-use Rattle.tf_json.specs.Plain.{IsPlain, ArePlain, ArePlainMembers, AreAbove}
-use Rattle.tf_json.proofs.Puts.{plain-put, depth-put}
+use Rattle.tf_json_text.specs.Plain.{IsPlain, ArePlain, ArePlainMembers, AreAbove}
+use Rattle.tf_json_text.proofs.Puts.{plain-put, depth-put}
 use Rattle.tf_value.specs.Json.{value_data, items_data, entries_data}
 use Rattle.tf_value.specs.Measure as measure
 use Rattle.tf_value.specs.Tree.{Tree, null, boolean as truth, whole, text, list, map, unknown, Items, no_items, item, Entries, no_entries, entry}
-use Rattle.tf_resource.specs.Place.{KeyView, single, number, name}
-use Rattle.tf_resource.specs.Record.{RecordView}
-use Rattle.tf_resource.specs.Resource.{ResourceView}
-use Rattle.tf_resource.specs.State.{StateView}
+use Rattle.tf_state_data.specs.Place.{KeyView, single, number, name}
+use Rattle.tf_state_data.specs.Record.{RecordView}
+use Rattle.tf_state_data.specs.Resource.{ResourceView}
+use Rattle.tf_state_data.specs.State.{StateView}
 use Rattle.tf_state.specs.Text.{put_some, key_data, status_data, flag_data, dependencies_data, record_data, resource_data, output_data, outputs_data, state_data}
 use Rattle.tf_state.specs.Types.{type_data, item_types, entry_types}
 use Rattle.tf_state.specs.Valid.{AreSaved, IsAttributes, IsKey, IsRecord, IsResource, IsPresent, IsValid}

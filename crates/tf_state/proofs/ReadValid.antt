@@ -10,21 +10,21 @@ use Rattle.std.proofs.lemmas.Cmp.{nat_list_cmp_total}
 use Rattle.std.proofs.lemmas.Int.{ints}
 use Rattle.serde_json.specs.Data as json
 use Rattle.serde_json.specs.Find.{get, of_integer}
-use Rattle.tf_json.specs.Plain.{IsPlain, ArePlain, ArePlainMembers, IsSorted, AreSorted, AreSortedMembers}
-use Rattle.tf_json.proofs.Puts.{plain-put}
-use Rattle.tf_json.proofs.Sorted.{read_is_sorted, sorted-get}
+use Rattle.tf_json_text.specs.Plain.{IsPlain, ArePlain, ArePlainMembers, IsSorted, AreSorted, AreSortedMembers}
+use Rattle.tf_json_text.proofs.Puts.{plain-put}
+use Rattle.tf_json_text.proofs.Sorted.{read_is_sorted, sorted-get}
 use Rattle.tf_value.specs.Json.{IsJson, IsArray, IsObject, value_data, entries_data, tree_from}
 use Rattle.tf_value.specs.Known.{known}
 use Rattle.tf_value.specs.Tree.{Tree, null, boolean, whole, text, list, map, unknown, Items, no_items, item, Entries, no_entries, entry, put, IsHeld, AreHeld, AreHeldEntries}
 use Rattle.tf_value.proofs.Forms.{form_of, form-tree_from, IsJson-one_form}
 use Rattle.tf_state.specs.Laws.{ReadIsValid}
 use Rattle.tf_address.specs.Label.{label_cmp}
-use Rattle.tf_resource.specs.Addresses.{AreByAddress}
-use Rattle.tf_resource.specs.Place.{KeyView, place_cmp}
-use Rattle.tf_resource.specs.Record.{RecordView}
-use Rattle.tf_resource.specs.Resource.{ResourceView}
-use Rattle.tf_resource.specs.State.{StateView}
-use Rattle.tf_resource.proofs.Totals.{place_total, label_total}
+use Rattle.tf_state_data.specs.Addresses.{AreByAddress}
+use Rattle.tf_state_data.specs.Place.{KeyView, place_cmp}
+use Rattle.tf_state_data.specs.Record.{RecordView}
+use Rattle.tf_state_data.specs.Resource.{ResourceView}
+use Rattle.tf_state_data.specs.State.{StateView}
+use Rattle.tf_state_data.proofs.Totals.{place_total, label_total}
 use Rattle.tf_state.specs.Arrangement.{record_cmp, resource_cmp, is_some_record, with_records}
 use Rattle.tf_state.specs.Reading.{put_text, put_new, is_within, value_in, values_in, attributes_in, address_in, addresses_in, dependencies_in, record_in, records_in, instances_in, resource_in, resources_in, all_resources_in, outputs_in, output_in, required_value, state_in}
 use Rattle.tf_state.specs.Table.{SaysKey, SaysDeposed, SaysNumberOrZero}

@@ -3,8 +3,8 @@ use Rattle.std.proofs.Common.{◌≡◌, true, List, ℕ, Option, Some, None, ap
 use Rattle.std.specs.Prelude.{IsUtf8}
 use Rattle.serde_json.specs.Data.{Data}
 use Rattle.serde_json.specs.Read.{read}
-use Rattle.tf_resource.specs.State.{StateView}
-use Rattle.tf_resource.specs.Place.{PlaceView}
+use Rattle.tf_state_data.specs.State.{StateView}
+use Rattle.tf_state_data.specs.Place.{PlaceView}
 use Rattle.tf_state.specs.Reading.{IsNoJson, IsRefused, is_record, place_in, record_at, record_in, state_in}
 use Rattle.tf_state.specs.Table.{IsBeyond, IsUnread, Reads, SaysState}
 use Rattle.tf_state.specs.declared.fault.StateFault.{StateFault}

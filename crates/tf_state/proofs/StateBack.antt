@@ -7,13 +7,13 @@ use Rattle.serde_json.specs.View.{items_of}
 use Rattle.tf_state.specs.Arrangement.{record_cmp, resource_cmp, with_records}
 use Rattle.tf_state.specs.Reading.{records_in, resource_in, resources_in, state_in, put_new}
 use Rattle.tf_address.specs.Label.{label_cmp}
-use Rattle.tf_resource.proofs.Totals.{place_total, label_total}
-use Rattle.tf_resource.specs.Addresses.{AreByAddress, addresses_of}
-use Rattle.tf_resource.specs.Place.{place_cmp}
-use Rattle.tf_resource.specs.Places.{AreByPlace, places_of}
-use Rattle.tf_resource.specs.Record.{RecordView}
-use Rattle.tf_resource.specs.Resource.{ResourceView}
-use Rattle.tf_resource.specs.State.{StateView}
+use Rattle.tf_state_data.proofs.Totals.{place_total, label_total}
+use Rattle.tf_state_data.specs.Addresses.{AreByAddress, addresses_of}
+use Rattle.tf_state_data.specs.Place.{place_cmp}
+use Rattle.tf_state_data.specs.Places.{AreByPlace, places_of}
+use Rattle.tf_state_data.specs.Record.{RecordView}
+use Rattle.tf_state_data.specs.Resource.{ResourceView}
+use Rattle.tf_state_data.specs.State.{StateView}
 use Rattle.tf_state.specs.Text.{record_data, resource_data, state_data}
 use Rattle.tf_state.specs.Valid.{IsRecord, IsResource, IsPresent, IsValid}
 use Rattle.tf_state.proofs.Back.{put_new-last, EachAbove, EachAbove-push, EachAbove-nothing, outputs-back, serial-back}

@@ -2,10 +2,10 @@
 use Rattle.std.proofs.Common.{◌≡◌, Some, sym, ap, ◌∙◌}
 use Rattle.serde_json.specs.Data.{Data}
 use Rattle.serde_json.specs.Read.{read}
-use Rattle.tf_json.proofs.ReadsBack.{text_reads_back}
+use Rattle.tf_json_text.proofs.ReadsBack.{text_reads_back}
 use Rattle.tf_state.specs.Laws.{TextIsOfOne, TextReadsAsState, StateOfTextIsOne}
 use Rattle.tf_state.specs.Reading.{state_in}
-use Rattle.tf_resource.specs.State.{StateView}
+use Rattle.tf_state_data.specs.State.{StateView}
 use Rattle.tf_state.specs.Text.{state_data, state_text}
 use Rattle.tf_state.specs.Valid.{IsValid}
 use Rattle.tf_state.proofs.ByTable.{state_said, state_says}

@@ -2,9 +2,9 @@
 use Rattle.std.specs.Prelude.{Bool, true, false, List, [], ◌∷◌, filter}
 use Rattle.std.specs.declared.cmp.Ordering.{Ordering}
 use Rattle.tf_address.specs.Label.{label_cmp}
-use Rattle.tf_resource.specs.Place.{place_cmp}
-use Rattle.tf_resource.specs.Record.{RecordView}
-use Rattle.tf_resource.specs.Resource.{ResourceView}
+use Rattle.tf_state_data.specs.Place.{place_cmp}
+use Rattle.tf_state_data.specs.Record.{RecordView}
+use Rattle.tf_state_data.specs.Resource.{ResourceView}
 
 -- records stand by their places, resources by their addresses
 abbrev pub record_cmp : RecordView → RecordView → Ordering

@@ -1,10 +1,10 @@
 -- What holds of states and their texts, whatever they are.
 use Rattle.std.specs.Prelude.{◌≡◌, ℕ, List, IsUtf8}
 use Rattle.tf_address.specs.Label.{LabelView}
-use Rattle.tf_resource.specs.Place.{PlaceView}
-use Rattle.tf_resource.specs.Record.{RecordView}
-use Rattle.tf_resource.specs.Resource.{ResourceView, with_record, without_record}
-use Rattle.tf_resource.specs.State.{StateView, with_resource, without_resource}
+use Rattle.tf_state_data.specs.Place.{PlaceView}
+use Rattle.tf_state_data.specs.Record.{RecordView}
+use Rattle.tf_state_data.specs.Resource.{ResourceView, with_record, without_record}
+use Rattle.tf_state_data.specs.State.{StateView, with_resource, without_resource}
 use Rattle.tf_state.specs.Table.{Reads}
 use Rattle.tf_state.specs.Text.{state_text}
 use Rattle.tf_state.specs.Valid.{IsPresent, IsRecord, IsResource, IsValid}

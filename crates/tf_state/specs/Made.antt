@@ -3,12 +3,12 @@ use Rattle.std.specs.Prelude.{List, map, string_bytes}
 use Rattle.tf_address.specs.Label.{label_of}
 use Rattle.tf_address.specs.declared.label.Label.{Label}
 use Rattle.tf_value.specs.Tree.{tree_of}
-use Rattle.tf_resource.specs.Place.{place_of}
-use Rattle.tf_resource.specs.Record.{RecordView, record_of}
-use Rattle.tf_resource.specs.Resource.{ResourceView}
+use Rattle.tf_state_data.specs.Place.{place_of}
+use Rattle.tf_state_data.specs.Record.{RecordView, record_of}
+use Rattle.tf_state_data.specs.Resource.{ResourceView}
 use Rattle.tf_state.specs.declared.body.Body.{Body}
 use Rattle.tf_state.specs.declared.body.Held.{Held}
-use Rattle.tf_resource.specs.declared.key.Place.{Place}
+use Rattle.tf_state_data.specs.declared.key.Place.{Place}
 
 -- the record of a place with a body
 abbrev pub record_made : Place → Body → RecordView

@@ -14,10 +14,10 @@ use Rattle.tf_value.specs.Json.{tree_from}
 use Rattle.tf_value.specs.Known.{known}
 use Rattle.tf_value.specs.Measure.{weight, depth, max_weight, max_depth}
 use Rattle.tf_value.specs.Tree.{Tree, map, Entries, no_entries, put}
-use Rattle.tf_resource.specs.Place.{KeyView, single, number, name, PlaceView, place_cmp}
-use Rattle.tf_resource.specs.Record.{RecordView}
-use Rattle.tf_resource.specs.Resource.{ResourceView}
-use Rattle.tf_resource.specs.State.{StateView}
+use Rattle.tf_state_data.specs.Place.{KeyView, single, number, name, PlaceView, place_cmp}
+use Rattle.tf_state_data.specs.Record.{RecordView}
+use Rattle.tf_state_data.specs.Resource.{ResourceView}
+use Rattle.tf_state_data.specs.State.{StateView}
 use Rattle.tf_state.specs.Arrangement.{record_cmp, resource_cmp, with_records}
 use Rattle.tf_state.specs.Words.{is_shaped, is_deposed_key, is_address}
 use Rattle.tf_state.specs.declared.fault.StateFault.{StateFault}

@@ -4,7 +4,7 @@ use Rattle.serde.specs.Event.{Log, Logs, field_key}
 use Rattle.serde.specs.declared.name.Case.TheVariants.{AsIs}
 use Rattle.serde_json.specs.Data.{Data, string}
 use Rattle.serde_json.specs.Events.{SendsValue}
-use Rattle.tf_resource.specs.Record.{RecordView}
+use Rattle.tf_state_data.specs.Record.{RecordView}
 use Rattle.tf_state.specs.Text.{dependencies_data, flag_data, key_data, status_data}
 
 -- a member is sent where there is a value for it, and nothing where there is none

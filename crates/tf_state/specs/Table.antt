@@ -15,11 +15,11 @@ use Rattle.tf_address.specs.Name.{is_name}
 use Rattle.tf_value.specs.Json.{IsJson}
 use Rattle.tf_value.specs.Measure.{IsWithinLimits}
 use Rattle.tf_value.specs.Tree.{Tree, map, Entries, no_entries, entry, get as value_at}
-use Rattle.tf_resource.specs.Place.{KeyView, single, number, name}
+use Rattle.tf_state_data.specs.Place.{KeyView, single, number, name}
 use Rattle.tf_state.specs.Arrangement.{record_cmp, resource_cmp, with_records}
-use Rattle.tf_resource.specs.Record.{RecordView}
-use Rattle.tf_resource.specs.Resource.{ResourceView}
-use Rattle.tf_resource.specs.State.{StateView}
+use Rattle.tf_state_data.specs.Record.{RecordView}
+use Rattle.tf_state_data.specs.Resource.{ResourceView}
+use Rattle.tf_state_data.specs.State.{StateView}
 use Rattle.tf_state.specs.Words.{is_address, is_deposed_key, is_shaped}
 use Rattle.tf_state.specs.declared.fault.StateFault.{StateFault}
 use Rattle.tf_state.specs.declared.fault.StateFault.TheVariants.{BadState, Limit, OutOfMemory}

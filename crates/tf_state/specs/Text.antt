@@ -2,13 +2,13 @@
 use Rattle.std.specs.Prelude.{ℕ, Bool, true, false, List, [], ◌∷◌, Option, Some, None, option_map, codes, map as each}
 use Rattle.serde_json.specs.Data.{Data, number as json_number, unsigned, string, boolean, array, object, Members, no_members, member, put}
 use Rattle.serde_json.specs.View.{items_of}
-use Rattle.tf_json.specs.Text.{text_of}
+use Rattle.tf_json_text.specs.Text.{text_of}
 use Rattle.tf_value.specs.Json.{value_data}
 use Rattle.tf_value.specs.Tree.{Tree, Entries, no_entries, entry}
-use Rattle.tf_resource.specs.Place.{KeyView, single, number, name}
-use Rattle.tf_resource.specs.Record.{RecordView}
-use Rattle.tf_resource.specs.Resource.{ResourceView}
-use Rattle.tf_resource.specs.State.{StateView}
+use Rattle.tf_state_data.specs.Place.{KeyView, single, number, name}
+use Rattle.tf_state_data.specs.Record.{RecordView}
+use Rattle.tf_state_data.specs.Resource.{ResourceView}
+use Rattle.tf_state_data.specs.State.{StateView}
 use Rattle.tf_state.specs.Types.{type_data}
 
 -- the members with a value at a key, where there is a value

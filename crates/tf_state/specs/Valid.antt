@@ -5,18 +5,18 @@ use Rattle.std.specs.List.{AllByRecursion}
 use Rattle.std.specs.Ordering.{nat_cmp}
 use Rattle.std.specs.declared.cmp.Ordering.TheVariants.{Greater}
 use Rattle.tf_address.specs.Name.{is_name}
-use Rattle.tf_json.specs.Plain.{ArePlainMembers}
+use Rattle.tf_json_text.specs.Plain.{ArePlainMembers}
 use Rattle.tf_value.specs.Json.{entries_data}
 use Rattle.tf_value.specs.Known.{known}
 use Rattle.tf_value.specs.Measure.{IsWithinLimits}
 use Rattle.tf_value.specs.Tree.{Tree, map, Entries, no_entries, entry, IsHeld}
-use Rattle.tf_resource.specs.Addresses.{AreByAddress}
-use Rattle.tf_resource.specs.Place.{KeyView, single, number, name}
-use Rattle.tf_resource.specs.Places.{AreByPlace}
+use Rattle.tf_state_data.specs.Addresses.{AreByAddress}
+use Rattle.tf_state_data.specs.Place.{KeyView, single, number, name}
+use Rattle.tf_state_data.specs.Places.{AreByPlace}
 use Rattle.tf_state.specs.Arrangement.{is_some_record}
-use Rattle.tf_resource.specs.Record.{RecordView}
-use Rattle.tf_resource.specs.Resource.{ResourceView}
-use Rattle.tf_resource.specs.State.{StateView}
+use Rattle.tf_state_data.specs.Record.{RecordView}
+use Rattle.tf_state_data.specs.Resource.{ResourceView}
+use Rattle.tf_state_data.specs.State.{StateView}
 use Rattle.tf_state.specs.Words.{is_address, is_deposed_key}
 
 -- A value that may be saved: it is known, its whole numbers are those of 64 bits, and it is within the limits.

@@ -1,10 +1,10 @@
 ghost use Rattle.std.specs.List.Sorted.{IsStrictlySortedBy-prop};
 ghost use Rattle.std.specs.Prelude.{map};
-ghost use Rattle.tf_resource.specs.Places.{AreByPlace};
-ghost use Rattle.tf_resource.specs.Record.{record_of};
+ghost use Rattle.tf_state_data.specs.Places.{AreByPlace};
+ghost use Rattle.tf_state_data.specs.Record.{record_of};
 
 use std::collections::BTreeSet;
-use tf_resource::{Object, Record};
+use tf_state_data::{Object, Record};
 
 /// What a record says of an object, beside which one it is.
 #[derive(Drop)]

@@ -7,7 +7,7 @@ ghost use Rattle.serde_json.specs.Read.{read};
 ghost use Rattle.serde_json.specs.View.{view, members_view};
 ghost use Rattle.tf_state.specs.Reading.{IsNoJson, IsRefused, is_state, is_unchecked, is_version, output_in, outputs_in, required_value, state_in, text_or, values_in};
 ghost use Rattle.tf_state.specs.Table.{IsBeyond, IsPlannable, IsUnread, Reads};
-ghost use Rattle.tf_resource.specs.State.{outputs_of, state_of};
+ghost use Rattle.tf_state_data.specs.State.{outputs_of, state_of};
 ghost use Rattle.tf_value.specs.Tree.{no_entries, tree_of};
 
 use crate::fault::StateFault;
@@ -17,7 +17,7 @@ use crate::value_reading::{read_serial, read_text, read_value};
 use serde_json::{Map, Value as Json};
 use std::alloc::Global;
 use std::collections::BTreeMap;
-use tf_resource::{Object, State};
+use tf_state_data::{Object, State};
 
 /// The most resources with records that a state may have.
 const MAX_RESOURCES: usize = 4_000;

@@ -3,12 +3,12 @@
 ghost use Rattle.std.specs.Prelude.{◌≡◌, ◌++◌, [], Some, IfErr, IfOk, OnOk, map, option_map};
 ghost use Rattle.serde_json.specs.View.{view, items_view};
 ghost use Rattle.tf_state.specs.Made.{record_made, records_made};
-ghost use Rattle.tf_resource.specs.Place.{place_of};
-ghost use Rattle.tf_resource.specs.declared.key.Place.{Place};
-ghost use Rattle.tf_resource.specs.Places.{AreByPlace};
+ghost use Rattle.tf_state_data.specs.Place.{place_of};
+ghost use Rattle.tf_state_data.specs.declared.key.Place.{Place};
+ghost use Rattle.tf_state_data.specs.Places.{AreByPlace};
 ghost use Rattle.tf_state.specs.Arrangement.{record_cmp};
 ghost use Rattle.tf_state.specs.Reading.{IsRefused, instances_in, is_record, put_new, record_at, record_in, records_in};
-ghost use Rattle.tf_resource.specs.Record.{record_of};
+ghost use Rattle.tf_state_data.specs.Record.{record_of};
 
 use crate::body::Body;
 use crate::fault::StateFault;
@@ -20,7 +20,7 @@ use crate::value_reading::{
 use serde_json::Value as Json;
 use std::alloc::{AllocError, Global};
 use std::collections::BTreeMap;
-use tf_resource::{Place, Record};
+use tf_state_data::{Place, Record};
 
 /// The records of a resource, in the order of their places. Each part of the tree goes once it is read.
 pub(crate) fn read_instances(alloc: Global, json: Option<Json>) -> Result<Vec<Record>, StateFault>

@@ -5,9 +5,9 @@ ghost use Rattle.serde_json.specs.View.{view, items_view};
 ghost use Rattle.tf_state.specs.Made.{resource_made, resources_made};
 ghost use Rattle.tf_state.specs.Arrangement.{is_some_record, resource_cmp, with_records};
 ghost use Rattle.tf_state.specs.Reading.{IsRefused, all_resources_in, is_managed, put_new, resource_in, resources_in};
-ghost use Rattle.tf_resource.specs.Addresses.{AreByAddress};
-ghost use Rattle.tf_resource.specs.Record.{record_of};
-ghost use Rattle.tf_resource.specs.Resource.{resource_of};
+ghost use Rattle.tf_state_data.specs.Addresses.{AreByAddress};
+ghost use Rattle.tf_state_data.specs.Record.{record_of};
+ghost use Rattle.tf_state_data.specs.Resource.{resource_of};
 
 use crate::body::Held;
 use crate::fault::StateFault;
@@ -18,7 +18,7 @@ use serde_json::Value as Json;
 use std::alloc::{AllocError, Global};
 use std::collections::BTreeMap;
 use tf_address::Label;
-use tf_resource::{Record, Resource};
+use tf_state_data::{Record, Resource};
 
 /// The resources of a state that have records, in the order of their addresses. Each part of the tree goes once it
 /// is read.

@@ -3,7 +3,7 @@
 ghost use Rattle.std.specs.Prelude.{◌≡◌, ◌^◌, [], Some, IfErr, IfOk, map, option_map, string_bytes};
 ghost use Rattle.serde_json.specs.Data.{array};
 ghost use Rattle.serde_json.specs.View.{view, items_view, members_view};
-ghost use Rattle.tf_resource.specs.Place.{deposed_of, key_of, place_of};
+ghost use Rattle.tf_state_data.specs.Place.{deposed_of, key_of, place_of};
 ghost use Rattle.tf_state.specs.Reading.{IsRefused, address_in, addresses_in, attributes_in, below, below_or_zero, dependencies_in, deposed_in, flag_in, is_unsensitive, key_in, name_in, place_in, tainted_in, text_in, text_or, value_in, values_in};
 ghost use Rattle.tf_value.specs.Tree.{no_entries, tree_of, entries_view};
 
@@ -13,7 +13,7 @@ use serde_json::{Map, Value as Json};
 use std::alloc::Global;
 use std::collections::{BTreeMap, BTreeSet};
 use tf_address::is_name;
-use tf_resource::{Key, Object, Place};
+use tf_state_data::{Key, Object, Place};
 use tf_value::{JsonFault, Value, from_json};
 
 /// A value, which is known and within the limits.

@@ -4,9 +4,9 @@ ghost use Rattle.std.specs.Prelude.{◌≡◌, IfOk, OnOk, map, string_bytes};
 ghost use Rattle.serde_json.specs.Data.{array, object};
 ghost use Rattle.serde_json.specs.Events.{SendsValue};
 ghost use Rattle.serde_json.specs.View.{items_of};
-ghost use Rattle.tf_resource.specs.Record.{record_of};
-ghost use Rattle.tf_resource.specs.Resource.{resource_of};
-ghost use Rattle.tf_resource.specs.State.{outputs_of, state_of};
+ghost use Rattle.tf_state_data.specs.Record.{record_of};
+ghost use Rattle.tf_state_data.specs.Resource.{resource_of};
+ghost use Rattle.tf_state_data.specs.State.{outputs_of, state_of};
 ghost use Rattle.tf_state.specs.Text.{output_data, outputs_data, record_data, resource_data, state_data, state_text};
 ghost use Rattle.tf_value.specs.Tree.{tree_of};
 
@@ -15,14 +15,14 @@ use crate::types::send_type;
 use serde::{Described, Serialize, Serializer};
 use std::alloc::{AllocError, Global};
 use std::collections::BTreeMap;
-use tf_resource::{Object, Record, Resource, State};
+use tf_state_data::{Object, Record, Resource, State};
 
 /// The one text of a state: Terraform's state file format, version 4, two spaces a level, keys in byte order,
 /// and one newline at the end. Refused only where there is no memory.
 pub fn write(alloc: Global, state: &State) -> Result<String, AllocError>
     ensures { IfOk result (λ text. string_bytes text ≡ state_text (state_of state.now)) }
 {
-    match tf_json::text(alloc, &StateFile { state }) {
+    match tf_json_text::text(alloc, &StateFile { state }) {
         Ok(text) => Ok(text),
         // What is sent is well formed, so that only memory can be wanting.
         Err(_) => Err(AllocError),

@@ -1,8 +1,8 @@
 -- What one action more adds to a report.
 use Rattle.std.proofs.Common.{◌≡◌, ◌≤◌, suc, length, List, [], ◌∷◌, ◌++◌, map, Option, Some, None, option_map, refl, sym, ap, ◌∙◌, arith}
 use Rattle.std.proofs.lemmas.List.{length-append}
-use Rattle.tf_resource.specs.Resource.{ResourceView, resource_of}
-use Rattle.tf_resource.specs.declared.resource.Resource.{Resource}
+use Rattle.tf_state_data.specs.Resource.{ResourceView, resource_of}
+use Rattle.tf_state_data.specs.declared.resource.Resource.{Resource}
 use Rattle.tf_walk.specs.Addition.{listed}
 use Rattle.tf_walk.specs.After.{saved_one}
 use Rattle.tf_walk.specs.Diagnostics.{DiagnosticView, diagnostic_of}

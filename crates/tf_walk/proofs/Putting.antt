@@ -1,7 +1,7 @@
 -- Resources are put into a state from the last to the first.
 use Rattle.std.proofs.Common.{◌≡◌, List, [], ◌∷◌, ◌++◌, refl, ap}
-use Rattle.tf_resource.specs.Resource.{ResourceView}
-use Rattle.tf_resource.specs.State.{StateView, with_resource}
+use Rattle.tf_state_data.specs.Resource.{ResourceView}
+use Rattle.tf_state_data.specs.State.{StateView, with_resource}
 use Rattle.tf_walk.specs.After.{with_resources}
 
 pub with_resources-last : (rs : List ResourceView) (r : ResourceView) (s : StateView) → with_resources (rs ++ r ∷ []) s ≡ with_resources rs (with_resource r s)

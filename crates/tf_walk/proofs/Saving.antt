@@ -8,11 +8,11 @@ use Rattle.tf_provider.specs.Schema.{SchemaView}
 use Rattle.tf_provider.specs.Verdict.{verdict_on, well_formed, contradiction, is_destroy}
 use Rattle.tf_provider.specs.declared.verdict.Verdict.{Verdict}
 use Rattle.tf_provider.specs.declared.verdict.Verdict.TheVariants as verdict
-use Rattle.tf_resource.specs.Places.{AreByPlace}
-use Rattle.tf_resource.specs.Record.{record_of}
-use Rattle.tf_resource.specs.Resource.{ResourceView}
-use Rattle.tf_resource.specs.declared.object.Object.{Object}
-use Rattle.tf_resource.specs.declared.record.Record.{Record}
+use Rattle.tf_state_data.specs.Places.{AreByPlace}
+use Rattle.tf_state_data.specs.Record.{record_of}
+use Rattle.tf_state_data.specs.Resource.{ResourceView}
+use Rattle.tf_state_data.specs.declared.object.Object.{Object}
+use Rattle.tf_state_data.specs.declared.record.Record.{Record}
 use Rattle.tf_value.specs.Tree as tree
 use Rattle.tf_value.specs.Tree.{tree_of}
 use Rattle.tf_walk.specs.After.{Saved, saved_reply, resource_after}

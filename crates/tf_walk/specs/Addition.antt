@@ -4,7 +4,7 @@ use Rattle.std.specs.List.{AllByRecursion}
 use Rattle.tf_provider.specs.Meaning.{Answer, Meaning, object}
 use Rattle.tf_provider.specs.Schema.{SchemaView}
 use Rattle.tf_provider.specs.Verdict.{well_formed}
-use Rattle.tf_resource.specs.Resource.{ResourceView, resource_of}
+use Rattle.tf_state_data.specs.Resource.{ResourceView, resource_of}
 use Rattle.tf_value.specs.Tree as tree
 use Rattle.tf_walk.specs.After.{resource_after, saved, saved_one}
 use Rattle.tf_walk.specs.Diagnostics.{DiagnosticView, diagnostic_of, diagnostics_at}

@@ -7,10 +7,10 @@ use Rattle.tf_provider.specs.Schema.{SchemaView}
 use Rattle.tf_provider.specs.Verdict.{well_formed}
 use Rattle.tf_provider.specs.declared.verdict.Verdict.{Verdict}
 use Rattle.tf_provider.specs.declared.verdict.Verdict.TheVariants as verdict
-use Rattle.tf_resource.specs.Place.{single}
-use Rattle.tf_resource.specs.Provider.{provider_text}
-use Rattle.tf_resource.specs.Resource.{ResourceView}
-use Rattle.tf_resource.specs.State.{StateView, with_resource}
+use Rattle.tf_state_data.specs.Place.{single}
+use Rattle.tf_state_data.specs.Provider.{provider_text}
+use Rattle.tf_state_data.specs.Resource.{ResourceView}
+use Rattle.tf_state_data.specs.State.{StateView, with_resource}
 use Rattle.tf_value.specs.Tree as tree
 use Rattle.tf_walk.specs.Room.{Head, head_of}
 use Rattle.tf_walk.specs.Settled.{settled}

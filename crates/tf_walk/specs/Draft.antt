@@ -1,6 +1,6 @@
 -- A report before the first call: nothing stands in it, and it has room for what the actions add.
 use Rattle.std.specs.Prelude.{◌≡◌, ◌≤◌, ℕ, [], vec_capacity}
-use Rattle.tf_resource.specs.State.{HasRoomForResources, state_of}
+use Rattle.tf_state_data.specs.State.{HasRoomForResources, state_of}
 use Rattle.tf_walk.specs.declared.draft.Draft.{Draft}
 
 pub record IsBlank (count : ℕ) (d : Draft) : Type 0 where

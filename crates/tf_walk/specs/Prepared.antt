@@ -2,7 +2,7 @@
 use Rattle.std.specs.Prelude.{◌≡◌, ◌≤◌, [], None, map, replicate}
 use Rattle.tf_claim.specs.declared.book.Stage.TheVariants as stage
 use Rattle.tf_plan.specs.Plan.{PlanView}
-use Rattle.tf_resource.specs.State.{state_of, empty_state}
+use Rattle.tf_state_data.specs.State.{state_of, empty_state}
 use Rattle.tf_walk.specs.Draft.{IsBlank}
 use Rattle.tf_walk.specs.Room.{head_of}
 use Rattle.tf_walk.specs.RoomHead.{room_head}

@@ -8,7 +8,7 @@ use Rattle.tf_plan.specs.Plan.{PlanView}
 use Rattle.tf_provider.specs.Meaning.{Meaning}
 use Rattle.tf_provider.specs.declared.verdict.Verdict.{Verdict}
 use Rattle.tf_provider.specs.declared.verdict.Verdict.TheVariants as verdict
-use Rattle.tf_resource.specs.State.{empty_state, state_of}
+use Rattle.tf_state_data.specs.State.{empty_state, state_of}
 use Rattle.tf_walk.specs.After.{state_after}
 use Rattle.tf_walk.specs.Diagnostics.{diagnostic_of, diagnostics}
 use Rattle.tf_walk.specs.Excuse.{before_call, during_call}

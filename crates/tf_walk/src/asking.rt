@@ -6,7 +6,7 @@ ghost use Rattle.tf_walk.specs.Room.{message_fits};
 ghost use Rattle.tf_walk.specs.Settled.{is_settled};
 
 use tf_provider::Request;
-use tf_resource::Object;
+use tf_state_data::Object;
 
 /// A request, and room for a message about its reply.
 #[derive(Drop)]

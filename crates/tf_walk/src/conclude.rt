@@ -5,7 +5,7 @@ ghost use Rattle.tf_address.specs.Label.{label_text};
 ghost use Rattle.tf_provider.specs.Meaning.{asked, answered};
 ghost use Rattle.tf_provider.specs.Verdict.{verdict_on};
 ghost use Rattle.tf_provider.specs.declared.request.Op.TheVariants.{Create};
-ghost use Rattle.tf_resource.specs.Resource.{resource_of};
+ghost use Rattle.tf_state_data.specs.Resource.{resource_of};
 ghost use Rattle.tf_value.specs.Tree.{tree_of};
 ghost use Rattle.tf_walk.specs.After.{resource_after, saved_by};
 ghost use Rattle.tf_walk.specs.Diagnostics.{diagnostic_of, diagnostics_of_verdict, name_at};
@@ -21,7 +21,7 @@ use crate::report::Diagnostic;
 use crate::rooms::Room;
 use std::collections::BTreeSet;
 use tf_provider::{Op, Provider, Reply, Schema, Verdict, schema_for, well_formed};
-use tf_resource::{Key, Object, Place, Record, Resource};
+use tf_state_data::{Key, Object, Place, Record, Resource};
 use tf_value::Value;
 
 /// What an action adds to the report.

@@ -1,12 +1,12 @@
 //! The report, before the first call.
 
 ghost use Rattle.std.specs.Prelude.{◌≡◌, IfOk};
-ghost use Rattle.tf_resource.specs.State.{empty_state, state_of};
+ghost use Rattle.tf_state_data.specs.State.{empty_state, state_of};
 ghost use Rattle.tf_walk.specs.Draft.{IsBlank};
 
 use crate::report::{Diagnostic, Excuse, Outcome};
 use std::alloc::{AllocError, Global};
-use tf_resource::{Resource, State};
+use tf_state_data::{Resource, State};
 
 /// What a report is put together in. All memory that it needs is taken before the first call.
 #[derive(Drop)]

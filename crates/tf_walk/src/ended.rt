@@ -6,7 +6,7 @@ ghost use Rattle.tf_walk.specs.Room.{message_fits};
 ghost use Rattle.tf_walk.specs.Settled.{is_settled};
 
 use tf_provider::{Reply, Request, Verdict};
-use tf_resource::Object;
+use tf_state_data::Object;
 
 /// A call that was judged, with room for a message about it.
 #[derive(Drop)]

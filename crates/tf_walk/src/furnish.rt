@@ -8,7 +8,7 @@ ghost use Rattle.tf_walk.specs.RoomHead.{room_head};
 use crate::rooms::Room;
 use std::alloc::{AllocError, Global};
 use tf_plan::Action;
-use tf_resource::provider_address;
+use tf_state_data::provider_address;
 
 /// Room for the report on each action, in action order.
 pub fn rooms_for(alloc: Global, actions: &[Action]) -> Result<Vec<Room>, AllocError>

@@ -1,8 +1,8 @@
 //! The report on all actions is put together, without taking memory.
 
 ghost use Rattle.std.specs.Prelude.{◌≡◌, ◌+◌, ◌++◌, ◌<◌, ◌≤◌, ◌^◌, [], length, map, count_by, vec_len, vec_capacity};
-ghost use Rattle.tf_resource.specs.Resource.{resource_of};
-ghost use Rattle.tf_resource.specs.State.{HasRoomForResources, state_of};
+ghost use Rattle.tf_state_data.specs.Resource.{resource_of};
+ghost use Rattle.tf_state_data.specs.State.{HasRoomForResources, state_of};
 ghost use Rattle.tf_walk.specs.Addition.{AreJudged, listed, saved_in, told_in};
 ghost use Rattle.tf_walk.specs.After.{is_any, raised, with_resources};
 ghost use Rattle.tf_walk.specs.Diagnostics.{diagnostic_of};
@@ -18,7 +18,7 @@ use crate::ended::Ended;
 use crate::report::{Diagnostic, Excuse, Outcome};
 use crate::rooms::Room;
 use tf_provider::Provider;
-use tf_resource::{Resource, State};
+use tf_state_data::{Resource, State};
 
 /// How each action ended, in action order.
 pub fn tell_outcomes(outcomes: &mut Vec<Outcome>, results: &[Option<Ended>])

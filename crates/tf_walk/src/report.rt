@@ -2,7 +2,7 @@
 
 use tf_journal::Journal;
 use tf_provider::{Op, Verdict};
-use tf_resource::State;
+use tf_state_data::State;
 
 /// How an action ended.
 #[derive(Clone, Copy, Debug, PartialEq, Eq)]

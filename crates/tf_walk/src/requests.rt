@@ -16,7 +16,7 @@ use std::alloc::{AllocError, Global};
 use std::collections::BTreeMap;
 use tf_plan::Action;
 use tf_provider::{Op, Request};
-use tf_resource::Object;
+use tf_state_data::Object;
 use tf_value::{Value, copy};
 
 /// The request of an action. Refused only where there is no memory.

@@ -2,10 +2,10 @@
 
 ghost use Rattle.std.specs.Prelude.{◌≡◌, ◌<◌, ◌≤◌, [], string_bytes, string_capacity, vec_capacity};
 ghost use Rattle.tf_address.specs.Label.{label_of, label_text};
-ghost use Rattle.tf_resource.specs.Provider.{provider_text};
+ghost use Rattle.tf_state_data.specs.Provider.{provider_text};
 
 use tf_address::Label;
-use tf_resource::Record;
+use tf_state_data::Record;
 
 /// Room for the report on one action.
 #[derive(Drop)]

@@ -4,7 +4,7 @@ ghost use Rattle.std.specs.Prelude.{◌≡◌, ◌≤◌, List, length, map, cou
 ghost use Rattle.tf_config.specs.Refusal.{no_memory, told};
 ghost use Rattle.tf_plan.specs.Plan.{action_of, plan_of};
 ghost use Rattle.tf_plan.specs.Served.{AreServed};
-ghost use Rattle.tf_resource.specs.State.{state_of};
+ghost use Rattle.tf_state_data.specs.State.{state_of};
 ghost use Rattle.tf_walk.specs.Addition.{AreJudged, saved_in, told_in};
 ghost use Rattle.tf_walk.specs.After.{is_any, raised, with_resources};
 ghost use Rattle.tf_walk.specs.Diagnostics.{diagnostic_of};

@@ -5,8 +5,8 @@ use Rattle.tf_expr.proofs.Views.{entries_view-insert_entry}
 use Rattle.tf_expr.specs.Reading.{expr_checks}
 use Rattle.tf_expr.specs.Tree.{tree_of, entries_view}
 use Rattle.tf_expr.specs.Within.{demanded_as}
-use Rattle.tf_text.specs.Check.{demanded}
-use Rattle.tf_text.specs.Place.{place_of}
+use Rattle.tf_json_path.specs.Check.{demanded}
+use Rattle.tf_json_path.specs.Place.{place_of}
 use Rattle.tf_config.proofs.Refusals.{Refuses-right, Refuses-expression}
 use Rattle.tf_config.specs.Demand.{a_name, of_expression}
 use Rattle.tf_config.proofs.body.add_argument.Goals as goal

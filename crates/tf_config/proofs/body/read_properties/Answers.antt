@@ -5,9 +5,9 @@ use Rattle.tf_expr.specs.Tree.{no_entries}
 use Rattle.tf_config.proofs.ConfigurationLaws.{property_met}
 use Rattle.tf_config.proofs.Members.{refused_at}
 use Rattle.tf_config.specs.Configuration.{AddsProperty, property_checks}
-use Rattle.tf_text.proofs.Places.{place_of-Member}
-use Rattle.tf_text.proofs.Walks.{builds_more}
-use Rattle.tf_text.specs.Place.{place_of}
+use Rattle.tf_json_path.proofs.Places.{place_of-Member}
+use Rattle.tf_json_path.proofs.Walks.{builds_more}
+use Rattle.tf_json_path.specs.Place.{place_of}
 use Rattle.tf_config.proofs.body.read_properties.Goals as goal
 
 pub returns-in_err-add_property-clause-fault : goal.returns-in_err-add_property-clause-fault

@@ -4,7 +4,7 @@ use Rattle.tf_expr.specs.Tree.{no_entries}
 use Rattle.serde_json.specs.View.{members_view}
 use Rattle.tf_config.specs.Config.{arguments_of}
 use Rattle.tf_config.specs.Configuration.{AddsProperty}
-use Rattle.tf_text.specs.Walk.{Builds}
+use Rattle.tf_json_path.specs.Walk.{Builds}
 use Rattle.tf_config.proofs.body.read_properties.Given as goal
 
 -- the members so far lead to the arguments so far

@@ -6,8 +6,8 @@ use Rattle.tf_config.proofs.NameWalks.{left_more, left_refused}
 use Rattle.tf_config.specs.KnownNames.{name_checks, item_name_checks, entry_name_checks}
 use Rattle.tf_expr.proofs.Views.{Entry}
 use Rattle.tf_expr.specs.Tree.{tree_of, trees_view, entries_view}
-use Rattle.tf_text.proofs.Places.{place_of-Member, place_of-Item}
-use Rattle.tf_text.specs.Place.{place_of}
+use Rattle.tf_json_path.proofs.Places.{place_of-Member, place_of-Item}
+use Rattle.tf_json_path.specs.Place.{place_of}
 use Rattle.tf_config.proofs.known_names.+names.Goals as goal
 
 pub demand_items-loop-position-preserved : goal.demand_items-loop-position-preserved

@@ -2,7 +2,7 @@ use Rattle.std.proofs.Common.{drop}
 use Rattle.tf_config.proofs.NameWalks.{IsLeft}
 use Rattle.tf_config.specs.KnownNames.{item_name_checks, entry_name_checks}
 use Rattle.tf_expr.specs.Tree.{trees_view, entries_view}
-use Rattle.tf_text.specs.Place.{place_of}
+use Rattle.tf_json_path.specs.Place.{place_of}
 use Rattle.tf_config.proofs.known_names.+names.Given as goal
 
 -- the checks of the elements from the position on are left

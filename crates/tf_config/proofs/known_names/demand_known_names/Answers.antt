@@ -5,7 +5,7 @@ use Rattle.tf_config.proofs.NameWalks.{left_more, left_refused}
 use Rattle.tf_config.specs.Config.{block_of, blocks_of}
 use Rattle.tf_config.specs.KnownNames.{entry_name_checks, block_place, block_name_checks}
 use Rattle.tf_config.specs.declared.config.Block.{Block}
-use Rattle.tf_text.proofs.Places.{place_of-Root, place_of-Member}
+use Rattle.tf_json_path.proofs.Places.{place_of-Root, place_of-Member}
 use Rattle.tf_config.proofs.known_names.demand_known_names.Goals as goal
 
 pub loop-label-preserved : goal.loop-label-preserved

@@ -5,9 +5,9 @@ use Rattle.tf_config.proofs.ConfigurationLaws.{type_met}
 use Rattle.tf_config.proofs.Members.{refused_at}
 use Rattle.tf_config.specs.Config.{blocks_of}
 use Rattle.tf_config.specs.Configuration.{AddsType, type_checks}
-use Rattle.tf_text.proofs.Places.{place_of-Member}
-use Rattle.tf_text.proofs.Walks.{builds_more}
-use Rattle.tf_text.specs.Place.{place_of}
+use Rattle.tf_json_path.proofs.Places.{place_of-Member}
+use Rattle.tf_json_path.proofs.Walks.{builds_more}
+use Rattle.tf_json_path.specs.Place.{place_of}
 use Rattle.tf_config.proofs.reading.add_each_type.Goals as goal
 
 pub returns-in_err-add_type-clause-fault : goal.returns-in_err-add_type-clause-fault

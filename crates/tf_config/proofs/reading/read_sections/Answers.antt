@@ -4,9 +4,9 @@ use Rattle.serde_json.proofs.Views.{Entry}
 use Rattle.tf_config.proofs.ConfigurationLaws.{section_met}
 use Rattle.tf_config.proofs.Members.{refused_at}
 use Rattle.tf_config.specs.Configuration.{AddsSection, section_checks}
-use Rattle.tf_text.proofs.Places.{place_of-Member}
-use Rattle.tf_text.proofs.Walks.{builds_more}
-use Rattle.tf_text.specs.Place.{place_of}
+use Rattle.tf_json_path.proofs.Places.{place_of-Member}
+use Rattle.tf_json_path.proofs.Walks.{builds_more}
+use Rattle.tf_json_path.specs.Place.{place_of}
 use Rattle.tf_config.proofs.reading.read_sections.Goals as goal
 
 pub returns-in_err-add_section-clause-fault : goal.returns-in_err-add_section-clause-fault

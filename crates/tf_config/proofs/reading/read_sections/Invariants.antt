@@ -3,7 +3,7 @@ use Rattle.serde_json.proofs.Views.{Entry}
 use Rattle.serde_json.specs.View.{members_view}
 use Rattle.tf_config.specs.Config.{blocks_of}
 use Rattle.tf_config.specs.Configuration.{AddsSection}
-use Rattle.tf_text.specs.Walk.{Builds}
+use Rattle.tf_json_path.specs.Walk.{Builds}
 use Rattle.tf_config.proofs.reading.read_sections.Given as goal
 
 -- the members so far lead to the blocks so far

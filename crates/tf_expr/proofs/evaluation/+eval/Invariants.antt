@@ -1,6 +1,6 @@
 use Rattle.std.proofs.Common.{◌≡◌, List, ◌++◌, map, drop, Ok}
 use Rattle.tf_value.specs.Tree.{tree_of as value_of, entries_view as entries_of_values}
-use Rattle.tf_meaning.proofs.Rows.{onto}
+use Rattle.tf_eval.proofs.Rows.{onto}
 use Rattle.tf_expr.specs.Meaning.{below, meanings}
 use Rattle.tf_expr.specs.Tree.{trees_view, entries_view}
 use Rattle.tf_expr.proofs.Views.{Entry}

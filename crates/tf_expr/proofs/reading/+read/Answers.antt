@@ -10,9 +10,9 @@ use Rattle.tf_expr.proofs.Walked.{items_more, items_refused, members_more, membe
 use Rattle.tf_expr.specs.Demand.{a_plain_name}
 use Rattle.tf_expr.specs.Reading.{expr_checks}
 use Rattle.tf_expr.specs.Tree.{tree_of, entries_view}
-use Rattle.tf_text.proofs.Places.{place_of-Member, place_of-Item}
-use Rattle.tf_text.specs.Check.{demanded}
-use Rattle.tf_text.specs.Place.{place_of}
+use Rattle.tf_json_path.proofs.Places.{place_of-Member, place_of-Item}
+use Rattle.tf_json_path.specs.Check.{demanded}
+use Rattle.tf_json_path.specs.Place.{place_of}
 use Rattle.tf_expr.proofs.reading.+read.Goals as goal
 
 pub read_items-returns-in_err-expr-clause-fault : goal.read_items-returns-in_err-expr-clause-fault

@@ -3,7 +3,7 @@ use Rattle.std.proofs.Common.{◌≡◌}
 use Rattle.serde_json.specs.View.{members_view}
 use Rattle.tf_value.specs.Tree.{no_entries}
 use Rattle.tf_state.specs.Reading.{output_in, values_in}
-use Rattle.tf_resource.specs.State.{outputs_of}
+use Rattle.tf_state_data.specs.State.{outputs_of}
 use Rattle.tf_state.proofs.reading.read_each_output.Given as goal
 
 abbrev pub invariant-loop-key : goal.invariant-loop-key

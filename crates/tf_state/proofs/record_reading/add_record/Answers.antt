@@ -2,10 +2,10 @@ use Rattle.std.proofs.Common.{Some, sym, ap, ◌∙◌}
 use Rattle.std.specs.Prelude.{is_some}
 use Rattle.tf_state.specs.Arrangement.{record_cmp}
 use Rattle.tf_state.specs.Made.{record_made, records_made}
-use Rattle.tf_resource.specs.contracts.key.PlaceOrd.TheImpl as places
-use Rattle.tf_resource.specs.contracts.key.PlaceOrd.TheImpl.Laws.{total-law}
+use Rattle.tf_state_data.specs.contracts.key.PlaceOrd.TheImpl as places
+use Rattle.tf_state_data.specs.contracts.key.PlaceOrd.TheImpl.Laws.{total-law}
 use Rattle.tf_state.proofs.Ordered.{put_new-insert_entry, put_new-taken, none_from_false}
-use Rattle.tf_resource.proofs.PlaceOrder.{places_ordered}
+use Rattle.tf_state_data.proofs.PlaceOrder.{places_ordered}
 use Rattle.tf_state.proofs.record_reading.add_record.Goals as goal
 
 pub returns-clause-ok : goal.returns-clause-ok

@@ -1,9 +1,9 @@
 use Rattle.std.proofs.Common.{◌≡◌, ◌++◌, map, sym, ap, ◌∙◌, subst, append-nil}
-use Rattle.tf_resource.proofs.PlaceOrder.{places_ordered}
-use Rattle.tf_resource.specs.Place.{place_cmp}
-use Rattle.tf_resource.specs.Places.{AreByPlace}
-use Rattle.tf_resource.specs.Record.{RecordView, record_of}
-use Rattle.tf_resource.specs.contracts.key.PlaceOrd.TheImpl as places
+use Rattle.tf_state_data.proofs.PlaceOrder.{places_ordered}
+use Rattle.tf_state_data.specs.Place.{place_cmp}
+use Rattle.tf_state_data.specs.Places.{AreByPlace}
+use Rattle.tf_state_data.specs.Record.{RecordView, record_of}
+use Rattle.tf_state_data.specs.contracts.key.PlaceOrd.TheImpl as places
 use Rattle.tf_state.specs.Made.{record_made, records_made}
 use Rattle.tf_state.proofs.Ordered.{shown-ordered}
 use Rattle.tf_state.proofs.record_reading.in_order.Goals as goal

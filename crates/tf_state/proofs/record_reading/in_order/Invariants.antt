@@ -1,7 +1,7 @@
 -- The records taken, and those still to take, are all.
 use Rattle.std.proofs.Common.{◌≡◌, ◌++◌, map}
 use Rattle.tf_state.specs.Made.{records_made}
-use Rattle.tf_resource.specs.Record.{record_of}
+use Rattle.tf_state_data.specs.Record.{record_of}
 use Rattle.tf_state.proofs.record_reading.in_order.Given as goal
 
 abbrev pub invariant-loop-place : goal.invariant-loop-place

@@ -1,7 +1,7 @@
 use Rattle.std.proofs.Common.{◌≡◌, true, sym, ◌∙◌, rules}
 use Rattle.std.proofs.lemmas.Result.{err_from_is_err_and}
 use Rattle.serde_json.specs.View.{view}
-use Rattle.tf_resource.specs.Place.{place_of}
+use Rattle.tf_state_data.specs.Place.{place_of}
 use Rattle.tf_state.specs.Reading.{is_record}
 use Rattle.tf_state.proofs.Refusals.{refused_behind}
 use Rattle.tf_state.proofs.record_reading.read_record.Goals as goal

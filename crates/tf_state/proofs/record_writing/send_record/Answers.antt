@@ -1,5 +1,5 @@
 use Rattle.std.proofs.lemmas.Result.{on_ok_weaker}
-use Rattle.tf_resource.specs.Record.{record_of}
+use Rattle.tf_state_data.specs.Record.{record_of}
 use Rattle.tf_state.proofs.Sent.{record_sent}
 use Rattle.tf_state.proofs.record_writing.send_record.Goals as goal
 

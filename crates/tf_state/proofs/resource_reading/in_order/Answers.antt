@@ -1,9 +1,9 @@
 use Rattle.std.proofs.Common.{◌≡◌, ◌++◌, map, sym, ap, ◌∙◌, subst, append-nil}
 use Rattle.tf_address.specs.Label.{label_cmp}
 use Rattle.tf_address.specs.contracts.label.LabelOrd.TheImpl as labels
-use Rattle.tf_resource.proofs.PlaceOrder.{labels_ordered}
-use Rattle.tf_resource.specs.Addresses.{AreByAddress}
-use Rattle.tf_resource.specs.Resource.{ResourceView, resource_of}
+use Rattle.tf_state_data.proofs.PlaceOrder.{labels_ordered}
+use Rattle.tf_state_data.specs.Addresses.{AreByAddress}
+use Rattle.tf_state_data.specs.Resource.{ResourceView, resource_of}
 use Rattle.tf_state.specs.Made.{resource_made, resources_made}
 use Rattle.tf_state.specs.Arrangement.{is_some_record, with_records}
 use Rattle.tf_state.proofs.Ordered.{shown-ordered}

@@ -2,7 +2,7 @@
 use Rattle.std.proofs.Common.{◌≡◌, ◌++◌, map}
 use Rattle.tf_state.specs.Made.{resources_made}
 use Rattle.tf_state.specs.Arrangement.{with_records}
-use Rattle.tf_resource.specs.Resource.{resource_of}
+use Rattle.tf_state_data.specs.Resource.{resource_of}
 use Rattle.tf_state.proofs.resource_reading.in_order.Given as goal
 
 abbrev pub invariant-loop-label : goal.invariant-loop-label

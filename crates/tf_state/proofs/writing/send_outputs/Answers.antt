@@ -2,7 +2,7 @@ use Rattle.std.proofs.Common.{◌≡◌, length, Some, sym, ◌∙◌, subst, ru
 use Rattle.std.proofs.lemmas.Result.{on_ok_weaker}
 use Rattle.serde.specs.Event.{Logs, map_begins}
 use Rattle.serde_json.specs.Events.{SendsMembers}
-use Rattle.tf_resource.specs.State.{outputs_of}
+use Rattle.tf_state_data.specs.State.{outputs_of}
 use Rattle.tf_state.specs.Text.{outputs_data}
 use Rattle.tf_state.proofs.Lengths.{outputs_len}
 use Rattle.tf_state.proofs.writing.send_outputs.Goals as goal

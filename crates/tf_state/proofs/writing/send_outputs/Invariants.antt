@@ -2,7 +2,7 @@
 use Rattle.std.proofs.Common.{drop}
 use Rattle.serde.specs.Event.{Log}
 use Rattle.serde_json.specs.Events.{SendsMembers}
-use Rattle.tf_resource.specs.State.{outputs_of}
+use Rattle.tf_state_data.specs.State.{outputs_of}
 use Rattle.tf_state.specs.Text.{outputs_data}
 use Rattle.tf_state.proofs.writing.send_outputs.Given as goal
 

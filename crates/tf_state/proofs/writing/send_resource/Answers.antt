@@ -1,6 +1,6 @@
 use Rattle.std.proofs.Common.{◌≡◌, codes, refl, rules}
 use Rattle.std.proofs.lemmas.Result.{on_ok_weaker}
-use Rattle.tf_resource.specs.Resource.{resource_of}
+use Rattle.tf_state_data.specs.Resource.{resource_of}
 use Rattle.tf_state.proofs.Sent.{resource_sent, text_sent}
 use Rattle.tf_state.proofs.writing.send_resource.Goals as goal
 

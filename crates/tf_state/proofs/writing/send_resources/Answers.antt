@@ -4,7 +4,7 @@ use Rattle.std.proofs.lemmas.Result.{on_ok_weaker}
 use Rattle.serde.specs.Event.{Logs, seq_begins}
 use Rattle.serde_json.specs.Events.{SendsItems}
 use Rattle.serde_json.specs.View.{items_of}
-use Rattle.tf_resource.specs.Resource.{resource_of}
+use Rattle.tf_state_data.specs.Resource.{resource_of}
 use Rattle.tf_state.specs.Text.{resource_data}
 use Rattle.tf_state.proofs.Lengths.{items_len-map}
 use Rattle.tf_state.proofs.writing.send_resources.Goals as goal

@@ -3,7 +3,7 @@ use Rattle.std.proofs.Common.{map, drop}
 use Rattle.serde.specs.Event.{Log}
 use Rattle.serde_json.specs.Events.{SendsItems}
 use Rattle.serde_json.specs.View.{items_of}
-use Rattle.tf_resource.specs.Resource.{resource_of}
+use Rattle.tf_state_data.specs.Resource.{resource_of}
 use Rattle.tf_state.specs.Text.{resource_data}
 use Rattle.tf_state.proofs.writing.send_resources.Given as goal
 

@@ -1,6 +1,6 @@
 use Rattle.std.proofs.Common.{◌≡◌, ◌++◌, ◌∷◌, ◌∙◌, sym, ap, ap₂, subst, map, option_map, arith}
 use Rattle.std.specs.Vec.Iter.{into_iter_items}
-use Rattle.tf_resource.specs.Resource.{resource_of}
+use Rattle.tf_state_data.specs.Resource.{resource_of}
 use Rattle.tf_walk.specs.Addition.{AreJudged, saved_in, told_in}
 use Rattle.tf_walk.specs.After.{resource_after, saved}
 use Rattle.tf_walk.specs.Diagnostics.{diagnostic_of, diagnostics_at}

@@ -2,7 +2,7 @@
 use Rattle.std.proofs.Common.{◌≡◌, ◌≤◌, ◌+◌, ◌++◌, length, map}
 use Rattle.std.specs.Prelude.{vec_capacity}
 use Rattle.std.specs.Vec.Iter.{into_iter_items}
-use Rattle.tf_resource.specs.Resource.{resource_of}
+use Rattle.tf_state_data.specs.Resource.{resource_of}
 use Rattle.tf_walk.specs.Addition.{AreJudged, saved_in, told_in}
 use Rattle.tf_walk.specs.Diagnostics.{diagnostic_of}
 use Rattle.tf_walk.specs.Ended.{dones_of}

@@ -1,7 +1,7 @@
 -- the resources that are left go before those that were put
 use Rattle.std.proofs.Common.{◌≡◌, map, vec_len}
-use Rattle.tf_resource.specs.Resource.{resource_of}
-use Rattle.tf_resource.specs.State.{HasRoomForResources, state_of}
+use Rattle.tf_state_data.specs.Resource.{resource_of}
+use Rattle.tf_state_data.specs.State.{HasRoomForResources, state_of}
 use Rattle.tf_walk.specs.After.{with_resources}
 use Rattle.tf_walk.proofs.gather.put_each.Given as goal
 

@@ -1,0 +1,13 @@
+-- Knowledge only grows.
+use Rattle.std.specs.Prelude.{◌≡◌, Ok}
+use Rattle.tf_template.specs.Tree as syntax
+use Rattle.tf_value.specs.Tree.{Tree}
+use Rattle.tf_value.specs.Refinement.{Refines}
+use Rattle.tf_eval.specs.Environment.{Environment, RefinesTo}
+use Rattle.tf_eval.specs.Meaning.{template_meaning}
+
+-- Where one environment refines to another and a template has a value in both, the first value refines to the
+-- second: what was known stays, and what wasn't may turn out.
+abbrev pub KnowledgeGrows : Type 0
+KnowledgeGrows = (before after : Environment) → RefinesTo before after → (template : syntax.Woven) (v w : Tree)
+    → template_meaning before template ≡ Ok v → template_meaning after template ≡ Ok w → Refines v w

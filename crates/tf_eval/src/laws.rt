@@ -1,0 +1,22 @@
+//! Laws of the meaning.
+
+ghost use Rattle.tf_eval.specs.Growth.{KnowledgeGrows};
+
+use tf_operators::laws::{
+    binary_grows, calls_grow, collections_grow, joined_grows, parts_grow, unary_grows,
+};
+use tf_value::refinement_is_an_order;
+
+/// Where one environment refines to another, and a template has a value in both, the first value refines to
+/// the second. It follows from the same of each operation, whose laws are named here for their contracts.
+pub fn knowledge_grows()
+    ensures { KnowledgeGrows }
+{
+    refinement_is_an_order();
+    unary_grows();
+    binary_grows();
+    parts_grow();
+    collections_grow();
+    joined_grows();
+    calls_grow();
+}

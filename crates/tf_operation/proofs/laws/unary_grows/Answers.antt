@@ -1,5 +1,0 @@
-use Rattle.tf_operation.proofs.Growth.{unary_value-grows}
-use Rattle.tf_operation.proofs.laws.unary_grows.Goals as goal
-
-pub returns : goal.returns
-returns c = unary_value-grows

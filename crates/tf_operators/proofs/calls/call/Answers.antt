@@ -1,0 +1,27 @@
+use Rattle.std.proofs.Common.{◌≡◌, ◌∷◌, [], ◌++◌, sym, ap, ◌∙◌, subst, true}
+use Rattle.std.specs.Option.{option_to_list}
+use Rattle.tf_operators.specs.Answer.{Gives}
+use Rattle.tf_operators.specs.Functions.{takes}
+use Rattle.tf_operators.proofs.Called.{call-Merge, call-Concat, call-Join}
+use Rattle.tf_operators.proofs.calls.call.Goals as goal
+
+pub returns-in-Merge : goal.returns-in-Merge
+returns-in-Merge c =
+    let fit : takes c.args.function _ ≡ true = ap (takes c.args.function) (sym c.args.arguments.ok.0) ∙ c.requires in
+    subst (λ a. Gives a c.merge.result) (sym (call-Merge c.args.function c.args.arguments.items c.in-Merge.is fit)) c.merge.ensures
+
+pub returns-in-Concat : goal.returns-in-Concat
+returns-in-Concat c =
+    let fit : takes c.args.function _ ≡ true = ap (takes c.args.function) (sym c.args.arguments.ok.0) ∙ c.requires in
+    subst (λ a. Gives a c.concat.result) (sym (call-Concat c.args.function c.args.arguments.items c.in-Concat.is fit)) c.concat.ensures
+
+pub returns-in-Some-pop : goal.returns-in-Some-pop
+returns-in-Some-pop c =
+    let fit : takes c.args.function _ ≡ true = ap (takes c.args.function) (sym c.args.arguments.ok.0) ∙ c.requires in
+    let last = c.in-Some.last in
+    let front = c.pop-in_default-function.new.self.items in
+    let parts = c.pop.ensures.items ∙ ap (λ o. c.pop.new.self.items ++ option_to_list o) c.in-Some.is
+    ∙ ap (λ vs. vs ++ last ∷ []) (c.pop-in_default-function.ensures.items ∙ ap (λ o. front ++ option_to_list o) c.in-Some-pop.is) in
+    let not_one = c.in_default-function in
+    subst (λ a. Gives a c.join.result)
+    (sym (call-Join c.args.function c.args.arguments.items front c.in-Some-pop.separator last not_one.not-Length not_one.not-Keys not_one.not-Values c.in_default.not-Merge c.in_default.not-Concat fit parts)) c.join.ensures

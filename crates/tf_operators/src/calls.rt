@@ -1,0 +1,94 @@
+//! Calls of functions.
+
+ghost use Rattle.std.specs.Prelude.{◌≡◌, IsTrue, pos, vec_len};
+ghost use Rattle.tf_value.specs.Tree.{tree_of, items_view};
+ghost use Rattle.tf_operators.specs.Answer.{Answers, Gives, whole_value};
+ghost use Rattle.tf_operators.specs.Functions.{call_value, takes, length_value, join_value, spaced};
+ghost use Rattle.tf_operators.specs.Joining.{joined_value};
+
+use crate::collections::{concat, keys, merge, values};
+use crate::fault::EvalFault;
+use crate::function::Function;
+use crate::joining::Joiner;
+use std::alloc::Global;
+use tf_value::{Value, is_known};
+
+/// What a function answers to as many arguments as it takes; `Unknown` where an argument is `Unknown`, and for
+/// `join` where any part of an argument is unknown.
+///
+/// Refused `WrongKind` exactly where an argument is of a kind that the function doesn't take, `TooLarge`
+/// exactly where the result is above the limits, and else only where there is no memory.
+pub fn call(alloc: Global, function: Function, arguments: Vec<Value>) -> Result<Value, EvalFault>
+    requires { IsTrue (takes function (vec_len arguments)) }
+    ensures { Gives (call_value function (items_view arguments.items)) result }
+{
+    let mut arguments = arguments;
+    match function {
+        Function::Merge => return merge(alloc, arguments),
+        Function::Concat => return concat(alloc, arguments),
+        _ => {}
+    }
+    let Some(last) = arguments.pop() else {
+        return Err(EvalFault::Arity);
+    };
+    match function {
+        Function::Length => length(last),
+        Function::Keys => keys(alloc, last),
+        Function::Values => values(alloc, last),
+        _ => match arguments.pop() {
+            Some(separator) => join(alloc, separator, last),
+            None => Err(EvalFault::Arity),
+        },
+    }
+}
+
+// How many elements a list or a map has.
+fn length(argument: Value) -> Result<Value, EvalFault>
+    ensures { Answers (length_value (tree_of argument)) result }
+{
+    match argument {
+        Value::Unknown => Ok(Value::Unknown),
+        Value::List(items) => count(items.len()),
+        Value::Map(entries) => count(entries.len()),
+        _ => Err(EvalFault::WrongKind),
+    }
+}
+
+fn count(elements: usize) -> Result<Value, EvalFault>
+    ensures { Answers (whole_value (pos elements)) result }
+{
+    match i64::try_from(elements) {
+        Ok(number) => Ok(Value::Int(number)),
+        Err(_) => Err(EvalFault::Overflow),
+    }
+}
+
+// The items of a list, joined, with a separator between each two.
+fn join(alloc: Global, separator: Value, list: Value) -> Result<Value, EvalFault>
+    ensures { Gives (join_value (tree_of separator) (tree_of list)) result }
+{
+    if !is_known(&separator) || !is_known(&list) {
+        return Ok(Value::Unknown);
+    }
+    match (&separator, list) {
+        (Value::Text(_) | Value::Int(_) | Value::Bool(_), Value::List(items)) => {
+            join_items(alloc, &separator, &items)
+        }
+        _ => Err(EvalFault::WrongKind),
+    }
+}
+
+fn join_items(alloc: Global, separator: &Value, items: &Vec<Value>) -> Result<Value, EvalFault>
+    ensures { Gives (joined_value (spaced (tree_of separator.now) (items_view items.now.items))) result }
+{
+    let mut joiner = Joiner::new(alloc);
+    let Some((first, others)) = items.split_first() else {
+        return joiner.finish();
+    };
+    joiner.push_value(first)?;
+    for item in others {
+        joiner.push_value(separator)?;
+        joiner.push_value(item)?;
+    }
+    joiner.finish()
+}

@@ -1,0 +1,110 @@
+//! Functions on lists and maps.
+
+ghost use Rattle.std.specs.Prelude.{◌≡◌, IfOk, OnOk, map as each};
+ghost use Rattle.std.specs.BTreeMap.{keys as map_keys, values as map_values};
+ghost use Rattle.tf_value.specs.Tree.{tree_of, items_view, entries_view};
+ghost use Rattle.tf_value.specs.declared.value.Value.{Text};
+ghost use Rattle.tf_operators.specs.Answer.{Answers, Gives, any_unknown};
+ghost use Rattle.tf_operators.specs.Functions.{keys_value, values_value, merge_value, concat_value, laid_over};
+
+use crate::building::{list, map};
+use crate::fault::EvalFault;
+use std::alloc::{AllocError, Global};
+use std::collections::BTreeMap;
+use tf_value::Value;
+
+// The keys of a map.
+pub(crate) fn keys(alloc: Global, argument: Value) -> Result<Value, EvalFault>
+    ensures { Gives (keys_value (tree_of argument)) result }
+{
+    match argument {
+        Value::Unknown => Ok(Value::Unknown),
+        Value::Map(entries) => Ok(Value::List(key_texts(alloc, entries)?)),
+        _ => Err(EvalFault::WrongKind),
+    }
+}
+
+fn key_texts(alloc: Global, entries: BTreeMap<String, Value>) -> Result<Vec<Value>, AllocError>
+    ensures { IfOk result (λ v. v.items ≡ each Text (map_keys entries)) }
+{
+    entries.into_keys().map(Value::Text).collect(alloc)
+}
+
+// What stands at the keys of a map.
+pub(crate) fn values(alloc: Global, argument: Value) -> Result<Value, EvalFault>
+    ensures { Gives (values_value (tree_of argument)) result }
+{
+    match argument {
+        Value::Unknown => Ok(Value::Unknown),
+        Value::Map(entries) => Ok(Value::List(entry_values(alloc, entries)?)),
+        _ => Err(EvalFault::WrongKind),
+    }
+}
+
+fn entry_values(alloc: Global, entries: BTreeMap<String, Value>) -> Result<Vec<Value>, AllocError>
+    ensures { IfOk result (λ v. v.items ≡ map_values entries) }
+{
+    entries.into_values().collect(alloc)
+}
+
+// Maps in one.
+pub(crate) fn merge(alloc: Global, arguments: Vec<Value>) -> Result<Value, EvalFault>
+    ensures { Gives (merge_value (items_view arguments.items)) result }
+{
+    if has_unknown(&arguments) {
+        return Ok(Value::Unknown);
+    }
+    let mut merged = BTreeMap::new(alloc);
+    for argument in arguments {
+        match argument {
+            Value::Map(entries) => lay_over(&mut merged, entries)?,
+            _ => return Err(EvalFault::WrongKind),
+        }
+    }
+    map(merged)
+}
+
+// Puts entries over others.
+fn lay_over(
+    base: &mut BTreeMap<String, Value>,
+    entries: BTreeMap<String, Value>,
+) -> Result<(), AllocError>
+    ensures { OnOk result (entries_view base.new.entries ≡ laid_over (entries_view base.old.entries) (entries_view entries.entries)) }
+{
+    for (key, value) in entries {
+        drop(base.insert(key, value)?);
+    }
+    Ok(())
+}
+
+// Lists, one behind the other.
+pub(crate) fn concat(alloc: Global, arguments: Vec<Value>) -> Result<Value, EvalFault>
+    ensures { Gives (concat_value (items_view arguments.items)) result }
+{
+    if has_unknown(&arguments) {
+        return Ok(Value::Unknown);
+    }
+    let mut joined = Vec::new(alloc);
+    for argument in arguments {
+        match argument {
+            Value::List(items) => {
+                let mut items = items;
+                joined.append(&mut items)?;
+            }
+            _ => return Err(EvalFault::WrongKind),
+        }
+    }
+    list(joined)
+}
+
+// Whether one of several values is unknown as a whole.
+fn has_unknown(values: &Vec<Value>) -> bool
+    ensures { result ≡ any_unknown (items_view values.now.items) }
+{
+    for value in values {
+        if let Value::Unknown = value {
+            return true;
+        }
+    }
+    false
+}

@@ -1,0 +1,62 @@
+//! What an evaluation can meet.
+
+use std::alloc::{AllocError, AllocFailed};
+use std::fmt;
+
+/// Why an expression has no value.
+#[derive(Clone, Copy, Debug, PartialEq, Eq, Drop)]
+pub enum EvalFault {
+    /// A whole number is beyond 64 signed bits.
+    Overflow,
+    /// A value is of a kind that the operation doesn't take.
+    WrongKind,
+    /// An index, a key or an attribute isn't there.
+    Missing,
+    /// A function has too few or too many arguments.
+    Arity,
+    /// A value is beyond the limits on weight or depth.
+    TooLarge,
+    /// A growth was refused.
+    OutOfMemory,
+}
+
+/// The name of the fault, as refusals print it.
+impl fmt::Display for EvalFault {
+    ghost use Rattle.std.specs.Prelude.{Some};
+    ghost use Rattle.tf_operators.specs.EvalFault.{eval_fault_name};
+
+    ghost output = { λ fault. Some (eval_fault_name fault) };
+
+    fn fmt<W: fmt::Write>(&self, f: &mut fmt::Formatter<W>) -> fmt::Result {
+        match self {
+            EvalFault::Overflow => write!(f, "Overflow"),
+            EvalFault::WrongKind => write!(f, "WrongKind"),
+            EvalFault::Missing => write!(f, "Missing"),
+            EvalFault::Arity => write!(f, "Arity"),
+            EvalFault::TooLarge => write!(f, "TooLarge"),
+            EvalFault::OutOfMemory => write!(f, "OutOfMemory"),
+        }
+    }
+}
+
+impl From<AllocError> for EvalFault {
+    ghost use Rattle.std.specs.Prelude.{◌≡◌};
+    ghost use Rattle.tf_operators.specs.declared.fault.EvalFault.TheVariants.{OutOfMemory};
+
+    ghost from_gives = { λ _ fault. fault ≡ OutOfMemory };
+
+    fn from(_error: AllocError) -> EvalFault {
+        EvalFault::OutOfMemory
+    }
+}
+
+impl<T: Drop> From<AllocFailed<T>> for EvalFault {
+    ghost use Rattle.std.specs.Prelude.{◌≡◌};
+    ghost use Rattle.tf_operators.specs.declared.fault.EvalFault.TheVariants.{OutOfMemory};
+
+    ghost from_gives = { λ _ fault. fault ≡ OutOfMemory };
+
+    fn from(_error: AllocFailed<T>) -> EvalFault {
+        EvalFault::OutOfMemory
+    }
+}

@@ -1,6 +1,0 @@
-use Rattle.tf_resource.specs.Place.{place_of}
-use Rattle.tf_resource.proofs.Edits.{by_place, element_found}
-use Rattle.tf_resource.proofs.resource.Resource.record.Goals as goal
-
-pub returns-in-Ok : goal.returns-in-Ok
-returns-in-Ok c = element_found by_place (place_of c.args.place.now) c.args.self.now.records.items c.in-Ok.index c.index.result.now c.in-Ok.ensures.found c.index.ensures

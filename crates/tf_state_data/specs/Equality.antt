@@ -1,0 +1,139 @@
+-- When objects, records, resources and states are the same: where each of their parts is.
+use Rattle.std.specs.Prelude.{◌≡◌, ℕ, Bool, true, false, ◌&&◌, ◌==◌, List, Option, Some, None, bytes_eq, refl}
+use Rattle.std.specs.Bool.{Decides}
+use Rattle.std.specs.Cmp.{IsPartialEquivalence, IsEquivalence, decided, on_equiv, partial_equiv_from_equiv, booleans_Decides, unsigned_Decides}
+use Rattle.std.specs.Cmp.Lexicographic.{pointwise, pointwise_decides}
+use Rattle.std.specs.Option.{option_eq}
+use Rattle.std.specs.Ordering.{on}
+use Rattle.std.proofs.Common.{ap}
+use Rattle.std.proofs.lemmas.Bool.Decides.{Decides-and, Decides-like}
+use Rattle.std.proofs.lemmas.Slice.Eq.{bytes_eq-Decides}
+use Rattle.tf_address.specs.Label.{LabelView}
+use Rattle.tf_state_data.specs.Place.{KeyView, single, number, name, PlaceView}
+use Rattle.tf_state_data.specs.Record.{RecordView, record_of}
+use Rattle.tf_state_data.specs.Resource.{ResourceView, resource_of}
+use Rattle.tf_state_data.specs.State.{StateView, state_of}
+use Rattle.tf_state_data.specs.declared.object.Object.{Object}
+use Rattle.tf_value.specs.Equality.{same_Decides, same_entries_Decides}
+use Rattle.tf_value.specs.Tree.{Tree, tree_of, same, same_entries}
+use mathlib.Core.Bool.{beq}
+
+-- the attributes of an object
+abbrev pub attributes_of : Object → Tree
+attributes_of o = tree_of o.value
+
+-- addresses are the same where their types are and their names are
+abbrev pub same_label : LabelView → LabelView → Bool
+same_label a b = bytes_eq a.kind b.kind && bytes_eq a.name b.name
+
+-- instances are the same where both have no key, both the same number, or both the same name
+abbrev pub same_key : KeyView → KeyView → Bool
+same_key single single = true
+same_key (number m) (number n) = m == n
+same_key (name s) (name t) = bytes_eq s t
+same_key _ _ = false
+
+-- places are the same where their instances are, and both are current or deposed by the same key
+abbrev pub same_place : PlaceView → PlaceView → Bool
+same_place p q = same_key p.key q.key && option_eq bytes_eq p.deposed q.deposed
+
+-- records are the same where all that is known of their objects is
+abbrev pub same_record : RecordView → RecordView → Bool
+same_record r s =
+    same_place r.place s.place && same r.attributes s.attributes && (r.schema_version == s.schema_version) && beq r.tainted s.tainted
+    && pointwise bytes_eq r.dependencies s.dependencies && beq r.create_before_destroy s.create_before_destroy
+
+-- resources are the same where their addresses and their providers are, and they have the same records
+abbrev pub same_resource : ResourceView → ResourceView → Bool
+same_resource r s = same_label r.label s.label && bytes_eq r.provider s.provider && pointwise same_record r.records s.records
+
+-- states are the same where each part is: serial, lineage, version, outputs and resources
+abbrev pub same_state : StateView → StateView → Bool
+same_state s t =
+    (s.serial == t.serial) && bytes_eq s.lineage t.lineage && bytes_eq s.terraform_version t.terraform_version && same_entries s.outputs t.outputs
+    && pointwise same_resource s.resources t.resources
+
+label_Decides : (a b : LabelView) → Decides (same_label a b) (a ≡ b)
+label_Decides a b =
+    Decides-like _ (λ h i. record { kind = h.0 i; name = h.1 i }) (λ e. (λ i. (e i).kind, λ i. (e i).name))
+    (Decides-and _ _ (bytes_eq-Decides a.kind b.kind) (bytes_eq-Decides a.name b.name))
+
+key_Decides : (j k : KeyView) → Decides (same_key j k) (j ≡ k)
+key_Decides single single = (λ e. refl, λ e. refl)
+key_Decides (number m) (number n) = (λ e. ap number ((unsigned_Decides m n).0 e), λ e. (unsigned_Decides m n).1 (cc))
+key_Decides (name s) (name t) = (λ e. ap name ((bytes_eq-Decides s t).0 e), λ e. (bytes_eq-Decides s t).1 (cc))
+key_Decides _ _ = (λ e. cc, λ e. cc)
+
+deposed_Decides : (d e : Option (List ℕ)) → Decides (option_eq bytes_eq d e) (d ≡ e)
+deposed_Decides None None = (λ e. refl, λ e. refl)
+deposed_Decides (Some s) (Some t) = (λ e. ap Some ((bytes_eq-Decides s t).0 e), λ e. (bytes_eq-Decides s t).1 (cc))
+deposed_Decides _ _ = (λ e. cc, λ e. cc)
+
+place_Decides : (p q : PlaceView) → Decides (same_place p q) (p ≡ q)
+place_Decides p q =
+    Decides-like _ (λ h i. record { key = h.0 i; deposed = h.1 i }) (λ e. (λ i. (e i).key, λ i. (e i).deposed))
+    (Decides-and _ _ (key_Decides p.key q.key) (deposed_Decides p.deposed q.deposed))
+
+-- `same_record` is equality of records
+pub record_Decides : (r s : RecordView) → Decides (same_record r s) (r ≡ s)
+record_Decides r s =
+    let known = Decides-and _ _ (place_Decides r.place s.place) (same_Decides r.attributes s.attributes) in
+    let followed = Decides-and _ _ known (unsigned_Decides r.schema_version s.schema_version) in
+    let tainted = Decides-and _ _ followed (booleans_Decides r.tainted s.tainted) in
+    let dependent = Decides-and _ _ tainted (pointwise_decides bytes_eq-Decides r.dependencies s.dependencies) in
+    let all = Decides-and _ _ dependent (booleans_Decides r.create_before_destroy s.create_before_destroy) in
+    Decides-like _
+    (λ h i.
+    record {
+      place = h.0.0.0.0.0 i;
+      attributes = h.0.0.0.0.1 i;
+      schema_version = h.0.0.0.1 i;
+      tainted = h.0.0.1 i;
+      dependencies = h.0.1 i;
+      create_before_destroy = h.1 i;
+    })
+    (λ e. (((((λ i. (e i).place, λ i. (e i).attributes), λ i. (e i).schema_version), λ i. (e i).tainted), λ i. (e i).dependencies), λ i. (e i).create_before_destroy)) all
+
+-- `same_resource` is equality of resources
+pub resource_Decides : (r s : ResourceView) → Decides (same_resource r s) (r ≡ s)
+resource_Decides r s =
+    let provided = Decides-and _ _ (label_Decides r.label s.label) (bytes_eq-Decides r.provider s.provider) in
+    let all = Decides-and _ _ provided (pointwise_decides record_Decides r.records s.records) in
+    Decides-like _ (λ h i. record { label = h.0.0 i; provider = h.0.1 i; records = h.1 i }) (λ e. ((λ i. (e i).label, λ i. (e i).provider), λ i. (e i).records)) all
+
+-- `same_state` is equality of states
+pub state_Decides : (s t : StateView) → Decides (same_state s t) (s ≡ t)
+state_Decides s t =
+    let numbered = Decides-and _ _ (unsigned_Decides s.serial t.serial) (bytes_eq-Decides s.lineage t.lineage) in
+    let named = Decides-and _ _ numbered (bytes_eq-Decides s.terraform_version t.terraform_version) in
+    let shown = Decides-and _ _ named (same_entries_Decides s.outputs t.outputs) in
+    let all = Decides-and _ _ shown (pointwise_decides resource_Decides s.resources t.resources) in
+    Decides-like _
+    (λ h i. record { serial = h.0.0.0.0 i; lineage = h.0.0.0.1 i; terraform_version = h.0.0.1 i; outputs = h.0.1 i; resources = h.1 i })
+    (λ e. ((((λ i. (e i).serial, λ i. (e i).lineage), λ i. (e i).terraform_version), λ i. (e i).outputs), λ i. (e i).resources)) all
+
+-- being the same is an equivalence of objects, of records, of resources and of states, as `Eq` asks
+pub same_objects : IsEquivalence (on attributes_of same)
+same_objects = on_equiv attributes_of (decided same same_Decides)
+
+pub same_records : IsEquivalence (on record_of same_record)
+same_records = on_equiv record_of (decided same_record record_Decides)
+
+pub same_resources : IsEquivalence (on resource_of same_resource)
+same_resources = on_equiv resource_of (decided same_resource resource_Decides)
+
+pub same_states : IsEquivalence (on state_of same_state)
+same_states = on_equiv state_of (decided same_state state_Decides)
+
+-- and a partial one, as `PartialEq` asks
+pub same_objects_part : IsPartialEquivalence (on attributes_of same)
+same_objects_part = partial_equiv_from_equiv same_objects
+
+pub same_records_part : IsPartialEquivalence (on record_of same_record)
+same_records_part = partial_equiv_from_equiv same_records
+
+pub same_resources_part : IsPartialEquivalence (on resource_of same_resource)
+same_resources_part = partial_equiv_from_equiv same_resources
+
+pub same_states_part : IsPartialEquivalence (on state_of same_state)
+same_states_part = partial_equiv_from_equiv same_states

@@ -1,0 +1,28 @@
+-- What a put and a remove change: what stands at the one address or place, and nothing else.
+use Rattle.std.specs.Prelude.{◌≡◌, false, Some, None}
+use Rattle.std.specs.Ordering.{is_eq}
+use Rattle.tf_address.specs.Label.{LabelView, label_cmp}
+use Rattle.tf_state_data.specs.Place.{PlaceView, place_cmp}
+use Rattle.tf_state_data.specs.Record.{RecordView}
+use Rattle.tf_state_data.specs.Resource.{ResourceView, record_at, with_record, without_record}
+use Rattle.tf_state_data.specs.State.{StateView, resource_at, with_resource, without_resource}
+
+-- A resource that was put stands at its address, and at each other address what stood there before.
+pub record PutChangesOneResource (new : ResourceView) (s : StateView) : Type 0 where
+  pub there : resource_at new.label (with_resource new s).resources ≡ Some new
+  pub others : (label : LabelView) → is_eq (label_cmp label new.label) ≡ false → resource_at label (with_resource new s).resources ≡ resource_at label s.resources
+
+-- Where a resource was taken out there is none, and at each other address what stood there before.
+pub record RemoveChangesOneResource (label : LabelView) (s : StateView) : Type 0 where
+  pub gone : resource_at label (without_resource label s).resources ≡ None
+  pub others : (other : LabelView) → is_eq (label_cmp other label) ≡ false → resource_at other (without_resource label s).resources ≡ resource_at other s.resources
+
+-- A record that was put stands at its place, and at each other place what stood there before.
+pub record PutChangesOneRecord (new : RecordView) (r : ResourceView) : Type 0 where
+  pub there : record_at new.place (with_record new r).records ≡ Some new
+  pub others : (place : PlaceView) → is_eq (place_cmp place new.place) ≡ false → record_at place (with_record new r).records ≡ record_at place r.records
+
+-- Where a record was taken out there is none, and at each other place what stood there before.
+pub record RemoveChangesOneRecord (place : PlaceView) (r : ResourceView) : Type 0 where
+  pub gone : record_at place (without_record place r).records ≡ None
+  pub others : (other : PlaceView) → is_eq (place_cmp other place) ≡ false → record_at other (without_record place r).records ≡ record_at other r.records

@@ -1,0 +1,57 @@
+-- What a state holds, as plain data.
+use Rattle.std.specs.Prelude.{◌+◌, ◌≤◌, ℕ, List, [], Option, option_and_then, map, codes, String, string_bytes, vec_len, vec_capacity}
+use Rattle.std.specs.declared.alloc.Global.{Global}
+use Rattle.tf_address.specs.Label.{LabelView, label_cmp}
+use Rattle.tf_state_data.specs.Order.{at_key, with_one, without_one}
+use Rattle.tf_state_data.specs.Place.{PlaceView}
+use Rattle.tf_state_data.specs.Record.{RecordView}
+use Rattle.tf_state_data.specs.Resource.{ResourceView, record_at, resource_of}
+use Rattle.tf_state_data.specs.declared.object.Object.{Object}
+use Rattle.tf_state_data.specs.declared.state.State.{State}
+use Rattle.tf_value.specs.Tree.{Entries, no_entries, entries_of, tree_of}
+
+-- a state, with its outputs by name
+pub record StateView : Type 0 where
+  pub serial : ℕ
+  pub lineage : List ℕ
+  pub terraform_version : List ℕ
+  pub outputs : Entries
+  pub resources : List ResourceView
+
+-- the outputs of a map, as plain data
+abbrev pub outputs_of : List (String Global × Object) → Entries
+outputs_of es = entries_of (map (λ e. (e.0, tree_of e.1.value)) es)
+
+abbrev pub state_of : State → StateView
+state_of s =
+    record {
+      serial = s.serial;
+      lineage = string_bytes s.lineage;
+      terraform_version = string_bytes s.terraform_version;
+      outputs = outputs_of s.outputs.entries;
+      resources = map resource_of s.resources.items;
+    }
+
+-- the state before anything exists
+abbrev pub empty_state : List ℕ → StateView
+empty_state lineage = record { serial = 0; lineage = lineage; terraform_version = codes "1.0.0"; outputs = no_entries; resources = [] }
+
+-- the resource at an address
+abbrev pub resource_at : LabelView → List ResourceView → Option ResourceView
+resource_at = at_key (λ r. r.label) label_cmp
+
+-- the record of a state, by the address of its resource and by its place
+abbrev pub record_in : LabelView → PlaceView → StateView → Option RecordView
+record_in label place s = option_and_then (λ r. record_at place r.records) (resource_at label s.resources)
+
+-- the state with a resource at its address, whether one was there or not
+abbrev pub with_resource : ResourceView → StateView → StateView
+with_resource new s = record s { resources = with_one (λ r. r.label) label_cmp new s.resources }
+
+-- the state without the resource at an address
+abbrev pub without_resource : LabelView → StateView → StateView
+without_resource label s = record s { resources = without_one (λ r. r.label) label_cmp label s.resources }
+
+-- there is room for so many resources more
+abbrev pub HasRoomForResources : ℕ → State → Type 0
+HasRoomForResources n s = vec_len s.resources + n ≤ vec_capacity s.resources

@@ -1,0 +1,14 @@
+//! Copies of states.
+
+ghost use Rattle.std.specs.Prelude.{◌≡◌, IfOk};
+ghost use Rattle.tf_state_data.specs.State.{state_of};
+
+use crate::state::State;
+use std::alloc::AllocError;
+
+/// An equal state. Refused only where there is no memory.
+pub fn copy(state: &State) -> Result<State, AllocError>
+    ensures { IfOk result (λ s. state_of s ≡ state_of state.now) }
+{
+    state.clone()
+}

@@ -1,0 +1,20 @@
+// Laws of puts and removes, proved for every state and resource: each function's contract is a law, and its body
+// does nothing.
+ghost use Rattle.tf_address.specs.Label.{LabelView};
+ghost use Rattle.tf_state_data.specs.Laws.{PutChangesOneRecord, PutChangesOneResource, RemoveChangesOneRecord, RemoveChangesOneResource};
+ghost use Rattle.tf_state_data.specs.Place.{PlaceView};
+ghost use Rattle.tf_state_data.specs.Record.{RecordView};
+ghost use Rattle.tf_state_data.specs.Resource.{ResourceView};
+ghost use Rattle.tf_state_data.specs.State.{StateView};
+
+/// A put and a remove of a resource change what stands at its address alone.
+pub fn puts_and_removes_change_one_resource()
+    ensures put { (new : ResourceView) (s : StateView) → PutChangesOneResource new s }
+    ensures removed { (label : LabelView) (s : StateView) → RemoveChangesOneResource label s }
+{}
+
+/// A put and a remove of a record change what stands at its place alone.
+pub fn puts_and_removes_change_one_record()
+    ensures put { (new : RecordView) (r : ResourceView) → PutChangesOneRecord new r }
+    ensures removed { (place : PlaceView) (r : ResourceView) → RemoveChangesOneRecord place r }
+{}

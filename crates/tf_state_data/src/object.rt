@@ -1,0 +1,52 @@
+//! The attributes of a resource's object.
+
+ghost use Rattle.std.specs.Prelude.{◌≡◌, true};
+ghost use Rattle.tf_value.specs.Known.{known};
+ghost use Rattle.tf_value.specs.Tree.{tree_of};
+
+use std::alloc::AllocError;
+use tf_value::Value;
+
+/// A value without an unknown part: the attributes of an object that exists. That no part of it is unknown
+/// is part of the type, so that a state always has a text.
+#[derive(Debug, Drop)]
+pub struct Object {
+    /// The attributes by name.
+    pub value: Value,
+    pub ghost known: { known (tree_of value) ≡ true },
+}
+
+/// An equal object. Refused only where there is no memory.
+impl Clone for Object {
+    ghost is_clone = { λ o copy. tree_of copy.value ≡ tree_of o.value };
+
+    fn clone(&self) -> Result<Object, AllocError> {
+        let value = self.value.clone()?;
+        Ok(Object { value })
+    }
+}
+
+/// Two objects are equal exactly where their attributes are the same.
+impl PartialEq for Object {
+    ghost use Rattle.std.specs.Ordering.{on};
+    ghost use Rattle.std.specs.Prelude.{◌↔◌, IsTrue};
+    ghost use Rattle.tf_state_data.specs.Equality.{attributes_of, same_objects_part};
+    ghost use Rattle.tf_value.specs.Tree.{same};
+
+    ghost eq = { on attributes_of same };
+
+    ghost laws = { same_objects_part };
+
+    fn eq(&self, other: &Object) -> bool
+        ensures value { result ≡ same (attributes_of self.now) (attributes_of other.now) }
+        ensures exact { IsTrue result ↔ (attributes_of self.now ≡ attributes_of other.now) }
+    {
+        self.value == other.value
+    }
+}
+
+impl Eq for Object {
+    ghost use Rattle.tf_state_data.specs.Equality.{same_objects};
+
+    ghost laws = { same_objects };
+}

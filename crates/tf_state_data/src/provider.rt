@@ -1,0 +1,23 @@
+ghost use Rattle.std.specs.Prelude.{◌≡◌, IfOk, string_bytes};
+ghost use Rattle.tf_state_data.specs.Provider.{provider_text, provider_name};
+
+use std::alloc::{AllocError, Global};
+
+/// The address of the provider of a resource type, as a state names it:
+/// `provider["registry.terraform.io/hashicorp/P"]`, where P is the type's part before the first `_`, or the
+/// whole type where it has none.
+pub fn provider_address(alloc: Global, kind: &str) -> Result<String, AllocError>
+    ensures { IfOk result (λ s. string_bytes s ≡ provider_text kind.now) }
+{
+    let name = name_of(kind);
+    format!(in alloc; "provider[\"registry.terraform.io/hashicorp/{name}\"]")
+}
+
+fn name_of(kind: &str) -> &str
+    ensures { result.now ≡ provider_name kind.now }
+{
+    match kind.split_once('_') {
+        Some((name, _)) => name,
+        None => kind,
+    }
+}

@@ -1,0 +1,177 @@
+//! A resource and what exists of it.
+
+ghost use Rattle.std.specs.List.Sorted.{IsStrictlySortedBy-prop};
+ghost use Rattle.std.specs.Prelude.{◌≡◌, map};
+ghost use Rattle.tf_state_data.specs.Places.{AreByPlace};
+ghost use Rattle.tf_state_data.specs.Record.{record_of};
+
+use crate::key::Place;
+use crate::record::Record;
+use std::alloc::{AllocError, Global};
+use std::mem;
+use tf_address::Label;
+
+/// A resource and the records of its objects, which stand in the order of their places, no two at one place.
+#[derive(Debug, Drop)]
+pub struct Resource {
+    label: Label,
+    provider: String,
+    records: Vec<Record>,
+    pub ghost ordered: { AreByPlace (map record_of records.items) } by { IsStrictlySortedBy-prop _ _ },
+}
+
+impl Resource {
+    ghost use Rattle.std.specs.Prelude.{◌+◌, [], ◌<◌, ℕ, IfErr, IfOk, OnOk, option_map, string_bytes};
+    ghost use Rattle.tf_address.specs.Label.{label_of};
+    ghost use Rattle.tf_state_data.specs.Order.{IsAt, IsGapFor};
+    ghost use Rattle.tf_state_data.specs.Place.{place_cmp, place_of};
+    ghost use Rattle.tf_state_data.specs.Resource.{HasRoomForRecords, record_at, resource_of, with_record, without_record};
+
+    /// A resource at an address, with the address of its provider, and without records yet.
+    pub fn empty(alloc: Global, label: Label, provider: String) -> Resource
+        ensures { resource_of result ≡ record { label = label_of label; provider = string_bytes provider; records = [] } }
+    {
+        let records = Vec::new(alloc);
+        Resource {
+            label,
+            provider,
+            records,
+        }
+    }
+
+    /// A resource at an address, with the address of its provider, and with records in the order of their places.
+    pub fn new(label: Label, provider: String, records: Vec<Record>) -> Resource
+        requires { AreByPlace (map record_of records.items) }
+        ensures { resource_of result
+            ≡ record { label = label_of label; provider = string_bytes provider; records = map record_of records.items } }
+    {
+        Resource {
+            label,
+            provider,
+            records,
+        }
+    }
+
+    /// Its type and its name.
+    pub fn label(&self) -> &Label
+        ensures { label_of result.now ≡ (resource_of self.now).label }
+    {
+        &self.label
+    }
+
+    /// The address of the provider that made it, as Terraform writes it.
+    pub fn provider(&self) -> &str
+        ensures { result.now ≡ (resource_of self.now).provider }
+    {
+        self.provider.as_str()
+    }
+
+    /// Its objects, in the order of their places.
+    pub fn records(&self) -> &[Record]
+        ensures records { map record_of result.now ≡ (resource_of self.now).records }
+        ensures ordered { AreByPlace (resource_of self.now).records }
+    {
+        &self.records
+    }
+
+    /// The record at a place, where the resource has one.
+    pub fn record(&self, place: &Place) -> Option<&Record>
+        ensures { option_map (λ r. record_of r.now) result ≡ record_at (place_of place.now) (resource_of self.now).records }
+    {
+        match self.search(place) {
+            Ok(index) => Some(&self.records[index]),
+            Err(_) => None,
+        }
+    }
+
+    /// Makes room for this many records more. Refused only where there is no memory; the resource stays.
+    pub fn reserve(&mut self, additional: usize) -> Result<(), AllocError>
+        ensures same { resource_of self.new ≡ resource_of self.old }
+        ensures room { OnOk result (HasRoomForRecords additional self.new) }
+    {
+        self.records.reserve(additional)
+    }
+
+    /// Puts a record into its place, and gives the one that was there. It takes no memory, since there has to
+    /// be room (`reserve`).
+    pub fn put(&mut self, new: Record) -> Option<Record>
+        requires { HasRoomForRecords 1 self.old }
+        ensures put { resource_of self.new ≡ with_record (record_of new) (resource_of self.old) }
+        ensures replaced { option_map record_of result ≡ record_at (place_of new.place) (resource_of self.old).records }
+        ensures room { (n : ℕ) → HasRoomForRecords (n + 1) self.old → HasRoomForRecords n self.new }
+    {
+        match self.search(&new.place) {
+            Ok(index) => Some(mem::replace(&mut self.records[index], new)),
+            Err(index) => {
+                self.records.insert(index, new).unwrap();
+                None
+            }
+        }
+    }
+
+    /// Takes the record at a place out of the resource, where it has one. The room for it stays.
+    pub fn remove(&mut self, place: &Place) -> Option<Record>
+        ensures taken { option_map record_of result ≡ record_at (place_of place.now) (resource_of self.old).records }
+        ensures left { resource_of self.new ≡ without_record (place_of place.now) (resource_of self.old) }
+        ensures room { (n : ℕ) → HasRoomForRecords n self.old → HasRoomForRecords n self.new }
+    {
+        match self.search(place) {
+            Ok(index) => Some(self.records.remove(index)),
+            Err(_) => None,
+        }
+    }
+
+    /// Where the record at a place stands, or where it would stand.
+    fn search(&self, place: &Place) -> Result<usize, usize>
+        ensures found { IfOk result (IsAt (λ r. r.place) place_cmp (place_of place.now) (resource_of self.now).records) }
+        ensures absent { IfErr result (IsGapFor (λ r. r.place) place_cmp (place_of place.now) (resource_of self.now).records) }
+    {
+        self.records
+            .binary_search_by(|record| record.place.cmp(place))
+    }
+}
+
+/// An equal resource. Refused only where there is no memory.
+impl Clone for Resource {
+    ghost use Rattle.tf_state_data.specs.Resource.{resource_of};
+
+    ghost is_clone = { λ r copy. resource_of copy ≡ resource_of r };
+
+    fn clone(&self) -> Result<Resource, AllocError> {
+        let label = self.label.clone()?;
+        let provider = self.provider.clone()?;
+        let records = self.records.clone()?;
+        Ok(Resource {
+            label,
+            provider,
+            records,
+        })
+    }
+}
+
+/// Two resources are equal exactly where all that they say is the same: the address, the provider and the records.
+impl PartialEq for Resource {
+    ghost use Rattle.std.specs.Ordering.{on};
+    ghost use Rattle.std.specs.Prelude.{◌↔◌, IsTrue};
+    ghost use Rattle.tf_state_data.specs.Equality.{same_resource, same_resources_part};
+    ghost use Rattle.tf_state_data.specs.Resource.{resource_of};
+
+    ghost eq = { on resource_of same_resource };
+
+    ghost laws = { same_resources_part };
+
+    fn eq(&self, other: &Resource) -> bool
+        ensures value { result ≡ same_resource (resource_of self.now) (resource_of other.now) }
+        ensures exact { IsTrue result ↔ (resource_of self.now ≡ resource_of other.now) }
+    {
+        self.label == other.label
+            && self.provider == other.provider
+            && self.records == other.records
+    }
+}
+
+impl Eq for Resource {
+    ghost use Rattle.tf_state_data.specs.Equality.{same_resources};
+
+    ghost laws = { same_resources };
+}

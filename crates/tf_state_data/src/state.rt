@@ -1,0 +1,247 @@
+//! What a state holds.
+
+ghost use Rattle.std.specs.List.Sorted.{IsStrictlySortedBy-prop};
+ghost use Rattle.std.specs.Prelude.{◌≡◌, map};
+ghost use Rattle.tf_state_data.specs.Addresses.{AreByAddress};
+ghost use Rattle.tf_state_data.specs.Resource.{resource_of};
+
+use crate::key::Place;
+use crate::object::Object;
+use crate::record::Record;
+use crate::resource::Resource;
+use std::alloc::{AllocError, Global};
+use std::collections::BTreeMap;
+use std::mem;
+use tf_address::Label;
+
+/// All that is known of what exists: the content of a state file. Its resources stand in the order of their
+/// addresses, no two at one address.
+#[derive(Debug, Drop)]
+pub struct State {
+    serial: u32,
+    lineage: String,
+    terraform_version: String,
+    outputs: BTreeMap<String, Object>,
+    resources: Vec<Resource>,
+    pub ghost ordered: { AreByAddress (map resource_of resources.items) } by { IsStrictlySortedBy-prop _ _ },
+}
+
+impl State {
+    ghost use Rattle.std.specs.Prelude.{◌+◌, ℕ, IfErr, IfOk, OnOk, option_map, string_bytes};
+    ghost use Rattle.tf_address.specs.Label.{label_cmp, label_of};
+    ghost use Rattle.tf_state_data.specs.Order.{IsAt, IsGapFor};
+    ghost use Rattle.tf_state_data.specs.Place.{place_of};
+    ghost use Rattle.tf_state_data.specs.Record.{record_of};
+    ghost use Rattle.tf_state_data.specs.State.{HasRoomForResources, empty_state, outputs_of, record_in, resource_at, state_of, with_resource, without_resource};
+
+    /// The state before anything exists: serial 0, version 1.0.0, no resources. Refused only where there is no
+    /// memory.
+    pub fn empty(alloc: Global, lineage: &str) -> Result<State, AllocError>
+        ensures { IfOk result (λ s. state_of s ≡ empty_state lineage.now) }
+    {
+        Ok(State {
+            serial: 0,
+            lineage: String::from_str(alloc, lineage)?,
+            terraform_version: String::from_str(alloc, "1.0.0")?,
+            outputs: BTreeMap::new(alloc),
+            resources: Vec::new(alloc),
+        })
+    }
+
+    /// A state of these parts, with resources in the order of their addresses.
+    pub fn new(
+        serial: u32,
+        lineage: String,
+        terraform_version: String,
+        outputs: BTreeMap<String, Object>,
+        resources: Vec<Resource>,
+    ) -> State
+        requires { AreByAddress (map resource_of resources.items) }
+        ensures { state_of result
+            ≡ record {
+              serial = serial;
+              lineage = string_bytes lineage;
+              terraform_version = string_bytes terraform_version;
+              outputs = outputs_of outputs.entries;
+              resources = map resource_of resources.items;
+            } }
+    {
+        State {
+            serial,
+            lineage,
+            terraform_version,
+            outputs,
+            resources,
+        }
+    }
+
+    /// How often the state has changed.
+    pub fn serial(&self) -> u32
+        ensures { result ≡ (state_of self.now).serial }
+    {
+        self.serial
+    }
+
+    /// Sets how often the state has changed.
+    pub fn set_serial(&mut self, serial: u32)
+        ensures set { state_of self.new ≡ record (state_of self.old) { serial = serial } }
+        ensures room { (n : ℕ) → HasRoomForResources n self.old → HasRoomForResources n self.new }
+    {
+        self.serial = serial;
+    }
+
+    /// The name of the line of states that this one belongs to, kept from state to state.
+    pub fn lineage(&self) -> &str
+        ensures { result.now ≡ (state_of self.now).lineage }
+    {
+        self.lineage.as_str()
+    }
+
+    /// The version of Terraform that the file names, kept from state to state.
+    pub fn terraform_version(&self) -> &str
+        ensures { result.now ≡ (state_of self.now).terraform_version }
+    {
+        self.terraform_version.as_str()
+    }
+
+    /// The outputs by name.
+    pub fn outputs(&self) -> &BTreeMap<String, Object>
+        ensures { outputs_of result.now.entries ≡ (state_of self.now).outputs }
+    {
+        &self.outputs
+    }
+
+    /// Puts these outputs in place of those of the state, and gives the ones that were there.
+    pub fn replace_outputs(&mut self, outputs: BTreeMap<String, Object>) -> BTreeMap<String, Object>
+        ensures put { state_of self.new ≡ record (state_of self.old) { outputs = outputs_of outputs.entries } }
+        ensures replaced { outputs_of result.entries ≡ (state_of self.old).outputs }
+        ensures room { (n : ℕ) → HasRoomForResources n self.old → HasRoomForResources n self.new }
+    {
+        mem::replace(&mut self.outputs, outputs)
+    }
+
+    /// The resources, in the order of their addresses.
+    pub fn resources(&self) -> &[Resource]
+        ensures resources { map resource_of result.now ≡ (state_of self.now).resources }
+        ensures ordered { AreByAddress (state_of self.now).resources }
+    {
+        &self.resources
+    }
+
+    /// The resource at an address, where the state has one.
+    pub fn resource(&self, label: &Label) -> Option<&Resource>
+        ensures { option_map (λ r. resource_of r.now) result ≡ resource_at (label_of label.now) (state_of self.now).resources }
+    {
+        match self.search(label) {
+            Ok(index) => Some(&self.resources[index]),
+            Err(_) => None,
+        }
+    }
+
+    /// The record at an address and a place, where the state has one.
+    pub fn record(&self, label: &Label, place: &Place) -> Option<&Record>
+        ensures { option_map (λ r. record_of r.now) result ≡ record_in (label_of label.now) (place_of place.now) (state_of self.now) }
+    {
+        match self.resource(label) {
+            Some(resource) => resource.record(place),
+            None => None,
+        }
+    }
+
+    /// Makes room for this many resources more. Refused only where there is no memory; the state stays.
+    pub fn reserve(&mut self, additional: usize) -> Result<(), AllocError>
+        ensures same { state_of self.new ≡ state_of self.old }
+        ensures room { OnOk result (HasRoomForResources additional self.new) }
+    {
+        self.resources.reserve(additional)
+    }
+
+    /// Puts a resource at its address, and gives the one that was there. It takes no memory, since there has to
+    /// be room (`reserve`).
+    pub fn put(&mut self, resource: Resource) -> Option<Resource>
+        requires { HasRoomForResources 1 self.old }
+        ensures put { state_of self.new ≡ with_resource (resource_of resource) (state_of self.old) }
+        ensures replaced { option_map resource_of result ≡ resource_at (resource_of resource).label (state_of self.old).resources }
+        ensures room { (n : ℕ) → HasRoomForResources (n + 1) self.old → HasRoomForResources n self.new }
+    {
+        match self.search(resource.label()) {
+            Ok(index) => Some(mem::replace(&mut self.resources[index], resource)),
+            Err(index) => {
+                self.resources.insert(index, resource).unwrap();
+                None
+            }
+        }
+    }
+
+    /// Takes the resource at an address out of the state, where it has one. The room for it stays.
+    pub fn remove(&mut self, label: &Label) -> Option<Resource>
+        ensures taken { option_map resource_of result ≡ resource_at (label_of label.now) (state_of self.old).resources }
+        ensures left { state_of self.new ≡ without_resource (label_of label.now) (state_of self.old) }
+        ensures room { (n : ℕ) → HasRoomForResources n self.old → HasRoomForResources n self.new }
+    {
+        match self.search(label) {
+            Ok(index) => Some(self.resources.remove(index)),
+            Err(_) => None,
+        }
+    }
+
+    /// Where the resource at an address stands, or where it would stand.
+    fn search(&self, label: &Label) -> Result<usize, usize>
+        ensures found { IfOk result (IsAt (λ r. r.label) label_cmp (label_of label.now) (state_of self.now).resources) }
+        ensures absent { IfErr result (IsGapFor (λ r. r.label) label_cmp (label_of label.now) (state_of self.now).resources) }
+    {
+        self.resources
+            .binary_search_by(|resource| resource.label().cmp(label))
+    }
+}
+
+/// An equal state. Refused only where there is no memory.
+impl Clone for State {
+    ghost use Rattle.tf_state_data.specs.State.{state_of};
+
+    ghost is_clone = { λ s copy. state_of copy ≡ state_of s };
+
+    fn clone(&self) -> Result<State, AllocError> {
+        let lineage = self.lineage.clone()?;
+        let terraform_version = self.terraform_version.clone()?;
+        let outputs = self.outputs.clone()?;
+        let resources = self.resources.clone()?;
+        Ok(State {
+            serial: self.serial,
+            lineage,
+            terraform_version,
+            outputs,
+            resources,
+        })
+    }
+}
+
+/// Two states are equal exactly where all that they say is the same: the serial, the lineage, the version, the
+/// outputs and the resources. So an apply can tell whether it changed anything, and raises the serial exactly then.
+impl PartialEq for State {
+    ghost use Rattle.std.specs.Ordering.{on};
+    ghost use Rattle.std.specs.Prelude.{◌↔◌, IsTrue};
+    ghost use Rattle.tf_state_data.specs.Equality.{same_state, same_states_part};
+    ghost use Rattle.tf_state_data.specs.State.{state_of};
+
+    ghost eq = { on state_of same_state };
+
+    ghost laws = { same_states_part };
+
+    fn eq(&self, other: &State) -> bool
+        ensures value { result ≡ same_state (state_of self.now) (state_of other.now) }
+        ensures exact { IsTrue result ↔ (state_of self.now ≡ state_of other.now) }
+    {
+        self.serial == other.serial
+            && self.lineage == other.lineage
+            && self.terraform_version == other.terraform_version
+            && self.outputs == other.outputs
+            && self.resources == other.resources
+    }
+}
+
+impl Eq for State {
+    ghost use Rattle.tf_state_data.specs.Equality.{same_states};
+
+    ghost laws = { same_states };
+}
