@@ -6,7 +6,7 @@ use Rattle.tf_cli.specs.Shown.{report_of}
 use Rattle.tf_cli.specs.declared.applied.Applied.{Applied}
 use Rattle.tf_config.specs.Config.{Blocks}
 use Rattle.tf_plan.specs.Plan.{PlanView, plan_text, planned}
-use Rattle.tf_provider.specs.Meaning.{Meaning}
+use Rattle.tf_protocol.specs.Meaning.{Meaning}
 use Rattle.tf_state_data.specs.Resource.{ResourceView}
 use Rattle.tf_state_data.specs.State.{StateView, empty_state, state_of}
 use Rattle.tf_state.specs.Text.{state_text}

@@ -1,12 +1,12 @@
 -- What is refused and what is accepted of the texts that the user gives.
 use Rattle.std.specs.Prelude.{◌≡◌, ◌≢◌, ◌⊎◌, ◌≤◌, ℕ, List, [], ◌∷◌, length, map, codes, Option, None, is_some, true}
 use Rattle.serde_json.specs.Data.{Data}
-use Rattle.tf_provider.specs.Meaning.{Meaning}
+use Rattle.tf_protocol.specs.Meaning.{Meaning}
 use Rattle.tf_config.specs.Config.{Blocks}
 use Rattle.tf_config.specs.Configuration.{IsConfiguration}
 use Rattle.tf_config.specs.KnownNames.{KnownBlocks}
 use Rattle.tf_config.specs.Reading.{IsTree, IsRefused, max_bytes, max_blocks}
-use Rattle.tf_config.specs.Refusal.{Told, no_memory, fault, bare, told}
+use Rattle.tf_refusal.specs.Refusal.{Told, no_memory, fault, bare, told}
 use Rattle.tf_plan.specs.Refused.{plan_refusals}
 use Rattle.tf_plan.specs.declared.refused.Refused.{Refused}
 use Rattle.tf_plan.specs.declared.refused.Refused.TheVariants.{NoMemory, These}

@@ -1,7 +1,7 @@
 //! The lines that an apply prints.
 
 use std::fmt;
-use tf_config::Refusal;
+use tf_refusal::Refusal;
 use tf_provider::Op;
 use tf_walk::Diagnostic;
 
@@ -14,7 +14,7 @@ pub struct RefusalLine<'a> {
 impl fmt::Display for RefusalLine<'_> {
     ghost use Rattle.std.specs.Prelude.{Some};
     ghost use Rattle.tf_cli.specs.Shown.{refusal_line};
-    ghost use Rattle.tf_config.specs.Refusal.{told};
+    ghost use Rattle.tf_refusal.specs.Refusal.{told};
 
     ghost output = { λ line. Some (refusal_line (told line.refusal.now)) };
 

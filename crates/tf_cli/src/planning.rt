@@ -4,12 +4,13 @@ ghost use Rattle.std.specs.Prelude.{◌≡◌, ◌≤◌, None, length, map, opt
 ghost use Rattle.tf_cli.specs.Accepted.{IsAccepted, IsRead, Refuses, RefusesBy};
 ghost use Rattle.tf_config.specs.Config.{Blocks, blocks_of};
 ghost use Rattle.tf_config.specs.Reading.{IsRefused};
-ghost use Rattle.tf_config.specs.Refusal.{Told, bare, fault, told};
+ghost use Rattle.tf_refusal.specs.Refusal.{Told, bare, fault, told};
 ghost use Rattle.tf_plan.specs.Plan.{action_of, plan_of, plan_text, planned, planned_actions};
 ghost use Rattle.tf_plan.specs.Served.{AreServed};
 
 use std::alloc::{AllocError, Global};
-use tf_config::{Config, Detail, Refusal, read};
+use tf_config::{Config, read};
+use tf_refusal::{Detail, Refusal};
 use tf_plan::{Plan, Refused, plan_for};
 use tf_provider::Provider;
 

@@ -4,14 +4,14 @@ ghost use Rattle.std.specs.Io.KnownBytes.{Appends};
 ghost use Rattle.std.specs.List.{flat_map};
 ghost use Rattle.std.specs.Prelude.{◌≡◌, OnOk};
 ghost use Rattle.tf_cli.specs.Shown.{all_good, counts, summary_opening, applied_errors, applied_output, applied_status, cant_write, diagnostic_lines, errors_of, is_good_outcome, is_torn, output_of, refusal_line, refused_errors, report_of, report_summary, status_of, torn_warning, unwritten_error};
-ghost use Rattle.tf_config.specs.Refusal.{told};
+ghost use Rattle.tf_refusal.specs.Refusal.{told};
 
 use crate::applied::Applied;
 use crate::lines::{DiagnosticLine, RefusalLine};
 use crate::saving::{SaveFault, save};
 use std::io;
 use std::io::Write;
-use tf_config::Refusal;
+use tf_refusal::Refusal;
 use tf_plan::Refused;
 use tf_provider::Verdict;
 use tf_walk::{Diagnostic, Outcome, Report, Walked};

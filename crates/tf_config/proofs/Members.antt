@@ -8,7 +8,7 @@ use Rattle.tf_json_path.specs.Walk.{each, Builds}
 use Rattle.tf_config.proofs.Refusals.{Refuses-at}
 use Rattle.tf_config.specs.Configuration.{PropertyChecks, below}
 use Rattle.tf_config.specs.Demand.{AreMet, IsMet, Refuses}
-use Rattle.tf_config.specs.Refusal.{Told}
+use Rattle.tf_refusal.specs.Refusal.{Told}
 
 module _ {B : Type 0} (Adds : List ℕ → Data → B → B → Type 0) (checks : PropertyChecks)
     (met : (place : List (List ℕ)) (k : List ℕ) (d : Data) (a b : B) → Adds k d a b → AreMet (checks place k d)) where

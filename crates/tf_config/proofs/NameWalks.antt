@@ -2,7 +2,7 @@
 use Rattle.std.proofs.Common.{◌≡◌, ◌∙◌, List, [], ◌++◌, refl, sym, subst, append_assoc}
 use Rattle.tf_json_path.proofs.Checks.{AllMet-append, IsFirst-left, IsFirst-right}
 use Rattle.tf_config.specs.KnownNames.{NameChecks, AreNamesMet, AreNamesWrong, AreKnown, RefusesNames}
-use Rattle.tf_config.specs.Refusal.{Told, no_memory, workers, fault}
+use Rattle.tf_refusal.specs.Refusal.{Told, no_memory, workers, fault}
 
 -- of all checks these are left, and those before them are met
 abbrev pub IsLeft : NameChecks → NameChecks → Type 0

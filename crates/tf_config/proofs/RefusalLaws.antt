@@ -9,11 +9,12 @@ use Rattle.tf_json_path.specs.Check.{IsFirst}
 use Rattle.tf_config.proofs.ConfigurationLaws.{configuration_met, configuration_same}
 use Rattle.tf_config.specs.Config.{Blocks}
 use Rattle.tf_config.specs.Configuration.{configuration_checks, IsConfiguration}
-use Rattle.tf_config.specs.Demand.{Demand, nothing_fits, a_name, a_type_name, of_expression, Checks, Way, IsMet, Fails, Refuses, way_of}
+use Rattle.tf_config.specs.Demand.{Demand, nothing_fits, a_name, a_type_name, of_expression, Checks, IsMet, Fails, Refuses}
+use Rattle.tf_refusal.specs.OfExpression.{Way, way_of}
 use Rattle.tf_config.specs.KnownNames.{NameDemand, only_known_names, AreNamesMet, AreNamesWrong, block_name_checks, RefusesNames, KnownBlocks}
 use Rattle.tf_config.specs.Laws.{SpellsNone, IsUnspelled, IsTemplateWay}
 use Rattle.tf_config.specs.Reading.{IsTree, IsNotJson, IsMisshapen, HasTooManyBlocks, HasUnknownNames, IsRefused, max_bytes, max_blocks}
-use Rattle.tf_config.specs.Refusal.{DetailView, Told, fault}
+use Rattle.tf_refusal.specs.Refusal.{DetailView, Told, fault}
 
 -- ---- demands
 

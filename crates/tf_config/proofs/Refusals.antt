@@ -10,8 +10,9 @@ use Rattle.tf_expr.specs.Within.{demanded_as}
 use Rattle.tf_json_path.proofs.Checks.{IsFirst-left, IsFirst-right}
 use Rattle.tf_json_path.proofs.Walks.{fails_at}
 use Rattle.tf_json_path.specs.Walk.{each}
-use Rattle.tf_config.specs.Demand.{Checks, AreMet, IsMet, Fails, Refuses, of_expression, refused_expression, way_of}
-use Rattle.tf_config.specs.Refusal.{Told, no_memory, workers, fault}
+use Rattle.tf_config.specs.Demand.{Checks, AreMet, IsMet, Fails, Refuses, of_expression}
+use Rattle.tf_refusal.specs.OfExpression.{refused_expression, way_of}
+use Rattle.tf_refusal.specs.Refusal.{Told, no_memory, workers, fault}
 
 pub Refuses-left : (xs ys : Checks) (t : Told) → Refuses xs t → Refuses (xs ++ ys) t
 Refuses-left xs ys no_memory h = tt

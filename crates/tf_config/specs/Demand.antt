@@ -2,13 +2,13 @@
 use Rattle.std.specs.Prelude.{◌≡◌, ℕ, List, IsTrue, MatchResult, Result, false}
 use Rattle.tf_address.specs.Name.{is_name}
 use Rattle.tf_expr.specs.Demand as expr
-use Rattle.tf_expr.specs.Fault as faults
 use Rattle.tf_expr.specs.declared.fault.Cause.{Cause}
-use Rattle.tf_expr.specs.declared.fault.Cause.TheVariants as causes
 use Rattle.tf_json_path.specs.Check.{Check, AllMet, IsFirst}
-use Rattle.tf_config.specs.Refusal.{DetailView, bare, at, Told, no_memory, workers, fault, told}
+use Rattle.tf_refusal.specs.Code as code
+use Rattle.tf_refusal.specs.OfExpression.{Way, way_of}
+use Rattle.tf_refusal.specs.Refusal.{bare, Told, no_memory, workers, fault, told}
 use Rattle.tf_config.specs.Words.{is_type_name}
-use Rattle.tf_config.specs.declared.refusal.Refusal.{Refusal}
+use Rattle.tf_refusal.specs.declared.refusal.Refusal.{Refusal}
 
 pub data Demand : Type 0 where
   -- nothing is allowed at the place
@@ -26,36 +26,13 @@ IsMet (a_name text) = IsTrue (is_name text)
 IsMet (a_type_name text) = IsTrue (is_type_name text)
 IsMet (of_expression demand) = expr.IsMet demand
 
--- a refusal's code, and what stands behind its name
-abbrev pub Way : Type 0
-Way = ℕ × DetailView
-
 -- 2, BadShape
 abbrev pub bad_shape : Way
-bad_shape = (2, bare)
-
--- 3, BadTemplate, with the byte offset
-abbrev pub bad_template : ℕ → Way
-bad_template offset = (3, at offset)
+bad_shape = (code.bad_shape, bare)
 
 -- 4, UnknownName
 abbrev pub unknown_name : Way
-unknown_name = (4, bare)
-
--- 14, Limit: a template that is too deep
-abbrev pub too_deep : Way
-too_deep = (14, bare)
-
--- the way in which a fault of an expression is refused
-abbrev pub way_of : Cause → Way
-way_of causes.BadShape = bad_shape
-way_of (causes.At offset) = bad_template offset
-way_of causes.TooDeep = too_deep
-
--- what is told of an expression, as it is refused
-abbrev pub refused_expression : faults.Told → Told
-refused_expression faults.no_memory = no_memory
-refused_expression (faults.wrong place cause) = fault (way_of cause).0 place (way_of cause).1
+unknown_name = (code.unknown_name, bare)
 
 -- a demand fails in this way
 abbrev pub Fails : Demand → Way → Type 0

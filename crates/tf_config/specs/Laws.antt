@@ -12,7 +12,7 @@ use Rattle.tf_config.specs.Configuration.{configuration_checks, IsConfiguration}
 use Rattle.tf_config.specs.Demand.{Demand, of_expression, AreMet, IsMet, Way, bad_template, too_deep}
 use Rattle.tf_config.specs.KnownNames.{KnownBlocks, NamesNothing}
 use Rattle.tf_config.specs.Reading.{IsTree, IsRefused, max_bytes, max_blocks}
-use Rattle.tf_config.specs.Refusal.{DetailView, fault}
+use Rattle.tf_refusal.specs.Refusal.{DetailView, fault}
 
 -- All checks of a tree that stands for blocks are met.
 abbrev pub StandingIsFaultless : Type 0

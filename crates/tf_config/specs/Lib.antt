@@ -4,6 +4,4 @@ pub mod Demand
 pub mod KnownNames
 pub mod Laws
 pub mod Reading
-pub mod Refusal
-pub mod RefusalText
 pub mod Words

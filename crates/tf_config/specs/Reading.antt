@@ -7,7 +7,8 @@ use Rattle.tf_config.specs.Config.{Blocks}
 use Rattle.tf_config.specs.Configuration.{configuration_checks, whole_file, IsConfiguration}
 use Rattle.tf_config.specs.Demand.{Refuses}
 use Rattle.tf_config.specs.KnownNames.{block_name_checks, RefusesNames}
-use Rattle.tf_config.specs.Refusal.{bare, Told, no_memory, workers, fault}
+use Rattle.tf_refusal.specs.Code.{not_json, limit}
+use Rattle.tf_refusal.specs.Refusal.{bare, Told, no_memory, workers, fault}
 
 -- the text is UTF-8, and is this tree as `serde_json` reads it
 abbrev pub IsTree : List ℕ → Data → Type 0
@@ -27,7 +28,7 @@ whole_fault code = fault code (dotted whole_file) bare
 
 -- The text is no tree: 1, NotJson.
 abbrev pub IsNotJson : List ℕ → Told → Type 0
-IsNotJson bytes refusal = ((tree : Data) → ¬ IsTree bytes tree) × (refusal ≡ whole_fault 1)
+IsNotJson bytes refusal = ((tree : Data) → ¬ IsTree bytes tree) × (refusal ≡ whole_fault not_json)
 
 -- That is told, or that there was no memory.
 abbrev pub TellsNotJson : List ℕ → Told → Type 0
@@ -38,7 +39,7 @@ TellsNotJson bytes (fault code place detail) = IsNotJson bytes (fault code place
 -- The text has more blocks than there may be: 14, Limit.
 abbrev pub HasTooManyBlocks : List ℕ → Told → Type 0
 HasTooManyBlocks bytes refusal =
-    (tree : Data) × IsTree bytes tree × (blocks : Blocks) × IsConfiguration tree blocks × (max_blocks < length blocks) × (refusal ≡ whole_fault 14)
+    (tree : Data) × IsTree bytes tree × (blocks : Blocks) × IsConfiguration tree blocks × (max_blocks < length blocks) × (refusal ≡ whole_fault limit)
 
 -- The text has a fault in its shape, and this is the first in walk order.
 abbrev pub IsMisshapen : List ℕ → Told → Type 0
@@ -57,5 +58,5 @@ IsRefused bytes no_memory = Unit {0}
 IsRefused bytes workers = ⊥
 IsRefused bytes (fault code place detail) =
     let refusal = fault code place detail in
-    ((max_bytes < length bytes) × (refusal ≡ whole_fault 14))
+    ((max_bytes < length bytes) × (refusal ≡ whole_fault limit))
     ⊎ ((length bytes ≤ max_bytes) × (IsNotJson bytes refusal ⊎ IsMisshapen bytes refusal ⊎ HasTooManyBlocks bytes refusal ⊎ HasUnknownNames bytes refusal))

@@ -3,20 +3,20 @@ ghost use Rattle.std.specs.Prelude.{IfErr, IfOk, OnOk};
 ghost use Rattle.tf_config.specs.Configuration.{below, argument_checks, AddsArgument, AddsProperty, IsBody, object_checks, property_checks};
 ghost use Rattle.tf_config.specs.Config.{arguments_of};
 ghost use Rattle.tf_config.specs.Demand.{Refuses};
-ghost use Rattle.tf_config.specs.Refusal.{told};
+ghost use Rattle.tf_refusal.specs.Refusal.{told};
 ghost use Rattle.tf_expr.specs.Tree.{no_entries};
 ghost use Rattle.tf_json_path.specs.Place.{place_of};
 ghost use Rattle.tf_json_path.specs.Walk.{each, Builds};
 
 use crate::config::Block;
 use crate::demand::{bad_shape, demand_name};
-use crate::refusal::Refusal;
 use crate::words::{Property, property_named};
 use serde_json::{Map, Value};
 use std::alloc::Global;
 use std::collections::BTreeMap;
 use tf_expr::read_expr_at;
 use tf_json_path::Path;
+use tf_refusal::Refusal;
 
 /// The body of a resource, which stands at the path.
 pub(crate) fn read_body<'a>(

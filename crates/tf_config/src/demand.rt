@@ -1,22 +1,15 @@
 ghost use Rattle.tf_config.specs.Demand.{Judges, TellsAt, bad_shape, unknown_name, a_name, a_type_name};
 ghost use Rattle.tf_config.specs.Configuration.{whole_file};
-ghost use Rattle.tf_config.specs.Refusal.{bare, told, detail_of};
+ghost use Rattle.tf_refusal.specs.Refusal.{bare, told, detail_of};
 ghost use Rattle.tf_json_path.specs.Check.{demanded};
 ghost use Rattle.tf_json_path.specs.Place.{dotted, place_of};
 
-use crate::refusal::{Detail, Refusal};
 use crate::words;
 use std::alloc::Global;
 use tf_address::is_name;
 use tf_json_path::Path;
-
-pub(crate) const NOT_JSON: u8 = 1;
-
-pub(crate) const BAD_SHAPE: u8 = 2;
-
-const UNKNOWN_NAME: u8 = 4;
-
-pub(crate) const LIMIT: u8 = 14;
+use tf_refusal::code::{BAD_SHAPE, UNKNOWN_NAME};
+use tf_refusal::{Detail, Refusal};
 
 /// A fault at a place, or that there is no memory to write the place out.
 fn fault(alloc: Global, path: &Path<'_>, code: u8, detail: Detail) -> Refusal

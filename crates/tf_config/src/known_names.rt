@@ -11,11 +11,11 @@ ghost use Rattle.tf_json_path.specs.Place.{place_of};
 
 use crate::config::Config;
 use crate::demand::names_unknown;
-use crate::refusal::Refusal;
 use std::alloc::{AllocError, Global};
 use std::collections::BTreeMap;
 use tf_expr::{Expr, Template, functions, references};
 use tf_json_path::Path;
+use tf_refusal::Refusal;
 use tf_operators::Function;
 
 /// No text in the blocks names anything, since nothing can be declared, or calls what is no function.

@@ -10,9 +10,7 @@ pub mod config;
 mod demand;
 mod known_names;
 mod laws;
-mod names;
 mod reading;
-pub mod refusal;
 #[cfg(test)]
 mod tests;
 mod words;
@@ -22,5 +20,4 @@ pub use laws::{
     blocks_are_in_order, faultless_trees_stand, known_names_are_none, refusals_are_one,
 };
 pub use reading::read;
-pub use refusal::{Detail, Refusal};
-pub use tf_operators::EvalFault;
+pub use tf_refusal::{Detail, EvalFault, Refusal};

@@ -6,23 +6,22 @@ ghost use Rattle.tf_config.specs.Configuration.{below, configuration_checks, obj
 ghost use Rattle.tf_config.specs.Demand.{Refuses};
 ghost use Rattle.tf_config.specs.KnownNames.{KnownBlocks};
 ghost use Rattle.tf_config.specs.Reading.{max_blocks, max_bytes, IsRefused, IsTree, TellsNotJson};
-ghost use Rattle.tf_config.specs.Refusal.{told};
+ghost use Rattle.tf_refusal.specs.Refusal.{told};
 ghost use Rattle.tf_json_path.specs.Place.{place_of};
 ghost use Rattle.tf_json_path.specs.Walk.{each, Builds};
 
 use crate::body::read_body;
 use crate::config::Config;
-use crate::demand::{
-    BAD_SHAPE, LIMIT, NOT_JSON, bad_shape, demand_name, demand_type_name, whole_file_fault,
-};
+use crate::demand::{bad_shape, demand_name, demand_type_name, whole_file_fault};
 use crate::known_names::demand_known_names;
-use crate::refusal::Refusal;
 use crate::words::{Section, section_named};
 use serde_json::{Map, Value};
 use std::alloc::Global;
 use std::collections::BTreeMap;
 use tf_address::Label;
 use tf_json_path::Path;
+use tf_refusal::Refusal;
+use tf_refusal::code::{BAD_SHAPE, LIMIT, NOT_JSON};
 
 /// The longest configuration that is read, in bytes.
 const MAX_BYTES: usize = 4_194_304;

@@ -5,12 +5,12 @@ use Rattle.std.proofs.lemmas.Bool.{cases_eq, cases_lt, cases_Bool, eq-eqb, ne_eq
 use Rattle.std.proofs.lemmas.List.{get_or-set_same, get_or-set_other, get_or_past, get_or_append_left, get_or_push, get_or_default, get_or-take, length-set, length-take, length_push, length-replicate, get_or-replicate}
 use Rattle.std.proofs.lemmas.List.Elements.{Contains-append_left, Contains-push, Contains-push_cases}
 use Rattle.tf_graph.specs.Digraph.{Digraph, IsWithin, sources_into, targets_from, predecessors_of, successors_of}
-use Rattle.tf_graph.specs.Edges.{edge-from_source, source_inside, target_inside, contains_head, contains_tail, contains_cases}
+use Rattle.tf_graph.proofs.Edges.{edge-from_source, source_inside, target_inside, contains_head, contains_tail, contains_cases}
 use Rattle.tf_graph.specs.NodeSet.{has}
 use Rattle.tf_graph.specs.Order.{IsInOrder}
-use Rattle.tf_graph.specs.Laws.{all_by_at}
-use Rattle.tf_graph.specs.Orders.{ordered-next}
-use Rattle.tf_graph.specs.GraphLaws.{has_below}
+use Rattle.tf_graph.proofs.Solving.{all_by_at}
+use Rattle.tf_graph.proofs.Orders.{ordered-next}
+use Rattle.tf_graph.proofs.GraphLaws.{has_below}
 use Rattle.tf_graph.specs.Strip.{IsStripped}
 use Rattle.tf_graph.specs.Removal.{times, count_left, total, IsRemoval}
 

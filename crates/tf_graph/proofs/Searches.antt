@@ -5,7 +5,7 @@ use Rattle.std.proofs.lemmas.Bool.{cases_eq, cases_lt, or_cases, or_left, or_rig
 use Rattle.std.proofs.lemmas.List.{get_or-set_same, get_or-set_other, get_or_past}
 use Rattle.std.proofs.lemmas.List.Elements.{Contains-append_left, Contains-append_right, Contains-push, Contains-push_cases, Contains-append_cases}
 use Rattle.tf_graph.specs.Digraph.{Digraph, IsWithin}
-use Rattle.tf_graph.specs.Edges.{start_inside}
+use Rattle.tf_graph.proofs.Edges.{start_inside}
 use Rattle.tf_graph.specs.Closure.{Table, IsClosure}
 use Rattle.tf_graph.specs.Path.{Path, direct, onward, HasEdge, Reaches, joined}
 use Rattle.tf_graph.specs.NodeSet.{has}

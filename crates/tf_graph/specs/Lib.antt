@@ -3,13 +3,9 @@ pub mod Lists
 pub mod Path
 pub mod Solutions
 pub mod Order
-pub mod Laws
 pub mod NodeSet
-pub mod Edges
 pub mod Closure
 pub mod Search
 pub mod Strip
 pub mod Removal
-pub mod Orders
-pub mod GraphLaws
 pub mod Fault

@@ -2,7 +2,7 @@
 use Rattle.std.proofs.Common.{◌≡◌, ◌<◌, ℕ, suc, ◌+◌, true, List, [], ◌∷◌, ◌++◌, length, get_or, drop, map, fold, Option, None, Result, Ok, Err, refl, sym, ap, ◌∙◌, subst, add-one}
 use Rattle.std.proofs.Math.Seq.{drop-cons}
 use Rattle.tf_expr.specs.Tree as expr
-use Rattle.tf_provider.specs.Schema.{AttributeView, ascends}
+use Rattle.tf_protocol.specs.Schema.{AttributeView, ascends}
 use Rattle.tf_value.specs.Tree.{Tree, Entries}
 use Rattle.tf_plan.specs.Argument.{attribute_value}
 use Rattle.tf_plan.specs.Planned.{NamedFault, fault_at, attribute_faults, planned_entries, sooner}

@@ -8,10 +8,10 @@ use Rattle.std.proofs.lemmas.Slice.Eq.{bytes_eq-Decides}
 use Rattle.tf_expr.specs.Tree as expr
 use Rattle.tf_address.specs.Label.{label_text}
 use Rattle.tf_config.specs.Config.{BlockView, Blocks}
-use Rattle.tf_config.specs.Refusal.{Told, fault, bare}
-use Rattle.tf_provider.specs.Meaning.{Meaning, schema_in}
-use Rattle.tf_provider.specs.Schema.{AttributeView, SchemaView, is_below}
-use Rattle.tf_provider.specs.Verdict.{has_attributes, same_names, keys_of}
+use Rattle.tf_refusal.specs.Refusal.{Told, fault, bare}
+use Rattle.tf_protocol.specs.Meaning.{Meaning, schema_in}
+use Rattle.tf_protocol.specs.Schema.{AttributeView, SchemaView, is_below}
+use Rattle.tf_protocol.specs.Verdict.{has_attributes, same_names, keys_of}
 use Rattle.tf_value.specs.Tree as tree
 use Rattle.tf_plan.specs.Argument.{attribute_value}
 use Rattle.tf_plan.specs.Plan.{ActionView, planned_action, block_action, planned_actions}

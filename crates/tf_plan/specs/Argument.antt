@@ -2,11 +2,11 @@
 use Rattle.std.specs.Prelude.{ℕ, Bool, if◌then◌else◌, ℤ, List, [], codes, Option, Some, None, Result, Ok, Err}
 use Rattle.std.specs.Fmt.{signed_decimal}
 use Rattle.tf_value.specs.Tree.{Tree, null, boolean, whole, text, list, map, unknown}
-use Rattle.tf_provider.specs.Schema.{AttributeView}
-use Rattle.tf_provider.specs.declared.schema.Kind.{Kind}
-use Rattle.tf_provider.specs.declared.schema.Kind.TheVariants as kinds
-use Rattle.tf_provider.specs.declared.schema.Mode.{Mode}
-use Rattle.tf_provider.specs.declared.schema.Mode.TheVariants as modes
+use Rattle.tf_protocol.specs.Schema.{AttributeView}
+use Rattle.tf_protocol.specs.declared.schema.Kind.{Kind}
+use Rattle.tf_protocol.specs.declared.schema.Kind.TheVariants as kinds
+use Rattle.tf_protocol.specs.declared.schema.Mode.{Mode}
+use Rattle.tf_protocol.specs.declared.schema.Mode.TheVariants as modes
 use Rattle.tf_operators.specs.Answer.{Answer}
 use Rattle.tf_eval.specs.Constants.{constant_in}
 use Rattle.tf_expr.specs.Meaning.{meaning}

@@ -2,7 +2,7 @@
 use Rattle.std.specs.Prelude.{◌≡◌, List, Some, None, string_bytes}
 use Rattle.tf_expr.specs.Tree.{Entries}
 use Rattle.tf_value.specs.Tree.{tree_of, map}
-use Rattle.tf_provider.specs.Schema.{SchemaView}
+use Rattle.tf_protocol.specs.Schema.{SchemaView}
 use Rattle.tf_plan.specs.Planned.{NamedFault, first_fault, planned_entries}
 use Rattle.tf_plan.specs.declared.object.Named.{Named}
 use Rattle.tf_plan.specs.declared.object.Planned.{Planned}

@@ -4,8 +4,8 @@ use Rattle.std.specs.List.{flat_map, filter_map}
 use Rattle.tf_address.specs.Label.{LabelView, label_of, label_text}
 use Rattle.tf_value.specs.Tree as tree
 use Rattle.tf_graph.specs.Digraph.{Digraph}
-use Rattle.tf_provider.specs.Meaning.{Meaning, schema_in}
-use Rattle.tf_provider.specs.Schema.{SchemaView}
+use Rattle.tf_protocol.specs.Meaning.{Meaning, schema_in}
+use Rattle.tf_protocol.specs.Schema.{SchemaView}
 use Rattle.tf_config.specs.Config.{BlockView, Blocks}
 use Rattle.tf_plan.specs.Planned.{planned_entries}
 use Rattle.tf_plan.specs.Refused.{block_label, block_refusal}

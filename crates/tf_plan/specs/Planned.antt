@@ -2,7 +2,7 @@
 use Rattle.std.specs.Prelude.{ℕ, if◌then◌else◌, List, [], ◌∷◌, ◌++◌, fold, is_some, Option, Some, None, Result, Ok, Err}
 use Rattle.tf_expr.specs.Tree as expr
 use Rattle.tf_value.specs.Tree.{Tree, Entries, no_entries, entry}
-use Rattle.tf_provider.specs.Schema.{AttributeView, SchemaView, attribute_named, is_below}
+use Rattle.tf_protocol.specs.Schema.{AttributeView, SchemaView, attribute_named, is_below}
 use Rattle.tf_plan.specs.Argument.{attribute_value}
 use Rattle.tf_plan.specs.declared.argument.ArgumentFault.{ArgumentFault}
 use Rattle.tf_plan.specs.declared.argument.ArgumentFault.TheVariants.{BadArgument}

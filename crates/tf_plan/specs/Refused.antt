@@ -3,9 +3,10 @@ use Rattle.std.specs.Prelude.{◌≡◌, ◌≢◌, ℕ, List, [], ◌∷◌, �
 use Rattle.std.specs.Option.{option_map_or}
 use Rattle.std.specs.List.{filter_map}
 use Rattle.tf_address.specs.Label.{LabelView, label_text}
-use Rattle.tf_provider.specs.Meaning.{Meaning, schema_in}
+use Rattle.tf_protocol.specs.Meaning.{Meaning, schema_in}
 use Rattle.tf_config.specs.Config.{BlockView, Blocks}
-use Rattle.tf_config.specs.Refusal.{Told, fault, bare, kind, told}
+use Rattle.tf_refusal.specs.Code.{evaluate, bad_argument, no_provider}
+use Rattle.tf_refusal.specs.Refusal.{Told, fault, bare, kind, told}
 use Rattle.tf_plan.specs.Planned.{NamedFault, first_fault}
 use Rattle.tf_plan.specs.declared.argument.ArgumentFault.{ArgumentFault}
 use Rattle.tf_plan.specs.declared.argument.ArgumentFault.TheVariants.{Evaluation, BadArgument}
@@ -22,8 +23,8 @@ attribute_place label name = label_text label ++ 46 ∷ name
 
 -- an evaluation that fails is code 9, a bad argument code 10
 abbrev pub told_at : List ℕ → ArgumentFault → Told
-told_at place (Evaluation f) = fault 9 place (kind f)
-told_at place BadArgument = fault 10 place bare
+told_at place (Evaluation f) = fault evaluate place (kind f)
+told_at place BadArgument = fault bad_argument place bare
 
 abbrev pub argument_refusal : LabelView → NamedFault → Told
 argument_refusal label named = told_at (attribute_place label named.0) named.1
@@ -32,7 +33,7 @@ argument_refusal label named = told_at (attribute_place label named.0) named.1
 -- is wrong with its arguments.
 abbrev pub block_refusal : List Meaning → BlockView → Option Told
 block_refusal ms b =
-    option_map_or (λ schema. option_map (argument_refusal (block_label b)) (first_fault schema b.arguments)) (schema_in b.kind ms) (Some (fault 11 (label_text (block_label b)) bare))
+    option_map_or (λ schema. option_map (argument_refusal (block_label b)) (first_fault schema b.arguments)) (schema_in b.kind ms) (Some (fault no_provider (label_text (block_label b)) bare))
 
 -- all that a plan refuses, in address order: one refusal for each block that is refused
 abbrev pub plan_refusals : List Meaning → Blocks → List Told

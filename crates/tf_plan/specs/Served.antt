@@ -2,8 +2,8 @@
 use Rattle.std.specs.Prelude.{List, IsTrue, IsSomeAnd}
 use Rattle.std.specs.List.{AllByRecursion}
 use Rattle.tf_plan.specs.Plan.{ActionView}
-use Rattle.tf_provider.specs.Meaning.{Meaning, schema_in}
-use Rattle.tf_provider.specs.Verdict.{has_attributes}
+use Rattle.tf_protocol.specs.Meaning.{Meaning, schema_in}
+use Rattle.tf_protocol.specs.Verdict.{has_attributes}
 
 -- A provider in the list has an action's type, and the action's object has exactly the attributes of its schema.
 abbrev pub IsServedBy : List Meaning → ActionView → Type 0

@@ -4,13 +4,13 @@ ghost use Rattle.std.specs.Prelude.{option_map};
 ghost use Rattle.tf_expr.specs.Tree.{tree_of as expr_of};
 ghost use Rattle.tf_value.specs.Tree.{tree_of};
 ghost use Rattle.tf_plan.specs.Argument.{argument_value, unset_value, set_value, given_value, attribute_value, converted, or_bad_argument};
-ghost use Rattle.tf_provider.specs.declared.schema.Kind.TheVariants as kinds;
+ghost use Rattle.tf_protocol.specs.declared.schema.Kind.TheVariants as kinds;
 ghost use Rattle.tf_plan.specs.Gives.{Gives};
-ghost use Rattle.tf_provider.specs.Schema.{attribute_of};
+ghost use Rattle.tf_protocol.specs.Schema.{attribute_of};
 
 use std::alloc::{AllocError, AllocFailed, Global};
 use tf_expr::{Constants, EvalFault, Expr, eval_expr};
-use tf_provider::{Attribute, Kind, Mode};
+use tf_protocol::{Attribute, Kind, Mode};
 use tf_value::Value;
 
 /// What is wrong with an argument, or with an attribute that no argument sets.

@@ -2,7 +2,7 @@
 
 ghost use Rattle.std.specs.Prelude.{◌≡◌, true, Result, IfOk, fold, map, option_map};
 ghost use Rattle.tf_expr.specs.Tree.{get, tree_of as expr_of, entries_view as arguments_view};
-ghost use Rattle.tf_provider.specs.Schema.{ascends, attribute_of};
+ghost use Rattle.tf_protocol.specs.Schema.{ascends, attribute_of};
 ghost use Rattle.tf_value.specs.Tree.{Tree, tree_of, entries_view};
 ghost use Rattle.tf_plan.specs.declared.argument.ArgumentFault.{ArgumentFault};
 ghost use Rattle.tf_plan.specs.Gives.{Gives};
@@ -14,7 +14,7 @@ use crate::argument::{ArgumentFault, ValueFault, attribute_value};
 use std::alloc::{AllocError, Global};
 use std::collections::BTreeMap;
 use tf_expr::{Expr, find};
-use tf_provider::{Attribute, Schema};
+use tf_protocol::{Attribute, Schema};
 use tf_value::Value;
 
 /// A fault, with the name of the attribute that has it.

@@ -3,7 +3,7 @@
 ghost use Rattle.std.specs.Prelude.{◌≡◌, ◌≤◌, [], None, Some, length, map, IfOk, IfErr, string_bytes};
 ghost use Rattle.tf_address.specs.Label.{label_of, label_text};
 ghost use Rattle.tf_config.specs.Config.{block_of, blocks_of};
-ghost use Rattle.tf_config.specs.Refusal.{told, fault, bare};
+ghost use Rattle.tf_refusal.specs.Refusal.{told, fault, bare};
 ghost use Rattle.tf_plan.specs.Plan.{action_of, plan_of, planned, planned_actions};
 ghost use Rattle.tf_plan.specs.PlansBlock.{PlansBlock};
 ghost use Rattle.tf_plan.specs.Served.{AreServed};
@@ -17,8 +17,10 @@ use crate::plan::{Action, Plan};
 use crate::refused::Refused;
 use std::alloc::{AllocError, Global};
 use tf_address::Label;
-use tf_config::{Block, Config, Detail, Refusal};
-use tf_provider::{Provider, schema_for};
+use tf_config::{Block, Config};
+use tf_protocol::{Provider, schema_for};
+use tf_refusal::code::{BAD_ARGUMENT, EVALUATE, NO_PROVIDER};
+use tf_refusal::{Detail, Refusal};
 
 /// Plans a configuration, before anything exists: one create for each resource block, in address order. The
 /// provider of a type is the first in the list with a schema for it.
@@ -101,7 +103,7 @@ fn plan_block(
 {
     let Some(schema) = schema_for(providers, label.kind.as_str()) else {
         let place = label.to_string(alloc)?;
-        return Ok(PlannedBlock::Refuse(bare(11, place)));
+        return Ok(PlannedBlock::Refuse(bare(NO_PROVIDER, place)));
     };
     match plan_object(alloc, schema, &block.arguments)? {
         Planned::Object(object) => Ok(PlannedBlock::Create(Action {
@@ -121,11 +123,11 @@ fn refusal_of(alloc: Global, label: &Label, named: Named) -> Result<Refusal, All
     let place = format!(in alloc; "{label}.{name}")?;
     match fault {
         ArgumentFault::Evaluation(kind) => Ok(Refusal::Fault {
-            code: 9,
+            code: EVALUATE,
             place,
             detail: Detail::Kind(kind),
         }),
-        ArgumentFault::BadArgument => Ok(bare(10, place)),
+        ArgumentFault::BadArgument => Ok(bare(BAD_ARGUMENT, place)),
     }
 }
 

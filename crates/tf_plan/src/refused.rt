@@ -1,7 +1,7 @@
 //! Why nothing is planned, and so nothing is called.
 
 use std::alloc::{AllocError, AllocFailed};
-use tf_config::Refusal;
+use tf_refusal::Refusal;
 
 /// Why nothing is planned.
 #[derive(Debug, Drop)]

@@ -2,7 +2,7 @@ use crate::{Order, Refused, plan_for};
 use std::alloc::{AllocError, Global};
 use std::test::Fail;
 use tf_config::read;
-use tf_provider::{Attribute, Kind, Mode, Provider, Reply, Request, Schema};
+use tf_protocol::{Attribute, Kind, Mode, Provider, Reply, Request, Schema};
 
 // A provider of nets that does nothing.
 #[derive(Drop)]
@@ -13,7 +13,7 @@ struct Nets {
 impl Provider for Nets {
     ghost use Rattle.std.specs.Prelude.{Some, None, codes, if◌then◌else◌};
     ghost use Rattle.std.specs.Str.{bytes_eq};
-    ghost use Rattle.tf_provider.specs.Meaning.{gone};
+    ghost use Rattle.tf_protocol.specs.Meaning.{gone};
 
     ghost meaning = { λ nets. record { answer = λ _. gone; schema_of = λ name. if bytes_eq name (codes "net") then Some nets.schema else None } };
 

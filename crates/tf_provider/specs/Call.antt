@@ -1,10 +1,10 @@
 -- A call of a provider.
 use Rattle.std.specs.Prelude.{◌≡◌, ℕ, IsTrue, IsSomeAnd}
-use Rattle.tf_provider.specs.Meaning.{Asked, Meaning}
-use Rattle.tf_provider.specs.Verdict.{asks_fully}
-use Rattle.tf_provider.specs.declared.request.Request.{Request}
-use Rattle.tf_provider.specs.declared.request.Reply.{Reply}
-use Rattle.tf_provider.specs.declared.verdict.Verdict.{Verdict}
+use Rattle.tf_protocol.specs.Meaning.{Asked, Meaning}
+use Rattle.tf_protocol.specs.Verdict.{asks_fully}
+use Rattle.tf_protocol.specs.declared.request.Request.{Request}
+use Rattle.tf_protocol.specs.declared.request.Reply.{Reply}
+use Rattle.tf_protocol.specs.declared.verdict.Verdict.{Verdict}
 
 -- the action that a call was made for, what was asked and replied, and the verdict on the reply
 pub record Call : Type 0 where

@@ -1,5 +1,4 @@
 pub mod Call
-pub mod Meaning
-pub mod Refined
-pub mod Schema
-pub mod Verdict
+pub use Rattle.tf_protocol.specs.Meaning
+pub use Rattle.tf_protocol.specs.Schema
+pub use Rattle.tf_protocol.specs.Verdict

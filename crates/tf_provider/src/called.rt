@@ -2,14 +2,12 @@
 
 ghost use Rattle.std.specs.Prelude.{◌≡◌, IfSome};
 ghost use Rattle.tf_provider.specs.Call.{Call, IsServed};
-ghost use Rattle.tf_provider.specs.Meaning.{asked, answered};
-ghost use Rattle.tf_provider.specs.Verdict.{verdict_on};
+ghost use Rattle.tf_protocol.specs.Meaning.{asked, answered};
+ghost use Rattle.tf_protocol.specs.Verdict.{verdict_on};
 
-use crate::provider::Provider;
-use crate::request::{Op, Reply, Request};
-use crate::verdict::{Verdict, judge};
 use std::marker::Model;
 use tf_claim::{Finished, Permit, waive};
+use tf_protocol::{Op, Provider, Reply, Request, Verdict, judge};
 
 /// A call that was made: the action that it was made for, the request, the reply and the verdict on it. It
 /// can't be copied or let go: it has to be recorded. Contracts see a `Call`.
@@ -35,10 +33,7 @@ impl Model for Called {
 /// A call that was recorded, with all that the call held. It has to be taken apart, so that its action is
 /// reported as done. Contracts see a `Call`.
 pub struct Recorded {
-    finished: Finished,
-    request: Request,
-    reply: Reply,
-    verdict: Verdict,
+    call: Called,
 }
 
 impl Model for Recorded {
@@ -50,7 +45,7 @@ impl Model for Recorded {
 
     ghost coded = { Prim.hlevel (codes, value.the_row.coded) };
 
-    ghost view = { λ c. record { action = c.finished; request = c.request; reply = c.reply; verdict = c.verdict } };
+    ghost view = { λ r. r.call };
 }
 
 /// What a recorded call held.
@@ -114,18 +109,7 @@ impl Called {
     pub fn into_recorded(self) -> Recorded
         ensures { result ≡ self }
     {
-        let Called {
-            finished,
-            request,
-            reply,
-            verdict,
-        } = self;
-        Recorded {
-            finished,
-            request,
-            reply,
-            verdict,
-        }
+        Recorded { call: self }
     }
 }
 
@@ -137,12 +121,13 @@ impl Recorded {
         ensures reply { result.reply ≡ self.reply }
         ensures verdict { result.verdict ≡ self.verdict }
     {
-        let Recorded {
+        let Recorded { call } = self;
+        let Called {
             finished,
             request,
             reply,
             verdict,
-        } = self;
+        } = call;
         Parts {
             finished,
             request,

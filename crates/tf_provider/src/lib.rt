@@ -1,21 +1,14 @@
-//! Providers: what they are asked, what they answer, and whether an answer keeps what was promised.
-//!
-//! A provider has a schema for each of its types, and answers requests to create, update or destroy an
-//! object of a type. A reply is judged by the request, the reply and the schema alone. A provider is
-//! called with a permit, which the call spends, so no action is called twice.
+//! Calls of providers: a provider is called with a permit, which the call spends, so no action is called
+//! twice; and what was replied stands in a value that can be neither copied nor let go.
 #![tactic(auto)]
 
 pub mod called;
-pub mod provider;
-pub mod request;
-pub mod schema;
-pub mod verdict;
 
 pub use called::{Called, Parts, Recorded, call};
-pub use provider::{Provider, first_provider, schema_for};
-pub use request::{Op, Reply, Request};
-pub use schema::{Attribute, Kind, Mode, Schema, SchemaFault};
-pub use verdict::{Verdict, asks_fully, has_attributes, judge, well_formed};
+pub use tf_protocol::{
+    Attribute, Kind, Mode, Op, Provider, Reply, Request, Schema, SchemaFault, Verdict, asks_fully,
+    first_provider, has_attributes, judge, schema_for, well_formed,
+};
 
 #[cfg(test)]
 mod tests;

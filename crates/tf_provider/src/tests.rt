@@ -211,7 +211,7 @@ struct Mute {
 
 impl Provider for Mute {
     ghost use Rattle.std.specs.Prelude.{Some};
-    ghost use Rattle.tf_provider.specs.Meaning.{gone};
+    ghost use Rattle.tf_protocol.specs.Meaning.{gone};
 
     ghost meaning = { λ mute. record { answer = λ _. gone; schema_of = λ _. Some mute.schema } };
 

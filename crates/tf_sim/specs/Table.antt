@@ -3,14 +3,14 @@ use Rattle.std.specs.Prelude.{◌≡◌, ℕ, ◌++◌, Bool, true, false, ◌&&
 use Rattle.std.specs.Option.{option_map_or}
 use Rattle.std.specs.Str.{bytes_eq}
 use Rattle.tf_value.specs.Tree.{Tree, text, whole, map, part_at, put}
-use Rattle.tf_provider.specs.Schema.{AttributeView, SchemaView}
-use Rattle.tf_provider.specs.Meaning.{Asked, Answer, Meaning, object, gone, failed}
-use Rattle.tf_provider.specs.declared.request.Op.{Op}
-use Rattle.tf_provider.specs.declared.request.Op.TheVariants.{Create, Update, Destroy}
-use Rattle.tf_provider.specs.declared.schema.Kind.{Kind}
-use Rattle.tf_provider.specs.declared.schema.Kind.TheVariants as kind
-use Rattle.tf_provider.specs.declared.schema.Mode.{Mode}
-use Rattle.tf_provider.specs.declared.schema.Mode.TheVariants.{Required, Optional, Computed}
+use Rattle.tf_protocol.specs.Schema.{AttributeView, SchemaView}
+use Rattle.tf_protocol.specs.Meaning.{Asked, Answer, Meaning, object, gone, failed}
+use Rattle.tf_protocol.specs.declared.request.Op.{Op}
+use Rattle.tf_protocol.specs.declared.request.Op.TheVariants.{Create, Update, Destroy}
+use Rattle.tf_protocol.specs.declared.schema.Kind.{Kind}
+use Rattle.tf_protocol.specs.declared.schema.Kind.TheVariants as kind
+use Rattle.tf_protocol.specs.declared.schema.Mode.{Mode}
+use Rattle.tf_protocol.specs.declared.schema.Mode.TheVariants.{Required, Optional, Computed}
 
 abbrev pub attribute : List ℕ → Kind → Mode → Bool → AttributeView
 attribute name kind mode force_new = record { name = name; kind = kind; mode = mode; force_new = force_new }

@@ -1,12 +1,12 @@
 //! The provider: its schemas, and the law that it keeps.
 
 ghost use Rattle.std.specs.Prelude.{◌≡◌, map, IfOk};
-ghost use Rattle.tf_provider.specs.Schema.{attribute_of, fault_of, in_order};
+ghost use Rattle.tf_protocol.specs.Schema.{attribute_of, fault_of, in_order};
 ghost use Rattle.tf_sim.specs.Table.{attribute, net_schema, host_schema, sim_meaning};
 
 use crate::answers::answer;
 use std::alloc::{AllocError, Global};
-use tf_provider::{Attribute, Kind, Mode, Provider, Reply, Request, Schema, SchemaFault};
+use tf_protocol::{Attribute, Kind, Mode, Provider, Reply, Request, Schema, SchemaFault};
 
 /// The provider `sim`.
 #[derive(Drop)]

@@ -4,7 +4,7 @@ use crate::Sim;
 use std::alloc::{AllocError, Global};
 use std::collections::BTreeMap;
 use std::test::Fail;
-use tf_provider::{Op, Provider, Reply, Request};
+use tf_protocol::{Op, Provider, Reply, Request};
 use tf_value::Value;
 
 /// The object with these texts at two keys, and a size.

@@ -5,7 +5,7 @@ use Rattle.std.specs.List.{list_all, AllByRecursion}
 use Rattle.std.specs.Option.{option_map_or}
 use Rattle.tf_graph.specs.Solutions.{seen_by}
 use Rattle.tf_plan.specs.Plan.{ActionView}
-use Rattle.tf_provider.specs.Meaning.{Asked, Meaning}
+use Rattle.tf_protocol.specs.Meaning.{Asked, Meaning}
 use Rattle.tf_walk.specs.Ends.{IsRun, IsEnd}
 use Rattle.tf_walk.specs.Outcome.{Done, skipped, is_good, call_at, call_of, request_of}
 use Rattle.tf_walk.proofs.Seen.{all_good-seen}

@@ -3,10 +3,10 @@ use Rattle.std.proofs.Common.{◌≡◌, ℕ, Bool, true, false, List, Option, S
 use Rattle.std.specs.Prelude.{IsSomeAnd, MatchBool, slice_get, option_and_then}
 use Rattle.std.specs.Option.{option_map_or}
 use Rattle.tf_plan.specs.Plan.{ActionView}
-use Rattle.tf_provider.specs.Meaning.{Asked, Answer, Meaning, first_with, schema_in}
-use Rattle.tf_provider.specs.Schema.{SchemaView}
-use Rattle.tf_provider.specs.Verdict.{verdict_on}
-use Rattle.tf_provider.specs.declared.verdict.Verdict.{Verdict}
+use Rattle.tf_protocol.specs.Meaning.{Asked, Answer, Meaning, first_with, schema_in}
+use Rattle.tf_protocol.specs.Schema.{SchemaView}
+use Rattle.tf_protocol.specs.Verdict.{verdict_on}
+use Rattle.tf_protocol.specs.declared.verdict.Verdict.{Verdict}
 use Rattle.tf_walk.specs.Addition.{IsJudged}
 use Rattle.tf_walk.specs.After.{Saved, saved, saved_by}
 use Rattle.tf_walk.specs.Ends.{IsEnd, IsRun}

@@ -3,11 +3,11 @@ use Rattle.std.proofs.Common.{◌≡◌, Option, Some, None, IfSome, refl}
 use Rattle.std.specs.Prelude.{IsSomeAnd, IsTrue}
 use Rattle.std.specs.Option.{option_map_or}
 use Rattle.tf_provider.specs.Call.{IsServed}
-use Rattle.tf_provider.specs.Meaning.{Asked, Answer, Meaning}
-use Rattle.tf_provider.specs.Schema.{SchemaView}
-use Rattle.tf_provider.specs.Verdict.{verdict_on, asks_fully}
-use Rattle.tf_provider.specs.declared.verdict.Verdict.{Verdict}
-use Rattle.tf_provider.specs.declared.verdict.Verdict.TheVariants as verdict
+use Rattle.tf_protocol.specs.Meaning.{Asked, Answer, Meaning}
+use Rattle.tf_protocol.specs.Schema.{SchemaView}
+use Rattle.tf_protocol.specs.Verdict.{verdict_on, asks_fully}
+use Rattle.tf_protocol.specs.declared.verdict.Verdict.{Verdict}
+use Rattle.tf_protocol.specs.declared.verdict.Verdict.TheVariants as verdict
 use Rattle.tf_walk.specs.Outcome.{called, skipped, call_of_provider}
 
 by_answer : (m : Meaning) (r : Asked) (s : SchemaView) (answer : Option Answer) (v : Verdict) → IfSome answer (λ a. a ≡ m.answer r) → v ≡ verdict_on r answer s → (v ≡ verdict.Excused → ⊥)

@@ -7,11 +7,11 @@ use Rattle.std.specs.List.{AllByRecursion}
 use Rattle.tf_claim.specs.Ledger.{stage_in}
 use Rattle.tf_claim.specs.declared.book.Stage.TheVariants as stage
 use Rattle.tf_graph.specs.Digraph.{predecessors_of}
-use Rattle.tf_graph.specs.Laws.{seen_by-same}
+use Rattle.tf_graph.proofs.Solving.{seen_by-same}
 use Rattle.tf_graph.specs.Solutions.{seen_by}
 use Rattle.tf_journal.specs.declared.journal.Entry.{Entry}
 use Rattle.tf_plan.specs.Plan.{ActionView, PlanView}
-use Rattle.tf_provider.specs.Meaning.{Meaning}
+use Rattle.tf_protocol.specs.Meaning.{Meaning}
 use Rattle.tf_walk.specs.Addition.{IsJudged, AreJudged, saved_in, told_in}
 use Rattle.tf_walk.specs.After.{saved_one, saved_resource, saved_resources}
 use Rattle.tf_walk.specs.Diagnostics.{diagnostics, diagnostics_at}

@@ -3,11 +3,11 @@ use Rattle.std.proofs.Common.{◌≡◌, ◌≤◌, Bool, true, false, not, List
 use Rattle.std.specs.List.Sorted.{IsStrictlySortedBy}
 use Rattle.std.specs.Prelude.{Option, Some, None, option_map, option_and_then, if◌then◌else◌}
 use Rattle.std.specs.Option.{option_map_or}
-use Rattle.tf_provider.specs.Meaning.{Asked, Answer, object, gone, failed}
-use Rattle.tf_provider.specs.Schema.{SchemaView}
-use Rattle.tf_provider.specs.Verdict.{verdict_on, well_formed, contradiction, is_destroy}
-use Rattle.tf_provider.specs.declared.verdict.Verdict.{Verdict}
-use Rattle.tf_provider.specs.declared.verdict.Verdict.TheVariants as verdict
+use Rattle.tf_protocol.specs.Meaning.{Asked, Answer, object, gone, failed}
+use Rattle.tf_protocol.specs.Schema.{SchemaView}
+use Rattle.tf_protocol.specs.Verdict.{verdict_on, well_formed, contradiction, is_destroy}
+use Rattle.tf_protocol.specs.declared.verdict.Verdict.{Verdict}
+use Rattle.tf_protocol.specs.declared.verdict.Verdict.TheVariants as verdict
 use Rattle.tf_state_data.specs.Places.{AreByPlace}
 use Rattle.tf_state_data.specs.Record.{record_of}
 use Rattle.tf_state_data.specs.Resource.{ResourceView}

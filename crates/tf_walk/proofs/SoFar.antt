@@ -9,12 +9,12 @@ use Rattle.tf_claim.specs.declared.book.Stage.{Stage}
 use Rattle.tf_claim.specs.declared.book.Stage.TheVariants as stage
 use Rattle.tf_graph.proofs.Rows.{get_or-set_test}
 use Rattle.tf_graph.specs.Digraph.{Digraph, predecessors_of}
-use Rattle.tf_graph.specs.Laws.{seen_by-same, all_done}
+use Rattle.tf_graph.proofs.Solving.{seen_by-same, all_done}
 use Rattle.tf_graph.specs.Solutions.{seen_by, Ranked, StaysBelow}
 use Rattle.tf_journal.specs.declared.journal.Entry.{Entry}
 use Rattle.tf_plan.specs.Plan.{PlanView}
-use Rattle.tf_provider.specs.Meaning.{Meaning}
-use Rattle.tf_provider.specs.declared.verdict.Verdict.{Verdict}
+use Rattle.tf_protocol.specs.Meaning.{Meaning}
+use Rattle.tf_protocol.specs.declared.verdict.Verdict.{Verdict}
 use Rattle.tf_value.proofs.Conjunction.{and-first, and-second}
 use Rattle.tf_walk.specs.Ends.{IsEnd, IsSoFar, IsStaged, Enters, AllHaveEnded, end_at, done_in, stage_of}
 use Rattle.tf_walk.specs.Outcome.{Done, skipped}

@@ -1,9 +1,9 @@
 -- What one action adds to the report.
 use Rattle.std.specs.Prelude.{◌≡◌, List, [], ◌∷◌, ◌++◌, Option, Some, None, option_map, if◌then◌else◌}
 use Rattle.std.specs.List.{AllByRecursion}
-use Rattle.tf_provider.specs.Meaning.{Answer, Meaning, object}
-use Rattle.tf_provider.specs.Schema.{SchemaView}
-use Rattle.tf_provider.specs.Verdict.{well_formed}
+use Rattle.tf_protocol.specs.Meaning.{Answer, Meaning, object}
+use Rattle.tf_protocol.specs.Schema.{SchemaView}
+use Rattle.tf_protocol.specs.Verdict.{well_formed}
 use Rattle.tf_state_data.specs.Resource.{ResourceView, resource_of}
 use Rattle.tf_value.specs.Tree as tree
 use Rattle.tf_walk.specs.After.{resource_after, saved, saved_one}

@@ -2,11 +2,11 @@
 use Rattle.std.specs.Prelude.{◌+◌, Bool, true, false, if◌then◌else◌, List, [], ◌∷◌, Option, Some, None, option_map}
 use Rattle.std.specs.Option.{option_map_or}
 use Rattle.tf_plan.specs.Plan.{ActionView}
-use Rattle.tf_provider.specs.Meaning.{Asked, Answer, Meaning, object, failed, schema_in}
-use Rattle.tf_provider.specs.Schema.{SchemaView}
-use Rattle.tf_provider.specs.Verdict.{well_formed}
-use Rattle.tf_provider.specs.declared.verdict.Verdict.{Verdict}
-use Rattle.tf_provider.specs.declared.verdict.Verdict.TheVariants as verdict
+use Rattle.tf_protocol.specs.Meaning.{Asked, Answer, Meaning, object, failed, schema_in}
+use Rattle.tf_protocol.specs.Schema.{SchemaView}
+use Rattle.tf_protocol.specs.Verdict.{well_formed}
+use Rattle.tf_protocol.specs.declared.verdict.Verdict.{Verdict}
+use Rattle.tf_protocol.specs.declared.verdict.Verdict.TheVariants as verdict
 use Rattle.tf_state_data.specs.Place.{single}
 use Rattle.tf_state_data.specs.Provider.{provider_text}
 use Rattle.tf_state_data.specs.Resource.{ResourceView}

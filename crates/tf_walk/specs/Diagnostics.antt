@@ -2,12 +2,12 @@
 use Rattle.std.specs.Prelude.{ℕ, nat_lt, if◌then◌else◌, List, [], ◌∷◌, ◌++◌, map, codes, Option, Some, string_bytes, slice_index_or}
 use Rattle.tf_address.specs.Label.{label_text}
 use Rattle.tf_plan.specs.Plan.{ActionView}
-use Rattle.tf_provider.specs.Meaning.{Asked, Answer, failed}
-use Rattle.tf_provider.specs.Verdict.{keys_of}
-use Rattle.tf_provider.specs.declared.request.Op.{Op}
-use Rattle.tf_provider.specs.declared.request.Op.TheVariants.{Create}
-use Rattle.tf_provider.specs.declared.verdict.Verdict.{Verdict}
-use Rattle.tf_provider.specs.declared.verdict.Verdict.TheVariants as verdict
+use Rattle.tf_protocol.specs.Meaning.{Asked, Answer, failed}
+use Rattle.tf_protocol.specs.Verdict.{keys_of}
+use Rattle.tf_protocol.specs.declared.request.Op.{Op}
+use Rattle.tf_protocol.specs.declared.request.Op.TheVariants.{Create}
+use Rattle.tf_protocol.specs.declared.verdict.Verdict.{Verdict}
+use Rattle.tf_protocol.specs.declared.verdict.Verdict.TheVariants as verdict
 use Rattle.tf_value.specs.Tree as tree
 use Rattle.tf_walk.specs.Room.{Head, head_of}
 use Rattle.tf_walk.specs.Outcome.{Done, skipped, excused, called}

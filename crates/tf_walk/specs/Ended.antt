@@ -1,6 +1,6 @@
 -- What came of an action, as the walk keeps it.
 use Rattle.std.specs.Prelude.{List, map, Option, Some, None}
-use Rattle.tf_provider.specs.Meaning.{asked, answered}
+use Rattle.tf_protocol.specs.Meaning.{asked, answered}
 use Rattle.tf_walk.specs.Excuse.{before_call, during_call}
 use Rattle.tf_walk.specs.Outcome.{Done, skipped, excused, called}
 use Rattle.tf_walk.specs.declared.ended.Ended.{Ended}

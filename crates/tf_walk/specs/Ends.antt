@@ -8,7 +8,7 @@ use Rattle.tf_graph.specs.Digraph.{predecessors_of}
 use Rattle.tf_graph.specs.Solutions.{seen_by}
 use Rattle.tf_journal.specs.declared.journal.Entry.{Entry}
 use Rattle.tf_plan.specs.Plan.{ActionView, PlanView}
-use Rattle.tf_provider.specs.Meaning.{Meaning}
+use Rattle.tf_protocol.specs.Meaning.{Meaning}
 use Rattle.tf_walk.specs.Outcome.{Done, skipped, excused, all_good, call_at}
 use Rattle.tf_walk.specs.Report.{verdict_in, entered_verdict}
 

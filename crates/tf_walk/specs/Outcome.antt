@@ -6,11 +6,11 @@ use Rattle.tf_address.specs.Label.{label_text}
 use Rattle.tf_graph.specs.Digraph.{predecessors_of}
 use Rattle.tf_graph.specs.Solutions.{Solves}
 use Rattle.tf_plan.specs.Plan.{ActionView, PlanView}
-use Rattle.tf_provider.specs.Meaning.{Asked, Answer, Meaning, first_with}
-use Rattle.tf_provider.specs.Verdict.{verdict_on}
-use Rattle.tf_provider.specs.declared.request.Op.TheVariants.{Create}
-use Rattle.tf_provider.specs.declared.verdict.Verdict.{Verdict}
-use Rattle.tf_provider.specs.declared.verdict.Verdict.TheVariants as verdict
+use Rattle.tf_protocol.specs.Meaning.{Asked, Answer, Meaning, first_with}
+use Rattle.tf_protocol.specs.Verdict.{verdict_on}
+use Rattle.tf_protocol.specs.declared.request.Op.TheVariants.{Create}
+use Rattle.tf_protocol.specs.declared.verdict.Verdict.{Verdict}
+use Rattle.tf_protocol.specs.declared.verdict.Verdict.TheVariants as verdict
 use Rattle.tf_walk.specs.Excuse.{Moment, excuse_of}
 use Rattle.tf_walk.specs.declared.report.Excuse.{Excuse}
 

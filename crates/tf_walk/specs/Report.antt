@@ -5,9 +5,9 @@ use Rattle.tf_graph.specs.Order.{IsInOrder}
 use Rattle.tf_journal.specs.declared.journal.Entry.{Entry}
 use Rattle.tf_journal.specs.Entries.{actions_of}
 use Rattle.tf_plan.specs.Plan.{PlanView}
-use Rattle.tf_provider.specs.Meaning.{Meaning}
-use Rattle.tf_provider.specs.declared.verdict.Verdict.{Verdict}
-use Rattle.tf_provider.specs.declared.verdict.Verdict.TheVariants as verdict
+use Rattle.tf_protocol.specs.Meaning.{Meaning}
+use Rattle.tf_protocol.specs.declared.verdict.Verdict.{Verdict}
+use Rattle.tf_protocol.specs.declared.verdict.Verdict.TheVariants as verdict
 use Rattle.tf_state_data.specs.State.{empty_state, state_of}
 use Rattle.tf_walk.specs.After.{state_after}
 use Rattle.tf_walk.specs.Diagnostics.{diagnostic_of, diagnostics}

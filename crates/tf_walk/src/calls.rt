@@ -5,7 +5,7 @@ ghost use Rattle.std.specs.Prelude.{◌≡◌, ◌<◌, ◌++◌, ◌∷◌, [],
 ghost use Rattle.tf_journal.specs.Entries.{fault_of};
 ghost use Rattle.tf_journal.specs.declared.journal.Entry.{Entry};
 ghost use Rattle.tf_provider.specs.Call.{IsServed};
-ghost use Rattle.tf_provider.specs.Meaning.{asked};
+ghost use Rattle.tf_protocol.specs.Meaning.{asked};
 ghost use Rattle.tf_walk.specs.Ended.{done_of, done_or_skipped};
 ghost use Rattle.tf_walk.specs.Ends.{IsRun, done_in};
 ghost use Rattle.tf_walk.specs.Outcome.{call_of_provider, is_good};

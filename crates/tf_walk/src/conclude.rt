@@ -2,9 +2,9 @@
 
 ghost use Rattle.std.specs.Prelude.{◌≡◌, ◌++◌, [], true, Some, codes, map, option_map, option_and_then, string_bytes, string_capacity};
 ghost use Rattle.tf_address.specs.Label.{label_text};
-ghost use Rattle.tf_provider.specs.Meaning.{asked, answered};
-ghost use Rattle.tf_provider.specs.Verdict.{verdict_on};
-ghost use Rattle.tf_provider.specs.declared.request.Op.TheVariants.{Create};
+ghost use Rattle.tf_protocol.specs.Meaning.{asked, answered};
+ghost use Rattle.tf_protocol.specs.Verdict.{verdict_on};
+ghost use Rattle.tf_protocol.specs.declared.request.Op.TheVariants.{Create};
 ghost use Rattle.tf_state_data.specs.Resource.{resource_of};
 ghost use Rattle.tf_value.specs.Tree.{tree_of};
 ghost use Rattle.tf_walk.specs.After.{resource_after, saved_by};

@@ -3,8 +3,8 @@
 ghost use Rattle.std.specs.List.{list_all};
 ghost use Rattle.std.specs.Prelude.{◌≡◌, ◌≤◌, ◌+◌, ℕ, [], true, Some, nat_le, length, IfOk, string_bytes, string_capacity};
 ghost use Rattle.tf_plan.specs.Plan.{action_of};
-ghost use Rattle.tf_provider.specs.Meaning.{asked};
-ghost use Rattle.tf_provider.specs.Verdict.{keys_of};
+ghost use Rattle.tf_protocol.specs.Meaning.{asked};
+ghost use Rattle.tf_protocol.specs.Verdict.{keys_of};
 ghost use Rattle.tf_value.specs.Tree.{tree_of, entries_view};
 ghost use Rattle.tf_walk.specs.Outcome.{request_of};
 ghost use Rattle.tf_walk.specs.Room.{message_fits};

@@ -1,7 +1,7 @@
 //! Carrying out a plan by one thread.
 
 ghost use Rattle.std.specs.Prelude.{◌≡◌, ◌≤◌, List, length, map, count_by, IfOk, IfErr};
-ghost use Rattle.tf_config.specs.Refusal.{no_memory, told};
+ghost use Rattle.tf_refusal.specs.Refusal.{no_memory, told};
 ghost use Rattle.tf_plan.specs.Plan.{action_of, plan_of};
 ghost use Rattle.tf_plan.specs.Served.{AreServed};
 ghost use Rattle.tf_state_data.specs.State.{state_of};
@@ -23,7 +23,7 @@ use crate::report::{Report, Walked};
 use crate::rooms::Room;
 use crate::walk::walk;
 use std::alloc::{AllocError, Global};
-use tf_config::Refusal;
+use tf_refusal::Refusal;
 use tf_journal::Journal;
 use tf_plan::Plan;
 use tf_provider::Provider;

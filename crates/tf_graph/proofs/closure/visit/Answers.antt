@@ -2,7 +2,7 @@ use Rattle.std.proofs.Common.{◌<◌, ◌∷◌, [], ℕ, List, length, get_or,
 use Rattle.std.proofs.lemmas.List.{take_more, take_all}
 use Rattle.std.proofs.lemmas.List.Elements.{Contains-get_or, Contains-push_cases}
 use Rattle.tf_graph.specs.Path.{HasEdge}
-use Rattle.tf_graph.specs.Edges.{edge-from_target, target-from_edge}
+use Rattle.tf_graph.proofs.Edges.{edge-from_target, target-from_edge}
 use Rattle.tf_graph.proofs.Searches.{reached-next, pending-less}
 use Rattle.tf_graph.proofs.closure.visit.Goals as goal
 

@@ -1,4 +1,4 @@
-use Rattle.tf_graph.specs.Laws.{all_done}
+use Rattle.tf_graph.proofs.Solving.{all_done}
 use Rattle.tf_graph.proofs.laws.all_are_done.Goals as goal
 
 pub returns : goal.returns

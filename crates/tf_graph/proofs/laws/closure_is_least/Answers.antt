@@ -1,4 +1,4 @@
-use Rattle.tf_graph.specs.GraphLaws.{closure-least}
+use Rattle.tf_graph.proofs.GraphLaws.{closure-least}
 use Rattle.tf_graph.proofs.laws.closure_is_least.Goals as goal
 
 pub returns : goal.returns

@@ -1,4 +1,4 @@
-use Rattle.tf_graph.specs.Laws.{order-follows_paths}
+use Rattle.tf_graph.proofs.Solving.{order-follows_paths}
 use Rattle.tf_graph.proofs.laws.order_follows_paths.Goals as goal
 
 pub returns : goal.returns

@@ -1,4 +1,4 @@
-use Rattle.tf_graph.specs.Laws.{order-grows}
+use Rattle.tf_graph.proofs.Solving.{order-grows}
 use Rattle.tf_graph.proofs.laws.order_grows.Goals as goal
 
 pub returns : goal.returns

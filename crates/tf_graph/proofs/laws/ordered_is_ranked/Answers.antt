@@ -1,4 +1,4 @@
-use Rattle.tf_graph.specs.Laws.{ranked-by_order}
+use Rattle.tf_graph.proofs.Solving.{ranked-by_order}
 use Rattle.tf_graph.proofs.laws.ordered_is_ranked.Goals as goal
 
 pub returns : goal.returns

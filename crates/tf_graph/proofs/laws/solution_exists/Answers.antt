@@ -1,4 +1,4 @@
-use Rattle.tf_graph.specs.Laws.{solution-exists}
+use Rattle.tf_graph.proofs.Solving.{solution-exists}
 use Rattle.tf_graph.proofs.laws.solution_exists.Goals as goal
 
 pub returns : goal.returns

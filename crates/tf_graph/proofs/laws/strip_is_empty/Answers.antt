@@ -1,4 +1,4 @@
-use Rattle.tf_graph.specs.GraphLaws.{strip-empty}
+use Rattle.tf_graph.proofs.GraphLaws.{strip-empty}
 use Rattle.tf_graph.proofs.laws.strip_is_empty.Goals as goal
 
 pub returns : goal.returns

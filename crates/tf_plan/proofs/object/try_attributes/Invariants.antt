@@ -1,7 +1,7 @@
 -- the values and faults so far, with those of the attributes that are left
 use Rattle.std.proofs.Common.{map, drop, option_map}
 use Rattle.tf_expr.specs.Tree.{entries_view as arguments_view}
-use Rattle.tf_provider.specs.Schema.{attribute_of}
+use Rattle.tf_protocol.specs.Schema.{attribute_of}
 use Rattle.tf_value.specs.Tree.{entries_view}
 use Rattle.tf_plan.specs.Object.{named_of}
 use Rattle.tf_plan.proofs.Attributes.{IsSoFar}

@@ -2,7 +2,7 @@
 use Rattle.std.proofs.Common.{◌≡◌, ◌+◌, ◌≤◌, ◌++◌, length, map}
 use Rattle.std.specs.List.{filter_map}
 use Rattle.tf_config.specs.Config.{block_of}
-use Rattle.tf_config.specs.Refusal.{told}
+use Rattle.tf_refusal.specs.Refusal.{told}
 use Rattle.tf_plan.specs.Plan.{action_of, planned_actions}
 use Rattle.tf_plan.specs.Refused.{plan_refusals}
 use Rattle.tf_plan.proofs.planner.plan_blocks.Given as goal

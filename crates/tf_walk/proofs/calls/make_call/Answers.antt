@@ -1,6 +1,6 @@
 use Rattle.std.proofs.Common.{◌≡◌, ap, ◌∙◌}
 use Rattle.tf_provider.specs.Call.{Call}
-use Rattle.tf_provider.specs.Meaning.{asked, answered}
+use Rattle.tf_protocol.specs.Meaning.{asked, answered}
 use Rattle.tf_walk.proofs.Judging.{judged_run}
 use Rattle.tf_walk.proofs.calls.make_call.Goals as goal
 

@@ -1,5 +1,5 @@
 use Rattle.std.proofs.Common.{◌≡◌, ◌∙◌, sym, ap, map, Some, string_bytes, option_map, subst}
-use Rattle.tf_provider.specs.Meaning.{asked, answered, schema_in}
+use Rattle.tf_protocol.specs.Meaning.{asked, answered, schema_in}
 use Rattle.tf_walk.specs.Addition.{IsJudged}
 use Rattle.tf_walk.specs.Ended.{done_or_skipped}
 use Rattle.tf_walk.specs.declared.ended.Ended.TheVariants as ended

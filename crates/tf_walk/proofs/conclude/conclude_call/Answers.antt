@@ -1,5 +1,5 @@
 use Rattle.std.proofs.Common.{◌∙◌, sym, ap, true, false, option_map}
-use Rattle.tf_provider.specs.Meaning.{asked, answered}
+use Rattle.tf_protocol.specs.Meaning.{asked, answered}
 use Rattle.tf_value.specs.Tree.{tree_of}
 use Rattle.tf_walk.specs.After.{resource_after, saved_by, Saved}
 use Rattle.tf_walk.specs.RoomHead.{room_head}

@@ -2,8 +2,8 @@ use Rattle.std.proofs.Common.{◌≡◌, Some, map, option_map, sym, subst}
 use Rattle.std.specs.Prelude.{slice_get, IsSomeAnd, IsTrue}
 use Rattle.tf_graph.specs.Digraph.{predecessors_of}
 use Rattle.tf_plan.specs.Plan.{action_of}
-use Rattle.tf_provider.specs.Meaning.{Asked, asked, schema_in}
-use Rattle.tf_provider.specs.Verdict.{asks_fully}
+use Rattle.tf_protocol.specs.Meaning.{Asked, asked, schema_in}
+use Rattle.tf_protocol.specs.Verdict.{asks_fully}
 use Rattle.tf_walk.specs.Ended.{done_of}
 use Rattle.tf_plan.specs.Served.{IsServedBy}
 use Rattle.tf_walk.specs.Ends.{done_in}

@@ -1,0 +1,4 @@
+pub mod Meaning
+pub mod Refined
+pub mod Schema
+pub mod Verdict

@@ -1,0 +1,4 @@
+pub mod Code
+pub mod OfExpression
+pub mod Refusal
+pub mod Text

@@ -1,0 +1,28 @@
+//! The codes of refusals, by name.
+
+/// A file isn't JSON.
+pub const NOT_JSON: u8 = 1;
+
+/// A property, a block or a name that the format doesn't allow.
+pub const BAD_SHAPE: u8 = 2;
+
+/// A text is no template.
+pub const BAD_TEMPLATE: u8 = 3;
+
+/// A name that isn't declared, or a function that isn't there.
+pub const UNKNOWN_NAME: u8 = 4;
+
+/// An evaluation has a fault.
+pub const EVALUATE: u8 = 9;
+
+/// An argument is missing, not in the schema, or of the wrong kind.
+pub const BAD_ARGUMENT: u8 = 10;
+
+/// No provider has the type.
+pub const NO_PROVIDER: u8 = 11;
+
+/// A state isn't in the format.
+pub const BAD_STATE: u8 = 13;
+
+/// More than is allowed.
+pub const LIMIT: u8 = 14;
