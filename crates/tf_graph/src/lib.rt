@@ -9,6 +9,3 @@ mod strip;
 
 pub use closure::Closure;
 pub use graph::{Graph, GraphFault, MAX_NODES};
-
-#[cfg(test)]
-mod tests;

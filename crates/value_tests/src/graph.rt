@@ -1,7 +1,7 @@
 //! Small graphs whose answers were worked out by hand.
 
-use crate::{Graph, GraphFault};
 use std::test::Fail;
+use tf_graph::{Graph, GraphFault};
 
 #[test]
 fn refuses_what_is_no_graph(rt: HostRuntime) -> Result<(), Fail> {
