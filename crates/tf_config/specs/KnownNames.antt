@@ -10,7 +10,8 @@ use Rattle.tf_template.specs.Names.{named}
 use Rattle.tf_template.specs.Tree.{Woven}
 use Rattle.tf_json_path.specs.Check.{Check, AllMet, IsFirst, demanded}
 use Rattle.tf_config.specs.Config.{BlockView, Blocks}
-use Rattle.tf_config.specs.Demand.{Way, unknown_name}
+use Rattle.tf_config.specs.Demand.{unknown_name}
+use Rattle.tf_refusal.specs.OfExpression.{Way}
 use Rattle.tf_refusal.specs.Refusal.{Told, no_memory, workers, fault, told}
 use Rattle.tf_refusal.specs.declared.refusal.Refusal.{Refusal}
 

@@ -9,7 +9,8 @@ use Rattle.tf_template.specs.Tree.{Woven}
 use Rattle.tf_json_path.specs.Check.{IsFirst}
 use Rattle.tf_config.specs.Config.{Blocks, address_cmp}
 use Rattle.tf_config.specs.Configuration.{configuration_checks, IsConfiguration}
-use Rattle.tf_config.specs.Demand.{Demand, of_expression, AreMet, IsMet, Way, bad_template, too_deep}
+use Rattle.tf_config.specs.Demand.{Demand, of_expression, AreMet, IsMet}
+use Rattle.tf_refusal.specs.OfExpression.{Way, bad_template, too_deep}
 use Rattle.tf_config.specs.KnownNames.{KnownBlocks, NamesNothing}
 use Rattle.tf_config.specs.Reading.{IsTree, IsRefused, max_bytes, max_blocks}
 use Rattle.tf_refusal.specs.Refusal.{DetailView, fault}

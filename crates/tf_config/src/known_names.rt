@@ -15,8 +15,8 @@ use std::alloc::{AllocError, Global};
 use std::collections::BTreeMap;
 use tf_expr::{Expr, Template, functions, references};
 use tf_json_path::Path;
-use tf_refusal::Refusal;
 use tf_operators::Function;
+use tf_refusal::Refusal;
 
 /// No text in the blocks names anything, since nothing can be declared, or calls what is no function.
 pub(crate) fn demand_known_names(alloc: Global, config: &Config) -> Result<(), Refusal>

@@ -10,11 +10,19 @@ use Rattle.tf_refusal.specs.Refusal.{DetailView, bare, at, Told, no_memory, faul
 abbrev pub Way : Type 0
 Way = ℕ × DetailView
 
--- no expression is of the wrong shape, no template is refused with its byte offset, and one that is too deep is beyond a limit
+-- BadTemplate, with the byte offset
+abbrev pub bad_template : ℕ → Way
+bad_template offset = (code.bad_template, at offset)
+
+-- Limit: a template that is too deep
+abbrev pub too_deep : Way
+too_deep = (code.limit, bare)
+
+-- the way in which a fault of an expression is refused
 abbrev pub way_of : Cause → Way
 way_of causes.BadShape = (code.bad_shape, bare)
-way_of (causes.At offset) = (code.bad_template, at offset)
-way_of causes.TooDeep = (code.limit, bare)
+way_of (causes.At offset) = bad_template offset
+way_of causes.TooDeep = too_deep
 
 -- what is told of an expression, as it is refused
 abbrev pub refused_expression : faults.Told → Told
