@@ -184,22 +184,22 @@ pub made_answers : (condition : Type 0) (t : Tree) (rest : List ℕ) (depth : �
 made_answers condition t rest depth (Ok f) budget u after h k e r = (h.1 ∙ e, h.2 ∙ r)
 made_answers condition t rest depth (Err x) budget u after h k e r = subst (λ y. Fails y (budget < tree_depth u)) (sym (h k)) tt
 
--- a number that is spelled is in range
-pub number_fits : (t : Tree) (s rest : List ℕ) → IsOperand t → Spells t s rest → token_kind s ≡ Number → decimal (token_word s) < 2 ^ 63
-number_fits (number n) s rest o h e = omega (arith, h.1, h.2)
-number_fits (truth b) s rest o h e = let f = clash s Name Number h.0.kind_is e in absurd (cc)
-number_fits null s rest o h e = let f = clash s Name Number h.0.kind_is e in absurd (cc)
-number_fits (quoted ps last) s rest o h e = let f = clash s Quote Number h.1.kind_is e in absurd (cc)
-number_fits (reference a b) s rest o h e = let f = clash s Name Number h.1.2.kind_is e in absurd (cc)
-number_fits (call f ts) s rest o h e = let g = clash s Name Number h.1.2.kind_is e in absurd (cc)
-number_fits (group t) s rest o h e = let f = clash s OpenParen Number h.2.kind_is e in absurd (cc)
-number_fits (listed ts) s rest o h e = let f = clash s OpenBracket Number h.1.kind_is e in absurd (cc)
-number_fits (attribute t name) s rest o h e = absurd o
-number_fits (index t i) s rest o h e = absurd o
-number_fits (unary Not t) s rest o h e = let f = clash s Bang Number h.1.kind_is e in absurd (cc)
-number_fits (unary Negate t) s rest o h e = let f = clash s (Binary Subtract) Number h.1.kind_is e in absurd (cc)
-number_fits (binary op a b) s rest o h e = absurd o
-number_fits (conditional c a b) s rest o h e = absurd o
+-- a number that an expression begins with is in range
+pub number_fits : (t : Tree) (s rest : List ℕ) → Spells t s rest → token_kind s ≡ Number → decimal (token_word s) < 2 ^ 63
+number_fits (number n) s rest h e = omega (arith, h.1, h.2)
+number_fits (truth b) s rest h e = let f = clash s Name Number h.0.kind_is e in absurd (cc)
+number_fits null s rest h e = let f = clash s Name Number h.0.kind_is e in absurd (cc)
+number_fits (quoted ps last) s rest h e = let f = clash s Quote Number h.1.kind_is e in absurd (cc)
+number_fits (reference a b) s rest h e = let f = clash s Name Number h.1.2.kind_is e in absurd (cc)
+number_fits (call f ts) s rest h e = let g = clash s Name Number h.1.2.kind_is e in absurd (cc)
+number_fits (group t) s rest h e = let f = clash s OpenParen Number h.2.kind_is e in absurd (cc)
+number_fits (listed ts) s rest h e = let f = clash s OpenBracket Number h.1.kind_is e in absurd (cc)
+number_fits (attribute t name) s rest h e = number_fits t s h.0 h.1 e
+number_fits (index t i) s rest h e = number_fits t s h.0 h.1 e
+number_fits (unary Not t) s rest h e = let f = clash s Bang Number h.1.kind_is e in absurd (cc)
+number_fits (unary Negate t) s rest h e = let f = clash s (Binary Subtract) Number h.1.kind_is e in absurd (cc)
+number_fits (binary op a b) s rest h e = number_fits a s h.0 h.1 e
+number_fits (conditional c a b) s rest h e = number_fits c s h.0 h.1 e
 
 -- what is spelled is deeper than no level
 pub deep_some : (t : Tree) → 0 < tree_depth t

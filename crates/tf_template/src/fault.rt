@@ -60,7 +60,7 @@ pub(crate) fn refusal_behind(token: Token<'_>) -> Fault
     }
 }
 
-/// The refusal of a token on the last level, where what begins an expression would be too deep.
+/// The refusal of a token that doesn't close a list on the last level: what begins an expression is too deep there.
 pub(crate) fn last_level(token: Token<'_>) -> Fault
     ensures { begins token.entry.kind ≡ true
         → (token.entry.kind ≡ Number → decimal token.entry.word.now < 2 ^ 63) → result ≡ TooDeep }

@@ -19,6 +19,8 @@ use crate::tree::{Prefix, Template};
 use crate::word::{Keyword, keyword_of};
 use std::alloc::Global;
 
+// An expression of operators that bind at least so tightly. Where no level is left, none is read: whatever
+// stands there, each is too deep.
 #[cycle(reader)]
 pub(crate) fn expression<'a>(
     alloc: Global,
@@ -33,6 +35,9 @@ pub(crate) fn expression<'a>(
     ensures shorter { IfOk result (λ f. length f.rest.now < length text.now) }
     ensures complete { (t : Tree) (rest : List ℕ) → Spells t text.now rest → least ≤ level t → Stops least rest → Answers budget t rest result }
 {
+    if budget == 0 {
+        return Err(Fault::TooDeep);
+    }
     let mut left = operand(alloc, text, budget)?;
     while next_token(left.rest).kind.binding() >= least {
         left = operator(alloc, left, budget)?;
@@ -80,15 +85,13 @@ fn operator<'a>(alloc: Global, left: Found<'a>, budget: usize) -> Result<Found<'
 // What stands before, between and behind operators.
 #[cycle(reader)]
 fn operand<'a>(alloc: Global, text: &'a str, budget: usize) -> Result<Found<'a>, Fault>
-    requires { budget ≤ 64 }
+    requires room { budget ≤ 64 }
+    requires some { 0 < budget }
     ensures sound { IfOk result (λ f. IsFound budget text.now f × (8 ≤ level (view f.term))) }
     ensures shorter { IfOk result (λ f. length f.rest.now < length text.now) }
     ensures complete { (t : Tree) (rest : List ℕ) → IsOperand t → Spells t text.now rest → Holds t rest → Answers budget t rest result }
 {
     let token = next_token(text);
-    if budget == 0 {
-        return Err(last_level(token));
-    }
     match token.kind {
         Kind::Number => number(token),
         Kind::Name => name(alloc, text, budget),
@@ -142,7 +145,7 @@ fn name<'a>(alloc: Global, text: &'a str, budget: usize) -> Result<Found<'a>, Fa
     }
 }
 
-// Expressions up to a closing bracket.
+// Expressions up to a closing bracket. On the last level there may be none of them.
 #[cycle(reader)]
 fn list<'a>(
     alloc: Global,
@@ -166,6 +169,9 @@ fn list<'a>(
                 depth,
                 rest: token.rest,
             });
+        }
+        if budget == 0 {
+            return Err(last_level(token));
         }
         let found = expression(alloc, rest.text, 1, budget)?;
         terms.push(found.term)?;

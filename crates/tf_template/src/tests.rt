@@ -191,6 +191,108 @@ fn repeated(alloc: Global, part: &str, times: usize) -> Result<String, Fail> {
     Ok(text)
 }
 
+// Why an interpolation isn't read that begins with a text repeated, and this behind it.
+fn refusal_of(
+    alloc: Global,
+    part: &str,
+    times: usize,
+    behind: &str,
+) -> Result<Option<ReadFault>, Fail> {
+    let parts = repeated(alloc, part, times)?;
+    let text = format!(in alloc; "${{{parts}{behind}")?;
+    Ok(read_template(alloc, text.as_str()).err())
+}
+
+// After the 63rd of these each completion is too deep, whatever stands behind it, a wrong token too. After the
+// 62nd a wrong token is the first that begins no template.
+#[test]
+fn is_too_deep_at_the_last_level(rt: HostRuntime) -> Result<(), Fail> {
+    for part in ["!", "-", "(", "\"${"] {
+        for behind in ["", ")", "]", "+", "9223372036854775808", "1 2", "\"%{"] {
+            assert_eq!(rt;
+                refusal_of(rt.alloc(), part, 63, behind)?,
+                Some(ReadFault::TooDeep),
+                "{part} {behind}"
+            );
+        }
+        for (behind, more) in [
+            (")", 0),
+            ("]", 0),
+            ("9223372036854775808", 0),
+            ("\"%{", 1),
+            ("", 0),
+        ] {
+            let offset = part
+                .len()
+                .saturating_mul(62)
+                .saturating_add(more)
+                .saturating_add(2);
+            assert_eq!(rt;
+                refusal_of(rt.alloc(), part, 62, behind)?,
+                Some(ReadFault::At(offset)),
+                "{part} {behind}"
+            );
+        }
+    }
+    Ok(())
+}
+
+// A list on the last level may still close, so a token there is wrong before it is too deep.
+#[test]
+fn lists_may_close_on_the_last_level(rt: HostRuntime) -> Result<(), Fail> {
+    for (part, close) in [("[", "]"), ("f(", ")")] {
+        let whole = nested(rt.alloc(), part, "", close, 63)?;
+        assert!(rt; is_read(rt.alloc(), whole.as_str()), "{part}");
+        for behind in ["1", "a", "!", "(", "\"%{", "[", "- )"] {
+            assert_eq!(rt;
+                refusal_of(rt.alloc(), part, 63, behind)?,
+                Some(ReadFault::TooDeep),
+                "{part} {behind}"
+            );
+        }
+        for behind in ["", ",", "+", "}", "9223372036854775808", "%"] {
+            let offset = part.len().saturating_mul(63).saturating_add(2);
+            assert_eq!(rt;
+                refusal_of(rt.alloc(), part, 63, behind)?,
+                Some(ReadFault::At(offset)),
+                "{part} {behind}"
+            );
+        }
+    }
+    Ok(())
+}
+
+// So with operators behind what is already of the last level.
+#[test]
+fn operators_are_too_deep_on_the_last_level(rt: HostRuntime) -> Result<(), Fail> {
+    for behind in [
+        "1 + )",
+        "1 ? ]",
+        "1 &&",
+        "a.b.1",
+        "a.b[",
+        "f()[9223372036854775808",
+    ] {
+        assert_eq!(rt;
+            refusal_of(rt.alloc(), "!", 62, behind)?,
+            Some(ReadFault::TooDeep),
+            "{behind}"
+        );
+    }
+    for (behind, offset) in [("1[0]", 65), ("1 2", 66), ("a", 65), ("true.x", 68)] {
+        assert_eq!(rt;
+            refusal_of(rt.alloc(), "!", 62, behind)?,
+            Some(ReadFault::At(offset)),
+            "{behind}"
+        );
+    }
+    assert_eq!(rt;
+        refusal_of(rt.alloc(), "!", 61, "1 + )")?,
+        Some(ReadFault::At(67))
+    );
+    Ok(())
+}
+
 // What is too deep is so within the first 64 levels, however long the text is.
 #[test]
 fn answers_deep_texts_at_once(rt: HostRuntime) -> Result<(), Fail> {

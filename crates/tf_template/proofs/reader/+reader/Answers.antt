@@ -298,10 +298,18 @@ template-loop-parts-preserved t c =
     c.in_ok-after-in-Opens.ensures.value.0 c.in_ok-after-in-Opens.ensures.value.1 s.0.1 s.0.2 c.max-depth.ensures
     (omega (arith, k, c.loop-parts.invariant.shorter, c.in_ok-found-in-Opens.ensures.shorter, c.in_ok-after-in-Opens.ensures.shorter))
 
-pub operand-returns-then-budget-eq0-clause-complete : goal.operand-returns-then-budget-eq0-clause-complete
-operand-returns-then-budget-eq0-clause-complete t c =
-    λ tree rest o h z.
+pub expression-returns-then-budget-eq0-clause-complete : goal.expression-returns-then-budget-eq0-clause-complete
+expression-returns-then-budget-eq0-clause-complete t c = λ tree rest h k z. omega (arith, c.if-budget-eq0.true, deep_some tree)
+
+pub list-returns-then-budget-eq0-clause-complete : goal.list-returns-then-budget-eq0-clause-complete
+list-returns-then-budget-eq0-clause-complete t c =
+    let b = c.args.bracket in
     let kind = c.next_token-token.ensures.kind in
-    let begun = ap begins kind ∙ spells_begins tree c.args.text.now rest h in
-    let deep = c.last_level.ensures begun (λ k. let fits = number_fits tree c.args.text.now rest o h (sym kind ∙ k) in subst (λ w. decimal w < 2 ^ 63) (sym c.next_token-token.ensures.word) fits) in
-    subst (λ f. Fails f (c.args.budget < tree_depth tree)) (sym deep) (omega (arith, deep_some tree))
+    λ ts rest h.
+    row_fails (closing b) (closing_plain b) (closing_last b) (closing_other b) c.args.budget c.args.text.now c.loop-rest.terms.items c.loop-rest.depth c.loop-rest.rest.text.now c.loop-rest.invariant
+    (λ k. c.closes.ensures.no c.if-closes.false (kind ∙ k)) c.last_level.result
+    (λ tree p g k z.
+    let begun = ap begins kind ∙ spells_begins tree c.loop-rest.rest.text.now p g in
+    let deep = c.last_level.ensures begun (λ n. subst (λ w. decimal w < 2 ^ 63) (sym c.next_token-token.ensures.word) (number_fits tree c.loop-rest.rest.text.now p g (sym kind ∙ n))) in
+    subst (λ f. Fails f (c.args.budget < tree_depth tree)) (sym deep) (omega (arith, c.if-budget-eq0.true, deep_some tree)))
+    ts rest h
