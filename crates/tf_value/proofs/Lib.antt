@@ -4,3 +4,8 @@ pub mod Keys
 pub mod Order
 pub mod JsonForms
 pub mod Forms
+pub mod WithNulls
+pub mod Ordered
+pub mod Refining
+pub mod Scalars
+pub mod Storing

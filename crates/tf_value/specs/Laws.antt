@@ -1,11 +1,14 @@
 -- What holds of values and their JSON forms, whatever they are.
 use Rattle.std.specs.Prelude.{ℕ, List, ◌≡◌, ◌↔◌, true, Some, None}
 use Rattle.serde_json.specs.Data.{Data}
-use Rattle.tf_value.specs.Tree.{Tree, Entries, IsHeld, get, put, same}
+use Rattle.tf_value.specs.Tree.{Tree, Entries, IsHeld, IsSorted, get, put, same}
 use Rattle.tf_value.specs.Known.{known}
-use Rattle.tf_value.specs.Refinement.{Refines}
+use Rattle.tf_value.specs.Refinement.{Refines, refined}
 use Rattle.tf_value.specs.Place.{Place, with_part}
-use Rattle.tf_value.specs.Measure.{IsWithinLimits, IsTooLarge}
+use Rattle.tf_value.specs.Measure.{IsWithinLimits, IsTooLarge, weight, depth}
+use Rattle.tf_value.specs.Nulls.{with_nulls}
+use Rattle.tf_value.specs.Scalar.{scalar_text}
+use Rattle.tf_value.specs.Stored.{MayBeStored, may_be_stored}
 use Rattle.tf_value.specs.Json.{IsJson, value_data, value_from}
 
 -- Each value refines to itself.
@@ -23,6 +26,10 @@ RefinementIsAntisymmetric = (t u : Tree) → Refines t u → Refines u t → t �
 -- A known value refines to itself alone.
 abbrev pub KnownStays : Type 0
 KnownStays = (t u : Tree) → known t ≡ true → Refines t u → t ≡ u
+
+-- `refined` answers whether one value refines to another.
+abbrev pub RefinedIsRefinement : Type 0
+RefinedIsRefinement = (t u : Tree) → (refined t u ≡ true) ↔ Refines t u
 
 -- A value with a part refines to the same value with a part that the first one refines to, at any place.
 abbrev pub PartsRefine : Type 0
@@ -71,3 +78,30 @@ PutIsFound = (k : List ℕ) (t : Tree) (es : Entries) → get k (put k t es) ≡
 -- A put at a key leaves what stands at the others.
 abbrev pub PutLeavesOthers : Type 0
 PutLeavesOthers = (k l : List ℕ) (t : Tree) (es : Entries) → (¬ (l ≡ k)) → get l (put k t es) ≡ get l es
+
+-- With null for what is unknown, all of a value is known, and a known value stays as it is.
+abbrev pub NullsAreKnown : Type 0
+NullsAreKnown = (t : Tree) → known (with_nulls t) ≡ true
+
+abbrev pub KnownKeepsItself : Type 0
+KnownKeepsItself = (t : Tree) → known t ≡ true → with_nulls t ≡ t
+
+-- A value may turn out to be the one with null for what is unknown.
+abbrev pub NullsRefine : Type 0
+NullsRefine = (t : Tree) → Refines t (with_nulls t)
+
+-- Null in place of what is unknown changes neither weight nor depth.
+abbrev pub NullsMeasureTheSame : Type 0
+NullsMeasureTheSame = (t : Tree) → (weight (with_nulls t) ≡ weight t) × (depth (with_nulls t) ≡ depth t)
+
+-- What a `Value` holds within the limits may be stored with null for what is unknown.
+abbrev pub NullsMayBeStored : Type 0
+NullsMayBeStored = (t : Tree) → IsHeld t → IsSorted t → IsWithinLimits t → MayBeStored (with_nulls t)
+
+-- `may_be_stored` answers, of what a `Value` holds, whether it may be stored.
+abbrev pub StoredIsTested : Type 0
+StoredIsTested = (t : Tree) → IsHeld t → IsSorted t → (may_be_stored t ≡ true) ↔ MayBeStored t
+
+-- What has a text among texts is known.
+abbrev pub ScalarIsKnown : Type 0
+ScalarIsKnown = (t : Tree) (s : List ℕ) → scalar_text t ≡ Some s → known t ≡ true

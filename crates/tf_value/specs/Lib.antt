@@ -5,4 +5,9 @@ pub mod Refinement
 pub mod Measure
 pub mod Json
 pub mod Place
+pub mod Fault
+pub mod Nulls
+pub mod Scalar
+pub mod Stored
+pub mod StoredOnce
 pub mod Laws

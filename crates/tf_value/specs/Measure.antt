@@ -1,5 +1,5 @@
 -- How large a value is.
-use Rattle.std.specs.Prelude.{ℕ, ◌+◌, ◌<◌, ◌≤◌, ◌⊎◌, max, length}
+use Rattle.std.specs.Prelude.{ℕ, ◌+◌, ◌<◌, ◌≤◌, ◌⊎◌, max, length, Bool, ◌&&◌, nat_le}
 use Rattle.tf_value.specs.Tree.{Tree, null, boolean, whole, text, list, map, unknown, Items, no_items, item, Entries, no_entries, entry}
 
 -- A value's weight is one for itself, the bytes of its texts and keys, and the weights of its parts.
@@ -51,6 +51,10 @@ max_depth = 32
 -- A value is within the limits where neither its weight nor its depth is above the greatest.
 abbrev pub IsWithinLimits : Tree → Type 0
 IsWithinLimits t = (weight t ≤ max_weight) × (depth t ≤ max_depth)
+
+-- the same as a test
+abbrev pub is_within : Tree → Bool
+is_within t = nat_le (weight t) max_weight && nat_le (depth t) max_depth
 
 -- A value is too large where its weight or its depth is above the greatest.
 abbrev pub IsTooLarge : Tree → Type 0

@@ -3,6 +3,7 @@ use Rattle.std.specs.Prelude.{ℕ, ℤ, Bool, true, false, if◌then◌else◌, 
 use Rattle.std.specs.Ordering.{int_eq, nat_cmp, match_ordering}
 use Rattle.std.specs.Cmp.Lexicographic.{slice_cmp}
 use Rattle.std.specs.Int.{w64}
+use Rattle.std.specs.List.Sorted.{IsStrictlySortedBy}
 use Rattle.std.specs.Str.{bytes_eq}
 use mathlib.Core.Bool.{beq}
 use Rattle.std.specs.declared.alloc.Global.{Global}
@@ -76,6 +77,11 @@ abbrev pub put : List ℕ → Tree → Entries → Entries
 put k t no_entries = entry k t no_entries
 put k t (entry l u es) = match_ordering (slice_cmp nat_cmp k l) (entry k t (entry l u es)) (entry l t es) (entry l u (put k t es))
 
+-- the keys of a map's entries
+abbrev pub keys_of : Entries → List (List ℕ)
+keys_of no_entries = []
+keys_of (entry k t es) = k ∷ keys_of es
+
 -- A tree is held by a `Value` where each whole number in it is one of 64 bits with a sign.
 abbrev mutual
   pub IsHeld : Tree → Type 0
@@ -91,6 +97,21 @@ abbrev mutual
   pub AreHeldEntries : Entries → Type 0
   AreHeldEntries no_entries = ⊤
   AreHeldEntries (entry k t es) = IsHeld t × AreHeldEntries es
+
+-- A tree is sorted where the keys of each map in it stand strictly in byte order.
+abbrev mutual
+  pub IsSorted : Tree → Type 0
+  IsSorted (list ts) = AreSorted ts
+  IsSorted (map es) = IsStrictlySortedBy (slice_cmp nat_cmp) (keys_of es) × AreSortedEntries es
+  IsSorted _ = ⊤
+
+  pub AreSorted : Items → Type 0
+  AreSorted no_items = ⊤
+  AreSorted (item t ts) = IsSorted t × AreSorted ts
+
+  pub AreSortedEntries : Entries → Type 0
+  AreSortedEntries no_entries = ⊤
+  AreSortedEntries (entry k t es) = IsSorted t × AreSortedEntries es
 
 -- Two values are the same where their trees are.
 abbrev mutual

@@ -1,12 +1,13 @@
 // Laws of values, proved for every value: each function's contract is a law, and its body does nothing.
-ghost use Rattle.tf_value.specs.Laws.{RefinementIsReflexive, RefinementIsTransitive, RefinementIsAntisymmetric, KnownStays, PartsRefine, SameIsEquality, FormIsOne, ValueOfFormIsOne, FormedIsKnown, KnownHasForm, ReadsForms, ReadsFormsAlone, FormReadsBack, LimitsDecide, PutIsFound, PutLeavesOthers};
+ghost use Rattle.tf_value.specs.Laws.{RefinementIsReflexive, RefinementIsTransitive, RefinementIsAntisymmetric, KnownStays, PartsRefine, SameIsEquality, FormIsOne, ValueOfFormIsOne, FormedIsKnown, KnownHasForm, ReadsForms, ReadsFormsAlone, FormReadsBack, LimitsDecide, PutIsFound, PutLeavesOthers, RefinedIsRefinement, NullsAreKnown, KnownKeepsItself, NullsRefine, NullsMeasureTheSame, NullsMayBeStored, StoredIsTested, ScalarIsKnown};
 
 /// Refinement is an order: each value refines to itself, refinements follow one another, and two values that
-/// refine to each other are equal.
+/// refine to each other are equal. `refined` tests it.
 pub fn refinement_is_an_order()
     ensures reflexive { RefinementIsReflexive }
     ensures transitive { RefinementIsTransitive }
     ensures antisymmetric { RefinementIsAntisymmetric }
+    ensures tested { RefinedIsRefinement }
 {}
 
 /// A known value refines to itself alone.
@@ -50,4 +51,25 @@ pub fn limits_decide()
 pub fn puts_are_found()
     ensures found { PutIsFound }
     ensures others { PutLeavesOthers }
+{}
+
+/// With null for what is unknown a value is known, and it is what the value may turn out to be; what was known stays,
+/// and neither weight nor depth changes.
+pub fn nulls_stand_for_unknowns()
+    ensures known { NullsAreKnown }
+    ensures stays { KnownKeepsItself }
+    ensures refines { NullsRefine }
+    ensures measures { NullsMeasureTheSame }
+{}
+
+/// A value may be stored exactly where `may_be_stored` says so, and one within the limits with null for what is
+/// unknown.
+pub fn stored_values_are_known()
+    ensures tested { StoredIsTested }
+    ensures nulls { NullsMayBeStored }
+{}
+
+/// What has a text among texts is known.
+pub fn scalars_are_known()
+    ensures { ScalarIsKnown }
 {}

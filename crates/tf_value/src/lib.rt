@@ -8,9 +8,12 @@ mod json;
 mod known;
 mod laws;
 mod measure;
+mod nulls;
 mod reading;
 mod refinement;
+mod scalar;
 mod sending;
+mod stored;
 #[cfg(test)]
 mod tests;
 mod value;
@@ -21,10 +24,14 @@ pub use json::JsonFault;
 pub use known::is_known;
 pub use laws::{
     equality_is_of_trees, forms_are_one, forms_read_back, known_values_stay, limits_decide,
-    parts_refine, puts_are_found, refinement_is_an_order,
+    nulls_stand_for_unknowns, parts_refine, puts_are_found, refinement_is_an_order,
+    scalars_are_known, stored_values_are_known,
 };
 pub use measure::{MAX_DEPTH, MAX_WEIGHT, depth, is_within_limits, weight};
+pub use nulls::with_nulls;
 pub use reading::from_json;
 pub use refinement::refines;
+pub use scalar::scalar_text;
+pub use stored::may_be_stored;
 pub use value::{Value, find};
 pub use writing::{entries_to_json, to_json};

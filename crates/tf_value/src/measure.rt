@@ -1,5 +1,6 @@
-ghost use Rattle.std.specs.Prelude.{◌≡◌, ◌↔◌, ◌^◌, ◌-◌, min, IsTrue};
-ghost use Rattle.tf_value.specs.Tree.{tree_of, items_view, entries_view};
+ghost use Rattle.std.specs.Prelude.{◌≡◌, ◌↔◌, ◌^◌, ◌-◌, min, FitsSigned, IsTrue};
+ghost use Rattle.std.specs.Int.{w64};
+ghost use Rattle.tf_value.specs.Tree.{map, IsHeld, IsSorted, AreHeld, AreSorted, tree_of, items_view, entries_view};
 ghost use Rattle.tf_value.specs.Measure.{weight as weight_of, weight_of_items, weight_of_entries, depth as depth_of, depth_of_items, depth_of_entries, IsWithinLimits};
 
 use crate::value::Value;
@@ -13,28 +14,44 @@ pub const MAX_DEPTH: u32 = 32;
 
 /// Whether neither a value's weight nor its depth is above the greatest.
 pub fn is_within_limits(value: &Value) -> bool
-    ensures { IsTrue result ↔ IsWithinLimits (tree_of value.now) }
+    ensures exact { IsTrue result ↔ IsWithinLimits (tree_of value.now) }
+    ensures held { IsHeld (tree_of value.now) }
+    ensures sorted { IsSorted (tree_of value.now) }
 {
     weight(value) <= MAX_WEIGHT && depth(value) <= MAX_DEPTH
 }
 
 /// How much a value weighs: one for itself, the bytes of its texts and keys, and the weights of its parts;
-/// 2^64 - 1 where that is more.
+/// 2^64 - 1 where that is more. As it sees each part, it also says what holds of each value: its numbers are of 64
+/// bits, and the keys of its maps stand in byte order.
 #[cycle(weight)]
 pub fn weight(value: &Value) -> u64
-    ensures { result ≡ min (weight_of (tree_of value.now)) (2 ^ 64 - 1) }
+    ensures total { result ≡ min (weight_of (tree_of value.now)) (2 ^ 64 - 1) }
+    ensures held { IsHeld (tree_of value.now) }
+    ensures sorted { IsSorted (tree_of value.now) }
 {
     match value {
-        Value::Null | Value::Bool(_) | Value::Int(_) | Value::Unknown => 1,
+        Value::Null | Value::Bool(_) | Value::Unknown => 1,
+        Value::Int(number) => weigh_number(*number),
         Value::Text(text) => (text.len() as u64).saturating_add(1),
         Value::List(items) => weigh_items(items).saturating_add(1),
         Value::Map(entries) => weigh_entries(entries).saturating_add(1),
     }
 }
 
+// A whole number weighs one, and is one of 64 bits.
+fn weigh_number(_number: i64) -> u64
+    ensures total { result ≡ 1 }
+    ensures held { FitsSigned w64 _number }
+{
+    1
+}
+
 #[cycle(weight)]
 fn weigh_items(items: &Vec<Value>) -> u64
-    ensures { result ≡ min (weight_of_items (items_view items.now.items)) (2 ^ 64 - 1) }
+    ensures total { result ≡ min (weight_of_items (items_view items.now.items)) (2 ^ 64 - 1) }
+    ensures held { AreHeld (items_view items.now.items) }
+    ensures sorted { AreSorted (items_view items.now.items) }
 {
     let mut total = 0u64;
     for item in items {
@@ -44,8 +61,11 @@ fn weigh_items(items: &Vec<Value>) -> u64
 }
 
 #[cycle(weight)]
+#[tactic(auto, using(crate::proofs::Ordered::map_sorted))]
 fn weigh_entries(entries: &BTreeMap<String, Value>) -> u64
-    ensures { result ≡ min (weight_of_entries (entries_view entries.now.entries)) (2 ^ 64 - 1) }
+    ensures total { result ≡ min (weight_of_entries (entries_view entries.now.entries)) (2 ^ 64 - 1) }
+    ensures held { IsHeld (map (entries_view entries.now.entries)) }
+    ensures sorted { IsSorted (map (entries_view entries.now.entries)) }
 {
     let mut total = 0u64;
     for (key, value) in entries.iter() {

@@ -1,6 +1,6 @@
-ghost use Rattle.std.specs.Prelude.{◌↔◌, IsTrue};
+ghost use Rattle.std.specs.Prelude.{◌≡◌, ◌↔◌, IsTrue};
 ghost use Rattle.tf_value.specs.Tree.{tree_of, items_view, entries_view};
-ghost use Rattle.tf_value.specs.Refinement.{Refines, RefinesItems, RefinesEntries};
+ghost use Rattle.tf_value.specs.Refinement.{Refines, RefinesItems, RefinesEntries, refined};
 
 use crate::value::Value;
 use std::collections::BTreeMap;

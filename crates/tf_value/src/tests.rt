@@ -1,6 +1,6 @@
 use crate::{
     JsonFault, MAX_DEPTH, MAX_WEIGHT, Value, copy, depth, entries_to_json, find, from_json,
-    is_known, is_within_limits, refines, to_json, weight,
+    is_known, is_within_limits, may_be_stored, refines, scalar_text, to_json, weight, with_nulls,
 };
 use serde_json::Value as Json;
 use std::alloc::{AllocError, Global};
@@ -234,6 +234,28 @@ fn derives(rt: HostRuntime) -> Result<(), Fail> {
     };
     let copied = attribute.clone()?;
     assert_eq!(rt; copied, attribute);
+    Ok(())
+}
+
+#[test]
+fn nulls_for_unknowns(rt: HostRuntime) -> Result<(), Fail> {
+    let alloc = rt.alloc();
+    let planned = pair(alloc, Value::Unknown, entry(alloc, "id", Value::Unknown)?)?;
+    let saved = with_nulls(alloc, &planned)?;
+    assert!(rt; !may_be_stored(&planned) && may_be_stored(&saved));
+    assert!(rt; saved == pair(alloc, Value::Null, entry(alloc, "id", Value::Null)?)?);
+    Ok(())
+}
+
+#[test]
+fn texts_of_scalars(rt: HostRuntime) -> Result<(), Fail> {
+    let alloc = rt.alloc();
+    assert_eq!(rt; scalar_text(alloc, &Value::Int(-7))?.as_deref(), Some("-7"));
+    assert_eq!(rt;
+        scalar_text(alloc, &Value::Bool(true))?.as_deref(),
+        Some("true")
+    );
+    assert!(rt; scalar_text(alloc, &Value::Null)?.is_none());
     Ok(())
 }
 

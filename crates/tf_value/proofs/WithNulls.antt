@@ -1,0 +1,165 @@
+-- Values with null in place of what isn't known.
+use Rattle.std.proofs.Common.{◌≡◌, ◌+◌, true, List, [], ◌∷◌, map as each, string_bytes, subst, refl, sym, ap}
+use Rattle.std.specs.Cmp.Lexicographic.{slice_cmp}
+use Rattle.std.specs.List.Sorted.{IsStrictlySortedBy}
+use Rattle.std.specs.Ordering.{nat_cmp}
+use Rattle.tf_value.specs.Known.{known, known_items, known_entries}
+use Rattle.tf_value.specs.Measure.{weight, weight_of_items, weight_of_entries, depth, depth_of_items, depth_of_entries, IsWithinLimits}
+use Rattle.tf_value.specs.Nulls.{with_nulls, items_with_nulls, entries_with_nulls}
+use Rattle.tf_value.specs.Refinement.{Refines, RefinesItems, RefinesEntries}
+use Rattle.tf_value.specs.Stored.{MayBeStored}
+use Rattle.tf_value.specs.Tree.{Tree, null, boolean, whole, text, list, map, unknown, Items, no_items, item, Entries, no_entries, entry, IsHeld, AreHeld, AreHeldEntries, IsSorted, AreSorted, AreSortedEntries, keys_of, tree_of, items_of, items_view, entries_view}
+use Rattle.tf_value.specs.declared.value.Value.{Value}
+use Rattle.tf_value.proofs.Conjunction.{and-first, and-second, and-both}
+use Rattle.tf_value.proofs.Views.{Entry, shown}
+
+-- item by item, and entry by entry
+pub items_with_nulls-each : (vs : List Value) → items_of (each (λ v. with_nulls (tree_of v)) vs) ≡ items_with_nulls (items_view vs)
+items_with_nulls-each [] = refl
+items_with_nulls-each (v ∷ vs) = ap (item (with_nulls (tree_of v))) (items_with_nulls-each vs)
+
+pub nulls_shown : (es : List Entry) → shown (λ v. with_nulls (tree_of v)) es ≡ entries_with_nulls (entries_view es)
+nulls_shown [] = refl
+nulls_shown (e ∷ es) = ap (entry (string_bytes e.0) (with_nulls (tree_of e.1))) (nulls_shown es)
+
+-- then all is known
+mutual
+  pub nulls-known : (t : Tree) → known (with_nulls t) ≡ true
+  nulls-known null = refl
+  nulls-known (boolean b) = refl
+  nulls-known (whole z) = refl
+  nulls-known (text s) = refl
+  nulls-known (list ts) = item_nulls-known ts
+  nulls-known (map es) = entry_nulls-known es
+  nulls-known unknown = refl
+
+  item_nulls-known : (ts : Items) → known_items (items_with_nulls ts) ≡ true
+  item_nulls-known no_items = refl
+  item_nulls-known (item t ts) = and-both (known (with_nulls t)) (known_items (items_with_nulls ts)) (nulls-known t) (item_nulls-known ts)
+
+  entry_nulls-known : (es : Entries) → known_entries (entries_with_nulls es) ≡ true
+  entry_nulls-known no_entries = refl
+  entry_nulls-known (entry k t es) = and-both (known (with_nulls t)) (known_entries (entries_with_nulls es)) (nulls-known t) (entry_nulls-known es)
+
+-- and what was known stays
+mutual
+  pub known-nulls : (t : Tree) → known t ≡ true → with_nulls t ≡ t
+  known-nulls null h = refl
+  known-nulls (boolean b) h = refl
+  known-nulls (whole z) h = refl
+  known-nulls (text s) h = refl
+  known-nulls (list ts) h = ap list (known-item_nulls ts h)
+  known-nulls (map es) h = ap map (known-entry_nulls es h)
+  known-nulls unknown h = absurd (cc)
+
+  known-item_nulls : (ts : Items) → known_items ts ≡ true → items_with_nulls ts ≡ ts
+  known-item_nulls no_items h = refl
+  known-item_nulls (item t ts) h =
+      let p = known-nulls t (and-first (known t) (known_items ts) h) in
+      let q = known-item_nulls ts (and-second (known t) (known_items ts) h) in cc
+
+  known-entry_nulls : (es : Entries) → known_entries es ≡ true → entries_with_nulls es ≡ es
+  known-entry_nulls no_entries h = refl
+  known-entry_nulls (entry k t es) h =
+      let p = known-nulls t (and-first (known t) (known_entries es) h) in
+      let q = known-entry_nulls es (and-second (known t) (known_entries es) h) in cc
+
+mutual
+  pub nulls-refine : (t : Tree) → Refines t (with_nulls t)
+  nulls-refine null = tt
+  nulls-refine (boolean b) = refl
+  nulls-refine (whole z) = refl
+  nulls-refine (text s) = refl
+  nulls-refine (list ts) = item_nulls-refine ts
+  nulls-refine (map es) = entry_nulls-refine es
+  nulls-refine unknown = tt
+
+  item_nulls-refine : (ts : Items) → RefinesItems ts (items_with_nulls ts)
+  item_nulls-refine no_items = tt
+  item_nulls-refine (item t ts) = (nulls-refine t, item_nulls-refine ts)
+
+  entry_nulls-refine : (es : Entries) → RefinesEntries es (entries_with_nulls es)
+  entry_nulls-refine no_entries = tt
+  entry_nulls-refine (entry k t es) = (refl, nulls-refine t, entry_nulls-refine es)
+
+mutual
+  pub nulls-weight : (t : Tree) → weight (with_nulls t) ≡ weight t
+  nulls-weight null = refl
+  nulls-weight (boolean b) = refl
+  nulls-weight (whole z) = refl
+  nulls-weight (text s) = refl
+  nulls-weight (list ts) = ap (λ n. 1 + n) (item_nulls-weight ts)
+  nulls-weight (map es) = ap (λ n. 1 + n) (entry_nulls-weight es)
+  nulls-weight unknown = refl
+
+  item_nulls-weight : (ts : Items) → weight_of_items (items_with_nulls ts) ≡ weight_of_items ts
+  item_nulls-weight no_items = refl
+  item_nulls-weight (item t ts) = rw (nulls-weight t, item_nulls-weight ts) refl
+
+  entry_nulls-weight : (es : Entries) → weight_of_entries (entries_with_nulls es) ≡ weight_of_entries es
+  entry_nulls-weight no_entries = refl
+  entry_nulls-weight (entry k t es) = rw (nulls-weight t, entry_nulls-weight es) refl
+
+mutual
+  pub nulls-depth : (t : Tree) → depth (with_nulls t) ≡ depth t
+  nulls-depth null = refl
+  nulls-depth (boolean b) = refl
+  nulls-depth (whole z) = refl
+  nulls-depth (text s) = refl
+  nulls-depth (list ts) = ap (λ n. 1 + n) (item_nulls-depth ts)
+  nulls-depth (map es) = ap (λ n. 1 + n) (entry_nulls-depth es)
+  nulls-depth unknown = refl
+
+  item_nulls-depth : (ts : Items) → depth_of_items (items_with_nulls ts) ≡ depth_of_items ts
+  item_nulls-depth no_items = refl
+  item_nulls-depth (item t ts) = rw (nulls-depth t, item_nulls-depth ts) refl
+
+  entry_nulls-depth : (es : Entries) → depth_of_entries (entries_with_nulls es) ≡ depth_of_entries es
+  entry_nulls-depth no_entries = refl
+  entry_nulls-depth (entry k t es) = rw (nulls-depth t, entry_nulls-depth es) refl
+
+mutual
+  pub nulls-held : (t : Tree) → IsHeld t → IsHeld (with_nulls t)
+  nulls-held null h = tt
+  nulls-held (boolean b) h = tt
+  nulls-held (whole z) h = h
+  nulls-held (text s) h = tt
+  nulls-held (list ts) h = item_nulls-held ts h
+  nulls-held (map es) h = entry_nulls-held es h
+  nulls-held unknown h = tt
+
+  item_nulls-held : (ts : Items) → AreHeld ts → AreHeld (items_with_nulls ts)
+  item_nulls-held no_items h = tt
+  item_nulls-held (item t ts) h = (nulls-held t h.0, item_nulls-held ts h.1)
+
+  entry_nulls-held : (es : Entries) → AreHeldEntries es → AreHeldEntries (entries_with_nulls es)
+  entry_nulls-held no_entries h = tt
+  entry_nulls-held (entry k t es) h = (nulls-held t h.0, entry_nulls-held es h.1)
+
+pub nulls-keys : (es : Entries) → keys_of (entries_with_nulls es) ≡ keys_of es
+nulls-keys no_entries = refl
+nulls-keys (entry k t es) = ap (λ ks. k ∷ ks) (nulls-keys es)
+
+mutual
+  pub nulls-sorted : (t : Tree) → IsSorted t → IsSorted (with_nulls t)
+  nulls-sorted null h = tt
+  nulls-sorted (boolean b) h = tt
+  nulls-sorted (whole z) h = tt
+  nulls-sorted (text s) h = tt
+  nulls-sorted (list ts) h = item_nulls-sorted ts h
+  nulls-sorted (map es) h = (subst (λ ks. IsStrictlySortedBy (slice_cmp nat_cmp) ks) (sym (nulls-keys es)) h.0, entry_nulls-sorted es h.1)
+  nulls-sorted unknown h = tt
+
+  item_nulls-sorted : (ts : Items) → AreSorted ts → AreSorted (items_with_nulls ts)
+  item_nulls-sorted no_items h = tt
+  item_nulls-sorted (item t ts) h = (nulls-sorted t h.0, item_nulls-sorted ts h.1)
+
+  entry_nulls-sorted : (es : Entries) → AreSortedEntries es → AreSortedEntries (entries_with_nulls es)
+  entry_nulls-sorted no_entries h = tt
+  entry_nulls-sorted (entry k t es) h = (nulls-sorted t h.0, entry_nulls-sorted es h.1)
+
+pub nulls-within : (t : Tree) → IsWithinLimits t → IsWithinLimits (with_nulls t)
+nulls-within t h = rw (nulls-weight t, nulls-depth t) h
+
+pub nulls-stored : (t : Tree) → IsHeld t → IsSorted t → IsWithinLimits t → MayBeStored (with_nulls t)
+nulls-stored t held sorted within = (nulls-held t held, nulls-sorted t sorted, nulls-known t, nulls-within t within)
