@@ -11,8 +11,6 @@ mod demand;
 mod known_names;
 mod laws;
 mod reading;
-#[cfg(test)]
-mod tests;
 mod words;
 
 pub use config::{Block, Config};

@@ -13,6 +13,3 @@ pub mod words;
 
 pub use reading::options;
 pub use words::Options;
-
-#[cfg(test)]
-mod tests;

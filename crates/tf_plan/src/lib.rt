@@ -8,8 +8,6 @@ pub mod plan;
 pub mod planner;
 pub mod refused;
 mod shown;
-#[cfg(test)]
-mod tests;
 mod text;
 
 pub use argument::{ArgumentFault, ValueFault};

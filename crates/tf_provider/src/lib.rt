@@ -9,6 +9,3 @@ pub use tf_protocol::{
     Attribute, Kind, Mode, Op, Provider, Reply, Request, Schema, SchemaFault, Verdict, asks_fully,
     first_provider, has_attributes, judge, schema_for, well_formed,
 };
-
-#[cfg(test)]
-mod tests;

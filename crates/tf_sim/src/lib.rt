@@ -15,6 +15,3 @@ pub mod answers;
 pub mod sim;
 
 pub use sim::Sim;
-
-#[cfg(test)]
-mod tests;

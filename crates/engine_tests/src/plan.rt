@@ -1,7 +1,7 @@
-use crate::{Order, Refused, plan_for};
 use std::alloc::{AllocError, Global};
 use std::test::Fail;
 use tf_config::read;
+use tf_plan::{Order, Refused, plan_for};
 use tf_protocol::{Attribute, Kind, Mode, Provider, Reply, Request, Schema};
 
 // A provider of nets that does nothing.

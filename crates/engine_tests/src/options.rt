@@ -1,7 +1,6 @@
-use crate::options;
-use crate::words::Options;
 use std::alloc::Global;
 use std::test::Fail;
+use tf_options::{Options, options};
 
 fn read(alloc: Global, words: &[&str]) -> Result<Options, clap::Error> {
     let mut owned = Vec::new(alloc);

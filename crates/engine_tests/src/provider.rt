@@ -3,15 +3,15 @@
 ghost use Rattle.std.specs.Prelude.{◌≡◌, IsTrue, MatchResult};
 ghost use Rattle.tf_claim.specs.Ledger.{is_taken, stage_in};
 
-use crate::{
-    Attribute, Called, Kind, Mode, Op, Parts, Provider, Reply, Request, Schema, SchemaFault,
-    Verdict, asks_fully, call, first_provider, judge, well_formed,
-};
 use std::alloc::{AllocError, Global};
 use std::collections::BTreeMap;
 use std::test::Fail;
 use tf_claim::{Book, Finished, Permit, waive};
 use tf_graph::Graph;
+use tf_provider::{
+    Attribute, Called, Kind, Mode, Op, Parts, Provider, Reply, Request, Schema, SchemaFault,
+    Verdict, asks_fully, call, first_provider, judge, well_formed,
+};
 use tf_value::Value;
 
 /// An attribute that forces nothing.

@@ -1,10 +1,10 @@
 //! What the provider answers, row by row, and its schemas.
 
-use crate::Sim;
 use std::alloc::{AllocError, Global};
 use std::collections::BTreeMap;
 use std::test::Fail;
 use tf_protocol::{Op, Provider, Reply, Request};
+use tf_sim::Sim;
 use tf_value::Value;
 
 /// The object with these texts at two keys, and a size.

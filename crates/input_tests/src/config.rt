@@ -1,9 +1,9 @@
-use crate::{
+use std::alloc::{AllocError, Global};
+use std::test::Fail;
+use tf_config::{
     Detail, EvalFault, Refusal, blocks_are_in_order, faultless_trees_stand, known_names_are_none,
     read, refusals_are_one,
 };
-use std::alloc::{AllocError, Global};
-use std::test::Fail;
 
 // The refusal's text, or how many blocks were read.
 fn answer(alloc: Global, bytes: &[u8]) -> Result<String, AllocError> {

@@ -1,0 +1,5 @@
+//! Tests over public calls.
+#![tactic(auto)]
+
+#[cfg(test)]
+mod config;
