@@ -1,5 +1,5 @@
 -- What a book of claims says: how far each action of a graph is, and which actions may be claimed.
-use Rattle.std.specs.Prelude.{◌≡◌, ℕ, ◌<◌, Bool, true, false, ◌&&◌, List, length, slice_index_or, slice_set}
+use Rattle.std.specs.Prelude.{◌≡◌, ℕ, Bool, true, false, ◌&&◌, List, length, slice_index_or, slice_set}
 use Rattle.std.specs.List.{list_all}
 use Rattle.tf_graph.specs.Digraph.{Digraph, predecessors_of}
 use Rattle.tf_claim.specs.declared.book.Stage.{Stage}

@@ -1,1 +1,4 @@
+pub mod Claims
 pub mod Ledger
+pub mod Plays
+pub mod Views

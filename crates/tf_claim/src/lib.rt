@@ -2,11 +2,16 @@
 //!
 //! A `Permit` is the right to call the provider of one action, and `Finished` says that this right was
 //! spent. Neither can be copied or let go, so an action that was claimed is called or waived, and then
-//! finished.
+//! finished. `Book` is the book of claims of one worker, `Claims` that of many.
 #![tactic(auto)]
 
 pub mod book;
+pub mod claims;
 pub mod permit;
+mod rule;
+pub mod seat;
 
 pub use book::{Book, Stage};
+pub use claims::Claims;
 pub use permit::{Finished, Permit, waive};
+pub use seat::Seat;

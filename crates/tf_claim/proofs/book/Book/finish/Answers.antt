@@ -1,6 +1,6 @@
-use Rattle.std.proofs.Common.{◌≡◌, ◌<◌, ◌∙◌, sym, ap, true, length, refl}
-use Rattle.tf_claim.specs.Ledger.{IsKept, is_taken, stage_in}
-use Rattle.tf_claim.proofs.Moves.{kept-done}
+use Rattle.std.proofs.Common.{◌≡◌, ◌<◌, sym, true, length, refl}
+use Rattle.tf_claim.specs.Ledger.{is_taken, stage_in}
+use Rattle.tf_claim.proofs.Ledgers.{kept-done}
 use Rattle.tf_claim.proofs.book.Book.finish.Goals as goal
 
 pub invariant_of-self : goal.invariant_of-self

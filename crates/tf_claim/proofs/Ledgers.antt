@@ -1,11 +1,11 @@
 -- What a book keeps when an action that was taken becomes done.
-use Rattle.std.proofs.Common.{◌≡◌, ◌≢◌, ℕ, ◌<◌, Bool, true, false, ◌&&◌, List, [], ◌∷◌, length, get_or, set, refl, sym, ap, ◌∙◌, arith, inl, inr, get_or-set_other, get_or-set_same, length-set}
+use Rattle.std.proofs.Common.{◌≡◌, ◌≢◌, ℕ, ◌<◌, Bool, true, false, ◌&&◌, List, [], ◌∷◌, length, set, refl, sym, ap, ◌∙◌, inl, inr, get_or-set_other, get_or-set_same, length-set}
 use Rattle.std.specs.List.{list_all}
 use Rattle.std.proofs.lemmas.Bool.{cases_eq}
 use Rattle.tf_graph.specs.Digraph.{predecessors_of}
 use Rattle.tf_claim.specs.declared.book.Stage.{Stage}
 use Rattle.tf_claim.specs.declared.book.Stage.TheVariants.{Free, Taken, Done}
-use Rattle.tf_claim.specs.Ledger.{Ledger, IsKept, stage_in, is_free, is_taken, is_done, is_ready, moved}
+use Rattle.tf_claim.specs.Ledger.{Ledger, IsKept, stage_in, is_free, is_taken, is_done, moved}
 
 and_left : (x y : Bool) → (x && y) ≡ true → x ≡ true
 and_left true y h = refl

@@ -1,0 +1,109 @@
+-- The rule of the shared claims: what the words and counts of the actions, and the views of all seats, are
+-- at every moment. A seat that was dropped keeps its view; one that was joined leaves an empty one.
+use Rattle.std.specs.Prelude.{◌≡◌, ◌<◌, ◌≤◌, ◌+◌, ◌-◌, ◌*◌, ◌^◌, ◌==◌, ◌&&◌, ℕ, zero, suc, Bool, List, [], ◌∷◌, length, slice_index, if◌then◌else◌, min}
+use mathlib.Core.Option.{some}
+use lib.ListN.{get_elem?}
+use Rattle.atomic_table.specs.Table.{State}
+use Rattle.atomic_table.specs.Seated.{TableId}
+use Rattle.tf_graph.specs.Digraph.{Digraph, source, target, predecessors_of}
+use Rattle.tf_claim.specs.declared.seat.View.{View}
+use Rattle.tf_claim.specs.Views.{times}
+
+-- which claims these are, and the graph of their actions
+pub record Shared : Type 0 where
+  pub table : TableId
+  pub graph : Digraph
+
+-- the three stages of an action, as its word says them
+abbrev pub free : ℕ
+free = 0
+
+abbrev pub taken : ℕ
+taken = 1
+
+abbrev pub done : ℕ
+done = 2
+
+-- what each view has of something, added up over all seats
+abbrev pub total : (View → ℕ) → List View → ℕ
+total f [] = 0
+total f (v ∷ vs) = f v + total f vs
+
+-- how often each view has claimed, finished, let go
+abbrev pub claims_of : ℕ → View → ℕ
+claims_of n v = times n v.claimed
+
+abbrev pub ends_of : ℕ → View → ℕ
+ends_of n v = times n v.finished
+
+abbrev pub releases_of : ℕ → View → ℕ
+releases_of e v = times e v.let_go
+
+-- how many of the numbers below a bound pass a test
+abbrev pub how_many : (ℕ → Bool) → ℕ → ℕ
+how_many p zero = 0
+how_many p (suc i) = (if p i then 1 else 0) + how_many p i
+
+-- an edge leads into an action, and nobody has let go of it
+abbrev pub holds_back : Digraph → ℕ → List View → ℕ → Bool
+holds_back g n views e = (total (releases_of e) views == 0) && (target g e == n)
+
+-- the number of edges into an action that nobody has let go of
+abbrev pub waiting : Digraph → ℕ → List View → ℕ
+waiting g n views = how_many (holds_back g n views) (length g.edges)
+
+-- What a view says is so: the seat finished only what it claimed, whatever it has seen is done and whatever
+-- it has known is taken or done, and each edge that it let go of is one whose source it finished.
+pub record IsTrueOf (g : Digraph) (stage : ℕ → ℕ) (v : View) : Type 0 where
+  pub own : (n : ℕ) → times n v.finished ≤ times n v.claimed
+  pub seen : (n : ℕ) → 0 < times n v.seen → stage n ≡ done
+  pub known : (n : ℕ) → 0 < times n v.known → free < stage n
+  pub let_go : (e : ℕ) → times e v.let_go ≤ times (source g e) v.finished
+  pub edges : (e : ℕ) → length g.edges ≤ e → times e v.let_go ≡ 0
+
+-- The rule. Each action is free, taken or done, and what isn't an action is free. A free action was claimed
+-- by no seat, and any other by exactly one, once; a done action was finished once, by the seat that claimed
+-- it, and any other not at all. Whatever is taken or done has only done actions before it. The count of an
+-- action is the number of edges into it that nobody has let go of. What each view says is so; hence an edge
+-- was let go of once at most, as its source was finished once.
+pub record IsKept (g : Digraph) (stage count : ℕ → ℕ) (views : List View) : Type 0 where
+  pub stages : (n : ℕ) → stage n ≤ done
+  pub outside : (n : ℕ) → g.nodes ≤ n → stage n ≡ free
+  pub claimed : (n : ℕ) → total (claims_of n) views ≡ min 1 (stage n)
+  pub finished : (n : ℕ) → total (ends_of n) views ≡ stage n - 1
+  pub before : (e : ℕ) → e < length g.edges → free < stage (target g e) → stage (source g e) ≡ done
+  pub counts : (n : ℕ) → n < g.nodes → count n ≡ waiting g n views
+  pub each : (k : ℕ) (v : View) → get_elem? views k ≡ some v → IsTrueOf g stage v
+
+-- the rule holds, and one seat has this view in it
+pub record Stands (g : Digraph) (v : View) : Type 0 where
+  pub stage : ℕ → ℕ
+  pub count : ℕ → ℕ
+  pub views : List View
+  pub seat : ℕ
+  pub rule : IsKept g stage count views
+  pub at : get_elem? views seat ≡ some v
+
+-- Where the words lie: eight words for each action, of which the first is its stage and the second its
+-- count, and one more word.
+abbrev pub stage_in : List ℕ → ℕ → ℕ
+stage_in words n = slice_index words (n * 8)
+
+abbrev pub count_in : List ℕ → ℕ → ℕ
+count_in words n = slice_index words (n * 8 + 1)
+
+-- what the table keeps
+pub record Holds (g : Digraph) (s : State (Unit {0}) View) : Type 0 where
+  pub sized : length s.words ≡ g.nodes * 8 + 1
+  pub rule : IsKept g (stage_in s.words) (count_in s.words) s.views
+
+-- the words before anyone has claimed anything
+pub record Begins (g : Digraph) (words : List ℕ) : Type 0 where
+  pub sized : length words ≡ g.nodes * 8 + 1
+  pub all_free : (n : ℕ) → stage_in words n ≡ free
+  pub counted : (n : ℕ) → n < g.nodes → count_in words n ≡ length (predecessors_of g n)
+
+-- so few actions and edges that numbers of steps fit a word
+pub record IsSmall (g : Digraph) : Type 0 where
+  pub nodes : g.nodes ≤ 8000
+  pub edges : length g.edges < 2 ^ 60

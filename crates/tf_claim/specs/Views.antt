@@ -1,0 +1,80 @@
+-- What a seat at the shared claims has seen and done, and how a step changes it.
+use Rattle.std.specs.Prelude.{◌≡◌, ◌<◌, ◌+◌, ◌==◌, ℕ, List, [], ◌∷◌, ◌++◌, length, if◌then◌else◌}
+use Rattle.atomic_table.specs.Seated.{TableId}
+use Rattle.tf_graph.specs.Digraph.{Digraph, source, target}
+use Rattle.tf_claim.specs.declared.seat.View.{View}
+
+-- which claims a seat belongs to, and its view
+pub record Seated : Type 0 where
+  pub table : TableId
+  pub view : View
+
+-- how often a number stands in a list
+abbrev pub times : ℕ → List ℕ → ℕ
+times n [] = 0
+times n (x ∷ xs) = (if x == n then 1 else 0) + times n xs
+
+-- a seat that has seen and done nothing
+abbrev pub nothing : View
+nothing = record { seen = []; known = []; claimed = []; finished = []; let_go = [] }
+
+-- the seat has found an action done
+abbrev pub saw : ℕ → View → View
+saw n v = record v { seen = n ∷ v.seen }
+
+-- the seat has found each of some actions done
+abbrev pub saw_all : List ℕ → View → View
+saw_all ns v = record v { seen = ns ++ v.seen }
+
+-- the seat has found that somebody had claimed an action
+abbrev pub knew : ℕ → View → View
+knew n v = record v { known = n ∷ v.known }
+
+-- the seat has claimed an action
+abbrev pub took : ℕ → View → View
+took n v = record v { claimed = n ∷ v.claimed }
+
+-- the seat has finished an action
+abbrev pub ended : ℕ → View → View
+ended n v = record v { seen = n ∷ v.seen; finished = n ∷ v.finished }
+
+-- the seat has let go of an edge
+abbrev pub went : ℕ → View → View
+went e v = record v { let_go = e ∷ v.let_go }
+
+-- what two seats have seen and done
+abbrev pub both : View → View → View
+both v w =
+    record {
+      seen = v.seen ++ w.seen;
+      known = v.known ++ w.known;
+      claimed = v.claimed ++ w.claimed;
+      finished = v.finished ++ w.finished;
+      let_go = v.let_go ++ w.let_go;
+    }
+
+-- the steps of a seat that changed something
+abbrev pub steps_of : View → ℕ
+steps_of v = length v.claimed + length v.finished + length v.let_go
+
+-- the seat has claimed an action of the graph, and hasn't finished it
+abbrev pub Owes : Digraph → ℕ → View → Type 0
+Owes g n v = (n < g.nodes) × (0 < times n v.claimed) × (times n v.finished ≡ 0)
+
+-- the seat may let go of an edge: it finished the edge's source, and still holds the edge
+abbrev pub MayLetGo : Digraph → ℕ → View → Type 0
+MayLetGo g e v = (e < length g.edges) × (0 < times (source g e) v.finished) × (times e v.let_go ≡ 0)
+
+-- the seat has seen whatever stands directly before an action done
+abbrev pub HasSeenWayTo : Digraph → ℕ → View → Type 0
+HasSeenWayTo g n v = (e : ℕ) → e < length g.edges → target g e ≡ n → 0 < times (source g e) v.seen
+
+-- the seat has let go of every edge into an action
+abbrev pub OwnsWayTo : Digraph → ℕ → View → Type 0
+OwnsWayTo g n v = (e : ℕ) → e < length g.edges → target g e ≡ n → 0 < times e v.let_go
+
+-- the seat has claimed and finished every action, each once, and let go of every edge, each once
+pub record IsWhole (g : Digraph) (v : View) : Type 0 where
+  pub claimed : (n : ℕ) → n < g.nodes → times n v.claimed ≡ 1
+  pub finished : (n : ℕ) → n < g.nodes → times n v.finished ≡ 1
+  pub let_go : (e : ℕ) → e < length g.edges → times e v.let_go ≡ 1

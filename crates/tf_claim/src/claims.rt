@@ -1,0 +1,313 @@
+//! The shared form of the book of claims: any number of workers claim and finish actions, each by single
+//! atomic steps on words, without a lock and without waiting.
+
+ghost use Rattle.std.specs.Prelude.{◌≡◌, ◌<◌, ◌+◌, ◌*◌, ◌⊎◌, ◌↔◌, ℕ, false, length, IsTrue, IfOk, IfSome, MatchBool, MatchOption};
+ghost use Rattle.tf_graph.specs.Digraph.{Digraph, source, predecessors_of};
+ghost use Rattle.tf_claim.specs.Views.{nothing, times, saw, saw_all, knew, took, ended, went, both, steps_of, Owes, MayLetGo, HasSeenWayTo, OwnsWayTo, IsWhole};
+ghost use Rattle.tf_claim.specs.Claims.{Begins, Stands};
+
+use crate::permit::{Finished, Permit};
+use crate::rule::{About, Another, Count, End, Law, Look, Release, Rest, Take, Together};
+use crate::seat::{Seat, View};
+use atomic_table::Table;
+use std::alloc::{AllocError, Global};
+use std::marker::{Brand, Model};
+use tf_graph::Graph;
+
+/// An action's word where nobody claimed it.
+const FREE: u64 = 0;
+/// Where somebody claimed it, and hasn't finished it.
+const TAKEN: u64 = 1;
+/// Where it is done.
+const DONE: u64 = 2;
+/// So many words lie side by side for each action, its stage and its count first: a cache line's worth, so
+/// that no two actions share one.
+const WORDS_EACH: usize = 8;
+
+/// The claims on a graph's actions, for any number of workers. An action can be claimed once, and only
+/// after each edge into it was let go of, by the seat that finished the edge's source. A seat is used only
+/// with the claims that it came from. Contracts see which claims these are, and the graph.
+#[derive(Drop)]
+pub struct Claims {
+    graph: Graph,
+    table: Table<(), View, Graph, Law, Global>,
+}
+
+impl Model for Claims {
+    ghost use Rattle.std.specs.Prelude.{◌≡◌, ◌+◌, ◌*◌};
+    ghost use Rattle.tf_claim.specs.Claims.{Shared, IsSmall};
+
+    ghost Value = { Shared };
+
+    ghost view = { λ c. record { table = c.table.shared.table_id; graph = c.graph } };
+
+    ghost invariant = { λ c. (c.table.shared.key ≡ c.graph)
+        × (c.table.shared.table_id.words ≡ c.graph.nodes * 8 + 1)
+        × (c.table.shared.table_id.slots ≡ 0)
+        × IsSmall c.graph };
+}
+
+impl Claims {
+    /// The claims on a graph's actions, all of them free, and their first seat. They keep their own copy
+    /// of the graph.
+    pub fn new(alloc: Global, graph: &Graph) -> Result<(Claims, Seat), AllocError>
+        ensures graph { IfOk result (λ made. made.0.graph ≡ graph.now) }
+        ensures seat { IfOk result (λ made. (made.1.table ≡ made.0.table) × (made.1.view ≡ nothing)) }
+    {
+        let words = first_words(alloc, graph)?;
+        let graph = graph.copy(alloc)?;
+        let _edges = graph.edges();
+        let (table, place) = Table::of_words(alloc, words.as_slice(), &graph)?;
+        Ok((Claims { graph, table }, Seat { place, steps: 0 }))
+    }
+
+    /// Another seat, which has seen and done nothing.
+    pub fn split_seat(&self, seat: &mut Seat) -> Result<Seat, AllocError>
+        requires { seat.old.table ≡ self.now.table }
+        ensures same { seat.new ≡ seat.old }
+        ensures new { IfOk result (λ new. (new.table ≡ self.now.table) × (new.view ≡ nothing)) }
+    {
+        let place = self.table.shared.split_seat::<Another>(&mut seat.place);
+        Ok(Seat { place, steps: 0 })
+    }
+
+    /// Whether an action is done, by one load. A seat that has seen an action done or has finished it is
+    /// told so again.
+    pub fn see(&self, seat: &mut Seat, action: usize) -> bool
+        requires seat { seat.old.table ≡ self.now.table }
+        requires action { action < self.now.graph.nodes }
+        ensures table { seat.new.table ≡ seat.old.table }
+        ensures seen { MatchBool result
+            (seat.new.view ≡ saw action seat.old.view)
+            (seat.new.view ≡ seat.old.view) }
+        ensures again { (0 < times action seat.old.view.seen) ⊎ (0 < times action seat.old.view.finished)
+            → IsTrue result }
+        ensures kept { Stands self.now.graph seat.new.view }
+    {
+        self.see_as::<Brand>(seat, action)
+    }
+
+    fn see_as<B: About>(&self, seat: &mut Seat, action: usize) -> bool
+        requires about { (B.graph ≡ self.now.graph) × (B.number ≡ action) }
+        requires seat { seat.old.table ≡ self.now.table }
+        requires action { action < self.now.graph.nodes }
+        ensures table { seat.new.table ≡ seat.old.table }
+        ensures seen { MatchBool result
+            (seat.new.view ≡ saw action seat.old.view)
+            (seat.new.view ≡ seat.old.view) }
+        ensures again { (0 < times action seat.old.view.seen) ⊎ (0 < times action seat.old.view.finished)
+            → IsTrue result }
+        ensures kept { Stands self.now.graph seat.new.view }
+    {
+        let found = self
+            .table
+            .shared
+            .load::<Look<B>>(&mut seat.place, action * WORDS_EACH);
+        found == DONE
+    }
+
+    /// Claims an action, by a load of its count and one exchange. `None` where an edge into it was still
+    /// held, and then nothing is known; or where the action wasn't free, which the seat then knows. Where
+    /// the seat itself let go of each edge into the action, or there is none, only the second is left.
+    pub fn claim(&self, seat: &mut Seat, action: usize) -> Option<Permit>
+        requires seat { seat.old.table ≡ self.now.table }
+        requires action { action < self.now.graph.nodes }
+        ensures table { seat.new.table ≡ seat.old.table }
+        ensures claimed { MatchOption result
+            ((seat.new.view ≡ seat.old.view)
+            ⊎ (seat.new.view ≡ knew action (saw_all (predecessors_of self.now.graph action) seat.old.view)))
+            (λ permit. (permit ≡ action) × Owes self.now.graph action seat.new.view
+            × (seat.new.view ≡ took action (saw_all (predecessors_of self.now.graph action) seat.old.view))) }
+        ensures own { OwnsWayTo self.now.graph action seat.old.view → MatchOption result
+            (seat.new.view ≡ knew action (saw_all (predecessors_of self.now.graph action) seat.old.view))
+            (λ _. Unit {0}) }
+        ensures kept { Stands self.now.graph seat.new.view }
+    {
+        self.claim_as::<Brand>(seat, action)
+    }
+
+    fn claim_as<B: About>(&self, seat: &mut Seat, action: usize) -> Option<Permit>
+        requires about { (B.graph ≡ self.now.graph) × (B.number ≡ action) }
+        requires seat { seat.old.table ≡ self.now.table }
+        requires action { action < self.now.graph.nodes }
+        ensures table { seat.new.table ≡ seat.old.table }
+        ensures claimed { MatchOption result
+            ((seat.new.view ≡ seat.old.view)
+            ⊎ (seat.new.view ≡ knew action (saw_all (predecessors_of self.now.graph action) seat.old.view)))
+            (λ permit. (permit ≡ action) × Owes self.now.graph action seat.new.view
+            × (seat.new.view ≡ took action (saw_all (predecessors_of self.now.graph action) seat.old.view))) }
+        ensures own { OwnsWayTo self.now.graph action seat.old.view → MatchOption result
+            (seat.new.view ≡ knew action (saw_all (predecessors_of self.now.graph action) seat.old.view))
+            (λ _. Unit {0}) }
+        ensures kept { Stands self.now.graph seat.new.view }
+    {
+        if self.is_held_back::<B>(seat, action) || !self.takes::<B>(seat, action) {
+            return None;
+        }
+        Some(Permit::of(action))
+    }
+
+    /// Whether an edge into an action is still held, by one load of its count.
+    fn is_held_back<B: About>(&self, seat: &mut Seat, action: usize) -> bool
+        requires about { (B.graph ≡ self.now.graph) × (B.number ≡ action) }
+        requires seat { seat.old.table ≡ self.now.table }
+        requires action { action < self.now.graph.nodes }
+        ensures table { seat.new.table ≡ seat.old.table }
+        ensures seen { MatchBool result
+            (seat.new.view ≡ seat.old.view)
+            (seat.new.view ≡ saw_all (predecessors_of self.now.graph action) seat.old.view) }
+        ensures own { OwnsWayTo self.now.graph action seat.old.view → result ≡ false }
+        ensures kept { Stands self.now.graph seat.new.view }
+    {
+        let count = self
+            .table
+            .shared
+            .load::<Count<B>>(&mut seat.place, action * WORDS_EACH + 1);
+        count != 0
+    }
+
+    /// Whether one exchange made an action taken. The seat has seen whatever stands before it done.
+    fn takes<B: About>(&self, seat: &mut Seat, action: usize) -> bool
+        requires about { (B.graph ≡ self.now.graph) × (B.number ≡ action) }
+        requires seat { seat.old.table ≡ self.now.table }
+        requires action { action < self.now.graph.nodes }
+        requires ready { HasSeenWayTo self.now.graph action seat.old.view }
+        ensures table { seat.new.table ≡ seat.old.table }
+        ensures taken { MatchBool result
+            ((seat.new.view ≡ took action seat.old.view) × Owes self.now.graph action seat.new.view)
+            (seat.new.view ≡ knew action seat.old.view) }
+        ensures kept { Stands self.now.graph seat.new.view }
+    {
+        let found = self
+            .table
+            .shared
+            .compare_exchange::<Take<B>>(&mut seat.place, action * WORDS_EACH, FREE, TAKEN);
+        if found != FREE {
+            return false;
+        }
+        seat.steps += 1;
+        true
+    }
+
+    /// Reports an action as done that this seat claimed and hasn't finished, by one store. Then each edge
+    /// out of it may be let go of.
+    pub fn finish(&self, seat: &mut Seat, finished: Finished)
+        requires seat { seat.old.table ≡ self.now.table }
+        requires owed { Owes self.now.graph finished seat.old.view }
+        ensures table { seat.new.table ≡ seat.old.table }
+        ensures ended { seat.new.view ≡ ended finished seat.old.view }
+        ensures free { (e : ℕ) → e < length self.now.graph.edges → source self.now.graph e ≡ finished
+            → MayLetGo self.now.graph e seat.new.view }
+        ensures kept { Stands self.now.graph seat.new.view }
+    {
+        self.finish_as::<Brand>(seat, finished)
+    }
+
+    fn finish_as<B: About>(&self, seat: &mut Seat, finished: Finished)
+        requires about { (B.graph ≡ self.now.graph) × (B.number ≡ finished) }
+        requires seat { seat.old.table ≡ self.now.table }
+        requires owed { Owes self.now.graph finished seat.old.view }
+        ensures table { seat.new.table ≡ seat.old.table }
+        ensures ended { seat.new.view ≡ ended finished seat.old.view }
+        ensures free { (e : ℕ) → e < length self.now.graph.edges → source self.now.graph e ≡ finished
+            → MayLetGo self.now.graph e seat.new.view }
+        ensures kept { Stands self.now.graph seat.new.view }
+    {
+        self.table
+            .shared
+            .store::<End<B>>(&mut seat.place, finished.action() * WORDS_EACH, DONE);
+        seat.steps += 1;
+        finished.close();
+    }
+
+    /// Lets go of an edge, named by its place in the graph's list, whose source this seat finished and
+    /// which it hasn't let go of, by one `fetch_sub` on the count of the action that the edge leads into.
+    pub fn let_go(&self, seat: &mut Seat, edge: usize)
+        requires seat { seat.old.table ≡ self.now.table }
+        requires may { MayLetGo self.now.graph edge seat.old.view }
+        ensures table { seat.new.table ≡ seat.old.table }
+        ensures went { seat.new.view ≡ went edge seat.old.view }
+        ensures kept { Stands self.now.graph seat.new.view }
+    {
+        self.let_go_as::<Brand>(seat, edge)
+    }
+
+    fn let_go_as<B: About>(&self, seat: &mut Seat, edge: usize)
+        requires about { (B.graph ≡ self.now.graph) × (B.number ≡ edge) }
+        requires seat { seat.old.table ≡ self.now.table }
+        requires may { MayLetGo self.now.graph edge seat.old.view }
+        ensures table { seat.new.table ≡ seat.old.table }
+        ensures went { seat.new.view ≡ went edge seat.old.view }
+        ensures kept { Stands self.now.graph seat.new.view }
+    {
+        let (_, action) = self.graph.edges()[edge];
+        self.table
+            .shared
+            .fetch_sub::<Release<B>>(&mut seat.place, action * WORDS_EACH + 1, 1);
+        seat.steps += 1;
+    }
+
+    /// Puts what another seat has seen and done to this one's.
+    pub fn join_seat(&self, seat: &mut Seat, other: Seat)
+        requires seat { seat.old.table ≡ self.now.table }
+        requires other { other.table ≡ self.now.table }
+        ensures table { seat.new.table ≡ seat.old.table }
+        ensures both { seat.new.view ≡ both seat.old.view other.view }
+        ensures kept { Stands self.now.graph seat.new.view }
+    {
+        self.join_seat_as::<Brand>(seat, other)
+    }
+
+    fn join_seat_as<B: About>(&self, seat: &mut Seat, other: Seat)
+        requires about { B.graph ≡ self.now.graph }
+        requires seat { seat.old.table ≡ self.now.table }
+        requires other { other.table ≡ self.now.table }
+        ensures table { seat.new.table ≡ seat.old.table }
+        ensures both { seat.new.view ≡ both seat.old.view other.view }
+        ensures kept { Stands self.now.graph seat.new.view }
+    {
+        let Seat { place, steps } = other;
+        self.table
+            .shared
+            .join_seat::<Together>(&mut seat.place, place);
+        self.table.shared.load::<Rest<B>>(&mut seat.place, 0);
+        seat.steps += steps;
+    }
+
+    /// How many steps of a seat changed something: its claims, the actions that it finished and the edges
+    /// that it let go of.
+    pub fn steps(&self, seat: &Seat) -> u64
+        ensures { result ≡ steps_of seat.now.view }
+    {
+        seat.steps
+    }
+
+    /// Ends the claims, and says whether this seat, with all that were joined to it, claimed and finished
+    /// every action and let go of every edge, each once: exactly where its steps are the edges and twice
+    /// the actions.
+    pub fn close(self, seat: Seat) -> bool
+        requires { seat.table ≡ self.table }
+        ensures whole { IsTrue result ↔ IsWhole self.graph seat.view }
+        ensures steps { IsTrue result
+            ↔ (steps_of seat.view ≡ length self.graph.edges + 2 * self.graph.nodes) }
+        ensures kept { Stands self.graph seat.view }
+    {
+        let Claims { graph, table } = self;
+        let Seat { place, steps } = seat;
+        let all = graph.edge_count() + 2 * graph.nodes();
+        table.close_with(place).free();
+        steps == all as u64
+    }
+}
+
+/// The words before anyone has claimed anything: each action is free, and its count is the number of edges
+/// into it.
+fn first_words(alloc: Global, graph: &Graph) -> Result<Vec<u64>, AllocError>
+    ensures { IfOk result (λ words. Begins graph.now words.items) }
+{
+    let mut words = vec![in alloc; FREE; graph.nodes() * WORDS_EACH + 1]?;
+    for action in 0..graph.nodes() {
+        words[action * WORDS_EACH + 1] = graph.predecessors(action).len() as u64;
+    }
+    Ok(words)
+}

@@ -1,0 +1,122 @@
+//! The rule of the shared claims as their table keeps it, and what each step tells.
+
+ghost use Rattle.std.specs.Prelude.{ℕ, []};
+ghost use Rattle.tf_graph.specs.Digraph.{Digraph};
+
+use crate::seat::View;
+use atomic_table::{Join, Play, Split, TableRule};
+use std::marker::{Brand, PhantomData};
+use tf_graph::Graph;
+
+/// The rule that the table keeps about a graph.
+pub struct Law;
+
+impl TableRule<(), View, Graph> for Law {
+    ghost use Rattle.tf_claim.specs.Claims.{Holds};
+    ghost use Rattle.tf_claim.specs.Views.{nothing};
+
+    ghost holds = { λ g. Holds g };
+
+    ghost first = { λ _. nothing };
+}
+
+/// What a step is about, for its proof alone: the graph, and an action or an edge of it.
+pub trait About {
+    ghost graph: { Digraph };
+
+    ghost number: { ℕ };
+}
+
+impl About for Brand {
+    ghost graph = { record { nodes = 0; edges = [] } };
+
+    ghost number = { 0 };
+}
+
+/// A load of an action's word.
+pub struct Look<B> {
+    about: PhantomData<B>,
+}
+
+impl<B: About> Play<(), View> for Look<B> {
+    ghost use Rattle.tf_claim.specs.Plays.{Looks};
+
+    ghost then = { Looks B.graph B.number };
+}
+
+/// A load of an action's count.
+pub struct Count<B> {
+    about: PhantomData<B>,
+}
+
+impl<B: About> Play<(), View> for Count<B> {
+    ghost use Rattle.tf_claim.specs.Plays.{Counts};
+
+    ghost then = { Counts B.graph B.number };
+}
+
+/// One exchange of an action's word, from free to taken.
+pub struct Take<B> {
+    about: PhantomData<B>,
+}
+
+impl<B: About> Play<(), View> for Take<B> {
+    ghost use Rattle.tf_claim.specs.Plays.{Takes};
+
+    ghost then = { Takes B.graph B.number };
+}
+
+/// A store of done in an action's word.
+pub struct End<B> {
+    about: PhantomData<B>,
+}
+
+impl<B: About> Play<(), View> for End<B> {
+    ghost use Rattle.tf_claim.specs.Plays.{Ends};
+
+    ghost then = { Ends B.graph B.number };
+}
+
+/// One taken from the count of the action that an edge leads into.
+pub struct Release<B> {
+    about: PhantomData<B>,
+}
+
+impl<B: About> Play<(), View> for Release<B> {
+    ghost use Rattle.tf_claim.specs.Plays.{Releases};
+
+    ghost then = { Releases B.graph B.number };
+}
+
+/// A load that tells no more than that the rule holds.
+pub struct Rest<B> {
+    about: PhantomData<B>,
+}
+
+impl<B: About> Play<(), View> for Rest<B> {
+    ghost use Rattle.tf_claim.specs.Plays.{Rests};
+
+    ghost then = { Rests B.graph };
+}
+
+/// A new seat begins with nothing, and the old one keeps what it has.
+pub struct Another;
+
+impl Split<View> for Another {
+    ghost use Rattle.tf_claim.specs.Views.{nothing};
+
+    ghost left = { λ v. v };
+
+    ghost right = { λ _. nothing };
+}
+
+/// A seat takes over what another has seen and done.
+pub struct Together;
+
+impl Join<View> for Together {
+    ghost use Rattle.tf_claim.specs.Views.{both, nothing};
+
+    ghost both = { both };
+
+    ghost spent = { nothing };
+}

@@ -1,0 +1,39 @@
+//! What one worker brings to the shared book of claims: what it has seen and done there.
+
+ghost use Rattle.std.specs.Prelude.{◌≡◌};
+
+use std::collections::LinkedList;
+use std::marker::Model;
+
+/// What a seat has seen and done, the latest first. It is for contracts alone: no value of it is made.
+pub struct View {
+    /// Actions that it found done.
+    pub seen: LinkedList<usize>,
+    /// Actions that somebody else had claimed when it tried to.
+    pub known: LinkedList<usize>,
+    /// Actions that it claimed.
+    pub claimed: LinkedList<usize>,
+    /// Actions that it finished.
+    pub finished: LinkedList<usize>,
+    /// Edges that it let go of, by their place in the graph's list.
+    pub let_go: LinkedList<usize>,
+}
+
+/// A worker's seat at the claims that it came from, with which it makes its steps. Contracts see which
+/// claims these are, and a `View`.
+#[derive(Drop)]
+pub struct Seat {
+    pub(crate) place: atomic_table::Seat<(), View>,
+    pub(crate) steps: u64,
+}
+
+impl Model for Seat {
+    ghost use Rattle.std.specs.Prelude.{◌≡◌, []};
+    ghost use Rattle.tf_claim.specs.Views.{Seated, steps_of};
+
+    ghost Value = { Seated };
+
+    ghost view = { λ s. record { table = s.place.table_id; view = s.place.me.0 } };
+
+    ghost invariant = { λ s. (s.place.me.1 ≡ []) × (s.steps ≡ steps_of s.place.me.0) };
+}
