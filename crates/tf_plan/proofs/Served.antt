@@ -11,7 +11,8 @@ use Rattle.tf_config.specs.Config.{BlockView, Blocks}
 use Rattle.tf_refusal.specs.Refusal.{Told, fault, bare}
 use Rattle.tf_protocol.specs.Meaning.{Meaning, schema_in}
 use Rattle.tf_protocol.specs.Schema.{AttributeView, SchemaView, is_below}
-use Rattle.tf_protocol.specs.Verdict.{has_attributes, same_names, keys_of}
+use Rattle.tf_value.specs.Tree.{keys_of}
+use Rattle.tf_protocol.specs.Verdict.{has_attributes, same_names}
 use Rattle.tf_value.specs.Tree as tree
 use Rattle.tf_plan.specs.Argument.{attribute_value}
 use Rattle.tf_plan.specs.Plan.{ActionView, planned_action, block_action, planned_actions}

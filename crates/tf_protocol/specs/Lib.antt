@@ -1,4 +1,3 @@
 pub mod Meaning
-pub mod Refined
 pub mod Schema
 pub mod Verdict

@@ -3,10 +3,10 @@ use Rattle.std.specs.Prelude.{◌≡◌, ℕ, Bool, true, false, ◌&&◌, ◌||
 use Rattle.std.specs.List.{list_all, position_from}
 use Rattle.std.specs.Option.{option_map_or}
 use Rattle.std.specs.Str.{bytes_eq}
-use Rattle.tf_value.specs.Tree.{Tree, null, boolean, whole, text, list, map, unknown, Entries, no_entries, entry, part_at}
+use Rattle.tf_value.specs.Tree.{Tree, null, boolean, whole, text, list, map, unknown, Entries, no_entries, entry, part_at, keys_of}
 use Rattle.tf_value.specs.Known.{known}
 use Rattle.tf_value.specs.Measure.{weight, depth, max_weight, max_depth}
-use Rattle.tf_protocol.specs.Refined.{refined}
+use Rattle.tf_value.specs.Refinement.{refined}
 use Rattle.tf_protocol.specs.Schema.{AttributeView, SchemaView}
 use Rattle.tf_protocol.specs.Meaning.{Asked, Answer, object, gone, failed}
 use Rattle.tf_protocol.specs.declared.request.Op.{Op}
@@ -17,11 +17,6 @@ use Rattle.tf_protocol.specs.declared.schema.Mode.{Mode}
 use Rattle.tf_protocol.specs.declared.schema.Mode.TheVariants.{Required, Optional, Computed}
 use Rattle.tf_protocol.specs.declared.verdict.Verdict.{Verdict}
 use Rattle.tf_protocol.specs.declared.verdict.Verdict.TheVariants as verdict
-
--- the keys of a map's entries
-abbrev pub keys_of : Entries → List (List ℕ)
-keys_of no_entries = []
-keys_of (entry k t es) = k ∷ keys_of es
 
 -- two lists of names are the same
 abbrev pub same_names : List (List ℕ) → List (List ℕ) → Bool

@@ -4,8 +4,8 @@ ghost use Rattle.std.specs.List.{list_all, position_from};
 ghost use Rattle.std.specs.Prelude.{◌≡◌, IsTrue, map, option_map};
 ghost use Rattle.tf_protocol.specs.Meaning.{asked, answered};
 ghost use Rattle.tf_protocol.specs.Schema.{attribute_of};
-ghost use Rattle.tf_protocol.specs.Verdict.{asks_fully, verdict_on, verdict_on_object, well_formed, has_attributes, same_names, keys_of, fits, fits_in, is_allowed, contradicts_at};
-ghost use Rattle.tf_value.specs.Tree.{tree_of, entries_view};
+ghost use Rattle.tf_value.specs.Tree.{keys_of, tree_of, entries_view};
+ghost use Rattle.tf_protocol.specs.Verdict.{asks_fully, verdict_on, verdict_on_object, well_formed, has_attributes, same_names, fits, fits_in, is_allowed, contradicts_at};
 
 use crate::request::{Op, Reply, Request};
 use crate::schema::{Attribute, Kind, Mode, Schema};

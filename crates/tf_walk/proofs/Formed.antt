@@ -9,10 +9,10 @@ use Rattle.std.specs.Str.{bytes_eq}
 use Rattle.std.proofs.lemmas.Map.Text.{is_eq-slice_cmp}
 use Rattle.std.proofs.lemmas.Slice.Eq.{bytes_eq-Decides}
 use Rattle.tf_protocol.specs.Schema.{AttributeView, SchemaView, IsSchema, ascends, is_below}
-use Rattle.tf_protocol.specs.Verdict.{keys_of, same_names, fits, fits_in, well_formed}
+use Rattle.tf_value.specs.Tree.{keys_of, Tree, null, boolean, whole, text, list, map, unknown, Entries, no_entries, entry, get}
+use Rattle.tf_protocol.specs.Verdict.{same_names, fits, fits_in, well_formed}
 use Rattle.tf_value.proofs.Conjunction.{and-first, and-second, and-both}
 use Rattle.tf_value.specs.Known.{known, known_entries}
-use Rattle.tf_value.specs.Tree.{Tree, null, boolean, whole, text, list, map, unknown, Entries, no_entries, entry, get}
 
 first_of_four : (b c d e : Bool) → (b && c && d && e) ≡ true → b ≡ true
 first_of_four true c d e h = refl

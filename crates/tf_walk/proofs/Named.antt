@@ -4,9 +4,8 @@ use Rattle.std.proofs.Common.{Global, Bor}
 use Rattle.std.specs.Prelude.{Option, Result, Ok, is_ok, if◌then◌else◌, ◌++◌, MatchOption, slice_index_or}
 use Rattle.std.specs.Iterator.{Yields}
 use Rattle.std.specs.List.{list_all}
-use Rattle.tf_protocol.specs.Verdict.{keys_of}
+use Rattle.tf_value.specs.Tree.{keys_of, entries_view}
 use Rattle.tf_value.proofs.Conjunction.{and-first, and-second}
-use Rattle.tf_value.specs.Tree.{entries_view}
 use Rattle.tf_value.specs.declared.value.Value.{Value}
 
 abbrev Pairs : Type 0

@@ -3,7 +3,7 @@ use Rattle.std.specs.Prelude.{ℕ, nat_lt, if◌then◌else◌, List, [], ◌∷
 use Rattle.tf_address.specs.Label.{label_text}
 use Rattle.tf_plan.specs.Plan.{ActionView}
 use Rattle.tf_protocol.specs.Meaning.{Asked, Answer, failed}
-use Rattle.tf_protocol.specs.Verdict.{keys_of}
+use Rattle.tf_value.specs.Tree.{keys_of}
 use Rattle.tf_protocol.specs.declared.request.Op.{Op}
 use Rattle.tf_protocol.specs.declared.request.Op.TheVariants.{Create}
 use Rattle.tf_protocol.specs.declared.verdict.Verdict.{Verdict}

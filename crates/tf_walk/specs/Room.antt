@@ -3,7 +3,7 @@ use Rattle.std.specs.Prelude.{ℕ, ◌+◌, Bool, true, ◌&&◌, nat_le, length
 use Rattle.std.specs.List.{list_all}
 use Rattle.tf_address.specs.Label.{LabelView}
 use Rattle.tf_plan.specs.Plan.{ActionView}
-use Rattle.tf_protocol.specs.Verdict.{keys_of}
+use Rattle.tf_value.specs.Tree.{keys_of}
 use Rattle.tf_value.specs.Tree as tree
 
 -- a resource, and the version of its schema

@@ -1,8 +1,8 @@
 use Rattle.std.proofs.Common.{◌≡◌, Some, not, ap, sym, ◌∙◌}
 use Rattle.tf_value.specs.Tree.{tree_of, part_at}
 use Rattle.tf_protocol.specs.Schema.{attribute_of}
-use Rattle.tf_protocol.specs.Refined.{refined}
-use Rattle.tf_protocol.proofs.Refining.{refined-answer}
+use Rattle.tf_value.specs.Refinement.{refined}
+use Rattle.tf_value.proofs.Refining.{refined-answer}
 use Rattle.tf_protocol.proofs.verdict.contradicts.Goals as goal
 
 pub returns-in-Some-Some : goal.returns-in-Some-Some

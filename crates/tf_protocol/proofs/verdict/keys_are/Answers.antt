@@ -1,5 +1,5 @@
 use Rattle.std.proofs.Common.{sym, ◌∙◌}
-use Rattle.tf_protocol.proofs.Refining.{same_names-length}
+use Rattle.tf_protocol.proofs.Counted.{same_names-length}
 use Rattle.tf_protocol.proofs.verdict.keys_are.Goals as goal
 
 pub returns-then-len-attributes : goal.returns-then-len-attributes

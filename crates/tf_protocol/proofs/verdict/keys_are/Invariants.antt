@@ -1,7 +1,7 @@
 use Rattle.std.proofs.Common.{◌≡◌, length, map}
-use Rattle.tf_value.specs.Tree.{entries_view}
+use Rattle.tf_value.specs.Tree.{entries_view, keys_of}
 use Rattle.tf_protocol.specs.Schema.{attribute_of}
-use Rattle.tf_protocol.specs.Verdict.{same_names, keys_of}
+use Rattle.tf_protocol.specs.Verdict.{same_names}
 use Rattle.tf_protocol.proofs.verdict.keys_are.Given as goal
 
 abbrev pub invariant-loop-key : goal.invariant-loop-key

@@ -2,8 +2,7 @@ use Rattle.std.proofs.Common.{◌≡◌, ◌∙◌, sym, ap, ap₂, ◌+◌, tru
 use Rattle.std.proofs.lemmas.Bool.Decides.{nat_tests}
 use Rattle.std.specs.Prelude.{Some, nat_le, ◌++◌, codes, string_len, string_capacity, slice_index_or, []}
 use Rattle.std.specs.List.{list_all}
-use Rattle.tf_protocol.specs.Verdict.{keys_of}
-use Rattle.tf_value.specs.Tree.{entries_view, tree_of}
+use Rattle.tf_value.specs.Tree.{keys_of, entries_view, tree_of}
 use Rattle.tf_value.specs.Tree as tree
 use Rattle.tf_value.proofs.Views.{tree_of-Map}
 use Rattle.tf_walk.specs.Diagnostics.{name_at}

@@ -2,8 +2,7 @@
 use Rattle.std.proofs.Common.{◌≡◌, ◌≤◌, ◌+◌, ℕ, true, length}
 use Rattle.std.specs.List.{list_all}
 use Rattle.std.specs.Prelude.{nat_le}
-use Rattle.tf_protocol.specs.Verdict.{keys_of}
-use Rattle.tf_value.specs.Tree.{entries_view}
+use Rattle.tf_value.specs.Tree.{keys_of, entries_view}
 use Rattle.tf_walk.proofs.requests.room_for_names.Given as goal
 
 abbrev pub invariant-loop-name : goal.invariant-loop-name
