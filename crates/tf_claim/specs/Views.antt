@@ -1,5 +1,6 @@
 -- What a seat at the shared claims has seen and done, and how a step changes it.
-use Rattle.std.specs.Prelude.{◌≡◌, ◌<◌, ◌+◌, ◌==◌, ℕ, List, [], ◌∷◌, ◌++◌, length, if◌then◌else◌}
+use Rattle.std.specs.Prelude.{◌≡◌, ◌<◌, ◌+◌, ◌==◌, ℕ, List, [], ◌∷◌, ◌++◌, length, map, if◌then◌else◌}
+use Rattle.std.specs.List.{filter, enumerate_from}
 use Rattle.atomic_table.specs.Seated.{TableId}
 use Rattle.tf_graph.specs.Digraph.{Digraph, source, target}
 use Rattle.tf_claim.specs.declared.seat.View.{View}
@@ -41,6 +42,15 @@ ended n v = record v { seen = n ∷ v.seen; finished = n ∷ v.finished }
 -- the seat has let go of an edge
 abbrev pub went : ℕ → View → View
 went e v = record v { let_go = e ∷ v.let_go }
+
+-- the seat has let go of several edges, one after another
+abbrev pub went_all : List ℕ → View → View
+went_all [] v = v
+went_all (e ∷ es) v = went_all es (went e v)
+
+-- the edges out of an action, by their places in the graph's list, in its order
+abbrev pub edges_from : Digraph → ℕ → List ℕ
+edges_from g n = map (λ p. p.0) (filter (λ p. p.1.0 == n) (enumerate_from 0 g.edges))
 
 -- what two seats have seen and done
 abbrev pub both : View → View → View

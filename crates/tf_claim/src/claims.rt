@@ -1,9 +1,9 @@
 //! The shared form of the book of claims: any number of workers claim and finish actions, each by single
 //! atomic steps on words, without a lock and without waiting.
 
-ghost use Rattle.std.specs.Prelude.{◌≡◌, ◌<◌, ◌+◌, ◌*◌, ◌⊎◌, ◌↔◌, ℕ, false, length, IsTrue, IfOk, IfSome, MatchBool, MatchOption};
-ghost use Rattle.tf_graph.specs.Digraph.{Digraph, source, predecessors_of};
-ghost use Rattle.tf_claim.specs.Views.{nothing, times, saw, saw_all, knew, took, ended, went, both, steps_of, Owes, MayLetGo, HasSeenWayTo, OwnsWayTo, IsWhole};
+ghost use Rattle.std.specs.Prelude.{◌≡◌, ◌<◌, ◌+◌, ◌*◌, ◌⊎◌, ◌↔◌, ℕ, false, length, IsTrue, IfOk, IfSome, MatchBool, MatchOption, slice_index};
+ghost use Rattle.tf_graph.specs.Digraph.{Digraph, source, target, predecessors_of};
+ghost use Rattle.tf_claim.specs.Views.{nothing, times, saw, saw_all, knew, took, ended, went, went_all, edges_from, both, steps_of, Owes, MayLetGo, HasSeenWayTo, OwnsWayTo, IsWhole};
 ghost use Rattle.tf_claim.specs.Claims.{Begins, Stands};
 
 use crate::permit::{Finished, Permit};
@@ -59,6 +59,13 @@ impl Claims {
         let _edges = graph.edges();
         let (table, place) = Table::of_words(alloc, words.as_slice(), &graph)?;
         Ok((Claims { graph, table }, Seat { place, steps: 0 }))
+    }
+
+    /// The graph of the actions.
+    pub fn graph(&self) -> &Graph
+        ensures { result.now ≡ self.now.graph }
+    {
+        &self.graph
     }
 
     /// Another seat, which has seen and done nothing.
@@ -241,6 +248,49 @@ impl Claims {
         ensures kept { Stands self.now.graph seat.new.view }
     {
         let (_, action) = self.graph.edges()[edge];
+        self.release::<B>(seat, action);
+    }
+
+    /// Lets go of each edge out of an action that this seat finished, in the order of the graph's list, none
+    /// of which it has let go of. It takes time linear in their number.
+    pub fn let_go_from(&self, seat: &mut Seat, action: usize)
+        requires seat { seat.old.table ≡ self.now.table }
+        requires action { action < self.now.graph.nodes }
+        requires may { (e : ℕ) → e < length self.now.graph.edges → source self.now.graph e ≡ action
+            → MayLetGo self.now.graph e seat.old.view }
+        ensures table { seat.new.table ≡ seat.old.table }
+        ensures went { seat.new.view ≡ went_all (edges_from self.now.graph action) seat.old.view }
+    {
+        for place in 0..self.graph.successors(action).len() {
+            self.let_go_out_as::<Brand>(seat, action, place);
+        }
+    }
+
+    /// Lets go of the edge at a place among those out of an action.
+    fn let_go_out_as<B: About>(&self, seat: &mut Seat, action: usize, place: usize)
+        requires about { (B.graph ≡ self.now.graph)
+            × (B.number ≡ slice_index (edges_from self.now.graph action) place) }
+        requires seat { seat.old.table ≡ self.now.table }
+        requires action { action < self.now.graph.nodes }
+        requires place { place < length (edges_from self.now.graph action) }
+        requires may { MayLetGo self.now.graph (slice_index (edges_from self.now.graph action) place) seat.old.view }
+        ensures table { seat.new.table ≡ seat.old.table }
+        ensures went { seat.new.view ≡ went (slice_index (edges_from self.now.graph action) place) seat.old.view }
+    {
+        let next = self.graph.successors(action)[place];
+        self.release::<B>(seat, next);
+    }
+
+    /// Takes one from the count of the action that an edge leads into.
+    fn release<B: About>(&self, seat: &mut Seat, action: usize)
+        requires about { (B.graph ≡ self.now.graph) × (target self.now.graph B.number ≡ action) }
+        requires seat { seat.old.table ≡ self.now.table }
+        requires action { action < self.now.graph.nodes }
+        requires may { MayLetGo self.now.graph B.number seat.old.view }
+        ensures table { seat.new.table ≡ seat.old.table }
+        ensures went { seat.new.view ≡ went B.number seat.old.view }
+        ensures kept { Stands self.now.graph seat.new.view }
+    {
         self.table
             .shared
             .fetch_sub::<Release<B>>(&mut seat.place, action * WORDS_EACH + 1, 1);

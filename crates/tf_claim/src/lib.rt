@@ -15,3 +15,6 @@ pub use book::{Book, Stage};
 pub use claims::Claims;
 pub use permit::{Finished, Permit, waive};
 pub use seat::Seat;
+
+#[cfg(test)]
+mod tests;
