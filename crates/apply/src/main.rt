@@ -5,7 +5,7 @@ use std::fs::OpenFile;
 use std::process::ExitCode;
 use std::{env, fs, io};
 use tf_cli::{
-    Applied, Options, Refused, SaveFault, apply_text, options, print_refused, save, show,
+    Applied, Options, Refused, Report, SaveFault, apply_text, options, print_refused, save, show,
 };
 use tf_provider::Provider;
 use tf_sim::Sim;
@@ -52,7 +52,11 @@ fn run(rt: &HostRuntime, options: &Options) -> io::Result<ExitCode> {
         providers.as_slice(),
     );
     let status = show(&answer, &mut rt.stdout(), &mut rt.stderr());
-    Ok(ExitCode::from(finish(rt, options.state.as_str(), &answer, status)))
+    let status = match state_to_write(answer) {
+        Some(text) => finish(rt, options.state.as_str(), text.as_str(), status),
+        None => status,
+    };
+    Ok(ExitCode::from(status))
 }
 
 fn unread(rt: &HostRuntime, file: &str) -> io::Result<ExitCode> {
@@ -60,25 +64,37 @@ fn unread(rt: &HostRuntime, file: &str) -> io::Result<ExitCode> {
     Ok(ExitCode::FAILURE)
 }
 
-/// Writes the state where it has changed. The status is 3 where that fails, and else the one so far.
-fn finish(rt: &HostRuntime, file: &str, answer: &Result<Applied, Refused>, status: u8) -> u8 {
-    match answer {
-        Ok(
-            Applied {
-                changed: true,
-                state: Ok(text),
-                ..
-            },
-        ) => {
-            if replace(rt, file, text.as_str()).is_ok() {
-                return status;
-            }
-            let _ = eprintln!(rt; "error: state not written");
-            let _ = save(&mut rt.stdout(), text.as_str());
-            3
-        }
-        _ => status,
+/// The text of the state, where it has changed and there was memory for it. All else that was answered is shown
+/// by now, and goes.
+fn state_to_write(answer: Result<Applied, Refused>) -> Option<String> {
+    let Ok(applied) = answer else {
+        return None;
+    };
+    let Applied {
+        plan: _,
+        walked,
+        state,
+        changed,
+    } = applied;
+    let Report {
+        state: _,
+        outcomes: _,
+        diagnostics: _,
+        journal: _,
+        excused: _,
+        good: _,
+    } = walked.into_report();
+    if changed { state.ok() } else { None }
+}
+
+/// Writes the state. The status is 3 where that fails, and else the one so far.
+fn finish(rt: &HostRuntime, file: &str, text: &str, status: u8) -> u8 {
+    if replace(rt, file, text).is_ok() {
+        return status;
     }
+    let _ = eprintln!(rt; "error: state not written");
+    let _ = save(&mut rt.stdout(), text);
+    3
 }
 
 /// Puts a file with this text in a file's place. Where that fails the file stays as it was.

@@ -2,7 +2,6 @@
 use Rattle.std.proofs.Common.{◌≡◌, ◌∙◌, ℕ, Bool, false, not, List, [], ◌∷◌, refl, sym, ap, subst, string_bytes, arith}
 use Rattle.std.specs.Prelude.{◌==◌, ◌↔◌, IfOk}
 use Rattle.tf_cli.specs.Applies.{IsApplied}
-use Rattle.tf_cli.specs.Shown.{report_of}
 use Rattle.tf_cli.specs.declared.applied.Applied.{Applied}
 use Rattle.tf_config.specs.Config.{Blocks}
 use Rattle.tf_plan.specs.Plan.{PlanView, plan_text, planned}
@@ -11,7 +10,7 @@ use Rattle.tf_state_data.specs.Resource.{ResourceView}
 use Rattle.tf_state_data.specs.State.{StateView, empty_state, state_of}
 use Rattle.tf_state.specs.Text.{state_text}
 use Rattle.tf_walk.specs.After.{is_any, raised, saved_resources, with_resources}
-use Rattle.tf_walk.specs.Report.{IsWalked}
+use Rattle.tf_walk.specs.Report.{IsWalked, report_of}
 use Rattle.tf_walk.specs.declared.report.Walked.{Walked}
 use Rattle.tf_walk.specs.declared.report.Walked.TheVariants.{Whole, Torn}
 

@@ -1,13 +1,12 @@
 -- What an apply answers where nothing is refused.
 use Rattle.std.specs.Prelude.{◌≡◌, ◌↔◌, ℕ, false, List, IfOk, string_bytes}
-use Rattle.tf_cli.specs.Shown.{report_of}
 use Rattle.tf_cli.specs.declared.applied.Applied.{Applied}
 use Rattle.tf_config.specs.Config.{Blocks}
 use Rattle.tf_plan.specs.Plan.{plan_text, planned, planned_actions}
 use Rattle.tf_protocol.specs.Meaning.{Meaning}
 use Rattle.tf_state_data.specs.State.{StateView, empty_state, state_of}
 use Rattle.tf_state.specs.Text.{state_text}
-use Rattle.tf_walk.specs.Report.{IsWalked}
+use Rattle.tf_walk.specs.Report.{IsWalked, report_of}
 
 -- the state after an apply
 abbrev pub state_in : Applied → StateView

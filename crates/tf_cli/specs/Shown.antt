@@ -9,18 +9,15 @@ use Rattle.tf_plan.specs.declared.refused.Refused.{Refused}
 use Rattle.tf_plan.specs.declared.refused.Refused.TheVariants.{NoMemory, These}
 use Rattle.tf_walk.specs.Diagnostics.{DiagnosticView, diagnostic_of}
 use Rattle.tf_walk.specs.Outcome.{is_good_verdict}
+use Rattle.tf_walk.specs.Report.{report_of}
 use Rattle.tf_walk.specs.declared.report.Diagnostic.{Diagnostic}
 use Rattle.tf_walk.specs.declared.report.Outcome.{Outcome}
 use Rattle.tf_walk.specs.declared.report.Outcome.TheVariants as outcome
 use Rattle.tf_walk.specs.declared.report.Report.{Report}
 use Rattle.tf_walk.specs.declared.report.Walked.{Walked}
 use Rattle.tf_walk.specs.declared.report.Walked.TheVariants.{Whole, Torn}
+use Rattle.tf_cli.specs.Saved.{AppendsStart}
 use Rattle.tf_cli.specs.declared.applied.Applied.{Applied}
-
--- the report of a walk, torn or not
-abbrev pub report_of : Walked → Report
-report_of (Whole report) = report
-report_of (Torn report) = report
 
 abbrev pub is_torn : Walked → Bool
 is_torn (Whole report) = false
@@ -46,9 +43,14 @@ verb_text (Some op.Create) = codes " create"
 verb_text (Some op.Update) = codes " update"
 verb_text (Some op.Destroy) = codes " destroy"
 
--- `error CODE at ADDRESS VERB: MESSAGE`
+-- `error CODE at ADDRESS VERB: MESSAGE`, where the verb has its space
+abbrev pub error_line : ℕ → List ℕ → List ℕ → List ℕ → List ℕ
+error_line code place verb message =
+    codes "error " ++ (decimal code ++ (codes " at " ++ (place ++ (verb ++ (codes ": " ++ (message ++ 10 ∷ []))))))
+
+-- the line of a diagnostic
 abbrev pub diagnostic_line : DiagnosticView → List ℕ
-diagnostic_line d = codes "error " ++ decimal d.code ++ codes " at " ++ d.place ++ verb_text d.verb ++ codes ": " ++ d.message ++ 10 ∷ []
+diagnostic_line d = error_line d.code d.place (verb_text d.verb) d.message
 
 -- each diagnostic in a line, in order
 abbrev pub diagnostic_lines : List Diagnostic → List ℕ
@@ -94,10 +96,13 @@ unwritten_error unwritten = if unwritten then codes "error: state not written\n"
 abbrev pub applied_output : Applied → List ℕ
 applied_output a = string_bytes a.plan ++ report_summary (report_of a.walked)
 
--- on standard error: the diagnostics, the warning of a torn report, and that the state isn't written
+-- the warning of a torn report, and that the state isn't written
+abbrev pub warnings : Applied → List ℕ
+warnings a = torn_warning (is_torn a.walked) ++ unwritten_error (cant_write a)
+
+-- on standard error: the diagnostics, and then the warnings
 abbrev pub applied_errors : Applied → List ℕ
-applied_errors a =
-    diagnostic_lines (report_of a.walked).diagnostics.items ++ torn_warning (is_torn a.walked) ++ unwritten_error (cant_write a)
+applied_errors a = diagnostic_lines (report_of a.walked).diagnostics.items ++ warnings a
 
 abbrev pub output_of : Result Applied Refused → List ℕ
 output_of (Ok a) = applied_output a
@@ -106,6 +111,17 @@ output_of (Err refused) = []
 abbrev pub errors_of : Result Applied Refused → List ℕ
 errors_of (Ok a) = applied_errors a
 errors_of (Err refused) = refused_errors refused
+
+-- A writer got a first part of what is told of a refusal, where that is want of memory. The lines of other refusals
+-- are made as they are written, and what a writer got of those that weren't all written isn't said.
+abbrev pub RefusesStart : Option (List ℕ) → Option (List ℕ) → Refused → Type 0
+RefusesStart old new NoMemory = AppendsStart old new (refused_errors NoMemory)
+RefusesStart old new (These refusals) = Unit {0}
+
+-- standard error got a first part of what it is to get
+abbrev pub TellsStart : Option (List ℕ) → Option (List ℕ) → Result Applied Refused → Type 0
+TellsStart old new (Ok a) = AppendsStart old new (applied_errors a)
+TellsStart old new (Err refused) = RefusesStart old new refused
 
 -- 3 where the state isn't written, else 2 where some action isn't good or the report is torn, else 0
 abbrev pub applied_status : Applied → ℕ

@@ -3,8 +3,8 @@
 use std::alloc::AllocError;
 use tf_walk::Walked;
 
-/// What came of an apply.
-#[derive(Drop)]
+/// What came of an apply. What was created may be known from here alone, so it can be neither copied nor let go:
+/// a pattern that names each of its fields takes it apart.
 pub struct Applied {
     /// The plan's text.
     pub plan: String,

@@ -3,14 +3,13 @@
 ghost use Rattle.std.specs.Prelude.{◌≡◌, ◌==◌, None, not, map, option_map, IfOk, IfErr, string_bytes};
 ghost use Rattle.tf_cli.specs.Accepted.{IsAccepted, Refuses};
 ghost use Rattle.tf_cli.specs.Applies.{IsApplied};
-ghost use Rattle.tf_cli.specs.Shown.{report_of};
 ghost use Rattle.tf_config.specs.Config.{Blocks};
 ghost use Rattle.tf_state_data.specs.State.{state_of};
 ghost use Rattle.tf_state.specs.Text.{state_text};
+ghost use Rattle.tf_walk.specs.Report.{report_of};
 
 use crate::applied::Applied;
 use crate::planning::plan_of_texts;
-use crate::printing::report_of;
 use std::alloc::Global;
 use tf_plan::Refused;
 use tf_provider::Provider;
@@ -49,7 +48,7 @@ fn answer_of(alloc: Global, plan: String, walked: Walked) -> Applied
     ensures text { IfOk result.state (λ text. string_bytes text ≡ state_text (state_of (report_of walked).state)) }
     ensures changed { result.changed ≡ not ((state_of (report_of walked).state).serial == 0) }
 {
-    let report = report_of(&walked);
+    let report = walked.report();
     let state = write(alloc, &report.state);
     let changed = report.state.serial() != 0;
     Applied {

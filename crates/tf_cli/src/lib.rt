@@ -12,10 +12,11 @@ pub use applied::Applied;
 pub use applying::apply_text;
 pub use planning::plan_text;
 pub use printing::{print, print_refused, show};
-pub use saving::{SaveFault, save};
-pub use tf_refusal::Refusal;
+pub use saving::{SaveFault, save, save_all};
+pub use tf_config::Refusal;
 pub use tf_options::{Options, options};
 pub use tf_plan::Refused;
+pub use tf_walk::{Report, Walked};
 
 #[cfg(test)]
 mod tests;

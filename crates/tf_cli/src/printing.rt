@@ -2,14 +2,16 @@
 
 ghost use Rattle.std.specs.Io.KnownBytes.{Appends};
 ghost use Rattle.std.specs.List.{flat_map};
-ghost use Rattle.std.specs.Prelude.{◌≡◌, OnOk};
-ghost use Rattle.tf_cli.specs.Shown.{all_good, counts, summary_opening, applied_errors, applied_output, applied_status, cant_write, diagnostic_lines, errors_of, is_good_outcome, is_torn, output_of, refusal_line, refused_errors, report_of, report_summary, status_of, torn_warning, unwritten_error};
-ghost use Rattle.tf_refusal.specs.Refusal.{told};
+ghost use Rattle.std.specs.Prelude.{◌≡◌, IsErr, MatchResult, OnOk};
+ghost use Rattle.tf_cli.specs.Saved.{AppendsStart};
+ghost use Rattle.tf_cli.specs.Shown.{RefusesStart, TellsStart, all_good, applied_errors, applied_output, applied_status, cant_write, counts, diagnostic_line, diagnostic_lines, error_line, errors_of, is_good_outcome, is_torn, output_of, refusal_line, refused_errors, report_summary, status_of, summary_opening, torn_warning, unwritten_error, warnings};
+ghost use Rattle.tf_config.specs.Refusal.{told};
+ghost use Rattle.tf_walk.specs.Diagnostics.{diagnostic_of};
 
 use crate::applied::Applied;
-use crate::lines::{DiagnosticLine, RefusalLine};
-use crate::saving::{SaveFault, save};
-use std::io;
+use crate::lines::{RefusalLine, verb_text};
+use crate::saving::{SaveFault, save, save_all};
+use itoa::Buffer;
 use std::io::Write;
 use tf_refusal::Refusal;
 use tf_plan::Refused;
@@ -18,16 +20,19 @@ use tf_walk::{Diagnostic, Outcome, Report, Walked};
 
 /// Prints all that `apply` prints before it writes the state file, and answers the status so far: 1 where
 /// something is refused, 3 where the state has changed and there is no text of it, 2 where some action isn't
-/// good or the report is torn, else 0. What can't be printed is left out.
+/// good or the report is torn, else 0. Where a write to a writer fails, nothing more is written to it, and no
+/// answer tells of that: `print` does.
 pub fn show<O: Write, E: Write>(answer: &Result<Applied, Refused>, out: &mut O, err: &mut E) -> u8
-    ensures { result ≡ status_of answer.now }
+    ensures status { result ≡ status_of answer.now }
+    ensures output { AppendsStart (O.contents out.old) (O.contents out.new) (output_of answer.now) }
+    ensures errors { TellsStart (E.contents err.old) (E.contents err.new) answer.now }
 {
     let _ = print(answer, out, err);
     status(answer)
 }
 
-/// Prints all that `apply` prints before it writes the state file. Where a write fails, the other lines are
-/// still printed.
+/// Prints all that `apply` prints before it writes the state file. Where a write to a writer fails, nothing
+/// more is written to it, and what is left is still written to the other.
 #[tactic(auto, using(crate::proofs::Writes::appends_none))]
 pub fn print<O: Write, E: Write>(
     answer: &Result<Applied, Refused>,
@@ -36,6 +41,8 @@ pub fn print<O: Write, E: Write>(
 ) -> Result<(), SaveFault>
     ensures output { OnOk result (Appends (O.contents out.old) (O.contents out.new) (output_of answer.now)) }
     ensures errors { OnOk result (Appends (E.contents err.old) (E.contents err.new) (errors_of answer.now)) }
+    ensures output_part { AppendsStart (O.contents out.old) (O.contents out.new) (output_of answer.now) }
+    ensures errors_part { TellsStart (E.contents err.old) (E.contents err.new) answer.now }
 {
     match answer {
         Ok(applied) => print_applied(applied, out, err),
@@ -57,14 +64,13 @@ fn status_of_applied(applied: &Applied) -> u8
 {
     if cant_write(applied) {
         3
-    } else if is_complete(report_of(&applied.walked)) && !is_torn(&applied.walked) {
+    } else if is_complete(applied.walked.report()) && !is_torn(&applied.walked) {
         0
     } else {
         2
     }
 }
 
-#[tactic(auto, using(crate::proofs::Writes::appends_then))]
 fn print_applied<O: Write, E: Write>(
     applied: &Applied,
     out: &mut O,
@@ -72,50 +78,124 @@ fn print_applied<O: Write, E: Write>(
 ) -> Result<(), SaveFault>
     ensures output { OnOk result (Appends (O.contents out.old) (O.contents out.new) (applied_output applied.now)) }
     ensures errors { OnOk result (Appends (E.contents err.old) (E.contents err.new) (applied_errors applied.now)) }
+    ensures output_part { AppendsStart (O.contents out.old) (O.contents out.new) (applied_output applied.now) }
+    ensures errors_part { AppendsStart (E.contents err.old) (E.contents err.new) (applied_errors applied.now) }
 {
-    let report = report_of(&applied.walked);
+    let report = applied.walked.report();
     let planned = save(out, applied.plan.as_str());
     let told = print_diagnostics(&report.diagnostics, err);
-    let summed = print_summary(report, out);
-    let warned = save(err, torn_warning(is_torn(&applied.walked)));
-    let failed = save(err, unwritten_error(cant_write(applied)));
-    planned?;
-    told?;
+    let summed = print_summary(planned, report, out);
+    let warned = print_warnings(told, applied, err);
     summed?;
-    warned?;
-    failed
+    warned
 }
 
-fn print_summary<O: Write>(report: &Report, out: &mut O) -> Result<(), SaveFault>
-    ensures { OnOk result (Appends (O.contents out.old) (O.contents out.new) (report_summary report.now)) }
+/// Prints the summary, where all that comes before it was printed.
+fn print_summary<O: Write>(
+    before: Result<(), SaveFault>,
+    report: &Report,
+    out: &mut O,
+) -> Result<(), SaveFault>
+    ensures whole { MatchResult before (λ _. OnOk result (Appends (O.contents out.old) (O.contents out.new) (report_summary report.now))) (λ _. IsErr result) }
+    ensures part { MatchResult before (λ _. AppendsStart (O.contents out.old) (O.contents out.new) (report_summary report.now)) (λ _. O.contents out.new ≡ O.contents out.old) }
 {
-    let opening = opening(is_complete(report));
+    before?;
     let (added, changed, destroyed) = report.good;
-    write_counts(out, opening, added, changed, destroyed)?;
-    Ok(())
+    print_counts(opening(is_complete(report)), added, changed, destroyed, out)
+}
+
+/// Prints what is told behind the diagnostics, where these were printed.
+fn print_warnings<E: Write>(
+    before: Result<(), SaveFault>,
+    applied: &Applied,
+    err: &mut E,
+) -> Result<(), SaveFault>
+    ensures whole { MatchResult before (λ _. OnOk result (Appends (E.contents err.old) (E.contents err.new) (warnings applied.now))) (λ _. IsErr result) }
+    ensures part { MatchResult before (λ _. AppendsStart (E.contents err.old) (E.contents err.new) (warnings applied.now)) (λ _. E.contents err.new ≡ E.contents err.old) }
+{
+    before?;
+    let torn = torn_warning(is_torn(&applied.walked));
+    let unwritten = unwritten_error(cant_write(applied));
+    let texts = [torn, unwritten];
+    save_all(err, &texts)
+}
+
+fn print_counts<O: Write>(
+    opening: &str,
+    added: u32,
+    changed: u32,
+    destroyed: u32,
+    out: &mut O,
+) -> Result<(), SaveFault>
+    ensures whole { OnOk result (Appends (O.contents out.old) (O.contents out.new) (counts opening.now added changed destroyed)) }
+    ensures part { AppendsStart (O.contents out.old) (O.contents out.new) (counts opening.now added changed destroyed) }
+{
+    let mut first = Buffer::new();
+    let mut second = Buffer::new();
+    let mut third = Buffer::new();
+    let texts = [
+        opening,
+        first.format(added),
+        " added, ",
+        second.format(changed),
+        " changed, ",
+        third.format(destroyed),
+        " destroyed.\n",
+    ];
+    save_all(out, &texts)
 }
 
 fn print_diagnostics<E: Write>(diagnostics: &[Diagnostic], err: &mut E) -> Result<(), SaveFault>
-    ensures { OnOk result (Appends (E.contents err.old) (E.contents err.new) (diagnostic_lines diagnostics.now)) }
+    ensures whole { OnOk result (Appends (E.contents err.old) (E.contents err.new) (diagnostic_lines diagnostics.now)) }
+    ensures part { AppendsStart (E.contents err.old) (E.contents err.new) (diagnostic_lines diagnostics.now) }
 {
     for diagnostic in diagnostics {
-        let line = DiagnosticLine { diagnostic };
-        write!(err, "{line}")?;
+        print_diagnostic(diagnostic, err)?;
     }
     Ok(())
 }
 
+fn print_diagnostic<E: Write>(diagnostic: &Diagnostic, err: &mut E) -> Result<(), SaveFault>
+    ensures whole { OnOk result (Appends (E.contents err.old) (E.contents err.new) (diagnostic_line (diagnostic_of diagnostic.now))) }
+    ensures part { AppendsStart (E.contents err.old) (E.contents err.new) (diagnostic_line (diagnostic_of diagnostic.now)) }
+{
+    let place = diagnostic.place.as_str();
+    let verb = verb_text(&diagnostic.verb);
+    let message = diagnostic.message.as_str();
+    print_error(diagnostic.code, place, verb, message, err)
+}
+
+fn print_error<'a, E: Write>(
+    code: u8,
+    place: &'a str,
+    verb: &'a str,
+    message: &'a str,
+    err: &mut E,
+) -> Result<(), SaveFault>
+    ensures whole { OnOk result (Appends (E.contents err.old) (E.contents err.new) (error_line code place.now verb.now message.now)) }
+    ensures part { AppendsStart (E.contents err.old) (E.contents err.new) (error_line code place.now verb.now message.now) }
+{
+    let mut number = Buffer::new();
+    let texts = [
+        "error ",
+        number.format(code),
+        " at ",
+        place,
+        verb,
+        ": ",
+        message,
+        "\n",
+    ];
+    save_all(err, &texts)
+}
+
 /// Prints each refusal in a line.
 pub fn print_refused<E: Write>(refused: &Refused, err: &mut E) -> Result<(), SaveFault>
-    ensures { OnOk result (Appends (E.contents err.old) (E.contents err.new) (refused_errors refused.now)) }
+    ensures whole { OnOk result (Appends (E.contents err.old) (E.contents err.new) (refused_errors refused.now)) }
+    ensures part { RefusesStart (E.contents err.old) (E.contents err.new) refused.now }
 {
     match refused {
-        Refused::NoMemory => {
-            let refusal = Refusal::OutOfMemory;
-            let line = RefusalLine { refusal: &refusal };
-            write!(err, "{line}")?;
-            Ok(())
-        }
+        Refused::NoMemory => save(err, "error 15 at memory: OutOfMemory\n"),
         Refused::These(refusals) => print_refusals(refusals, err),
     }
 }
@@ -128,16 +208,6 @@ fn print_refusals<E: Write>(refusals: &[Refusal], err: &mut E) -> Result<(), Sav
         write!(err, "{line}")?;
     }
     Ok(())
-}
-
-/// The report of a walk, torn or not.
-pub(crate) fn report_of(walked: &Walked) -> &Report
-    ensures { result.now ≡ report_of walked.now }
-{
-    match walked {
-        Walked::Whole(report) => report,
-        Walked::Torn(report) => report,
-    }
 }
 
 fn is_torn(walked: &Walked) -> bool
@@ -189,21 +259,6 @@ fn unwritten_error(unwritten: bool) -> &'static str
     } else {
         ""
     }
-}
-
-fn write_counts<O: Write>(
-    out: &mut O,
-    opening: &str,
-    added: u32,
-    changed: u32,
-    destroyed: u32,
-) -> io::Result<()>
-    ensures { OnOk result (Appends (O.contents out.old) (O.contents out.new) (counts opening.now added changed destroyed)) }
-{
-    write!(
-        out,
-        "{opening}{added} added, {changed} changed, {destroyed} destroyed.\n"
-    )
 }
 
 /// How the summary begins.

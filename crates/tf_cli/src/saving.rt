@@ -1,6 +1,7 @@
 //! Writing a text to a writer.
 
 ghost use Rattle.std.specs.Io.KnownBytes.{Appends};
+ghost use Rattle.std.specs.List.{flat_map};
 ghost use Rattle.std.specs.Prelude.{OnOk};
 ghost use Rattle.tf_cli.specs.Saved.{AppendsStart};
 
@@ -32,6 +33,17 @@ pub fn save<W: Write>(writer: &mut W, text: &str) -> Result<(), SaveFault>
             Ok(count) => at += count,
             Err(error) => return Err(SaveFault::Write(error)),
         }
+    }
+    Ok(())
+}
+
+/// Writes texts one after another. Where that fails, the writer has got as much of their beginning as it took.
+pub fn save_all<W: Write>(writer: &mut W, texts: &[&str]) -> Result<(), SaveFault>
+    ensures whole { OnOk result (Appends (W.contents writer.old) (W.contents writer.new) (flat_map (λ t. t.now) texts.now)) }
+    ensures part { AppendsStart (W.contents writer.old) (W.contents writer.new) (flat_map (λ t. t.now) texts.now) }
+{
+    for text in texts {
+        save(writer, *text)?;
     }
     Ok(())
 }

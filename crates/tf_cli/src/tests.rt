@@ -1,13 +1,19 @@
 //! Plans and applies of whole texts, byte for byte, and refusals, before which no provider is called.
 
-use crate::{Applied, Refused, apply_text, options, plan_text, print_refused, show};
+ghost use Rattle.std.specs.Prelude.{◌≡◌, IfOk, option_map};
+ghost use Rattle.tf_value.specs.Tree.{tree_of};
+
+use crate::{Applied, Refused, Report, apply_text, options, plan_text, print_refused, show};
 use std::alloc::{AllocError, Global};
+use std::collections::BTreeMap;
+use std::io;
 use std::process::Abort;
 use std::sync::Arc;
 use std::sync::atomic::{AtomicUsize, Ordering};
 use std::test::Fail;
 use tf_provider::{Provider, Reply, Request, Schema};
 use tf_sim::Sim;
+use tf_value::{Value, copy};
 
 /// The provider `sim`, which counts its calls and may be without memory at each.
 #[derive(Drop)]
@@ -48,6 +54,58 @@ struct Seen {
     calls: usize,
 }
 
+/// The provider `sim`, but for its answer, which is always the same: that the request failed, where there is a
+/// message, else an object, where there is one, else that there is none.
+#[derive(Drop)]
+struct Scripted {
+    sim: Sim,
+    message: Option<String>,
+    object: Option<Value>,
+}
+
+impl Provider for Scripted {
+    ghost use Rattle.std.specs.Option.{option_map_or};
+    ghost use Rattle.std.specs.Prelude.{option_map, string_bytes};
+    ghost use Rattle.tf_provider.specs.Meaning.{failed, gone, object};
+    ghost use Rattle.tf_sim.specs.Table.{sim_meaning};
+    ghost use Rattle.tf_value.specs.Tree.{tree_of};
+
+    ghost meaning = { λ p. record {
+      answer = λ _. option_map_or (λ m. failed (string_bytes m) (option_map tree_of p.object))
+          p.message (option_map_or (λ v. object (tree_of v)) p.object gone);
+      schema_of = sim_meaning.schema_of;
+    } };
+
+    fn schema(&self, type_name: &str) -> Option<&Schema> {
+        self.sim.schema(type_name)
+    }
+
+    fn apply(&self, _request: &Request) -> Reply {
+        let Ok(object) = copied(&self.object) else {
+            return Reply::NoMemory;
+        };
+        match &self.message {
+            None => match object {
+                Some(value) => Reply::Object(value),
+                None => Reply::Gone,
+            },
+            Some(message) => match message.clone() {
+                Ok(message) => Reply::Failed { message, object },
+                Err(AllocError) => Reply::NoMemory,
+            },
+        }
+    }
+}
+
+fn copied(object: &Option<Value>) -> Result<Option<Value>, AllocError>
+    ensures { IfOk result (λ o. option_map tree_of o ≡ option_map tree_of object.now) }
+{
+    match object {
+        Some(value) => Ok(Some(copy(value)?)),
+        None => Ok(None),
+    }
+}
+
 /// Applies a configuration.
 fn watch_apply(
     alloc: Global,
@@ -61,37 +119,57 @@ fn watch_apply(
         calls: Arc::try_clone(&calls)?,
         forgetful,
     };
+    let mut seen = apply_by(alloc, config, state, Box::new(alloc, watched)?)?;
+    seen.calls = calls.load(Ordering::SeqCst);
+    Ok(seen)
+}
+
+/// Applies a configuration by a provider whose calls aren't counted.
+fn apply_by(
+    alloc: Global,
+    config: &[u8],
+    state: Option<&[u8]>,
+    provider: Box<dyn Provider + Sync>,
+) -> Result<Seen, Fail> {
     let mut providers: Vec<Box<dyn Provider + Sync>> = Vec::new(alloc);
-    providers.push(Box::new(alloc, watched)?)?;
+    providers.push(provider)?;
     let answer = apply_text(alloc, config, None, state, "L", &providers);
     let mut output = Vec::new(alloc);
     let mut errors = Vec::new(alloc);
     let status = show(&answer, &mut output, &mut errors);
-    let (state, changed) = state_after(alloc, &answer)?;
+    let (state, changed) = state_after(alloc, answer);
     Ok(Seen {
         output: String::from_utf8(output)?,
         errors: String::from_utf8(errors)?,
         status,
         state,
         changed,
-        calls: calls.load(Ordering::SeqCst),
+        calls: 0,
     })
 }
 
-/// The text of the state after, and whether it has changed.
-fn state_after(
-    alloc: Global,
-    answer: &Result<Applied, Refused>,
-) -> Result<(String, bool), AllocError> {
-    match answer {
-        Ok(
-            Applied {
-                state: Ok(text),
-                changed,
-                ..
-            },
-        ) => Ok((text.clone()?, *changed)),
-        _ => Ok((String::new(alloc), false)),
+/// The text of the state after, and whether it has changed. All else goes.
+fn state_after(alloc: Global, answer: Result<Applied, Refused>) -> (String, bool) {
+    let Ok(applied) = answer else {
+        return (String::new(alloc), false);
+    };
+    let Applied {
+        plan: _,
+        walked,
+        state,
+        changed,
+    } = applied;
+    let Report {
+        state: _,
+        outcomes: _,
+        diagnostics: _,
+        journal: _,
+        excused: _,
+        good: _,
+    } = walked.into_report();
+    match state {
+        Ok(text) => (text, changed),
+        Err(AllocError) => (String::new(alloc), false),
     }
 }
 
@@ -195,6 +273,137 @@ fn excuses_a_provider_without_memory(rt: HostRuntime) -> Result<(), Fail> {
     Ok(())
 }
 
+/// What a provider answers to a create of the net with cidr `x`.
+#[derive(Clone, Copy, Debug)]
+enum Said {
+    Whole,
+    WithoutId,
+    NumberAsId,
+    AnotherCidr,
+    Gone,
+    FailedWith,
+    FailedWithHalf,
+    Failed,
+}
+
+/// A net with this cidr and id, and a tag that is null.
+fn net(alloc: Global, cidr: &str, id: Option<Value>) -> Result<Value, AllocError> {
+    let mut attributes = BTreeMap::new(alloc);
+    let cidr = Value::Text(String::from_str(alloc, cidr)?);
+    drop(attributes.insert(String::from_str(alloc, "cidr")?, cidr)?);
+    drop(attributes.insert(String::from_str(alloc, "tag")?, Value::Null)?);
+    if let Some(id) = id {
+        drop(attributes.insert(String::from_str(alloc, "id")?, id)?);
+    }
+    Ok(Value::Map(attributes))
+}
+
+/// The message and the object of an answer.
+fn script(alloc: Global, said: Said) -> Result<(Option<String>, Option<Value>), AllocError> {
+    let id = Value::Text(String::from_str(alloc, "i")?);
+    let message = Some(String::from_str(alloc, "m\tn\n")?);
+    Ok(match said {
+        Said::Whole => (None, Some(net(alloc, "x", Some(id))?)),
+        Said::WithoutId => (None, Some(net(alloc, "x", None)?)),
+        Said::NumberAsId => (None, Some(net(alloc, "x", Some(Value::Int(5)))?)),
+        Said::AnotherCidr => (None, Some(net(alloc, "y", Some(id))?)),
+        Said::Gone => (None, None),
+        Said::FailedWith => (message, Some(net(alloc, "x", Some(id))?)),
+        Said::FailedWithHalf => (message, Some(net(alloc, "x", None)?)),
+        Said::Failed => (message, None),
+    })
+}
+
+const MALFORMED: &str = "error 23 at sim_net.a create: malformed reply\n";
+
+const FAILED: &str = "error 21 at sim_net.a create: m n \n";
+
+// Each kind of answer, what is told, and the cidr, the id and the status of what is saved.
+static REPLIES: [(Said, &str, &str, &str, &str); 8] = [
+    (Said::Whole, "", "x", "\"i\"", ""),
+    (Said::WithoutId, MALFORMED, "x", "null", "tainted"),
+    (Said::NumberAsId, MALFORMED, "x", "null", "tainted"),
+    (
+        Said::AnotherCidr,
+        "error 22 at sim_net.a create: contradicts cidr\n",
+        "y",
+        "\"i\"",
+        "tainted",
+    ),
+    (Said::Gone, MALFORMED, "x", "null", "tainted"),
+    (Said::FailedWith, FAILED, "x", "\"i\"", "tainted"),
+    (Said::FailedWithHalf, FAILED, "", "", ""),
+    (Said::Failed, FAILED, "", "", ""),
+];
+
+// The text of a state with one net, or with nothing where there is no cidr.
+fn net_state(alloc: Global, cidr: &str, id: &str, status: &str) -> Result<String, AllocError> {
+    if cidr.is_empty() {
+        return String::from_str(alloc, NOTHING);
+    }
+    let status = if status.is_empty() {
+        String::new(alloc)
+    } else {
+        format!(in alloc; ",\n          \"status\": \"{status}\"")?
+    };
+    format!(in alloc;
+        "{{\n  \"lineage\": \"L\",\n  \"outputs\": {{}},\n  \"resources\": [\n    {{\n      \"instances\": [\n        {{\n          \"attributes\": {{\n            \"cidr\": \"{cidr}\",\n            \"id\": {id},\n            \"tag\": null\n          }},\n          \"schema_version\": 0{status}\n        }}\n      ],\n      \"mode\": \"managed\",\n      \"name\": \"a\",\n      \"provider\": \"provider[\\\"registry.terraform.io/hashicorp/sim\\\"]\",\n      \"type\": \"sim_net\"\n    }}\n  ],\n  \"serial\": 1,\n  \"terraform_version\": \"1.0.0\",\n  \"version\": 4\n}}\n"
+    )
+}
+
+#[test]
+fn answers_of_each_kind(rt: HostRuntime) -> Result<(), Fail> {
+    let alloc = rt.alloc();
+    for (said, errors, cidr, id, status) in &REPLIES {
+        let (message, object) = script(alloc, *said)?;
+        let scripted = Scripted {
+            sim: Sim::new(alloc)?,
+            message,
+            object,
+        };
+        let seen = apply_by(alloc, CONFIG.as_bytes(), None, Box::new(alloc, scripted)?)?;
+        let state = net_state(alloc, *cidr, *id, *status)?;
+        assert_eq!(rt; seen.errors.as_str(), *errors, "{said:?}");
+        assert_eq!(rt; seen.state.as_str(), state.as_str(), "{said:?}");
+        assert_eq!(rt; seen.changed, !cidr.is_empty(), "{said:?}");
+        assert_eq!(rt;
+            seen.status,
+            if errors.is_empty() { 0 } else { 2 },
+            "{said:?}"
+        );
+    }
+    Ok(())
+}
+
+// Blocks of a type, with names of 1 to 200 bytes, each with this body.
+fn blocks_of(alloc: Global, type_name: &str, body: &str) -> Result<String, AllocError> {
+    let mut text = format!(in alloc; "\"{type_name}\": {{")?;
+    let mut name = String::new(alloc);
+    for n in 0..200 {
+        name.push('a')?;
+        let comma = if n == 0 { "" } else { ", " };
+        let block = format!(in alloc; "{comma}\"{name}\": {body}")?;
+        text.push_str(block.as_str())?;
+    }
+    text.push('}')?;
+    Ok(text)
+}
+
+#[test]
+fn creates_many(rt: HostRuntime) -> Result<(), Fail> {
+    let nets = blocks_of(rt.alloc(), "sim_net", "{\"cidr\": \"x\"}")?;
+    let hosts = blocks_of(rt.alloc(), "sim_host", "{\"name\": \"h\", \"size\": 1}")?;
+    let config = format!(in rt.alloc(); "{{\"resource\": {{{nets}, {hosts}}}}}")?;
+    let seen = watch_apply(rt.alloc(), config.as_bytes(), None, false)?;
+    assert_eq!(rt; seen.errors.as_str(), "");
+    assert!(rt;
+        seen.output.ends_with("\nApply complete! Resources: 400 added, 0 changed, 0 destroyed.\n")
+    );
+    assert_eq!(rt; seen.status, 0);
+    assert_eq!(rt; seen.calls, 400);
+    Ok(())
+}
+
 // The answer of an apply for whose state there was no memory.
 fn stateless(alloc: Global, config: &[u8]) -> Result<Result<Applied, Refused>, Fail> {
     let mut providers: Vec<Box<dyn Provider + Sync>> = Vec::new(alloc);
@@ -224,7 +433,9 @@ fn tells_that_a_state_is_not_written(rt: HostRuntime) -> Result<(), Fail> {
         let answer = stateless(rt.alloc(), config.as_bytes())?;
         let mut output = Vec::new(rt.alloc());
         let mut told = Vec::new(rt.alloc());
-        assert_eq!(rt; show(&answer, &mut output, &mut told), status, "{config}");
+        let shown = show(&answer, &mut output, &mut told);
+        let _ = state_after(rt.alloc(), answer);
+        assert_eq!(rt; shown, status, "{config}");
         assert_eq!(rt; told.as_slice(), errors.as_bytes(), "{config}");
     }
     Ok(())
@@ -451,7 +662,9 @@ fn tells_want_of_memory(rt: HostRuntime) -> Result<(), Fail> {
     let answer: Result<Applied, Refused> = Err(Refused::NoMemory);
     let mut output = Vec::new(rt.alloc());
     let mut errors = Vec::new(rt.alloc());
-    assert_eq!(rt; show(&answer, &mut output, &mut errors), 1);
+    let status = show(&answer, &mut output, &mut errors);
+    let _ = state_after(rt.alloc(), answer);
+    assert_eq!(rt; status, 1);
     assert!(rt; output.is_empty());
     assert_eq!(rt;
         errors.as_slice(),
@@ -548,5 +761,69 @@ fn reads_words(rt: HostRuntime) -> Result<(), Fail> {
     let options = options(rt.alloc(), words.as_slice())?;
     assert_eq!(rt; options.config.as_str(), "main.tf.json");
     assert_eq!(rt; options.parallelism, 10);
+    Ok(())
+}
+
+/// A writer with room for so many bytes.
+#[derive(Drop)]
+struct Narrow {
+    held: Vec<u8>,
+    room: usize,
+}
+
+impl io::Write for Narrow {
+    ghost use Rattle.std.specs.Prelude.{Some};
+
+    ghost contents = { λ narrow. Some narrow.held.items };
+
+    fn write(&mut self, buf: &[u8]) -> io::Result<usize> {
+        let count = buf.len().min(self.room);
+        self.held.extend_from_slice(&buf[..count])?;
+        self.room -= count;
+        Ok(count)
+    }
+
+    fn flush(&mut self) -> io::Result<()> {
+        Ok(())
+    }
+}
+
+// What is shown on writers with so much room, and the status.
+fn show_narrow(
+    alloc: Global,
+    answer: &Result<Applied, Refused>,
+    room: usize,
+) -> (Vec<u8>, Vec<u8>, u8) {
+    let mut out = Narrow {
+        held: Vec::new(alloc),
+        room,
+    };
+    let mut err = Narrow {
+        held: Vec::new(alloc),
+        room,
+    };
+    let status = show(answer, &mut out, &mut err);
+    (out.held, err.held, status)
+}
+
+#[test]
+fn shows_what_has_room(rt: HostRuntime) -> Result<(), Fail> {
+    let config =
+        "{\"resource\": {\"sim_net\": {\"b\": {\"cidr\": \"bad\"}, \"a\": {\"cidr\": \"bad\"}}}}";
+    let answer = stateless(rt.alloc(), config.as_bytes())?;
+    let (output, errors, status) = show_narrow(rt.alloc(), &answer, 1000);
+    for room in 0..300 {
+        let (out, err, status_then) = show_narrow(rt.alloc(), &answer, room);
+        assert_eq!(rt;
+            out.as_slice(),
+            &output.as_slice()[..room.min(output.len())]
+        );
+        assert_eq!(rt;
+            err.as_slice(),
+            &errors.as_slice()[..room.min(errors.len())]
+        );
+        assert_eq!(rt; status_then, status);
+    }
+    let _ = state_after(rt.alloc(), answer);
     Ok(())
 }

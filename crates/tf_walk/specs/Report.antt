@@ -68,6 +68,11 @@ pub record IsJournal (plan : PlanView) (done : List Done) (entries : List Entry)
   pub in_order : IsInOrder (predecessors_of plan.order) (actions_of entries)
   pub verdicts : (n : ℕ) → verdict_in entries n ≡ entered_verdict (done_at done n)
 
+-- the report of a walk, torn or not
+abbrev pub report_of : Walked → Report
+report_of (Whole report) = report
+report_of (Torn report) = report
+
 -- What a walk answers: a whole report, with its journal. A walk of one thread doesn't tear its journal.
 abbrev pub IsWalked : List Meaning → PlanView → Walked → Type 0
 IsWalked ms plan (Whole report) = (done : List Done) × IsReport ms plan done report × IsJournal plan done report.journal.entries

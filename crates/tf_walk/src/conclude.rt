@@ -1,6 +1,6 @@
 //! What came of an action becomes a part of the report, without taking memory.
 
-ghost use Rattle.std.specs.Prelude.{◌≡◌, ◌++◌, [], true, Some, codes, map, option_map, option_and_then, string_bytes, string_capacity};
+ghost use Rattle.std.specs.Prelude.{◌≡◌, ◌++◌, [], true, None, Some, codes, map, option_map, option_and_then, string_bytes, string_capacity};
 ghost use Rattle.tf_address.specs.Label.{label_text};
 ghost use Rattle.tf_protocol.specs.Meaning.{asked, answered};
 ghost use Rattle.tf_protocol.specs.Verdict.{verdict_on};
@@ -34,14 +34,10 @@ pub fn conclude(
     ensures { IsAdditionOf (map (λ b. meaning b) providers.now) (room_head room) (done_or_skipped ended) result }
 {
     match ended {
-        None | Some(Ended::Skipped) => Addition {
-            resource: None,
-            diagnostic: None,
-        },
-        Some(Ended::NotAsked | Ended::NotServed) => Addition {
-            resource: None,
-            diagnostic: Some(want_of_memory(room)),
-        },
+        None => nothing(),
+        Some(Ended::Skipped) => nothing(),
+        Some(Ended::NotAsked) => want_of_memory(room),
+        Some(Ended::NotServed) => want_of_memory(room),
         Some(Ended::Called(judged)) => {
             match schema_for(providers, judged.request.type_name.as_str()) {
                 Some(schema) => conclude_call(room, judged, schema),
@@ -51,10 +47,22 @@ pub fn conclude(
     }
 }
 
+/// A skipped action adds nothing.
+fn nothing() -> Addition
+    ensures resource { result.resource ≡ None }
+    ensures diagnostic { result.diagnostic ≡ None }
+{
+    Addition {
+        resource: None,
+        diagnostic: None,
+    }
+}
+
 /// What is told where there was no memory.
-fn want_of_memory(room: Room) -> Diagnostic
-    ensures { diagnostic_of result
-        ≡ record { code = 26; place = label_text (room_head room).label; verb = Some Create; message = codes "no memory" } }
+fn want_of_memory(room: Room) -> Addition
+    ensures resource { result.resource ≡ None }
+    ensures diagnostic { option_map diagnostic_of result.diagnostic
+        ≡ Some (record { code = 26; place = label_text (room_head room).label; verb = Some Create; message = codes "no memory" }) }
 {
     let Room {
         address,
@@ -62,11 +70,14 @@ fn want_of_memory(room: Room) -> Diagnostic
         ..
     } = room;
     message.push_str("no memory").unwrap();
-    Diagnostic {
-        code: 26,
-        place: address,
-        verb: Some(Op::Create),
-        message,
+    Addition {
+        resource: None,
+        diagnostic: Some(Diagnostic {
+            code: 26,
+            place: address,
+            verb: Some(Op::Create),
+            message,
+        }),
     }
 }
 

@@ -8,8 +8,7 @@ ghost use Rattle.tf_walk.specs.Settled.{is_settled};
 use tf_provider::{Reply, Request, Verdict};
 use tf_state_data::Object;
 
-/// A call that was judged, with room for a message about it.
-#[derive(Drop)]
+/// A call that was judged, with room for a message about it. It can't be copied or let go.
 pub struct Judged {
     pub request: Request,
     pub reply: Reply,
@@ -21,8 +20,8 @@ pub struct Judged {
     pub ghost settled: { is_settled (option_map tree_of request.object) (tree_of fallback.value) ≡ true },
 }
 
-/// What came of an action.
-#[derive(Drop)]
+/// What came of an action. As it may hold a reply it can't be copied or let go: it has to become a part of the
+/// report.
 pub enum Ended {
     /// An action before it isn't good.
     Skipped,

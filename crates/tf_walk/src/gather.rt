@@ -96,7 +96,11 @@ pub fn conclude_all(
     ensures tells { map diagnostic_of diagnostics.new.items ≡ told_in (map room_head rooms.items) (dones_of results.items) }
     ensures few { length resources.new.items ≤ length results.items }
 {
-    for (room, ended) in rooms.into_iter().zip(results) {
+    let mut ends = results.into_iter();
+    for room in rooms {
+        let Some(ended) = ends.next() else {
+            unreachable!()
+        };
         let Addition {
             resource,
             diagnostic,
@@ -104,6 +108,7 @@ pub fn conclude_all(
         add_resource(resources, resource);
         add_diagnostic(diagnostics, diagnostic);
     }
+    ends.destroy_empty();
 }
 
 fn add_resource(resources: &mut Vec<Resource>, resource: Option<Resource>)

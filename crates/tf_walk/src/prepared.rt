@@ -13,8 +13,8 @@ use tf_claim::Book;
 use tf_journal::Journal;
 use tf_plan::Plan;
 
-/// All that the report on a plan needs memory for, and the claims on its actions.
-#[derive(Drop)]
+/// All that the report on a plan needs memory for, and the claims on its actions. The results are for what may
+/// not be let go, so neither may this.
 pub struct Prepared {
     pub book: Book,
     pub journal: Journal,
@@ -32,9 +32,9 @@ pub fn prepare(alloc: Global, plan: &Plan) -> Result<Prepared, AllocError>
     Ok(Prepared {
         book: Book::new(alloc, order)?,
         journal: Journal::with_room(alloc, order)?,
-        results: not_ended(alloc, count)?,
         rooms: rooms_for(alloc, plan.actions.as_slice())?,
         draft: blank(alloc, plan.lineage.as_str(), count)?,
+        results: not_ended(alloc, count)?,
     })
 }
 
@@ -44,7 +44,7 @@ fn not_ended(alloc: Global, count: usize) -> Result<Vec<Option<Ended>>, AllocErr
 {
     let mut results = Vec::with_capacity(alloc, count)?;
     for _ in 0..count {
-        results.push(None)?;
+        results.push_reserved(None);
     }
     Ok(results)
 }

@@ -1,15 +1,16 @@
 //! The walk of one thread.
 
-ghost use Rattle.std.specs.Prelude.{◌≡◌, ◌<◌, Some, map, option_map, length, slice_set};
+ghost use Rattle.std.specs.Prelude.{◌≡◌, ◌<◌, None, Some, map, option_map, length, slice_set};
 ghost use Rattle.tf_plan.specs.Plan.{action_of, plan_of};
 ghost use Rattle.tf_plan.specs.Served.{AreServed};
 ghost use Rattle.tf_walk.specs.Ended.{done_of};
-ghost use Rattle.tf_walk.specs.Ends.{AllHaveEnded, IsSoFar, IsStaged};
+ghost use Rattle.tf_walk.specs.Ends.{AllHaveEnded, IsSoFar, IsStaged, end_at};
 
 use crate::claims::{close, next_permit};
 use crate::ended::Ended;
 use crate::steps::end_action;
 use std::alloc::Global;
+use std::mem;
 use tf_claim::Book;
 use tf_journal::Journal;
 use tf_plan::Plan;
@@ -42,10 +43,14 @@ pub fn walk(
     }
 }
 
-/// Keeps what came of an action.
+/// Keeps what came of an action, of which nothing is kept yet.
 fn keep(results: &mut [Option<Ended>], action: usize, ended: Ended)
-    requires { action < length results.old }
+    requires within { action < length results.old }
+    requires free { end_at (map (option_map done_of) results.old) action ≡ None }
     ensures { results.new ≡ slice_set results.old action (Some ended) }
 {
-    results[action] = Some(ended);
+    match mem::replace(&mut results[action], Some(ended)) {
+        None => {}
+        Some(_) => unreachable!(),
+    }
 }

@@ -13,21 +13,21 @@ pub loop-room-preserved : goal.loop-room-preserved
 loop-room-preserved g c =
     let ms = map (λ b. (goal.Provider-dyn g (b.vtable, b.value)).meaning b.value) c.args.providers.now in
     let old = c.loop-room in
-    let rooms = into_iter_items c.next.new.self.a in
-    let results = into_iter_items c.next.new.self.b in
+    let rooms = into_iter_items c.next.new.self in
+    let results = into_iter_items c.next-in-loop-room.new.self in
     let steps = rw c.in-Some.is at c.next.ensures.steps in
-    let rooms_are : into_iter_items old.room-iterator.a ≡ c.in-Some.room ∷ rooms = steps.0.0 in
-    let results_are : into_iter_items old.room-iterator.b ≡ c.in-Some.ended ∷ results = steps.1.0 in
+    let rooms_are : into_iter_items old.room-iterator ≡ c.in-Some.room ∷ rooms = steps.0 in
+    let results_are : into_iter_items old.ends ≡ c.in-Some-next.ended ∷ results = c.in-Some-next.ensures.items in
     let h = room_head c.in-Some.room in
-    let d = done_or_skipped c.in-Some.ended in
+    let d = done_or_skipped c.in-Some-next.ended in
     let added = c.conclude-resource.result in
-    let judged : AreJudged ms (dones_of (c.in-Some.ended ∷ results)) = subst (λ ys. AreJudged ms (dones_of ys)) results_are old.invariant.judged in
-    let fewer = one-less (into_iter_items old.room-iterator.b) results c.in-Some.ended results_are in
+    let judged : AreJudged ms (dones_of (c.in-Some-next.ended ∷ results)) = subst (λ ys. AreJudged ms (dones_of ys)) results_are old.invariant.judged in
+    let fewer = one-less (into_iter_items old.ends) results c.in-Some-next.ended results_are in
     let resources = one-more old.resources.items c.add_resource.new.resources.items added.resource c.add_resource.ensures.items in
     let diagnostics = one-more old.diagnostics.items c.add_diagnostic.new.diagnostics.items added.diagnostic c.add_diagnostic.ensures.items in
     record {
       judged = judged.1;
-      paired = paired-more (into_iter_items old.room-iterator.a) rooms (into_iter_items old.room-iterator.b) results c.in-Some.room c.in-Some.ended rooms_are results_are old.invariant.paired;
+      paired = paired-more (into_iter_items old.room-iterator) rooms (into_iter_items old.ends) results c.in-Some.room c.in-Some-next.ended rooms_are results_are old.invariant.paired;
       saves =
           ap (λ xs. map resource_of xs ++ saved_in ms (map room_head rooms) (dones_of results)) c.add_resource.ensures.items
           ∙ (saved-more old.resources.items added.resource (option_map (resource_after h) (saved ms d)) (saved_in ms (map room_head rooms) (dones_of results)) c.conclude-resource.ensures.resource

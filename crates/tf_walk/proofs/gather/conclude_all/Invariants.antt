@@ -12,8 +12,8 @@ use Rattle.tf_walk.proofs.gather.conclude_all.Given as goal
 abbrev pub invariant-loop-room : goal.invariant-loop-room
 invariant-loop-room g l =
     let ms = map (λ b. (goal.Provider-dyn g (b.vtable, b.value)).meaning b.value) l.providers in
-    let rooms = into_iter_items l.room-iterator.a in
-    let results = into_iter_items l.room-iterator.b in
+    let rooms = into_iter_items l.room-iterator in
+    let results = into_iter_items l.ends in
     record {
       judged : AreJudged ms (dones_of results);
       paired : length rooms ≡ length results;
