@@ -5,7 +5,7 @@ ghost use Rattle.std.specs.List.{flat_map};
 ghost use Rattle.std.specs.Prelude.{◌≡◌, IsErr, MatchResult, OnOk};
 ghost use Rattle.tf_cli.specs.Saved.{AppendsStart};
 ghost use Rattle.tf_cli.specs.Shown.{RefusesStart, TellsStart, all_good, applied_errors, applied_output, applied_status, cant_write, counts, diagnostic_line, diagnostic_lines, error_line, errors_of, is_good_outcome, is_torn, output_of, refusal_line, refused_errors, report_summary, status_of, summary_opening, torn_warning, unwritten_error, warnings};
-ghost use Rattle.tf_config.specs.Refusal.{told};
+ghost use Rattle.tf_refusal.specs.Refusal.{told};
 ghost use Rattle.tf_walk.specs.Diagnostics.{diagnostic_of};
 
 use crate::applied::Applied;

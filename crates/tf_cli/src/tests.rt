@@ -66,7 +66,7 @@ struct Scripted {
 impl Provider for Scripted {
     ghost use Rattle.std.specs.Option.{option_map_or};
     ghost use Rattle.std.specs.Prelude.{option_map, string_bytes};
-    ghost use Rattle.tf_provider.specs.Meaning.{failed, gone, object};
+    ghost use Rattle.tf_protocol.specs.Meaning.{failed, gone, object};
     ghost use Rattle.tf_sim.specs.Table.{sim_meaning};
     ghost use Rattle.tf_value.specs.Tree.{tree_of};
 
