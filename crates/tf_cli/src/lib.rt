@@ -13,9 +13,9 @@ pub use applying::apply_text;
 pub use planning::plan_text;
 pub use printing::{print, print_refused, show};
 pub use saving::{SaveFault, save, save_all};
-pub use tf_refusal::Refusal;
 pub use tf_options::{Options, options};
 pub use tf_plan::Refused;
+pub use tf_refusal::Refusal;
 pub use tf_walk::{Report, Walked};
 
 #[cfg(test)]

@@ -1,8 +1,8 @@
 //! The line of a refusal, and what a line says of what was to be done.
 
 use std::fmt;
-use tf_refusal::Refusal;
 use tf_provider::Op;
+use tf_refusal::Refusal;
 
 /// A refusal, in a line.
 #[derive(Clone, Copy)]

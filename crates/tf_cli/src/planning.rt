@@ -10,9 +10,9 @@ ghost use Rattle.tf_plan.specs.Served.{AreServed};
 
 use std::alloc::{AllocError, Global};
 use tf_config::{Config, read};
-use tf_refusal::{Detail, Refusal};
 use tf_plan::{Plan, Refused, plan_for};
 use tf_provider::Provider;
+use tf_refusal::{Detail, Refusal};
 
 /// The text that `plan` prints, for a configuration. There are no variables yet, and a prior state is refused.
 pub fn plan_text(

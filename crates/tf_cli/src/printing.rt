@@ -13,9 +13,9 @@ use crate::lines::{RefusalLine, verb_text};
 use crate::saving::{SaveFault, save, save_all};
 use itoa::Buffer;
 use std::io::Write;
-use tf_refusal::Refusal;
 use tf_plan::Refused;
 use tf_provider::Verdict;
+use tf_refusal::Refusal;
 use tf_walk::{Diagnostic, Outcome, Report, Walked};
 
 /// Prints all that `apply` prints before it writes the state file, and answers the status so far: 1 where

@@ -23,10 +23,10 @@ use crate::report::{Report, Walked};
 use crate::rooms::Room;
 use crate::walk::walk;
 use std::alloc::{AllocError, Global};
-use tf_refusal::Refusal;
 use tf_journal::Journal;
 use tf_plan::Plan;
 use tf_provider::Provider;
+use tf_refusal::Refusal;
 
 /// Carries out a plan by one thread, without waiting: every action is ended once, after all that stand before
 /// it. Some provider in the list has the type of each action, and the action's object has exactly the
