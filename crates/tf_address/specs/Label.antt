@@ -7,19 +7,19 @@ use Rattle.tf_address.specs.declared.label.Label.{Label}
 
 -- a resource's type and name, as texts
 pub record LabelView : Type 0 where
-  pub kind : List ℕ
+  pub type_name : List ℕ
   pub name : List ℕ
 
 abbrev pub label_of : Label → LabelView
-label_of l = record { kind = string_bytes l.kind; name = string_bytes l.name }
+label_of l = record { type_name = string_bytes l.type_name; name = string_bytes l.name }
 
 -- the address of a resource: its type, a dot, its name
 abbrev pub label_text : LabelView → List ℕ
-label_text l = l.kind ++ 46 ∷ l.name
+label_text l = l.type_name ++ 46 ∷ l.name
 
 -- addresses are ordered by type and then by name, byte by byte
 abbrev pub label_cmp : LabelView → LabelView → Ordering
-label_cmp a b = ordering_then (slice_cmp nat_cmp a.kind b.kind) (slice_cmp nat_cmp a.name b.name)
+label_cmp a b = ordering_then (slice_cmp nat_cmp a.type_name b.type_name) (slice_cmp nat_cmp a.name b.name)
 
 -- one address comes before another
 abbrev pub label_below : LabelView → LabelView → Bool

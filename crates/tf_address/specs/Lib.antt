@@ -1,2 +1,4 @@
 pub mod Label
 pub mod Name
+pub mod ObjectId
+pub mod Same

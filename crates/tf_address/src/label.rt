@@ -5,7 +5,7 @@ use std::fmt;
 #[derive(Clone, Debug, PartialEq, Eq, PartialOrd, Ord, Drop)]
 pub struct Label {
     /// The resource's type, such as `sim_net`.
-    pub kind: String,
+    pub type_name: String,
     /// The resource's name within its type, such as `a`.
     pub name: String,
 }
@@ -18,9 +18,9 @@ impl fmt::Display for Label {
     ghost output = { λ l. Some (label_text (label_of l)) };
 
     fn fmt<W: fmt::Write>(&self, f: &mut fmt::Formatter<W>) -> fmt::Result {
-        let kind = self.kind.as_str();
+        let type_name = self.type_name.as_str();
         let name = self.name.as_str();
-        write!(f, "{kind}.{name}")
+        write!(f, "{type_name}.{name}")
     }
 }
 

@@ -8,7 +8,7 @@ use Rattle.tf_config.specs.declared.config.Block.{Block}
 
 -- the derived order of labels
 abbrev pub label_cmp : Label → Label → Ordering
-label_cmp a b = ordering_then (string_cmp a.kind b.kind) (string_cmp a.name b.name)
+label_cmp a b = ordering_then (string_cmp a.type_name b.type_name) (string_cmp a.name b.name)
 
 map-match_ordering : (o : Ordering) (a b c : List (Label × Block)) → map block_of (match_ordering o a b c) ≡ match_ordering o (map block_of a) (map block_of b) (map block_of c)
 map-match_ordering Less a b c = refl

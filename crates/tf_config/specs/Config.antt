@@ -24,7 +24,7 @@ arguments_of block = entries_view block.arguments.entries
 
 abbrev pub block_of : Label × Block → BlockView
 block_of entry = record {
-  kind = string_bytes entry.0.kind;
+  kind = string_bytes entry.0.type_name;
   name = string_bytes entry.0.name;
   arguments = arguments_of entry.1;
 }

@@ -24,7 +24,7 @@ pub(crate) fn demand_known_names(alloc: Global, config: &Config) -> Result<(), R
 {
     let resource = Path::Member(&Path::Root, "resource");
     for (label, block) in config.resources.iter() {
-        let kind = Path::Member(&resource, label.kind.as_str());
+        let kind = Path::Member(&resource, label.type_name.as_str());
         let name = Path::Member(&kind, label.name.as_str());
         demand_entries(alloc, &name, &block.arguments)?;
     }

@@ -241,8 +241,8 @@ fn add_resource<'a>(
 {
     demand_name(alloc, path, name)?;
     let block = read_body(alloc, path, value)?;
-    let kind = String::from_str(alloc, kind)?;
+    let type_name = String::from_str(alloc, kind)?;
     let name = String::from_str(alloc, name)?;
-    drop(config.resources.insert(Label { kind, name }, block)?);
+    drop(config.resources.insert(Label { type_name, name }, block)?);
     Ok(())
 }

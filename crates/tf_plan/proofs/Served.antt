@@ -71,13 +71,13 @@ none_mapped f (Some a) h = absurd (cc)
 served_at : (ms : List Meaning) (b : BlockView) (a : ActionView) (schema : Option SchemaView) (refused : Bool)
     → refused ≡ is_some (option_map_or (λ s. option_map (argument_refusal (block_label b)) (first_fault s b.arguments)) schema (Some (fault 11 (label_text (block_label b)) bare)))
     → cond refused None (option_map (planned_action b) schema) ≡ Some a
-    → (a.label.kind ≡ b.kind) × IsSomeAnd schema (λ s. IsTrue (has_attributes s a.object))
+    → (a.label.type_name ≡ b.kind) × IsSomeAnd schema (λ s. IsTrue (has_attributes s a.object))
 served_at ms b a schema true e h = absurd (cc)
 served_at ms b a None false e h = absurd (cc)
 served_at ms b a (Some s) false e h =
     let is : planned_action b s ≡ a = cc in
     let named = object_named s b.arguments (none_mapped (argument_refusal (block_label b)) (first_fault s b.arguments) (sym e)) in
-    (ap (λ (x : ActionView). x.label.kind) (sym is), rw (← is) named)
+    (ap (λ (x : ActionView). x.label.type_name) (sym is), rw (← is) named)
 
 -- each action that is planned is served
 pub block-served : (ms : List Meaning) (b : BlockView) (a : ActionView) → block_action ms b ≡ Some a → IsServedBy ms a

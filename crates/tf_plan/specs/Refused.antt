@@ -15,7 +15,7 @@ use Rattle.tf_plan.specs.declared.refused.Refused.TheVariants.{NoMemory, These}
 
 -- the address of a block
 abbrev pub block_label : BlockView → LabelView
-block_label b = record { kind = b.kind; name = b.name }
+block_label b = record { type_name = b.kind; name = b.name }
 
 -- where an attribute's fault is told: at the block's address, a dot and the attribute
 abbrev pub attribute_place : LabelView → List ℕ → List ℕ

@@ -7,7 +7,7 @@ use Rattle.tf_protocol.specs.Verdict.{has_attributes}
 
 -- A provider in the list has an action's type, and the action's object has exactly the attributes of its schema.
 abbrev pub IsServedBy : List Meaning → ActionView → Type 0
-IsServedBy ms a = IsSomeAnd (schema_in a.label.kind ms) (λ s. IsTrue (has_attributes s a.object))
+IsServedBy ms a = IsSomeAnd (schema_in a.label.type_name ms) (λ s. IsTrue (has_attributes s a.object))
 
 -- each action of a plan is served
 abbrev pub AreServed : List Meaning → List ActionView → Type 0

@@ -101,7 +101,7 @@ fn plan_block(
 ) -> Result<PlannedBlock, AllocError>
     ensures { IfOk result (PlansBlock (map (λ b. meaning b) providers.now) (block_of (label.now, block.now))) }
 {
-    let Some(schema) = schema_for(providers, label.kind.as_str()) else {
+    let Some(schema) = schema_for(providers, label.type_name.as_str()) else {
         let place = label.to_string(alloc)?;
         return Ok(PlannedBlock::Refuse(bare(NO_PROVIDER, place)));
     };

@@ -11,7 +11,7 @@ use Rattle.tf_json_text.specs.Plain.{ArePlainMembers, AreAbove}
 use Rattle.tf_value.specs.Json.{value_data, entries_data}
 use Rattle.tf_value.specs.Tree.{Tree, map, Entries, no_entries, entry, put}
 use Rattle.tf_value.proofs.Forms.{value_from-value_data}
-use Rattle.tf_state_data.specs.Place.{KeyView, single, number, name}
+use Rattle.tf_address.specs.ObjectId.{InstanceKeyView, single, number, name}
 use Rattle.tf_state.specs.Reading.{value_in, values_in, key_in, deposed_in, attributes_in, addresses_in, dependencies_in, tainted_in, flag_in, put_text, put_new, below, below_or_zero, output_in}
 use Rattle.tf_state.specs.Text.{key_data, status_data, flag_data, dependencies_data, output_data, outputs_data}
 use Rattle.tf_state.specs.Valid.{IsSaved, AreSaved, IsTable, IsAttributes, IsKey, IsDeposed, AreAddresses}
@@ -124,7 +124,7 @@ version-back bound n h = rw (lt-ltb n bound h) refl
 pub serial-back : (bound n : ℕ) → n < bound → below bound (Some (json_number (unsigned n))) ≡ Some n
 serial-back bound n h = rw (lt-ltb n bound h) refl
 
-pub key-back : (k : KeyView) → IsKey k → key_in (key_data k) ≡ Some k
+pub key-back : (k : InstanceKeyView) → IsKey k → key_in (key_data k) ≡ Some k
 key-back single h = refl
 key-back (number n) h = rw (lt-ltb n (2 ^ 63) h) refl
 key-back (name s) h = refl

@@ -5,7 +5,7 @@ use Rattle.std.proofs.lemmas.Bool.{and_parts}
 use Rattle.serde_json.specs.Data.{Data, Items, no_items, item, array}
 use Rattle.serde_json.specs.Find.{get}
 use Rattle.tf_value.specs.Tree.{Tree, Entries}
-use Rattle.tf_state_data.specs.Place.{KeyView, PlaceView}
+use Rattle.tf_address.specs.ObjectId.{InstanceKeyView, ObjectIdView}
 use Rattle.tf_state.specs.Arrangement.{record_cmp, resource_cmp, with_records}
 use Rattle.tf_state.specs.Reading.{text_in, below, name_in, text_or, below_or_zero, key_in, deposed_in, attributes_in, tainted_in, flag_in, dependencies_in, is_unsensitive, is_unchecked, is_managed, is_version, outputs_in, instances_in, all_resources_in, put_new, records_in, resources_in, is_record, is_state, record_in, resource_in, state_in}
 use Rattle.tf_state_data.specs.Record.{RecordView}
@@ -24,35 +24,35 @@ same a b e = cc
 
 -- ---- records
 
-abbrev whole_record : Bool → Option KeyView → Option (Option (List ℕ)) → Option Tree → Option ℕ → Option Bool → Option (List (List ℕ)) → Option Bool → Option RecordView
+abbrev whole_record : Bool → Option InstanceKeyView → Option (Option (List ℕ)) → Option Tree → Option ℕ → Option Bool → Option (List (List ℕ)) → Option Bool → Option RecordView
 whole_record ok keys deposed values versions statuses lists flags =
     cond ok
-    (option_and_then {T = PlaceView}
-    (λ place. option_and_then
+    (option_and_then {T = ObjectIdView}
+    (λ id. option_and_then
     (λ attributes. option_and_then (λ version. option_and_then (λ tainted. option_and_then (λ dependencies. option_map {U = RecordView}
-    (λ flag. record { place = place; attributes = attributes; schema_version = version; tainted = tainted; dependencies = dependencies; create_before_destroy = flag }) flags)
+    (λ flag. record { id = id; attributes = attributes; schema_version = version; tainted = tainted; dependencies = dependencies; create_before_destroy = flag }) flags)
     lists) statuses) versions) values)
-    (option_and_then {U = PlaceView} (λ k. option_map {U = PlaceView} (λ p. record { key = k; deposed = p }) deposed) keys))
+    (option_and_then {U = ObjectIdView} (λ k. option_map {U = ObjectIdView} (λ p. record { key = k; deposed = p }) deposed) keys))
     None
 
-record RecordParts (ok : Bool) (keys : Option KeyView) (deposed : Option (Option (List ℕ))) (values : Option Tree) (versions : Option ℕ) (statuses : Option Bool) (lists : Option (List (List ℕ))) (flags : Option Bool) (r : RecordView) : Type 0 where
+record RecordParts (ok : Bool) (keys : Option InstanceKeyView) (deposed : Option (Option (List ℕ))) (values : Option Tree) (versions : Option ℕ) (statuses : Option Bool) (lists : Option (List (List ℕ))) (flags : Option Bool) (r : RecordView) : Type 0 where
   holds : ok ≡ true
-  key : keys ≡ Some r.place.key
-  gone : deposed ≡ Some r.place.deposed
+  key : keys ≡ Some r.id.key
+  gone : deposed ≡ Some r.id.deposed
   attributes : values ≡ Some r.attributes
   version : versions ≡ Some r.schema_version
   tainted : statuses ≡ Some r.tainted
   dependencies : lists ≡ Some r.dependencies
   flag : flags ≡ Some r.create_before_destroy
 
-record_parts : (ok : Bool) (keys : Option KeyView) (deposed : Option (Option (List ℕ))) (values : Option Tree) (versions : Option ℕ) (statuses : Option Bool) (lists : Option (List (List ℕ))) (flags : Option Bool) (r : RecordView)
+record_parts : (ok : Bool) (keys : Option InstanceKeyView) (deposed : Option (Option (List ℕ))) (values : Option Tree) (versions : Option ℕ) (statuses : Option Bool) (lists : Option (List (List ℕ))) (flags : Option Bool) (r : RecordView)
     → whole_record ok keys deposed values versions statuses lists flags ≡ Some r → RecordParts ok keys deposed values versions statuses lists flags r
 record_parts true (Some k) (Some p) (Some a) (Some v) (Some t) (Some ds) (Some f) r e =
     let is = same _ r e in
     record {
       holds = refl;
-      key = ap (λ (q : RecordView). Some q.place.key) is;
-      gone = ap (λ (q : RecordView). Some q.place.deposed) is;
+      key = ap (λ (q : RecordView). Some q.id.key) is;
+      gone = ap (λ (q : RecordView). Some q.id.deposed) is;
       attributes = ap (λ (q : RecordView). Some q.attributes) is;
       version = ap (λ (q : RecordView). Some q.schema_version) is;
       tainted = ap (λ (q : RecordView). Some q.tainted) is;
@@ -69,8 +69,8 @@ record_says d r e =
     record {
       only = shape.0;
       sensitive_attributes = sensitive_says (get (codes "sensitive_attributes") d) shape.1;
-      index_key = key_says (get (codes "index_key") d) r.place.key parts.key;
-      deposed = deposed_says (get (codes "deposed") d) r.place.deposed parts.gone;
+      index_key = key_says (get (codes "index_key") d) r.id.key parts.key;
+      deposed = deposed_says (get (codes "deposed") d) r.id.deposed parts.gone;
       attributes = attributes_say (get (codes "attributes") d) r.attributes parts.attributes;
       schema_version = version_says (2 ^ 32) (get (codes "schema_version") d) r.schema_version parts.version;
       status = status_says (get (codes "status") d) r.tainted parts.tainted;
@@ -80,7 +80,7 @@ record_says d r e =
 
 pub record_said : (d : Data) (r : RecordView) → SaysRecord d r → record_in d ≡ Some r
 record_said d r h =
-    rw (h.only, sensitive_said (get (codes "sensitive_attributes") d) h.sensitive_attributes, key_said (get (codes "index_key") d) r.place.key h.index_key, deposed_said (get (codes "deposed") d) r.place.deposed h.deposed, attributes_said (get (codes "attributes") d) r.attributes h.attributes, version_said (2 ^ 32) (get (codes "schema_version") d) r.schema_version h.schema_version, status_said (get (codes "status") d) r.tainted h.status, dependencies_said (get (codes "dependencies") d) r.dependencies h.dependencies, flag_said (get (codes "create_before_destroy") d) r.create_before_destroy h.create_before_destroy)
+    rw (h.only, sensitive_said (get (codes "sensitive_attributes") d) h.sensitive_attributes, key_said (get (codes "index_key") d) r.id.key h.index_key, deposed_said (get (codes "deposed") d) r.id.deposed h.deposed, attributes_said (get (codes "attributes") d) r.attributes h.attributes, version_said (2 ^ 32) (get (codes "schema_version") d) r.schema_version h.schema_version, status_said (get (codes "status") d) r.tainted h.status, dependencies_said (get (codes "dependencies") d) r.dependencies h.dependencies, flag_said (get (codes "create_before_destroy") d) r.create_before_destroy h.create_before_destroy)
     refl
 
 records-gathered : (ds : Items) (found : List RecordView) → records_in ds found ≡ gather record_in record_cmp ds found
@@ -102,13 +102,13 @@ abbrev whole_resource : Bool → Option (List ℕ) → Option (List ℕ) → Opt
 whole_resource ok kinds names providers lists =
     cond ok
     (option_and_then
-    (λ kind. option_and_then (λ its_name. option_and_then (λ provider. option_map {U = ResourceView}
-    (λ records. record { label = record { kind = kind; name = its_name }; provider = provider; records = records }) lists) providers) names) kinds)
+    (λ type_name. option_and_then (λ its_name. option_and_then (λ provider. option_map {U = ResourceView}
+    (λ records. record { label = record { type_name = type_name; name = its_name }; provider = provider; records = records }) lists) providers) names) kinds)
     None
 
 record ResourceParts (ok : Bool) (kinds names providers : Option (List ℕ)) (lists : Option (List RecordView)) (r : ResourceView) : Type 0 where
   holds : ok ≡ true
-  kind : kinds ≡ Some r.label.kind
+  type_name : kinds ≡ Some r.label.type_name
   name : names ≡ Some r.label.name
   provider : providers ≡ Some r.provider
   records : lists ≡ Some r.records
@@ -118,7 +118,7 @@ resource_parts true (Some k) (Some n) (Some p) (Some rs) r e =
     let is = same _ r e in
     record {
       holds = refl;
-      kind = ap (λ (q : ResourceView). Some q.label.kind) is;
+      type_name = ap (λ (q : ResourceView). Some q.label.type_name) is;
       name = ap (λ (q : ResourceView). Some q.label.name) is;
       provider = ap (λ (q : ResourceView). Some q.provider) is;
       records = ap (λ (q : ResourceView). Some q.records) is;
@@ -132,7 +132,7 @@ resource_says d r e =
     record {
       only = shape.0;
       mode = managed_says (get (codes "mode") d) shape.1;
-      kind = name_says (get (codes "type") d) r.label.kind parts.kind;
+      type_name = name_says (get (codes "type") d) r.label.type_name parts.type_name;
       name = name_says (get (codes "name") d) r.label.name parts.name;
       provider = text_says (get (codes "provider") d) r.provider parts.provider;
       instances = instances_say (get (codes "instances") d) r.records parts.records;
@@ -140,7 +140,7 @@ resource_says d r e =
 
 pub resource_said : (d : Data) (r : ResourceView) → SaysResource d r → resource_in d ≡ Some r
 resource_said d r h =
-    rw (h.only, managed_said (get (codes "mode") d) h.mode, name_said (get (codes "type") d) r.label.kind h.kind, name_said (get (codes "name") d) r.label.name h.name, text_said (get (codes "provider") d) r.provider h.provider, instances_said (get (codes "instances") d) r.records h.instances)
+    rw (h.only, managed_said (get (codes "mode") d) h.mode, name_said (get (codes "type") d) r.label.type_name h.type_name, name_said (get (codes "name") d) r.label.name h.name, text_said (get (codes "provider") d) r.provider h.provider, instances_said (get (codes "instances") d) r.records h.instances)
     refl
 
 resources-gathered : (ds : Items) (found : List ResourceView) → resources_in ds found ≡ gather resource_in resource_cmp ds found

@@ -9,7 +9,7 @@ use Rattle.serde_json.specs.Written.{has_float, items_have_float, members_have_f
 use Rattle.tf_value.specs.Json.{value_data, items_data, entries_data}
 use Rattle.tf_value.specs.Tree.{Tree, null, boolean, whole as whole_number, text, list, map, unknown, Items, no_items, item, Entries, no_entries, entry}
 use Rattle.std.specs.Prelude.{Option, Some, None, option_map}
-use Rattle.tf_state_data.specs.Place.{KeyView, single, number, name}
+use Rattle.tf_address.specs.ObjectId.{InstanceKeyView, single, number, name}
 use Rattle.tf_state_data.specs.Record.{RecordView}
 use Rattle.tf_state_data.specs.Resource.{ResourceView}
 use Rattle.tf_state_data.specs.State.{StateView}
@@ -110,7 +110,7 @@ text-whole s = whole (json.string s) refl
 number-whole : (n : ℕ) → IsWhole (json.number (json.unsigned n))
 number-whole n = whole (json.number (json.unsigned n)) refl
 
-key_data-whole : (k : KeyView) → MayBeWhole (key_data k)
+key_data-whole : (k : InstanceKeyView) → MayBeWhole (key_data k)
 key_data-whole single = tt
 key_data-whole (number n) = number-whole n
 key_data-whole (name s) = text-whole s
@@ -138,8 +138,8 @@ dependencies_data-whole (t ∷ ts) = whole (json.array (items_of (each json.stri
 record_data-whole : (r : RecordView) → has_float (record_data r) ≡ false
 record_data-whole r =
     let a = put_some-whole (codes "status") _ _ (status_data-whole r.tainted) no_members-whole in
-    let b = put_some-whole (codes "index_key") _ _ (key_data-whole r.place.key) a in
-    let c = put_some-whole (codes "deposed") _ _ (deposed-whole r.place.deposed) b in
+    let b = put_some-whole (codes "index_key") _ _ (key_data-whole r.id.key) a in
+    let c = put_some-whole (codes "deposed") _ _ (deposed-whole r.id.deposed) b in
     let d = put_some-whole (codes "dependencies") _ _ (dependencies_data-whole r.dependencies) c in
     let e = put_some-whole (codes "create_before_destroy") _ _ (flag_data-whole r.create_before_destroy) d in
     let f = put-whole (codes "schema_version") _ _ (number-whole r.schema_version) e in
@@ -152,7 +152,7 @@ records-whole (r ∷ rs) = neither _ _ (record_data-whole r) (records-whole rs)
 resource_data-whole : (r : ResourceView) → has_float (resource_data r) ≡ false
 resource_data-whole r =
     (put-whole (codes "instances") _ _ (whole (json.array (items_of (each record_data r.records))) (records-whole r.records)) (put-whole (codes "mode") _ _ (text-whole (codes "managed"))
-    (put-whole (codes "name") _ _ (text-whole r.label.name) (put-whole (codes "provider") _ _ (text-whole r.provider) (put-whole (codes "type") _ _ (text-whole r.label.kind) no_members-whole))))).fact
+    (put-whole (codes "name") _ _ (text-whole r.label.name) (put-whole (codes "provider") _ _ (text-whole r.provider) (put-whole (codes "type") _ _ (text-whole r.label.type_name) no_members-whole))))).fact
 
 resources-whole : (rs : List ResourceView) → items_have_float (items_of (each resource_data rs)) ≡ false
 resources-whole [] = refl

@@ -4,11 +4,11 @@ use Rattle.std.specs.List.{AllByRecursion}
 use Rattle.std.specs.Ordering.{is_lt, is_gt}
 use Rattle.tf_address.specs.Label.{label_cmp}
 use Rattle.tf_state_data.specs.Order.{before, after, with_one, without_one}
-use Rattle.tf_state_data.specs.Place.{place_cmp}
+use Rattle.tf_address.specs.ObjectId.{object_id_cmp}
 use Rattle.tf_state_data.specs.Record.{RecordView}
 use Rattle.tf_state_data.specs.Resource.{ResourceView, with_record}
 use Rattle.tf_state_data.proofs.OrderKept.{with-sorted, without-sorted}
-use Rattle.tf_state_data.proofs.Totals.{place_total, label_total}
+use Rattle.tf_address.proofs.Totals.{object_id_total, label_total}
 use Rattle.tf_state.specs.Laws.{PutKeepsState, PutKeepsResource, RemoveKeepsState, RemoveKeepsResource}
 use Rattle.tf_state.specs.Arrangement.{is_some_record}
 use Rattle.tf_state.specs.Valid.{AreRecords, AreResources, IsPresent, IsRecord, IsResource}
@@ -30,8 +30,8 @@ without_one-all key cmp P k xs h =
 
 -- ---- records and resources
 
-put_keeps_records : (new : RecordView) (rs : List RecordView) → IsRecord new → AreRecords rs → AreRecords (with_one (λ r. r.place) place_cmp new rs)
-put_keeps_records new rs p h = (with_one-all (λ r. r.place) place_cmp IsRecord new rs p h.0, with-sorted (λ r. r.place) place_cmp place_total new rs h.1)
+put_keeps_records : (new : RecordView) (rs : List RecordView) → IsRecord new → AreRecords rs → AreRecords (with_one (λ r. r.id) object_id_cmp new rs)
+put_keeps_records new rs p h = (with_one-all (λ r. r.id) object_id_cmp IsRecord new rs p h.0, with-sorted (λ r. r.id) object_id_cmp object_id_total new rs h.1)
 
 put_keeps_resources : (new : ResourceView) (rs : List ResourceView) → IsPresent new → AreResources rs → AreResources (with_one (λ r. r.label) label_cmp new rs)
 put_keeps_resources new rs p h = (with_one-all (λ r. r.label) label_cmp IsPresent new rs p h.0, with-sorted (λ r. r.label) label_cmp label_total new rs h.1)
@@ -47,8 +47,8 @@ put_keeps_state new s p h = record { serial = h.serial; outputs = h.outputs; res
 
 pub put_keeps_resource : PutKeepsResource
 put_keeps_resource new r p h =
-    let whole : IsResource (with_record new r) = record { kind = h.kind; name = h.name; records = put_keeps_records new r.records p h.records } in
-    (whole, some_among (before (λ q. q.place) place_cmp new.place r.records) new (after (λ q. q.place) place_cmp new.place r.records))
+    let whole : IsResource (with_record new r) = record { type_name = h.type_name; name = h.name; records = put_keeps_records new r.records p h.records } in
+    (whole, some_among (before (λ q. q.id) object_id_cmp new.id r.records) new (after (λ q. q.id) object_id_cmp new.id r.records))
 
 pub remove_keeps_state : RemoveKeepsState
 remove_keeps_state label s h =
@@ -59,9 +59,9 @@ remove_keeps_state label s h =
     }
 
 pub remove_keeps_resource : RemoveKeepsResource
-remove_keeps_resource place r h =
+remove_keeps_resource id r h =
     record {
-      kind = h.kind;
+      type_name = h.type_name;
       name = h.name;
-      records = (without_one-all (λ q. q.place) place_cmp IsRecord place r.records h.records.0, without-sorted (λ q. q.place) place_cmp place_total place r.records h.records.1);
+      records = (without_one-all (λ q. q.id) object_id_cmp IsRecord id r.records h.records.0, without-sorted (λ q. q.id) object_id_cmp object_id_total id r.records h.records.1);
     }

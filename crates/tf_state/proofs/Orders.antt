@@ -8,13 +8,13 @@ use Rattle.std.specs.Prelude.{option_map}
 use Rattle.std.proofs.lemmas.List.Kept.{IsStrictlySortedBy-filter}
 use Rattle.tf_state_data.specs.Record.{RecordView}
 use Rattle.tf_state_data.specs.Resource.{ResourceView}
-use Rattle.tf_state_data.proofs.Totals.{place_total, label_total}
+use Rattle.tf_address.proofs.Totals.{object_id_total, label_total}
 use Rattle.tf_state.specs.Arrangement.{record_cmp, resource_cmp}
 use Rattle.tf_state.specs.Reading.{put_new}
 use Rattle.tf_state.proofs.Properties.{mapped}
 
 pub record_total : IsTotalOrder record_cmp
-record_total = on_total (λ (r : RecordView). r.place) place_total
+record_total = on_total (λ (r : RecordView). r.id) object_id_total
 
 pub resource_total : IsTotalOrder resource_cmp
 resource_total = on_total (λ (r : ResourceView). r.label) label_total

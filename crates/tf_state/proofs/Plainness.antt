@@ -9,7 +9,7 @@ use Rattle.tf_json_text.proofs.Puts.{plain-put, depth-put}
 use Rattle.tf_value.specs.Json.{value_data, items_data, entries_data}
 use Rattle.tf_value.specs.Measure as measure
 use Rattle.tf_value.specs.Tree.{Tree, null, boolean as truth, whole, text, list, map, unknown, Items, no_items, item, Entries, no_entries, entry}
-use Rattle.tf_state_data.specs.Place.{KeyView, single, number, name}
+use Rattle.tf_address.specs.ObjectId.{InstanceKeyView, single, number, name}
 use Rattle.tf_state_data.specs.Record.{RecordView}
 use Rattle.tf_state_data.specs.Resource.{ResourceView}
 use Rattle.tf_state_data.specs.State.{StateView}
@@ -73,7 +73,7 @@ plain_some : (k : List ℕ) (o : Option Data) (ms : Members) → MayBePlain o �
 plain_some k None ms p h = h
 plain_some k (Some d) ms p h = plain-put k d ms p h
 
-key-plain : (k : KeyView) → IsKey k → MayBePlain (key_data k)
+key-plain : (k : InstanceKeyView) → IsKey k → MayBePlain (key_data k)
 key-plain single h = tt
 key-plain (number n) h = let fits : n < 2 ^ 64 = omega arith in fits
 key-plain (name s) h = tt
@@ -107,7 +107,7 @@ record-plain r h =
     let version : r.schema_version < 2 ^ 64 = let small = h.version in omega arith in
     plain-put (codes "attributes") _ _ (attributes-plain r.attributes h.attributes) (plain-put (codes "schema_version") (json_number (unsigned r.schema_version)) _ version
     (plain_some (codes "create_before_destroy") (flag_data r.create_before_destroy) _ (flag-plain r.create_before_destroy) (plain_some (codes "dependencies") (dependencies_data r.dependencies) _ (dependencies-plain r.dependencies)
-    (plain_some (codes "deposed") (option_map string r.place.deposed) _ (deposed-plain r.place.deposed) (plain_some (codes "index_key") (key_data r.place.key) _ (key-plain r.place.key h.key)
+    (plain_some (codes "deposed") (option_map string r.id.deposed) _ (deposed-plain r.id.deposed) (plain_some (codes "index_key") (key_data r.id.key) _ (key-plain r.id.key h.key)
     (plain_some (codes "status") (status_data r.tainted) no_members (status-plain r.tainted) tt))))))
 
 records-plain : (rs : List RecordView) → AllByRecursion IsRecord rs → ArePlain (items_of (each record_data rs))
@@ -117,7 +117,7 @@ records-plain (r ∷ rs) h = (record-plain r h.0, records-plain rs h.1)
 resource-plain : (r : ResourceView) → IsResource r → IsPlain (resource_data r)
 resource-plain r h =
     (and_put (codes "instances") (array (items_of (each record_data r.records))) _ (records-plain r.records h.records.0) (and_put (codes "mode") (string (codes "managed")) _ tt
-    (and_put (codes "name") (string r.label.name) _ tt (and_put (codes "provider") (string r.provider) _ tt (and_put (codes "type") (string r.label.kind) _ tt nothing_put))))).fact
+    (and_put (codes "name") (string r.label.name) _ tt (and_put (codes "provider") (string r.provider) _ tt (and_put (codes "type") (string r.label.type_name) _ tt nothing_put))))).fact
 
 resources-plain : (rs : List ResourceView) → AllByRecursion IsPresent rs → ArePlain (items_of (each resource_data rs))
 resources-plain [] h = tt
@@ -194,7 +194,7 @@ depth_some : (k : List ℕ) (o : Option Data) (ms : Members) (n : ℕ) → AtMos
 depth_some k None ms n p h = h
 depth_some k (Some d) ms n p h = depth-put k d ms n p h
 
-key-depth : (k : KeyView) → AtMost 33 (key_data k)
+key-depth : (k : InstanceKeyView) → AtMost 33 (key_data k)
 key-depth single = tt
 key-depth (number n) = omega arith
 key-depth (name s) = omega arith
@@ -229,7 +229,7 @@ record-depth r h =
     let flat : depth (json_number (unsigned r.schema_version)) ≤ 33 = omega arith in
     let all = depth-put (codes "attributes") _ _ 33 (attributes-depth r.attributes h.attributes) (depth-put (codes "schema_version") (json_number (unsigned r.schema_version)) _ 33 flat
     (depth_some (codes "create_before_destroy") (flag_data r.create_before_destroy) _ 33 (flag-depth r.create_before_destroy) (depth_some (codes "dependencies") (dependencies_data r.dependencies) _ 33 (dependencies-depth r.dependencies)
-    (depth_some (codes "deposed") (option_map string r.place.deposed) _ 33 (deposed-depth r.place.deposed) (depth_some (codes "index_key") (key_data r.place.key) _ 33 (key-depth r.place.key)
+    (depth_some (codes "deposed") (option_map string r.id.deposed) _ 33 (deposed-depth r.id.deposed) (depth_some (codes "index_key") (key_data r.id.key) _ 33 (key-depth r.id.key)
     (depth_some (codes "status") (status_data r.tainted) no_members 33 (status-depth r.tainted) nothing)))))) in
     omega (arith, all)
 

@@ -6,7 +6,7 @@ use Rattle.std.proofs.lemmas.Bool.{eqb-true}
 use Rattle.std.proofs.lemmas.Slice.Eq.{bytes_eq-Decides}
 use Rattle.serde_json.specs.Data.{Data, null, boolean, number as json_number, unsigned, string, array, no_items, item}
 use Rattle.tf_address.specs.Name.{is_name}
-use Rattle.tf_state_data.specs.Place.{KeyView, number}
+use Rattle.tf_address.specs.ObjectId.{InstanceKeyView, number}
 use Rattle.tf_state.specs.Reading.{text_in, below, name_in, text_or, below_or_zero, key_in, deposed_in, tainted_in, flag_in, is_unsensitive, is_unchecked, is_managed, is_version}
 use Rattle.tf_state.specs.Table.{SaysText, SaysNumber, SaysName, SaysTextOr, SaysNumberOrZero, SaysKey, SaysDeposed, SaysStatus, SaysFlag, SaysNothingSensitive, SaysNoChecks}
 use Rattle.tf_state.specs.Words.{is_deposed_key}
@@ -75,13 +75,13 @@ version_said bound None n h = ap Some (sym h)
 version_said bound (Some (json_number (unsigned m))) n h = rw (lt-ltb m bound h.1) (ap Some (sym h.0))
 version_said bound (Some _) n h = absurd (assumption)
 
-pub key_says : (o : Option Data) (k : KeyView) → key_in o ≡ Some k → SaysKey o k
+pub key_says : (o : Option Data) (k : InstanceKeyView) → key_in o ≡ Some k → SaysKey o k
 key_says None k e = cc
 key_says (Some (json_number (unsigned n))) k e = let g = guarded (nat_lt n (2 ^ 63)) (Some (number n)) k e in (sym (same (number n) k g.1), ltb-true n (2 ^ 63) g.0)
 key_says (Some (string s)) k e = cc
 key_says (Some _) k e = absurd (cc)
 
-pub key_said : (o : Option Data) (k : KeyView) → SaysKey o k → key_in o ≡ Some k
+pub key_said : (o : Option Data) (k : InstanceKeyView) → SaysKey o k → key_in o ≡ Some k
 key_said None k h = ap Some (sym h)
 key_said (Some (json_number (unsigned n))) k h = rw (lt-ltb n (2 ^ 63) h.1) (ap Some (sym h.0))
 key_said (Some (string s)) k h = ap Some (sym h)

@@ -20,11 +20,11 @@ use Rattle.tf_value.proofs.Forms.{form_of, form-tree_from, IsJson-one_form}
 use Rattle.tf_state.specs.Laws.{ReadIsValid}
 use Rattle.tf_address.specs.Label.{label_cmp}
 use Rattle.tf_state_data.specs.Addresses.{AreByAddress}
-use Rattle.tf_state_data.specs.Place.{KeyView, place_cmp}
+use Rattle.tf_address.specs.ObjectId.{InstanceKeyView, object_id_cmp}
 use Rattle.tf_state_data.specs.Record.{RecordView}
 use Rattle.tf_state_data.specs.Resource.{ResourceView}
 use Rattle.tf_state_data.specs.State.{StateView}
-use Rattle.tf_state_data.proofs.Totals.{place_total, label_total}
+use Rattle.tf_address.proofs.Totals.{object_id_total, label_total}
 use Rattle.tf_state.specs.Arrangement.{record_cmp, resource_cmp, is_some_record, with_records}
 use Rattle.tf_state.specs.Reading.{put_text, put_new, is_within, value_in, values_in, attributes_in, address_in, addresses_in, dependencies_in, record_in, records_in, instances_in, resource_in, resources_in, all_resources_in, outputs_in, output_in, required_value, state_in}
 use Rattle.tf_state.specs.Table.{SaysKey, SaysDeposed, SaysNumberOrZero}
@@ -147,7 +147,7 @@ output-fine d t s e =
 
 -- ---- records
 
-key-valid : (o : Option json.Data) (k : KeyView) → SaysKey o k → IsKey k
+key-valid : (o : Option json.Data) (k : InstanceKeyView) → SaysKey o k → IsKey k
 key-valid None k h = subst IsKey (sym h) tt
 key-valid (Some (json.number (json.unsigned n))) k h = subst IsKey (sym h.0) h.1
 key-valid (Some (json.string s)) k h = subst IsKey (sym h) tt
@@ -210,8 +210,8 @@ record-valid : (d : json.Data) (r : RecordView) → IsSorted d → record_in d �
 record-valid d r s e =
     let says = record_says d r e in
     record {
-      key = key-valid (get (codes "index_key") d) r.place.key says.index_key;
-      deposed = deposed-valid (get (codes "deposed") d) r.place.deposed says.deposed;
+      key = key-valid (get (codes "index_key") d) r.id.key says.index_key;
+      deposed = deposed-valid (get (codes "deposed") d) r.id.deposed says.deposed;
       attributes = attributes-valid (get (codes "attributes") d) r.attributes (λ f is. sorted-get (codes "attributes") d f s is) (attributes_said (get (codes "attributes") d) r.attributes says.attributes);
       version = version-valid (get (codes "schema_version") d) r.schema_version says.schema_version;
       dependencies = dependencies-valid (get (codes "dependencies") d) r.dependencies (dependencies_said (get (codes "dependencies") d) r.dependencies says.dependencies);
@@ -223,19 +223,19 @@ records-read (json.item d ds) found rs s h e =
     let i = inverted (λ r. option_and_then (records_in ds) (put_new record_cmp r found)) (record_in d) rs e in
     let j = inverted (records_in ds) (put_new record_cmp i.0 found) rs i.2 in
     let each = put_new-all record_cmp IsRecord i.0 found j.0 (record-valid d i.0 s.0 i.1) h.0 j.1 in
-    records-read ds j.0 rs s.1 (each, put_new-order (λ r. r.place) place_cmp place_total i.0 found j.0 h.1 j.1) j.2
+    records-read ds j.0 rs s.1 (each, put_new-order (λ r. r.id) object_id_cmp object_id_total i.0 found j.0 h.1 j.1) j.2
 
 -- ---- resources
 
 instances-valid : (o : Option json.Data) (rs : List RecordView) → ((e : json.Data) → o ≡ Some e → IsSorted e) → instances_in o ≡ Some rs → AreRecords rs
-instances-valid (Some (json.array ds)) rs s e = records-read ds [] rs (s (json.array ds) refl) (tt, nothing_ordered place_cmp) e
+instances-valid (Some (json.array ds)) rs s e = records-read ds [] rs (s (json.array ds) refl) (tt, nothing_ordered object_id_cmp) e
 instances-valid _ rs s e = absurd (cc)
 
 resource-valid : (d : json.Data) (r : ResourceView) → IsSorted d → resource_in d ≡ Some r → IsResource r
 resource-valid d r s e =
     let says = resource_says d r e in
     record {
-      kind = says.kind.1;
+      type_name = says.type_name.1;
       name = says.name.1;
       records = instances-valid (get (codes "instances") d) r.records (λ f is. sorted-get (codes "instances") d f s is) (instances_said (get (codes "instances") d) r.records says.instances);
     }

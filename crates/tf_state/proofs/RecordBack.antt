@@ -8,7 +8,7 @@ use Rattle.serde_json.specs.Data.{Data, string, number as json_number, unsigned,
 use Rattle.serde_json.specs.Find.{get, get_member}
 use Rattle.tf_json_text.proofs.Puts.{get-put, get-put_other}
 use Rattle.tf_value.specs.Json.{value_data}
-use Rattle.tf_state.specs.Reading.{record_in, record_at, place_in}
+use Rattle.tf_state.specs.Reading.{record_in, record_at, id_in}
 use Rattle.tf_state_data.specs.Record.{RecordView}
 use Rattle.tf_state.specs.Text.{put_some, key_data, status_data, flag_data, dependencies_data, record_data}
 use Rattle.tf_state.specs.Valid.{IsRecord}
@@ -58,10 +58,10 @@ abbrev m1 : RecordView → Members
 m1 r = put_some (codes "status") (status_data r.tainted) no_members
 
 abbrev m2 : RecordView → Members
-m2 r = put_some (codes "index_key") (key_data r.place.key) (m1 r)
+m2 r = put_some (codes "index_key") (key_data r.id.key) (m1 r)
 
 abbrev m3 : RecordView → Members
-m3 r = put_some (codes "deposed") (option_map string r.place.deposed) (m2 r)
+m3 r = put_some (codes "deposed") (option_map string r.id.deposed) (m2 r)
 
 abbrev m4 : RecordView → Members
 m4 r = put_some (codes "dependencies") (dependencies_data r.dependencies) (m3 r)
@@ -80,11 +80,11 @@ none1 : (k : List ℕ) (r : RecordView) → is_eq (slice_cmp nat_cmp k (codes "s
 none1 k r a = other k (codes "status") (status_data r.tainted) no_members a
 
 none2 : (k : List ℕ) (r : RecordView) → is_eq (slice_cmp nat_cmp k (codes "status")) ≡ false → is_eq (slice_cmp nat_cmp k (codes "index_key")) ≡ false → get_member k (m2 r) ≡ None
-none2 k r a b = other k (codes "index_key") (key_data r.place.key) (m1 r) b ∙ none1 k r a
+none2 k r a b = other k (codes "index_key") (key_data r.id.key) (m1 r) b ∙ none1 k r a
 
 none3 : (k : List ℕ) (r : RecordView) → is_eq (slice_cmp nat_cmp k (codes "status")) ≡ false → is_eq (slice_cmp nat_cmp k (codes "index_key")) ≡ false → is_eq (slice_cmp nat_cmp k (codes "deposed")) ≡ false
     → get_member k (m3 r) ≡ None
-none3 k r a b c = other k (codes "deposed") (option_map string r.place.deposed) (m2 r) c ∙ none2 k r a b
+none3 k r a b c = other k (codes "deposed") (option_map string r.id.deposed) (m2 r) c ∙ none2 k r a b
 
 none4 : (k : List ℕ) (r : RecordView) → is_eq (slice_cmp nat_cmp k (codes "status")) ≡ false → is_eq (slice_cmp nat_cmp k (codes "index_key")) ≡ false → is_eq (slice_cmp nat_cmp k (codes "deposed")) ≡ false
     → is_eq (slice_cmp nat_cmp k (codes "dependencies")) ≡ false → get_member k (m4 r) ≡ None
@@ -101,10 +101,10 @@ up4 : (k : List ℕ) (r : RecordView) → is_eq (slice_cmp nat_cmp k (codes "dep
 up4 k r a = other k (codes "dependencies") (dependencies_data r.dependencies) (m3 r) a
 
 up3 : (k : List ℕ) (r : RecordView) → is_eq (slice_cmp nat_cmp k (codes "deposed")) ≡ false → get_member k (m3 r) ≡ get_member k (m2 r)
-up3 k r a = other k (codes "deposed") (option_map string r.place.deposed) (m2 r) a
+up3 k r a = other k (codes "deposed") (option_map string r.id.deposed) (m2 r) a
 
 up2 : (k : List ℕ) (r : RecordView) → is_eq (slice_cmp nat_cmp k (codes "index_key")) ≡ false → get_member k (m2 r) ≡ get_member k (m1 r)
-up2 k r a = other k (codes "index_key") (key_data r.place.key) (m1 r) a
+up2 k r a = other k (codes "index_key") (key_data r.id.key) (m1 r) a
 
 the_attributes : (r : RecordView) → get (codes "attributes") (record_data r) ≡ Some (value_data r.attributes)
 the_attributes r = get-put (codes "attributes") (value_data r.attributes) (m6 r)
@@ -121,12 +121,12 @@ the_dependencies : (r : RecordView) → get (codes "dependencies") (record_data 
 the_dependencies r =
     let k = codes "dependencies" in up6 k r refl refl ∙ up5 k r refl ∙ found k (dependencies_data r.dependencies) (m3 r) (none3 k r refl refl refl)
 
-the_deposed : (r : RecordView) → get (codes "deposed") (record_data r) ≡ option_map string r.place.deposed
+the_deposed : (r : RecordView) → get (codes "deposed") (record_data r) ≡ option_map string r.id.deposed
 the_deposed r =
-    let k = codes "deposed" in up6 k r refl refl ∙ up5 k r refl ∙ up4 k r refl ∙ found k (option_map string r.place.deposed) (m2 r) (none2 k r refl refl)
+    let k = codes "deposed" in up6 k r refl refl ∙ up5 k r refl ∙ up4 k r refl ∙ found k (option_map string r.id.deposed) (m2 r) (none2 k r refl refl)
 
-the_key : (r : RecordView) → get (codes "index_key") (record_data r) ≡ key_data r.place.key
-the_key r = let k = codes "index_key" in up6 k r refl refl ∙ up5 k r refl ∙ up4 k r refl ∙ up3 k r refl ∙ found k (key_data r.place.key) (m1 r) (none1 k r refl)
+the_key : (r : RecordView) → get (codes "index_key") (record_data r) ≡ key_data r.id.key
+the_key r = let k = codes "index_key" in up6 k r refl refl ∙ up5 k r refl ∙ up4 k r refl ∙ up3 k r refl ∙ found k (key_data r.id.key) (m1 r) (none1 k r refl)
 
 the_status : (r : RecordView) → get (codes "status") (record_data r) ≡ status_data r.tainted
 the_status r =
@@ -140,17 +140,17 @@ shaped r =
     let words = properties_of shapes.Record in
     only_put words (codes "attributes") (value_data r.attributes) (m6 r) refl (only_put words (codes "schema_version") (json_number (unsigned r.schema_version)) (m5 r) refl
     (only words (codes "create_before_destroy") (flag_data r.create_before_destroy) (m4 r) refl (only words (codes "dependencies") (dependencies_data r.dependencies) (m3 r) refl
-    (only words (codes "deposed") (option_map string r.place.deposed) (m2 r) refl (only words (codes "index_key") (key_data r.place.key) (m1 r) refl (only words (codes "status") (status_data r.tainted) no_members refl refl))))))
+    (only words (codes "deposed") (option_map string r.id.deposed) (m2 r) refl (only words (codes "index_key") (key_data r.id.key) (m1 r) refl (only words (codes "status") (status_data r.tainted) no_members refl refl))))))
 
 -- ---- the record
 
-place-back : (r : RecordView) → IsRecord r → place_in (record_data r) ≡ Some r.place
-place-back r h = rw (the_key r, key-back r.place.key h.key, the_deposed r, deposed-back r.place.deposed h.deposed) refl
+id-back : (r : RecordView) → IsRecord r → id_in (record_data r) ≡ Some r.id
+id-back r h = rw (the_key r, key-back r.id.key h.key, the_deposed r, deposed-back r.id.deposed h.deposed) refl
 
-body-back : (r : RecordView) → IsRecord r → record_at r.place (record_data r) ≡ Some r
+body-back : (r : RecordView) → IsRecord r → record_at r.id (record_data r) ≡ Some r
 body-back r h =
     rw (the_attributes r, attributes-back r.attributes h.attributes, the_version r, version-back (2 ^ 32) r.schema_version h.version, the_status r, tainted-back r.tainted, the_dependencies r, dependencies-back r.dependencies h.dependencies, the_flag r, flag-back r.create_before_destroy)
     refl
 
 pub record-back : (r : RecordView) → IsRecord r → record_in (record_data r) ≡ Some r
-record-back r h = rw (shaped r, the_sensitive r, place-back r h) (body-back r h)
+record-back r h = rw (shaped r, the_sensitive r, id-back r h) (body-back r h)

@@ -4,8 +4,8 @@ use Rattle.std.specs.Prelude.{IsUtf8}
 use Rattle.serde_json.specs.Data.{Data}
 use Rattle.serde_json.specs.Read.{read}
 use Rattle.tf_state_data.specs.State.{StateView}
-use Rattle.tf_state_data.specs.Place.{PlaceView}
-use Rattle.tf_state.specs.Reading.{IsNoJson, IsRefused, is_record, place_in, record_at, record_in, state_in}
+use Rattle.tf_address.specs.ObjectId.{ObjectIdView}
+use Rattle.tf_state.specs.Reading.{IsNoJson, IsRefused, is_record, id_in, record_at, record_in, state_in}
 use Rattle.tf_state.specs.Table.{IsBeyond, IsUnread, Reads, SaysState}
 use Rattle.tf_state.specs.declared.fault.StateFault.{StateFault}
 use Rattle.tf_state.specs.declared.fault.StateFault.TheVariants.{BadState, Limit, OutOfMemory}
@@ -34,5 +34,5 @@ pub beyond_limits : (bytes : List ℕ) (d : Data) (s : StateView) → IsUtf8 byt
 beyond_limits bytes d s utf8 is h b = (s, reads_by_table bytes d s utf8 is h, b)
 
 -- what is refused behind its place is refused
-pub refused_behind : (d : Data) (p : PlaceView) (e : StateFault) → is_record d ≡ true → place_in d ≡ Some p → IsRefused (record_at p d) e → IsRefused (record_in d) e
+pub refused_behind : (d : Data) (p : ObjectIdView) (e : StateFault) → is_record d ≡ true → id_in d ≡ Some p → IsRefused (record_at p d) e → IsRefused (record_in d) e
 refused_behind d p e is at h = rw (is, at) h

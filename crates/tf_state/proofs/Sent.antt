@@ -118,7 +118,7 @@ attributes_first a v f dd dp kk st =
 
 abbrev record_members : RecordView → Members
 record_members r =
-    in_order (value_data r.attributes) (json_number (unsigned r.schema_version)) (flag_data r.create_before_destroy) (dependencies_data r.dependencies) (option_map string r.place.deposed) (key_data r.place.key) (status_data r.tainted)
+    in_order (value_data r.attributes) (json_number (unsigned r.schema_version)) (flag_data r.create_before_destroy) (dependencies_data r.dependencies) (option_map string r.id.deposed) (key_data r.id.key) (status_data r.tainted)
 
 record_in_order : (r : RecordView) → record_data r ≡ object (record_members r)
 record_in_order r =
@@ -126,8 +126,8 @@ record_in_order r =
     let v = json_number (unsigned r.schema_version) in
     let f = flag_data r.create_before_destroy in
     let dd = dependencies_data r.dependencies in
-    let dp = option_map string r.place.deposed in
-    let kk = key_data r.place.key in
+    let dp = option_map string r.id.deposed in
+    let kk = key_data r.id.key in
     let st = status_data r.tainted in
     ap (λ ms. object (put (codes "attributes") a ms)) (ap (put (codes "schema_version") v) (optional_in_order f dd dp kk st) ∙ version_in_order v f dd dp kk st)
     ∙ ap object (put_first (codes "attributes") a _ (attributes_first a v f dd dp kk st))
@@ -144,14 +144,14 @@ counted a v f dd dp kk st =
 -- What is sent of a record, part after part, is the record.
 pub record_sent : (r : RecordView) (n m : ℕ) (l0 l1 l2 l3 l4 l5 l6 l7 l8 l9 l10 l11 : Log) → n ≡ member_count r → m ≡ r.schema_version → Logs l0 l1 (map_begins (Some n)) → Logs l1 l2 (field_key (codes "attributes") AsIs) → SendsValue (value_data r.attributes) l2 l3
     → SendsSome (codes "create_before_destroy") (flag_data r.create_before_destroy) l3 l4 → SendsSome (codes "dependencies") (dependencies_data r.dependencies) l4 l5
-    → SendsSome (codes "deposed") (option_map string r.place.deposed) l5 l6 → SendsSome (codes "index_key") (key_data r.place.key) l6 l7
+    → SendsSome (codes "deposed") (option_map string r.id.deposed) l5 l6 → SendsSome (codes "index_key") (key_data r.id.key) l6 l7
     → Logs l7 l8 (field_key (codes "schema_version") AsIs) → SendsValue (json_number (unsigned m)) l8 l9 → SendsSome (codes "status") (status_data r.tainted) l9 l10 → Logs l10 l11 map_ends → SendsValue (record_data r) l0 l11
 record_sent r n m l0 l1 l2 l3 l4 l5 l6 l7 l8 l9 l10 l11 is held begun attributes_key attributes flag dependencies deposed key version_key version status ended =
     let v = json_number (unsigned r.schema_version) in
     let f = flag_data r.create_before_destroy in
     let dd = dependencies_data r.dependencies in
-    let dp = option_map string r.place.deposed in
-    let kk = key_data r.place.key in
+    let dp = option_map string r.id.deposed in
+    let kk = key_data r.id.key in
     let st = status_data r.tainted in
     let rest : SendsMembers (status_part st) l9 l11 = sends_some (codes "status") st no_members l9 l10 l11 status ended in
     let from_version : SendsMembers (versioned v st) l7 l11 = (l8, l9, version_key, subst (λ k. SendsValue (json_number (unsigned k)) l8 l9) held version, rest) in
@@ -180,11 +180,11 @@ resource_in_order a b c d e = refl
 
 -- What is sent of a resource, member after member, is the resource.
 pub resource_sent : (r : ResourceView) (l0 l1 l2 l3 l4 l5 l6 l7 : Log) → Logs l0 l1 (map_begins (Some 5)) → Sends (codes "instances") (array (items_of (each record_data r.records))) l1 l2 → Sends (codes "mode") (string (codes "managed")) l2 l3
-    → Sends (codes "name") (string r.label.name) l3 l4 → Sends (codes "provider") (string r.provider) l4 l5 → Sends (codes "type") (string r.label.kind) l5 l6 → Logs l6 l7 map_ends → SendsValue (resource_data r) l0 l7
-resource_sent r l0 l1 l2 l3 l4 l5 l6 l7 begun instances mode name provider kind ended =
-    let members : SendsMembers (member (codes "instances") (array (items_of (each record_data r.records))) (member (codes "mode") (string (codes "managed")) (member (codes "name") (string r.label.name) (member (codes "provider") (string r.provider) (member (codes "type") (string r.label.kind) no_members))))) l1 l7 =
-    (instances.0, l2, instances.1, instances.2, (mode.0, l3, mode.1, mode.2, (name.0, l4, name.1, name.2, (provider.0, l5, provider.1, provider.2, (kind.0, l6, kind.1, kind.2, ended))))) in
-    subst (λ ms. SendsValue (object ms) l0 l7) (sym (resource_in_order (array (items_of (each record_data r.records))) (string (codes "managed")) (string r.label.name) (string r.provider) (string r.label.kind))) (l1, begun, members)
+    → Sends (codes "name") (string r.label.name) l3 l4 → Sends (codes "provider") (string r.provider) l4 l5 → Sends (codes "type") (string r.label.type_name) l5 l6 → Logs l6 l7 map_ends → SendsValue (resource_data r) l0 l7
+resource_sent r l0 l1 l2 l3 l4 l5 l6 l7 begun instances mode name provider type_name ended =
+    let members : SendsMembers (member (codes "instances") (array (items_of (each record_data r.records))) (member (codes "mode") (string (codes "managed")) (member (codes "name") (string r.label.name) (member (codes "provider") (string r.provider) (member (codes "type") (string r.label.type_name) no_members))))) l1 l7 =
+    (instances.0, l2, instances.1, instances.2, (mode.0, l3, mode.1, mode.2, (name.0, l4, name.1, name.2, (provider.0, l5, provider.1, provider.2, (type_name.0, l6, type_name.1, type_name.2, ended))))) in
+    subst (λ ms. SendsValue (object ms) l0 l7) (sym (resource_in_order (array (items_of (each record_data r.records))) (string (codes "managed")) (string r.label.name) (string r.provider) (string r.label.type_name))) (l1, begun, members)
 
 state_in_order : (a b c d e f : Data) → put (codes "lineage") a (put (codes "outputs") b (put (codes "resources") c (put (codes "serial") d (put (codes "terraform_version") e (put (codes "version") f no_members)))))
     ≡ member (codes "lineage") a (member (codes "outputs") b (member (codes "resources") c (member (codes "serial") d (member (codes "terraform_version") e (member (codes "version") f no_members)))))

@@ -7,10 +7,10 @@ use Rattle.serde_json.specs.View.{items_of}
 use Rattle.tf_state.specs.Arrangement.{record_cmp, resource_cmp, with_records}
 use Rattle.tf_state.specs.Reading.{records_in, resource_in, resources_in, state_in, put_new}
 use Rattle.tf_address.specs.Label.{label_cmp}
-use Rattle.tf_state_data.proofs.Totals.{place_total, label_total}
+use Rattle.tf_address.proofs.Totals.{object_id_total, label_total}
 use Rattle.tf_state_data.specs.Addresses.{AreByAddress, addresses_of}
-use Rattle.tf_state_data.specs.Place.{place_cmp}
-use Rattle.tf_state_data.specs.Places.{AreByPlace, places_of}
+use Rattle.tf_address.specs.ObjectId.{object_id_cmp}
+use Rattle.tf_state_data.specs.Ids.{AreById, ids_of}
 use Rattle.tf_state_data.specs.Record.{RecordView}
 use Rattle.tf_state_data.specs.Resource.{ResourceView}
 use Rattle.tf_state_data.specs.State.{StateView}
@@ -20,16 +20,16 @@ use Rattle.tf_state.proofs.Back.{put_new-last, EachAbove, EachAbove-push, EachAb
 use Rattle.tf_state.proofs.Orders.{above}
 use Rattle.tf_state.proofs.RecordBack.{record-back}
 
-records_onto : (rs found : List RecordView) → AllByRecursion IsRecord rs → AreByPlace rs → EachAbove record_cmp found rs → records_in (items_of (each record_data rs)) found ≡ Some (found ++ rs)
+records_onto : (rs found : List RecordView) → AllByRecursion IsRecord rs → AreById rs → EachAbove record_cmp found rs → records_in (items_of (each record_data rs)) found ≡ Some (found ++ rs)
 records_onto [] found h order a = ap Some (sym (append-nil found))
 records_onto (r ∷ rs) found h order a =
     ap (λ o. option_and_then (λ q. option_and_then (records_in (items_of (each record_data rs))) (put_new record_cmp q found)) o) (record-back r h.0)
     ∙ ap (λ o. option_and_then (records_in (items_of (each record_data rs))) o) (put_new-last record_cmp r found a.0)
-    ∙ records_onto rs (found ++ r ∷ []) h.1 (sorted_tail place_cmp r.place (places_of rs) order)
-    (EachAbove-push record_cmp found r rs a.1 (above (λ q. q.place) place_cmp place_total r rs (sorted_head place_cmp r.place (places_of rs) order))) ∙ ap Some (append_assoc found (r ∷ []) rs)
+    ∙ records_onto rs (found ++ r ∷ []) h.1 (sorted_tail object_id_cmp r.id (ids_of rs) order)
+    (EachAbove-push record_cmp found r rs a.1 (above (λ q. q.id) object_id_cmp object_id_total r rs (sorted_head object_id_cmp r.id (ids_of rs) order))) ∙ ap Some (append_assoc found (r ∷ []) rs)
 
 resource-back : (r : ResourceView) → IsResource r → resource_in (resource_data r) ≡ Some r
-resource-back r h = rw (h.kind, h.name, records_onto r.records [] h.records.0 h.records.1 (EachAbove-nothing record_cmp r.records)) refl
+resource-back r h = rw (h.type_name, h.name, records_onto r.records [] h.records.0 h.records.1 (EachAbove-nothing record_cmp r.records)) refl
 
 resources_onto : (rs found : List ResourceView) → AllByRecursion IsPresent rs → AreByAddress rs → EachAbove resource_cmp found rs → resources_in (items_of (each resource_data rs)) found ≡ Some (found ++ rs)
 resources_onto [] found h order a = ap Some (sym (append-nil found))

@@ -2,13 +2,13 @@
 use Rattle.std.specs.Prelude.{Bool, true, false, List, [], ◌∷◌, filter}
 use Rattle.std.specs.declared.cmp.Ordering.{Ordering}
 use Rattle.tf_address.specs.Label.{label_cmp}
-use Rattle.tf_state_data.specs.Place.{place_cmp}
+use Rattle.tf_address.specs.ObjectId.{object_id_cmp}
 use Rattle.tf_state_data.specs.Record.{RecordView}
 use Rattle.tf_state_data.specs.Resource.{ResourceView}
 
 -- records stand by their places, resources by their addresses
 abbrev pub record_cmp : RecordView → RecordView → Ordering
-record_cmp a b = place_cmp a.place b.place
+record_cmp a b = object_id_cmp a.id b.id
 
 abbrev pub resource_cmp : ResourceView → ResourceView → Ordering
 resource_cmp a b = label_cmp a.label b.label

@@ -1,7 +1,7 @@
 -- What holds of states and their texts, whatever they are.
 use Rattle.std.specs.Prelude.{◌≡◌, ℕ, List, IsUtf8}
 use Rattle.tf_address.specs.Label.{LabelView}
-use Rattle.tf_state_data.specs.Place.{PlaceView}
+use Rattle.tf_address.specs.ObjectId.{ObjectIdView}
 use Rattle.tf_state_data.specs.Record.{RecordView}
 use Rattle.tf_state_data.specs.Resource.{ResourceView, with_record, without_record}
 use Rattle.tf_state_data.specs.State.{StateView, with_resource, without_resource}
@@ -39,4 +39,4 @@ RemoveKeepsState = (label : LabelView) (s : StateView) → IsValid s → IsValid
 
 -- A valid resource without the record at a place is valid, though it may be left without records.
 abbrev pub RemoveKeepsResource : Type 0
-RemoveKeepsResource = (place : PlaceView) (r : ResourceView) → IsResource r → IsResource (without_record place r)
+RemoveKeepsResource = (id : ObjectIdView) (r : ResourceView) → IsResource r → IsResource (without_record id r)

@@ -3,18 +3,18 @@ use Rattle.std.specs.Prelude.{List, map, string_bytes}
 use Rattle.tf_address.specs.Label.{label_of}
 use Rattle.tf_address.specs.declared.label.Label.{Label}
 use Rattle.tf_value.specs.Tree.{tree_of}
-use Rattle.tf_state_data.specs.Place.{place_of}
+use Rattle.tf_address.specs.ObjectId.{object_id_of}
 use Rattle.tf_state_data.specs.Record.{RecordView, record_of}
 use Rattle.tf_state_data.specs.Resource.{ResourceView}
 use Rattle.tf_state.specs.declared.body.Body.{Body}
 use Rattle.tf_state.specs.declared.body.Held.{Held}
-use Rattle.tf_state_data.specs.declared.key.Place.{Place}
+use Rattle.tf_address.specs.declared.object_id.ObjectId.{ObjectId}
 
 -- the record of a place with a body
-abbrev pub record_made : Place → Body → RecordView
+abbrev pub record_made : ObjectId → Body → RecordView
 record_made p b =
     record {
-      place = place_of p;
+      id = object_id_of p;
       attributes = tree_of b.attributes.value;
       schema_version = b.schema_version;
       tainted = b.tainted;
@@ -23,7 +23,7 @@ record_made p b =
     }
 
 -- the records under their places
-abbrev pub records_made : List (Place × Body) → List RecordView
+abbrev pub records_made : List (ObjectId × Body) → List RecordView
 records_made es = map (λ e. record_made e.0 e.1) es
 
 -- the resource of an address with a provider and records

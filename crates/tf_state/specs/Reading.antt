@@ -14,7 +14,7 @@ use Rattle.tf_value.specs.Json.{tree_from}
 use Rattle.tf_value.specs.Known.{known}
 use Rattle.tf_value.specs.Measure.{weight, depth, max_weight, max_depth}
 use Rattle.tf_value.specs.Tree.{Tree, map, Entries, no_entries, put}
-use Rattle.tf_state_data.specs.Place.{KeyView, single, number, name, PlaceView, place_cmp}
+use Rattle.tf_address.specs.ObjectId.{InstanceKeyView, single, number, name, ObjectIdView, object_id_cmp}
 use Rattle.tf_state_data.specs.Record.{RecordView}
 use Rattle.tf_state_data.specs.Resource.{ResourceView}
 use Rattle.tf_state_data.specs.State.{StateView}
@@ -60,7 +60,7 @@ below_or_zero bound (Some (json_number (unsigned n))) = if nat_lt n bound then S
 below_or_zero bound (Some _) = None
 
 -- a key is absent, a whole number of 0 or more below 2^63, or a text
-abbrev pub key_in : Option Data → Option KeyView
+abbrev pub key_in : Option Data → Option InstanceKeyView
 key_in None = Some single
 key_in (Some (json_number (unsigned n))) = if nat_lt n (2 ^ 63) then Some (number n) else None
 key_in (Some (string s)) = Some (name s)
@@ -114,8 +114,8 @@ is_unsensitive (Some _) = false
 -- ---- records
 
 -- the place of a record
-abbrev pub place_in : Data → Option PlaceView
-place_in d =
+abbrev pub id_in : Data → Option ObjectIdView
+id_in d =
     option_and_then (λ k. option_map (λ p. record { key = k; deposed = p }) (deposed_in (get (codes "deposed") d))) (key_in (get (codes "index_key") d))
 
 -- a record's object holds what a record may hold, and nothing sensitive
@@ -123,16 +123,16 @@ abbrev pub is_record : Data → Bool
 is_record d = is_shaped shapes.Record d && is_unsensitive (get (codes "sensitive_attributes") d)
 
 -- a record of a place
-abbrev pub record_at : PlaceView → Data → Option RecordView
-record_at place d =
+abbrev pub record_at : ObjectIdView → Data → Option RecordView
+record_at id d =
     option_and_then
     (λ attributes. option_and_then (λ version. option_and_then (λ tainted. option_and_then (λ dependencies. option_map
-    (λ flag. record { place = place; attributes = attributes; schema_version = version; tainted = tainted; dependencies = dependencies; create_before_destroy = flag }) (flag_in (get (codes "create_before_destroy") d)))
+    (λ flag. record { id = id; attributes = attributes; schema_version = version; tainted = tainted; dependencies = dependencies; create_before_destroy = flag }) (flag_in (get (codes "create_before_destroy") d)))
     (dependencies_in (get (codes "dependencies") d))) (tainted_in (get (codes "status") d))) (below_or_zero (2 ^ 32) (get (codes "schema_version") d))) (attributes_in (get (codes "attributes") d))
 
 -- a record
 abbrev pub record_in : Data → Option RecordView
-record_in d = if is_record d then option_and_then (λ place. record_at place d) (place_in d) else None
+record_in d = if is_record d then option_and_then (λ id. record_at id d) (id_in d) else None
 
 -- the records that items are, added to those that were found, none twice
 abbrev pub records_in : Items → List RecordView → Option (List RecordView)
@@ -166,8 +166,8 @@ abbrev pub resource_in : Data → Option ResourceView
 resource_in d =
     if is_shaped shapes.Resource d && is_managed (get (codes "mode") d)
     then option_and_then
-    (λ kind. option_and_then (λ its_name. option_and_then (λ provider. option_map
-    (λ records. record { label = record { kind = kind; name = its_name }; provider = provider; records = records }) (instances_in (get (codes "instances") d)))
+    (λ type_name. option_and_then (λ its_name. option_and_then (λ provider. option_map
+    (λ records. record { label = record { type_name = type_name; name = its_name }; provider = provider; records = records }) (instances_in (get (codes "instances") d)))
     (text_in (get (codes "provider") d))) (name_in (get (codes "name") d))) (name_in (get (codes "type") d))
     else None
 

@@ -19,5 +19,5 @@ one_if_some (Some d) = 1
 -- how many members a record has: two always, the others where there is something to say
 abbrev pub member_count : RecordView → ℕ
 member_count r =
-    2 + one_if_some (flag_data r.create_before_destroy) + one_if_some (dependencies_data r.dependencies) + one_if_some (option_map string r.place.deposed)
-    + one_if_some (key_data r.place.key) + one_if_some (status_data r.tainted)
+    2 + one_if_some (flag_data r.create_before_destroy) + one_if_some (dependencies_data r.dependencies) + one_if_some (option_map string r.id.deposed)
+    + one_if_some (key_data r.id.key) + one_if_some (status_data r.tainted)

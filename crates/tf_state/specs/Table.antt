@@ -15,7 +15,7 @@ use Rattle.tf_address.specs.Name.{is_name}
 use Rattle.tf_value.specs.Json.{IsJson}
 use Rattle.tf_value.specs.Measure.{IsWithinLimits}
 use Rattle.tf_value.specs.Tree.{Tree, map, Entries, no_entries, entry, get as value_at}
-use Rattle.tf_state_data.specs.Place.{KeyView, single, number, name}
+use Rattle.tf_address.specs.ObjectId.{InstanceKeyView, single, number, name}
 use Rattle.tf_state.specs.Arrangement.{record_cmp, resource_cmp, with_records}
 use Rattle.tf_state_data.specs.Record.{RecordView}
 use Rattle.tf_state_data.specs.Resource.{ResourceView}
@@ -99,7 +99,7 @@ SaysNumberOrZero bound (Some (json_number (unsigned m))) n = (n ≡ m) × (m < b
 SaysNumberOrZero bound _ n = ⊥
 
 -- no key, a number below 2^63, or a text
-abbrev pub SaysKey : Option Data → KeyView → Type 0
+abbrev pub SaysKey : Option Data → InstanceKeyView → Type 0
 SaysKey None k = k ≡ single
 SaysKey (Some (json_number (unsigned n))) k = (k ≡ number n) × (n < 2 ^ 63)
 SaysKey (Some (string s)) k = k ≡ name s
@@ -156,8 +156,8 @@ SaysNoChecks _ = ⊥
 pub record SaysRecord (d : Data) (r : RecordView) : Type 0 where
   pub only : is_shaped shapes.Record d ≡ true
   pub sensitive_attributes : SaysNothingSensitive (get (codes "sensitive_attributes") d)
-  pub index_key : SaysKey (get (codes "index_key") d) r.place.key
-  pub deposed : SaysDeposed (get (codes "deposed") d) r.place.deposed
+  pub index_key : SaysKey (get (codes "index_key") d) r.id.key
+  pub deposed : SaysDeposed (get (codes "deposed") d) r.id.deposed
   pub attributes : SaysAttributes (get (codes "attributes") d) r.attributes
   pub schema_version : SaysNumberOrZero (2 ^ 32) (get (codes "schema_version") d) r.schema_version
   pub status : SaysStatus (get (codes "status") d) r.tainted
@@ -173,7 +173,7 @@ SaysInstances _ rs = ⊥
 pub record SaysResource (d : Data) (r : ResourceView) : Type 0 where
   pub only : is_shaped shapes.Resource d ≡ true
   pub mode : SaysText (get (codes "mode") d) (codes "managed")
-  pub kind : SaysName (get (codes "type") d) r.label.kind
+  pub type_name : SaysName (get (codes "type") d) r.label.type_name
   pub name : SaysName (get (codes "name") d) r.label.name
   pub provider : SaysText (get (codes "provider") d) r.provider
   pub instances : SaysInstances (get (codes "instances") d) r.records

@@ -5,7 +5,7 @@ use Rattle.serde_json.specs.View.{items_of}
 use Rattle.tf_json_text.specs.Text.{text_of}
 use Rattle.tf_value.specs.Json.{value_data}
 use Rattle.tf_value.specs.Tree.{Tree, Entries, no_entries, entry}
-use Rattle.tf_state_data.specs.Place.{KeyView, single, number, name}
+use Rattle.tf_address.specs.ObjectId.{InstanceKeyView, single, number, name}
 use Rattle.tf_state_data.specs.Record.{RecordView}
 use Rattle.tf_state_data.specs.Resource.{ResourceView}
 use Rattle.tf_state_data.specs.State.{StateView}
@@ -17,7 +17,7 @@ put_some key None ms = ms
 put_some key (Some d) ms = put key d ms
 
 -- the key of an instance, where it has one
-abbrev pub key_data : KeyView → Option Data
+abbrev pub key_data : InstanceKeyView → Option Data
 key_data single = None
 key_data (number n) = Some (json_number (unsigned n))
 key_data (name s) = Some (string s)
@@ -41,13 +41,13 @@ dependencies_data (t ∷ ts) = Some (array (items_of (each string (t ∷ ts))))
 abbrev pub record_data : RecordView → Data
 record_data r =
     object (put (codes "attributes") (value_data r.attributes) (put (codes "schema_version") (json_number (unsigned r.schema_version)) (put_some (codes "create_before_destroy") (flag_data r.create_before_destroy)
-    (put_some (codes "dependencies") (dependencies_data r.dependencies) (put_some (codes "deposed") (option_map string r.place.deposed) (put_some (codes "index_key") (key_data r.place.key)
+    (put_some (codes "dependencies") (dependencies_data r.dependencies) (put_some (codes "deposed") (option_map string r.id.deposed) (put_some (codes "index_key") (key_data r.id.key)
     (put_some (codes "status") (status_data r.tainted) no_members)))))))
 
 -- a resource that the engine manages, with its objects
 abbrev pub resource_data : ResourceView → Data
 resource_data r =
-    object (put (codes "instances") (array (items_of (each record_data r.records))) (put (codes "mode") (string (codes "managed")) (put (codes "name") (string r.label.name) (put (codes "provider") (string r.provider) (put (codes "type") (string r.label.kind) no_members)))))
+    object (put (codes "instances") (array (items_of (each record_data r.records))) (put (codes "mode") (string (codes "managed")) (put (codes "name") (string r.label.name) (put (codes "provider") (string r.provider) (put (codes "type") (string r.label.type_name) no_members)))))
 
 -- an output: its value, and the type of the value
 abbrev pub output_data : Tree → Data

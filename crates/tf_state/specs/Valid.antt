@@ -11,8 +11,8 @@ use Rattle.tf_value.specs.Known.{known}
 use Rattle.tf_value.specs.Measure.{IsWithinLimits}
 use Rattle.tf_value.specs.Tree.{Tree, map, Entries, no_entries, entry, IsHeld}
 use Rattle.tf_state_data.specs.Addresses.{AreByAddress}
-use Rattle.tf_state_data.specs.Place.{KeyView, single, number, name}
-use Rattle.tf_state_data.specs.Places.{AreByPlace}
+use Rattle.tf_address.specs.ObjectId.{InstanceKeyView, single, number, name}
+use Rattle.tf_state_data.specs.Ids.{AreById}
 use Rattle.tf_state.specs.Arrangement.{is_some_record}
 use Rattle.tf_state_data.specs.Record.{RecordView}
 use Rattle.tf_state_data.specs.Resource.{ResourceView}
@@ -37,7 +37,7 @@ IsAttributes (map es) = IsTable es
 IsAttributes _ = ⊥
 
 -- the position of an instance is below 2^63
-abbrev pub IsKey : KeyView → Type 0
+abbrev pub IsKey : InstanceKeyView → Type 0
 IsKey single = ⊤
 IsKey (number n) = n < 2 ^ 63
 IsKey (name s) = ⊤
@@ -53,19 +53,19 @@ AreAddresses [] = ⊤
 AreAddresses (t ∷ ts) = (is_address t ≡ true) × AllByRecursion (λ u. slice_cmp nat_cmp u t ≡ Greater) ts × AreAddresses ts
 
 pub record IsRecord (r : RecordView) : Type 0 where
-  pub key : IsKey r.place.key
-  pub deposed : IsDeposed r.place.deposed
+  pub key : IsKey r.id.key
+  pub deposed : IsDeposed r.id.deposed
   pub attributes : IsAttributes r.attributes
   pub version : r.schema_version < 2 ^ 32
   pub dependencies : AreAddresses r.dependencies
 
 -- records, in the order of their places, no two at one
 abbrev pub AreRecords : List RecordView → Type 0
-AreRecords rs = AllByRecursion IsRecord rs × AreByPlace rs
+AreRecords rs = AllByRecursion IsRecord rs × AreById rs
 
 -- a resource, which may be one without records
 pub record IsResource (r : ResourceView) : Type 0 where
-  pub kind : is_name r.label.kind ≡ true
+  pub type_name : is_name r.label.type_name ≡ true
   pub name : is_name r.label.name ≡ true
   pub records : AreRecords r.records
 

@@ -1,6 +1,6 @@
 ghost use Rattle.std.specs.List.Sorted.{IsStrictlySortedBy-prop};
 ghost use Rattle.std.specs.Prelude.{map};
-ghost use Rattle.tf_state_data.specs.Places.{AreByPlace};
+ghost use Rattle.tf_state_data.specs.Ids.{AreById};
 ghost use Rattle.tf_state_data.specs.Record.{record_of};
 
 use std::collections::BTreeSet;
@@ -21,5 +21,5 @@ pub(crate) struct Body {
 pub(crate) struct Held {
     pub provider: String,
     pub records: Vec<Record>,
-    pub ghost ordered: { AreByPlace (map record_of records.items) } by { IsStrictlySortedBy-prop _ _ },
+    pub ghost ordered: { AreById (map record_of records.items) } by { IsStrictlySortedBy-prop _ _ },
 }

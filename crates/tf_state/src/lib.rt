@@ -26,5 +26,5 @@ pub use laws::{
     puts_and_removes_keep_states_valid, read_states_are_valid, texts_are_of_one, texts_read_back,
 };
 pub use reading::read;
-pub use tf_state_data::{Key, Object, Place, Record, Resource, State, copy, provider_address};
+pub use tf_state_data::{Object, Record, Resource, State, copy, provider_address};
 pub use writing::write;

@@ -3,9 +3,9 @@
 ghost use Rattle.std.specs.Prelude.{◌≡◌, ◌++◌, [], Some, IfErr, IfOk, OnOk, map, option_map};
 ghost use Rattle.serde_json.specs.View.{view, items_view};
 ghost use Rattle.tf_state.specs.Made.{record_made, records_made};
-ghost use Rattle.tf_state_data.specs.Place.{place_of};
-ghost use Rattle.tf_state_data.specs.declared.key.Place.{Place};
-ghost use Rattle.tf_state_data.specs.Places.{AreByPlace};
+ghost use Rattle.tf_address.specs.ObjectId.{object_id_of};
+ghost use Rattle.tf_address.specs.declared.object_id.ObjectId.{ObjectId};
+ghost use Rattle.tf_state_data.specs.Ids.{AreById};
 ghost use Rattle.tf_state.specs.Arrangement.{record_cmp};
 ghost use Rattle.tf_state.specs.Reading.{IsRefused, instances_in, is_record, put_new, record_at, record_in, records_in};
 ghost use Rattle.tf_state_data.specs.Record.{record_of};
@@ -14,18 +14,19 @@ use crate::body::Body;
 use crate::fault::StateFault;
 use crate::shape::{Shape, is_shaped};
 use crate::value_reading::{
-    is_unsensitive, read_attributes, read_dependencies, read_flag, read_place, read_tainted,
+    is_unsensitive, read_attributes, read_dependencies, read_flag, read_id, read_tainted,
     read_version,
 };
 use serde_json::Value as Json;
 use std::alloc::{AllocError, Global};
 use std::collections::BTreeMap;
-use tf_state_data::{Place, Record};
+use tf_address::ObjectId;
+use tf_state_data::Record;
 
 /// The records of a resource, in the order of their places. Each part of the tree goes once it is read.
 pub(crate) fn read_instances(alloc: Global, json: Option<Json>) -> Result<Vec<Record>, StateFault>
     ensures ok { IfOk result (λ rs. instances_in (option_map view json) ≡ Some (map record_of rs.items)) }
-    ensures ordered { IfOk result (λ rs. AreByPlace (map record_of rs.items)) }
+    ensures ordered { IfOk result (λ rs. AreById (map record_of rs.items)) }
     ensures err { IfErr result (λ e. IsRefused (instances_in (option_map view json)) e) }
 {
     match json {
@@ -37,14 +38,14 @@ pub(crate) fn read_instances(alloc: Global, json: Option<Json>) -> Result<Vec<Re
     }
 }
 
-fn in_order(alloc: Global, records: BTreeMap<Place, Body>) -> Result<Vec<Record>, AllocError>
+fn in_order(alloc: Global, records: BTreeMap<ObjectId, Body>) -> Result<Vec<Record>, AllocError>
     ensures all { IfOk result (λ rs. map record_of rs.items ≡ records_made records.entries) }
-    ensures ordered { IfOk result (λ rs. AreByPlace (map record_of rs.items)) }
+    ensures ordered { IfOk result (λ rs. AreById (map record_of rs.items)) }
 {
     let mut ordered = Vec::with_capacity(alloc, records.len())?;
-    for (place, body) in records {
+    for (id, body) in records {
         ordered.push(Record {
-            place,
+            id,
             attributes: body.attributes,
             schema_version: body.schema_version,
             tainted: body.tainted,
@@ -55,43 +56,43 @@ fn in_order(alloc: Global, records: BTreeMap<Place, Body>) -> Result<Vec<Record>
     Ok(ordered)
 }
 
-fn read_records(alloc: Global, items: Vec<Json>) -> Result<BTreeMap<Place, Body>, StateFault>
+fn read_records(alloc: Global, items: Vec<Json>) -> Result<BTreeMap<ObjectId, Body>, StateFault>
     ensures ok { IfOk result (λ m. records_in (items_view items.items) [] ≡ Some (records_made m.entries)) }
     ensures err { IfErr result (λ e. IsRefused (records_in (items_view items.items) []) e) }
 {
     let mut records = BTreeMap::new(alloc);
     for item in items {
-        let (place, body) = read_record(alloc, &item)?;
-        add_record(&mut records, place, body)?;
+        let (id, body) = read_record(alloc, &item)?;
+        add_record(&mut records, id, body)?;
     }
     Ok(records)
 }
 
 fn add_record(
-    records: &mut BTreeMap<Place, Body>,
-    place: Place,
+    records: &mut BTreeMap<ObjectId, Body>,
+    id: ObjectId,
     body: Body,
 ) -> Result<(), StateFault>
-    ensures ok { OnOk result (put_new record_cmp (record_made place body) (records_made records.old.entries) ≡ Some (records_made records.new.entries)) }
-    ensures err { IfErr result (λ e. IsRefused (put_new record_cmp (record_made place body) (records_made records.old.entries)) e) }
+    ensures ok { OnOk result (put_new record_cmp (record_made id body) (records_made records.old.entries) ≡ Some (records_made records.new.entries)) }
+    ensures err { IfErr result (λ e. IsRefused (put_new record_cmp (record_made id body) (records_made records.old.entries)) e) }
 {
-    let is_taken = records.insert(place, body)?.is_some();
+    let is_taken = records.insert(id, body)?.is_some();
     if is_taken {
         return Err(StateFault::BadState);
     }
     Ok(())
 }
 
-fn read_record(alloc: Global, json: &Json) -> Result<(Place, Body), StateFault>
+fn read_record(alloc: Global, json: &Json) -> Result<(ObjectId, Body), StateFault>
     ensures ok { IfOk result (λ r. record_in (view json.now) ≡ Some (record_made r.0 r.1)) }
     ensures err { IfErr result (λ e. IsRefused (record_in (view json.now)) e) }
 {
     if !is_record(json) {
         return Err(StateFault::BadState);
     }
-    let place = read_place(alloc, json)?;
+    let id = read_id(alloc, json)?;
     let body = read_body(alloc, json)?;
-    Ok((place, body))
+    Ok((id, body))
 }
 
 fn is_record(json: &Json) -> bool
@@ -101,8 +102,8 @@ fn is_record(json: &Json) -> bool
 }
 
 fn read_body(alloc: Global, json: &Json) -> Result<Body, StateFault>
-    ensures ok { IfOk result (λ b. (p : Place) → record_at (place_of p) (view json.now) ≡ Some (record_made p b)) }
-    ensures err { IfErr result (λ e. (p : Place) → IsRefused (record_at (place_of p) (view json.now)) e) }
+    ensures ok { IfOk result (λ b. (p : ObjectId) → record_at (object_id_of p) (view json.now) ≡ Some (record_made p b)) }
+    ensures err { IfErr result (λ e. (p : ObjectId) → IsRefused (record_at (object_id_of p) (view json.now)) e) }
 {
     let attributes = read_attributes(alloc, json.get("attributes"))?;
     let schema_version = read_version(json.get("schema_version"))?;

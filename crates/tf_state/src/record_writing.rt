@@ -4,14 +4,15 @@ ghost use Rattle.std.specs.Prelude.{◌≡◌, OnOk, codes, map, option_map, str
 ghost use Rattle.serde_json.specs.Data.{array, string};
 ghost use Rattle.serde_json.specs.Events.{SendsValue};
 ghost use Rattle.serde_json.specs.View.{items_of};
-ghost use Rattle.tf_state_data.specs.Place.{deposed_of, key_of};
+ghost use Rattle.tf_address.specs.ObjectId.{deposed_of, instance_key_of};
 ghost use Rattle.tf_state_data.specs.Record.{record_of};
 ghost use Rattle.tf_state.specs.Sending.{SendsSome, member_count};
 ghost use Rattle.tf_state.specs.Text.{dependencies_data, flag_data, key_data, record_data, status_data};
 
 use serde::{Serialize, Serializer};
 use std::collections::BTreeSet;
-use tf_state_data::{Key, Record};
+use tf_address::InstanceKey;
+use tf_state_data::Record;
 
 pub(crate) fn send_record<S: Serializer>(instance: &Record, out: &mut S) -> Result<(), S::Error>
     ensures { OnOk result (SendsValue (record_data (record_of instance.now)) (S.written out.old) (S.written out.new)) }
@@ -21,8 +22,8 @@ pub(crate) fn send_record<S: Serializer>(instance: &Record, out: &mut S) -> Resu
     instance.attributes.value.serialize(out)?;
     send_flag(instance.create_before_destroy, out)?;
     send_dependencies(&instance.dependencies, out)?;
-    send_deposed(&instance.place.deposed, out)?;
-    send_key(&instance.place.key, out)?;
+    send_deposed(&instance.id.deposed, out)?;
+    send_key(&instance.id.key, out)?;
     out.key("schema_version")?;
     out.u64(u64::from(instance.schema_version))?;
     send_status(instance.tainted, out)?;
@@ -35,8 +36,8 @@ fn member_count(instance: &Record) -> usize
 {
     2 + usize::from(instance.create_before_destroy)
         + usize::from(!instance.dependencies.is_empty())
-        + usize::from(instance.place.deposed.is_some())
-        + usize::from(instance.place.key != Key::Single)
+        + usize::from(instance.id.deposed.is_some())
+        + usize::from(instance.id.key != InstanceKey::Single)
         + usize::from(instance.tainted)
 }
 
@@ -85,16 +86,16 @@ fn send_deposed<S: Serializer>(deposed: &Option<String>, out: &mut S) -> Result<
     }
 }
 
-fn send_key<S: Serializer>(key: &Key, out: &mut S) -> Result<(), S::Error>
-    ensures { OnOk result (SendsSome (codes "index_key") (key_data (key_of key.now)) (S.written out.old) (S.written out.new)) }
+fn send_key<S: Serializer>(key: &InstanceKey, out: &mut S) -> Result<(), S::Error>
+    ensures { OnOk result (SendsSome (codes "index_key") (key_data (instance_key_of key.now)) (S.written out.old) (S.written out.new)) }
 {
     match key {
-        Key::Single => Ok(()),
-        Key::Number(number) => {
+        InstanceKey::Single => Ok(()),
+        InstanceKey::Number(number) => {
             out.key("index_key")?;
             out.u64(*number)
         }
-        Key::Name(name) => {
+        InstanceKey::Name(name) => {
             out.key("index_key")?;
             out.str(name.as_str())
         }

@@ -93,11 +93,11 @@ fn read_resource(alloc: Global, json: Json) -> Result<(Label, Held), StateFault>
     if !is_shaped(&json, Shape::Resource) || !is_managed(json.get("mode")) {
         return Err(StateFault::BadState);
     }
-    let kind = read_name(alloc, json.get("type"))?;
+    let type_name = read_name(alloc, json.get("type"))?;
     let name = read_name(alloc, json.get("name"))?;
     let provider = read_text(alloc, json.get("provider"))?;
     let records = read_instances(alloc, take_member(json, "instances"))?;
-    Ok((Label { kind, name }, Held { provider, records }))
+    Ok((Label { type_name, name }, Held { provider, records }))
 }
 
 fn is_managed(json: Option<&Json>) -> bool

@@ -108,7 +108,7 @@ pub(crate) fn is_address(text: &str) -> bool
     ensures { result ≡ is_address text.now }
 {
     match text.split_once('.') {
-        Some((kind, name)) => is_name(kind) && is_name(name),
+        Some((type_name, name)) => is_name(type_name) && is_name(name),
         None => false,
     }
 }

@@ -1,9 +1,9 @@
-use crate::{Key, Object, Place, Record, Resource, State, provider_address, write};
+use crate::{Object, Record, Resource, State, provider_address, write};
 use serde_json::Value as Json;
 use std::alloc::Global;
 use std::collections::BTreeSet;
 use std::test::Fail;
-use tf_address::Label;
+use tf_address::{InstanceKey, Label, ObjectId};
 use tf_value::{from_json, is_known};
 
 // Puts a net of this name, with the cidr `x`, into a state.
@@ -14,14 +14,14 @@ fn put_net(alloc: Global, state: &mut State, name: &str, tainted: bool) -> Resul
         return Err("an unknown part".into());
     }
     let label = Label {
-        kind: String::from_str(alloc, "sim_net")?,
+        type_name: String::from_str(alloc, "sim_net")?,
         name: String::from_str(alloc, name)?,
     };
     let mut resource = Resource::empty(alloc, label, provider_address(alloc, "sim_net")?);
     resource.reserve(1)?;
     drop(resource.put(Record {
-        place: Place {
-            key: Key::Single,
+        id: ObjectId {
+            key: InstanceKey::Single,
             deposed: None,
         },
         attributes: Object { value },
@@ -67,26 +67,26 @@ fn finds_and_takes_out(rt: HostRuntime) -> Result<(), Fail> {
     put_net(rt.alloc(), &mut state, "a", false)?;
     put_net(rt.alloc(), &mut state, "b", true)?;
     let label = Label {
-        kind: String::from_str(rt.alloc(), "sim_net")?,
+        type_name: String::from_str(rt.alloc(), "sim_net")?,
         name: String::from_str(rt.alloc(), "b")?,
     };
-    let place = Place {
-        key: Key::Single,
+    let id = ObjectId {
+        key: InstanceKey::Single,
         deposed: None,
     };
-    let numbered = Place {
-        key: Key::Number(0),
+    let numbered = ObjectId {
+        key: InstanceKey::Number(0),
         deposed: None,
     };
-    assert!(rt; matches!(state.record(&label, &place), Some(record) if record.tainted));
+    assert!(rt; matches!(state.record(&label, &id), Some(record) if record.tainted));
     assert!(rt; state.record(&label, &numbered).is_none());
     match state.remove(&label) {
         Some(mut resource) => {
             assert!(rt; state.resource(&label).is_none());
             assert!(rt; resource.remove(&numbered).is_none());
-            match resource.remove(&place) {
+            match resource.remove(&id) {
                 Some(mut record) => {
-                    record.place = numbered;
+                    record.id = numbered;
                     resource.reserve(1)?;
                     drop(resource.put(record));
                     state.reserve(1)?;
@@ -97,7 +97,7 @@ fn finds_and_takes_out(rt: HostRuntime) -> Result<(), Fail> {
         }
         None => return Err("no resource".into()),
     }
-    assert!(rt; state.record(&label, &place).is_none());
+    assert!(rt; state.record(&label, &id).is_none());
     let text = write(rt.alloc(), &state)?;
     assert!(rt; text.contains("\"index_key\": 0,"), "{text}");
     Ok(())

@@ -3,8 +3,8 @@
 ghost use Rattle.std.specs.Prelude.{◌≡◌, ◌^◌, [], Some, IfErr, IfOk, map, option_map, string_bytes};
 ghost use Rattle.serde_json.specs.Data.{array};
 ghost use Rattle.serde_json.specs.View.{view, items_view, members_view};
-ghost use Rattle.tf_state_data.specs.Place.{deposed_of, key_of, place_of};
-ghost use Rattle.tf_state.specs.Reading.{IsRefused, address_in, addresses_in, attributes_in, below, below_or_zero, dependencies_in, deposed_in, flag_in, is_unsensitive, key_in, name_in, place_in, tainted_in, text_in, text_or, value_in, values_in};
+ghost use Rattle.tf_address.specs.ObjectId.{deposed_of, instance_key_of, object_id_of};
+ghost use Rattle.tf_state.specs.Reading.{IsRefused, address_in, addresses_in, attributes_in, below, below_or_zero, dependencies_in, deposed_in, flag_in, is_unsensitive, key_in, name_in, id_in, tainted_in, text_in, text_or, value_in, values_in};
 ghost use Rattle.tf_value.specs.Tree.{no_entries, tree_of, entries_view};
 
 use crate::fault::StateFault;
@@ -12,8 +12,8 @@ use crate::shape::{is_address, is_deposed_key};
 use serde_json::{Map, Value as Json};
 use std::alloc::Global;
 use std::collections::{BTreeMap, BTreeSet};
-use tf_address::is_name;
-use tf_state_data::{Key, Object, Place};
+use tf_address::{InstanceKey, ObjectId, is_name};
+use tf_state_data::Object;
 use tf_value::{JsonFault, Value, from_json};
 
 /// A value, which is known and within the limits.
@@ -87,17 +87,17 @@ pub(crate) fn read_serial(json: Option<&Json>) -> Result<u32, StateFault>
 }
 
 /// The instance that a record is of.
-pub(crate) fn read_key(alloc: Global, json: Option<&Json>) -> Result<Key, StateFault>
-    ensures ok { IfOk result (λ k. key_in (option_map (λ v. view v.now) json.entry) ≡ Some (key_of k)) }
+pub(crate) fn read_key(alloc: Global, json: Option<&Json>) -> Result<InstanceKey, StateFault>
+    ensures ok { IfOk result (λ k. key_in (option_map (λ v. view v.now) json.entry) ≡ Some (instance_key_of k)) }
     ensures err { IfErr result (λ e. IsRefused (key_in (option_map (λ v. view v.now) json.entry)) e) }
 {
     match json {
-        None => Ok(Key::Single),
+        None => Ok(InstanceKey::Single),
         Some(Json::Number(number)) => match number.as_u64() {
-            Some(number) if number < 0x8000_0000_0000_0000 => Ok(Key::Number(number)),
+            Some(number) if number < 0x8000_0000_0000_0000 => Ok(InstanceKey::Number(number)),
             _ => Err(StateFault::BadState),
         },
-        Some(Json::String(name)) => Ok(Key::Name(String::from_str(alloc, name)?)),
+        Some(Json::String(name)) => Ok(InstanceKey::Name(String::from_str(alloc, name)?)),
         Some(_) => Err(StateFault::BadState),
     }
 }
@@ -115,13 +115,13 @@ pub(crate) fn read_deposed(alloc: Global, json: Option<&Json>) -> Result<Option<
 }
 
 /// Which object of its resource a record is of.
-pub(crate) fn read_place(alloc: Global, json: &Json) -> Result<Place, StateFault>
-    ensures ok { IfOk result (λ p. place_in (view json.now) ≡ Some (place_of p)) }
-    ensures err { IfErr result (λ e. IsRefused (place_in (view json.now)) e) }
+pub(crate) fn read_id(alloc: Global, json: &Json) -> Result<ObjectId, StateFault>
+    ensures ok { IfOk result (λ p. id_in (view json.now) ≡ Some (object_id_of p)) }
+    ensures err { IfErr result (λ e. IsRefused (id_in (view json.now)) e) }
 {
     let key = read_key(alloc, json.get("index_key"))?;
     let deposed = read_deposed(alloc, json.get("deposed"))?;
-    Ok(Place { key, deposed })
+    Ok(ObjectId { key, deposed })
 }
 
 /// Whether an object is tainted, as its status says.

@@ -112,7 +112,7 @@ fn send_resource<S: Serializer>(resource: &Resource, out: &mut S) -> Result<(), 
     out.key("provider")?;
     out.str(resource.provider())?;
     out.key("type")?;
-    out.str(&resource.label().kind)?;
+    out.str(&resource.label().type_name)?;
     out.end_map()
 }
 

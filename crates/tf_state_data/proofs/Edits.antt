@@ -8,14 +8,14 @@ use Rattle.std.specs.List.{insert, remove}
 use Rattle.std.specs.List.Sorted.{IsStrictlySortedBy, IsBinarySearchResult, IsSearchInRange}
 use Rattle.tf_address.specs.Label.{LabelView, label_cmp}
 use Rattle.tf_state_data.specs.Order.{at_key, with_one, without_one, IsAt, IsGapFor}
-use Rattle.tf_state_data.specs.Place.{PlaceView, place_cmp}
+use Rattle.tf_address.specs.ObjectId.{ObjectIdView, object_id_cmp}
 use Rattle.tf_state_data.specs.Record.{RecordView, record_of}
 use Rattle.tf_state_data.specs.Resource.{ResourceView, resource_of}
 use Rattle.tf_state_data.specs.declared.record.Record.{Record}
 use Rattle.tf_state_data.specs.declared.resource.Resource.{Resource}
 use Rattle.tf_state_data.proofs.OrderKept.{with-sorted, without-sorted}
 use Rattle.tf_state_data.proofs.Sorted.{sought}
-use Rattle.tf_state_data.proofs.Totals.{place_total, label_total}
+use Rattle.tf_address.proofs.Totals.{object_id_total, label_total}
 
 -- how elements are kept: what each is seen as, its key, and the order of keys
 pub record Keeping (X A K : Type 0) : Type 0 where
@@ -25,8 +25,8 @@ pub record Keeping (X A K : Type 0) : Type 0 where
   pub total : IsTotalOrder cmp
 
 -- records are kept by place
-abbrev pub by_place : Keeping Record RecordView PlaceView
-by_place = record { seen = record_of; key = λ r. r.place; cmp = place_cmp; total = place_total }
+abbrev pub by_id : Keeping Record RecordView ObjectIdView
+by_id = record { seen = record_of; key = λ r. r.id; cmp = object_id_cmp; total = object_id_total }
 
 -- resources are kept by address
 abbrev pub by_address : Keeping Resource ResourceView LabelView

@@ -3,6 +3,4 @@ pub mod Edits
 pub mod Equal
 pub mod OneChanged
 pub mod OrderKept
-pub mod PlaceOrder
 pub mod Sorted
-pub mod Totals

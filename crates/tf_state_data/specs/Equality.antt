@@ -8,8 +8,7 @@ use Rattle.std.specs.Ordering.{on}
 use Rattle.std.proofs.Common.{ap}
 use Rattle.std.proofs.lemmas.Bool.Decides.{Decides-and, Decides-like}
 use Rattle.std.proofs.lemmas.Slice.Eq.{bytes_eq-Decides}
-use Rattle.tf_address.specs.Label.{LabelView}
-use Rattle.tf_state_data.specs.Place.{KeyView, single, number, name, PlaceView}
+use Rattle.tf_address.specs.Same.{same_label, label_Decides, same_object_id, object_id_Decides}
 use Rattle.tf_state_data.specs.Record.{RecordView, record_of}
 use Rattle.tf_state_data.specs.Resource.{ResourceView, resource_of}
 use Rattle.tf_state_data.specs.State.{StateView, state_of}
@@ -22,25 +21,10 @@ use mathlib.Core.Bool.{beq}
 abbrev pub attributes_of : Object → Tree
 attributes_of o = tree_of o.value
 
--- addresses are the same where their types are and their names are
-abbrev pub same_label : LabelView → LabelView → Bool
-same_label a b = bytes_eq a.kind b.kind && bytes_eq a.name b.name
-
--- instances are the same where both have no key, both the same number, or both the same name
-abbrev pub same_key : KeyView → KeyView → Bool
-same_key single single = true
-same_key (number m) (number n) = m == n
-same_key (name s) (name t) = bytes_eq s t
-same_key _ _ = false
-
--- places are the same where their instances are, and both are current or deposed by the same key
-abbrev pub same_place : PlaceView → PlaceView → Bool
-same_place p q = same_key p.key q.key && option_eq bytes_eq p.deposed q.deposed
-
 -- records are the same where all that is known of their objects is
 abbrev pub same_record : RecordView → RecordView → Bool
 same_record r s =
-    same_place r.place s.place && same r.attributes s.attributes && (r.schema_version == s.schema_version) && beq r.tainted s.tainted
+    same_object_id r.id s.id && same r.attributes s.attributes && (r.schema_version == s.schema_version) && beq r.tainted s.tainted
     && pointwise bytes_eq r.dependencies s.dependencies && beq r.create_before_destroy s.create_before_destroy
 
 -- resources are the same where their addresses and their providers are, and they have the same records
@@ -53,31 +37,10 @@ same_state s t =
     (s.serial == t.serial) && bytes_eq s.lineage t.lineage && bytes_eq s.terraform_version t.terraform_version && same_entries s.outputs t.outputs
     && pointwise same_resource s.resources t.resources
 
-label_Decides : (a b : LabelView) → Decides (same_label a b) (a ≡ b)
-label_Decides a b =
-    Decides-like _ (λ h i. record { kind = h.0 i; name = h.1 i }) (λ e. (λ i. (e i).kind, λ i. (e i).name))
-    (Decides-and _ _ (bytes_eq-Decides a.kind b.kind) (bytes_eq-Decides a.name b.name))
-
-key_Decides : (j k : KeyView) → Decides (same_key j k) (j ≡ k)
-key_Decides single single = (λ e. refl, λ e. refl)
-key_Decides (number m) (number n) = (λ e. ap number ((unsigned_Decides m n).0 e), λ e. (unsigned_Decides m n).1 (cc))
-key_Decides (name s) (name t) = (λ e. ap name ((bytes_eq-Decides s t).0 e), λ e. (bytes_eq-Decides s t).1 (cc))
-key_Decides _ _ = (λ e. cc, λ e. cc)
-
-deposed_Decides : (d e : Option (List ℕ)) → Decides (option_eq bytes_eq d e) (d ≡ e)
-deposed_Decides None None = (λ e. refl, λ e. refl)
-deposed_Decides (Some s) (Some t) = (λ e. ap Some ((bytes_eq-Decides s t).0 e), λ e. (bytes_eq-Decides s t).1 (cc))
-deposed_Decides _ _ = (λ e. cc, λ e. cc)
-
-place_Decides : (p q : PlaceView) → Decides (same_place p q) (p ≡ q)
-place_Decides p q =
-    Decides-like _ (λ h i. record { key = h.0 i; deposed = h.1 i }) (λ e. (λ i. (e i).key, λ i. (e i).deposed))
-    (Decides-and _ _ (key_Decides p.key q.key) (deposed_Decides p.deposed q.deposed))
-
 -- `same_record` is equality of records
 pub record_Decides : (r s : RecordView) → Decides (same_record r s) (r ≡ s)
 record_Decides r s =
-    let known = Decides-and _ _ (place_Decides r.place s.place) (same_Decides r.attributes s.attributes) in
+    let known = Decides-and _ _ (object_id_Decides r.id s.id) (same_Decides r.attributes s.attributes) in
     let followed = Decides-and _ _ known (unsigned_Decides r.schema_version s.schema_version) in
     let tainted = Decides-and _ _ followed (booleans_Decides r.tainted s.tainted) in
     let dependent = Decides-and _ _ tainted (pointwise_decides bytes_eq-Decides r.dependencies s.dependencies) in
@@ -85,14 +48,14 @@ record_Decides r s =
     Decides-like _
     (λ h i.
     record {
-      place = h.0.0.0.0.0 i;
+      id = h.0.0.0.0.0 i;
       attributes = h.0.0.0.0.1 i;
       schema_version = h.0.0.0.1 i;
       tainted = h.0.0.1 i;
       dependencies = h.0.1 i;
       create_before_destroy = h.1 i;
     })
-    (λ e. (((((λ i. (e i).place, λ i. (e i).attributes), λ i. (e i).schema_version), λ i. (e i).tainted), λ i. (e i).dependencies), λ i. (e i).create_before_destroy)) all
+    (λ e. (((((λ i. (e i).id, λ i. (e i).attributes), λ i. (e i).schema_version), λ i. (e i).tainted), λ i. (e i).dependencies), λ i. (e i).create_before_destroy)) all
 
 -- `same_resource` is equality of resources
 pub resource_Decides : (r s : ResourceView) → Decides (same_resource r s) (r ≡ s)

@@ -2,7 +2,7 @@
 use Rattle.std.specs.Prelude.{◌≡◌, false, Some, None}
 use Rattle.std.specs.Ordering.{is_eq}
 use Rattle.tf_address.specs.Label.{LabelView, label_cmp}
-use Rattle.tf_state_data.specs.Place.{PlaceView, place_cmp}
+use Rattle.tf_address.specs.ObjectId.{ObjectIdView, object_id_cmp}
 use Rattle.tf_state_data.specs.Record.{RecordView}
 use Rattle.tf_state_data.specs.Resource.{ResourceView, record_at, with_record, without_record}
 use Rattle.tf_state_data.specs.State.{StateView, resource_at, with_resource, without_resource}
@@ -19,10 +19,10 @@ pub record RemoveChangesOneResource (label : LabelView) (s : StateView) : Type 0
 
 -- A record that was put stands at its place, and at each other place what stood there before.
 pub record PutChangesOneRecord (new : RecordView) (r : ResourceView) : Type 0 where
-  pub there : record_at new.place (with_record new r).records ≡ Some new
-  pub others : (place : PlaceView) → is_eq (place_cmp place new.place) ≡ false → record_at place (with_record new r).records ≡ record_at place r.records
+  pub there : record_at new.id (with_record new r).records ≡ Some new
+  pub others : (id : ObjectIdView) → is_eq (object_id_cmp id new.id) ≡ false → record_at id (with_record new r).records ≡ record_at id r.records
 
 -- Where a record was taken out there is none, and at each other place what stood there before.
-pub record RemoveChangesOneRecord (place : PlaceView) (r : ResourceView) : Type 0 where
-  pub gone : record_at place (without_record place r).records ≡ None
-  pub others : (other : PlaceView) → is_eq (place_cmp other place) ≡ false → record_at other (without_record place r).records ≡ record_at other r.records
+pub record RemoveChangesOneRecord (id : ObjectIdView) (r : ResourceView) : Type 0 where
+  pub gone : record_at id (without_record id r).records ≡ None
+  pub others : (other : ObjectIdView) → is_eq (object_id_cmp other id) ≡ false → record_at other (without_record id r).records ≡ record_at other r.records

@@ -1,9 +1,8 @@
 pub mod Addresses
 pub mod Equality
+pub mod Ids
 pub mod Laws
 pub mod Order
-pub mod Place
-pub mod Places
 pub mod Provider
 pub mod Record
 pub mod Resource

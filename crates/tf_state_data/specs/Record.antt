@@ -1,12 +1,12 @@
 -- What is known of one object of a resource, as plain data.
 use Rattle.std.specs.Prelude.{ℕ, Bool, List, map, string_bytes}
-use Rattle.tf_state_data.specs.Place.{PlaceView, place_of}
+use Rattle.tf_address.specs.ObjectId.{ObjectIdView, object_id_of}
 use Rattle.tf_state_data.specs.declared.record.Record.{Record}
 use Rattle.tf_value.specs.Tree.{Tree, tree_of}
 
 -- one object of a resource, with the addresses of the resources that it depends on
 pub record RecordView : Type 0 where
-  pub place : PlaceView
+  pub id : ObjectIdView
   pub attributes : Tree
   pub schema_version : ℕ
   pub tainted : Bool
@@ -16,7 +16,7 @@ pub record RecordView : Type 0 where
 abbrev pub record_of : Record → RecordView
 record_of r =
     record {
-      place = place_of r.place;
+      id = object_id_of r.id;
       attributes = tree_of r.attributes.value;
       schema_version = r.schema_version;
       tainted = r.tainted;

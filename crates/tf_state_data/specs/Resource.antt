@@ -2,7 +2,7 @@
 use Rattle.std.specs.Prelude.{◌+◌, ◌≤◌, ℕ, List, Option, map, string_bytes, vec_len, vec_capacity}
 use Rattle.tf_address.specs.Label.{LabelView, label_of}
 use Rattle.tf_state_data.specs.Order.{at_key, with_one, without_one}
-use Rattle.tf_state_data.specs.Place.{PlaceView, place_cmp}
+use Rattle.tf_address.specs.ObjectId.{ObjectIdView, object_id_cmp}
 use Rattle.tf_state_data.specs.Record.{RecordView, record_of}
 use Rattle.tf_state_data.specs.declared.resource.Resource.{Resource}
 
@@ -16,16 +16,16 @@ abbrev pub resource_of : Resource → ResourceView
 resource_of r = record { label = label_of r.label; provider = string_bytes r.provider; records = map record_of r.records.items }
 
 -- the record at a place
-abbrev pub record_at : PlaceView → List RecordView → Option RecordView
-record_at = at_key (λ r. r.place) place_cmp
+abbrev pub record_at : ObjectIdView → List RecordView → Option RecordView
+record_at = at_key (λ r. r.id) object_id_cmp
 
 -- the resource with a record at its place, whether one was there or not
 abbrev pub with_record : RecordView → ResourceView → ResourceView
-with_record new r = record r { records = with_one (λ x. x.place) place_cmp new r.records }
+with_record new r = record r { records = with_one (λ x. x.id) object_id_cmp new r.records }
 
 -- the resource without the record at a place
-abbrev pub without_record : PlaceView → ResourceView → ResourceView
-without_record place r = record r { records = without_one (λ x. x.place) place_cmp place r.records }
+abbrev pub without_record : ObjectIdView → ResourceView → ResourceView
+without_record id r = record r { records = without_one (λ x. x.id) object_id_cmp id r.records }
 
 -- there is room for so many records more
 abbrev pub HasRoomForRecords : ℕ → Resource → Type 0

@@ -3,7 +3,7 @@ use Rattle.std.specs.Prelude.{◌+◌, ◌≤◌, ℕ, List, [], Option, option_
 use Rattle.std.specs.declared.alloc.Global.{Global}
 use Rattle.tf_address.specs.Label.{LabelView, label_cmp}
 use Rattle.tf_state_data.specs.Order.{at_key, with_one, without_one}
-use Rattle.tf_state_data.specs.Place.{PlaceView}
+use Rattle.tf_address.specs.ObjectId.{ObjectIdView}
 use Rattle.tf_state_data.specs.Record.{RecordView}
 use Rattle.tf_state_data.specs.Resource.{ResourceView, record_at, resource_of}
 use Rattle.tf_state_data.specs.declared.object.Object.{Object}
@@ -41,8 +41,8 @@ abbrev pub resource_at : LabelView → List ResourceView → Option ResourceView
 resource_at = at_key (λ r. r.label) label_cmp
 
 -- the record of a state, by the address of its resource and by its place
-abbrev pub record_in : LabelView → PlaceView → StateView → Option RecordView
-record_in label place s = option_and_then (λ r. record_at place r.records) (resource_at label s.resources)
+abbrev pub record_in : LabelView → ObjectIdView → StateView → Option RecordView
+record_in label id s = option_and_then (λ r. record_at id r.records) (resource_at label s.resources)
 
 -- the state with a resource at its address, whether one was there or not
 abbrev pub with_resource : ResourceView → StateView → StateView

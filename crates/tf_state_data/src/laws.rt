@@ -2,7 +2,7 @@
 // does nothing.
 ghost use Rattle.tf_address.specs.Label.{LabelView};
 ghost use Rattle.tf_state_data.specs.Laws.{PutChangesOneRecord, PutChangesOneResource, RemoveChangesOneRecord, RemoveChangesOneResource};
-ghost use Rattle.tf_state_data.specs.Place.{PlaceView};
+ghost use Rattle.tf_address.specs.ObjectId.{ObjectIdView};
 ghost use Rattle.tf_state_data.specs.Record.{RecordView};
 ghost use Rattle.tf_state_data.specs.Resource.{ResourceView};
 ghost use Rattle.tf_state_data.specs.State.{StateView};
@@ -16,5 +16,5 @@ pub fn puts_and_removes_change_one_resource()
 /// A put and a remove of a record change what stands at its place alone.
 pub fn puts_and_removes_change_one_record()
     ensures put { (new : RecordView) (r : ResourceView) → PutChangesOneRecord new r }
-    ensures removed { (place : PlaceView) (r : ResourceView) → RemoveChangesOneRecord place r }
+    ensures removed { (id : ObjectIdView) (r : ResourceView) → RemoveChangesOneRecord id r }
 {}

@@ -5,7 +5,6 @@
 #![tactic(auto)]
 
 mod copies;
-mod key;
 mod laws;
 mod object;
 mod provider;
@@ -16,7 +15,6 @@ mod state;
 mod tests;
 
 pub use copies::copy;
-pub use key::{Key, Place};
 pub use laws::{puts_and_removes_change_one_record, puts_and_removes_change_one_resource};
 pub use object::Object;
 pub use provider::provider_address;

@@ -6,18 +6,18 @@ use std::alloc::{AllocError, Global};
 /// The address of the provider of a resource type, as a state names it:
 /// `provider["registry.terraform.io/hashicorp/P"]`, where P is the type's part before the first `_`, or the
 /// whole type where it has none.
-pub fn provider_address(alloc: Global, kind: &str) -> Result<String, AllocError>
-    ensures { IfOk result (λ s. string_bytes s ≡ provider_text kind.now) }
+pub fn provider_address(alloc: Global, type_name: &str) -> Result<String, AllocError>
+    ensures { IfOk result (λ s. string_bytes s ≡ provider_text type_name.now) }
 {
-    let name = name_of(kind);
+    let name = name_of(type_name);
     format!(in alloc; "provider[\"registry.terraform.io/hashicorp/{name}\"]")
 }
 
-fn name_of(kind: &str) -> &str
-    ensures { result.now ≡ provider_name kind.now }
+fn name_of(type_name: &str) -> &str
+    ensures { result.now ≡ provider_name type_name.now }
 {
-    match kind.split_once('_') {
+    match type_name.split_once('_') {
         Some((name, _)) => name,
-        None => kind,
+        None => type_name,
     }
 }

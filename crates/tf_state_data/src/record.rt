@@ -1,14 +1,14 @@
 //! What is known of one object of a resource.
 
-use crate::key::Place;
 use crate::object::Object;
 use std::collections::BTreeSet;
+use tf_address::ObjectId;
 
 /// One object of a resource that exists: which one it is, its attributes, and how it came to be.
 #[derive(Clone, Debug, Drop)]
 pub struct Record {
     /// Its instance, and whether it is deposed.
-    pub place: Place,
+    pub id: ObjectId,
     /// The attributes as the provider answered them.
     pub attributes: Object,
     /// The version of the schema that the attributes follow.
@@ -37,7 +37,7 @@ impl PartialEq for Record {
         ensures value { result ≡ same_record (record_of self.now) (record_of other.now) }
         ensures exact { IsTrue result ↔ (record_of self.now ≡ record_of other.now) }
     {
-        self.place == other.place
+        self.id == other.id
             && self.attributes == other.attributes
             && self.schema_version == other.schema_version
             && self.tainted == other.tainted

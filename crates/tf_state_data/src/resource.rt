@@ -2,14 +2,13 @@
 
 ghost use Rattle.std.specs.List.Sorted.{IsStrictlySortedBy-prop};
 ghost use Rattle.std.specs.Prelude.{◌≡◌, map};
-ghost use Rattle.tf_state_data.specs.Places.{AreByPlace};
+ghost use Rattle.tf_state_data.specs.Ids.{AreById};
 ghost use Rattle.tf_state_data.specs.Record.{record_of};
 
-use crate::key::Place;
 use crate::record::Record;
 use std::alloc::{AllocError, Global};
 use std::mem;
-use tf_address::Label;
+use tf_address::{Label, ObjectId};
 
 /// A resource and the records of its objects, which stand in the order of their places, no two at one place.
 #[derive(Debug, Drop)]
@@ -17,14 +16,14 @@ pub struct Resource {
     label: Label,
     provider: String,
     records: Vec<Record>,
-    pub ghost ordered: { AreByPlace (map record_of records.items) } by { IsStrictlySortedBy-prop _ _ },
+    pub ghost ordered: { AreById (map record_of records.items) } by { IsStrictlySortedBy-prop _ _ },
 }
 
 impl Resource {
     ghost use Rattle.std.specs.Prelude.{◌+◌, [], ◌<◌, ℕ, IfErr, IfOk, OnOk, option_map, string_bytes};
     ghost use Rattle.tf_address.specs.Label.{label_of};
     ghost use Rattle.tf_state_data.specs.Order.{IsAt, IsGapFor};
-    ghost use Rattle.tf_state_data.specs.Place.{place_cmp, place_of};
+    ghost use Rattle.tf_address.specs.ObjectId.{object_id_cmp, object_id_of};
     ghost use Rattle.tf_state_data.specs.Resource.{HasRoomForRecords, record_at, resource_of, with_record, without_record};
 
     /// A resource at an address, with the address of its provider, and without records yet.
@@ -41,7 +40,7 @@ impl Resource {
 
     /// A resource at an address, with the address of its provider, and with records in the order of their places.
     pub fn new(label: Label, provider: String, records: Vec<Record>) -> Resource
-        requires { AreByPlace (map record_of records.items) }
+        requires { AreById (map record_of records.items) }
         ensures { resource_of result
             ≡ record { label = label_of label; provider = string_bytes provider; records = map record_of records.items } }
     {
@@ -69,16 +68,16 @@ impl Resource {
     /// Its objects, in the order of their places.
     pub fn records(&self) -> &[Record]
         ensures records { map record_of result.now ≡ (resource_of self.now).records }
-        ensures ordered { AreByPlace (resource_of self.now).records }
+        ensures ordered { AreById (resource_of self.now).records }
     {
         &self.records
     }
 
     /// The record at a place, where the resource has one.
-    pub fn record(&self, place: &Place) -> Option<&Record>
-        ensures { option_map (λ r. record_of r.now) result ≡ record_at (place_of place.now) (resource_of self.now).records }
+    pub fn record(&self, id: &ObjectId) -> Option<&Record>
+        ensures { option_map (λ r. record_of r.now) result ≡ record_at (object_id_of id.now) (resource_of self.now).records }
     {
-        match self.search(place) {
+        match self.search(id) {
             Ok(index) => Some(&self.records[index]),
             Err(_) => None,
         }
@@ -97,10 +96,10 @@ impl Resource {
     pub fn put(&mut self, new: Record) -> Option<Record>
         requires { HasRoomForRecords 1 self.old }
         ensures put { resource_of self.new ≡ with_record (record_of new) (resource_of self.old) }
-        ensures replaced { option_map record_of result ≡ record_at (place_of new.place) (resource_of self.old).records }
+        ensures replaced { option_map record_of result ≡ record_at (object_id_of new.id) (resource_of self.old).records }
         ensures room { (n : ℕ) → HasRoomForRecords (n + 1) self.old → HasRoomForRecords n self.new }
     {
-        match self.search(&new.place) {
+        match self.search(&new.id) {
             Ok(index) => Some(mem::replace(&mut self.records[index], new)),
             Err(index) => {
                 self.records.insert(index, new).unwrap();
@@ -110,24 +109,24 @@ impl Resource {
     }
 
     /// Takes the record at a place out of the resource, where it has one. The room for it stays.
-    pub fn remove(&mut self, place: &Place) -> Option<Record>
-        ensures taken { option_map record_of result ≡ record_at (place_of place.now) (resource_of self.old).records }
-        ensures left { resource_of self.new ≡ without_record (place_of place.now) (resource_of self.old) }
+    pub fn remove(&mut self, id: &ObjectId) -> Option<Record>
+        ensures taken { option_map record_of result ≡ record_at (object_id_of id.now) (resource_of self.old).records }
+        ensures left { resource_of self.new ≡ without_record (object_id_of id.now) (resource_of self.old) }
         ensures room { (n : ℕ) → HasRoomForRecords n self.old → HasRoomForRecords n self.new }
     {
-        match self.search(place) {
+        match self.search(id) {
             Ok(index) => Some(self.records.remove(index)),
             Err(_) => None,
         }
     }
 
     /// Where the record at a place stands, or where it would stand.
-    fn search(&self, place: &Place) -> Result<usize, usize>
-        ensures found { IfOk result (IsAt (λ r. r.place) place_cmp (place_of place.now) (resource_of self.now).records) }
-        ensures absent { IfErr result (IsGapFor (λ r. r.place) place_cmp (place_of place.now) (resource_of self.now).records) }
+    fn search(&self, id: &ObjectId) -> Result<usize, usize>
+        ensures found { IfOk result (IsAt (λ r. r.id) object_id_cmp (object_id_of id.now) (resource_of self.now).records) }
+        ensures absent { IfErr result (IsGapFor (λ r. r.id) object_id_cmp (object_id_of id.now) (resource_of self.now).records) }
     {
         self.records
-            .binary_search_by(|record| record.place.cmp(place))
+            .binary_search_by(|record| record.id.cmp(id))
     }
 }
 

@@ -5,14 +5,13 @@ ghost use Rattle.std.specs.Prelude.{◌≡◌, map};
 ghost use Rattle.tf_state_data.specs.Addresses.{AreByAddress};
 ghost use Rattle.tf_state_data.specs.Resource.{resource_of};
 
-use crate::key::Place;
 use crate::object::Object;
 use crate::record::Record;
 use crate::resource::Resource;
 use std::alloc::{AllocError, Global};
 use std::collections::BTreeMap;
 use std::mem;
-use tf_address::Label;
+use tf_address::{Label, ObjectId};
 
 /// All that is known of what exists: the content of a state file. Its resources stand in the order of their
 /// addresses, no two at one address.
@@ -30,7 +29,7 @@ impl State {
     ghost use Rattle.std.specs.Prelude.{◌+◌, ℕ, IfErr, IfOk, OnOk, option_map, string_bytes};
     ghost use Rattle.tf_address.specs.Label.{label_cmp, label_of};
     ghost use Rattle.tf_state_data.specs.Order.{IsAt, IsGapFor};
-    ghost use Rattle.tf_state_data.specs.Place.{place_of};
+    ghost use Rattle.tf_address.specs.ObjectId.{object_id_of};
     ghost use Rattle.tf_state_data.specs.Record.{record_of};
     ghost use Rattle.tf_state_data.specs.State.{HasRoomForResources, empty_state, outputs_of, record_in, resource_at, state_of, with_resource, without_resource};
 
@@ -139,11 +138,11 @@ impl State {
     }
 
     /// The record at an address and a place, where the state has one.
-    pub fn record(&self, label: &Label, place: &Place) -> Option<&Record>
-        ensures { option_map (λ r. record_of r.now) result ≡ record_in (label_of label.now) (place_of place.now) (state_of self.now) }
+    pub fn record(&self, label: &Label, id: &ObjectId) -> Option<&Record>
+        ensures { option_map (λ r. record_of r.now) result ≡ record_in (label_of label.now) (object_id_of id.now) (state_of self.now) }
     {
         match self.resource(label) {
-            Some(resource) => resource.record(place),
+            Some(resource) => resource.record(id),
             None => None,
         }
     }

@@ -1,25 +1,25 @@
-use crate::{Key, Object, Place, Record, Resource, State, copy, provider_address};
+use crate::{Object, Record, Resource, State, copy, provider_address};
 use std::alloc::Global;
 use std::collections::{BTreeMap, BTreeSet};
 use std::test::Fail;
-use tf_address::Label;
+use tf_address::{InstanceKey, Label, ObjectId};
 use tf_value::Value;
 
-fn place(alloc: Global, key: Key, deposed: &str) -> Result<Place, Fail> {
+fn id(alloc: Global, key: InstanceKey, deposed: &str) -> Result<ObjectId, Fail> {
     let deposed = match deposed {
         "" => None,
         key => Some(String::from_str(alloc, key)?),
     };
-    Ok(Place { key, deposed })
+    Ok(ObjectId { key, deposed })
 }
 
-fn named(alloc: Global, name: &str) -> Result<Key, Fail> {
-    Ok(Key::Name(String::from_str(alloc, name)?))
+fn named(alloc: Global, name: &str) -> Result<InstanceKey, Fail> {
+    Ok(InstanceKey::Name(String::from_str(alloc, name)?))
 }
 
-fn record(alloc: Global, place: Place, schema_version: u32) -> Record {
+fn record(alloc: Global, id: ObjectId, schema_version: u32) -> Record {
     Record {
-        place,
+        id,
         attributes: Object { value: Value::Null },
         schema_version,
         tainted: false,
@@ -28,22 +28,22 @@ fn record(alloc: Global, place: Place, schema_version: u32) -> Record {
     }
 }
 
-fn label(alloc: Global, kind: &str, name: &str) -> Result<Label, Fail> {
+fn label(alloc: Global, type_name: &str, name: &str) -> Result<Label, Fail> {
     Ok(Label {
-        kind: String::from_str(alloc, kind)?,
+        type_name: String::from_str(alloc, type_name)?,
         name: String::from_str(alloc, name)?,
     })
 }
 
 // A resource with one record, of this schema version.
-fn resource(alloc: Global, kind: &str, name: &str, version: u32) -> Result<Resource, Fail> {
+fn resource(alloc: Global, type_name: &str, name: &str, version: u32) -> Result<Resource, Fail> {
     let mut resource = Resource::empty(
         alloc,
-        label(alloc, kind, name)?,
-        provider_address(alloc, kind)?,
+        label(alloc, type_name, name)?,
+        provider_address(alloc, type_name)?,
     );
     resource.reserve(1)?;
-    drop(resource.put(record(alloc, place(alloc, Key::Single, "")?, version)));
+    drop(resource.put(record(alloc, id(alloc, InstanceKey::Single, "")?, version)));
     Ok(resource)
 }
 
@@ -64,17 +64,17 @@ fn keeps_records_by_place(rt: HostRuntime) -> Result<(), Fail> {
     );
     for (version, key, deposed) in [
         (7, named(alloc, "1")?, ""),
-        (4, Key::Number(2), "00000001"),
-        (1, Key::Single, ""),
-        (5, Key::Number(2), "0000000a"),
-        (6, Key::Number(10), ""),
+        (4, InstanceKey::Number(2), "00000001"),
+        (1, InstanceKey::Single, ""),
+        (5, InstanceKey::Number(2), "0000000a"),
+        (6, InstanceKey::Number(10), ""),
         (8, named(alloc, "Z")?, ""),
-        (3, Key::Number(2), ""),
-        (2, Key::Single, "ffffffff"),
+        (3, InstanceKey::Number(2), ""),
+        (2, InstanceKey::Single, "ffffffff"),
         (9, named(alloc, "a")?, ""),
     ] {
         resource.reserve(1)?;
-        let before = resource.put(record(alloc, place(alloc, key, deposed)?, version));
+        let before = resource.put(record(alloc, id(alloc, key, deposed)?, version));
         assert!(rt; before.is_none(), "{version}");
     }
     let mut versions = Vec::new(alloc);
@@ -90,11 +90,11 @@ fn keeps_records_by_place(rt: HostRuntime) -> Result<(), Fail> {
 fn replaces_and_removes_records(rt: HostRuntime) -> Result<(), Fail> {
     let alloc = rt.alloc();
     let mut resource = resource(alloc, "sim_net", "a", 1)?;
-    let current = place(alloc, Key::Single, "")?;
+    let current = id(alloc, InstanceKey::Single, "")?;
     resource.reserve(1)?;
     let before = resource.put(record(alloc, current.clone()?, 2));
     assert_eq!(rt; before.map(|record| record.schema_version), Some(1));
-    let deposed = place(alloc, Key::Single, "00000002")?;
+    let deposed = id(alloc, InstanceKey::Single, "00000002")?;
     resource.reserve(1)?;
     assert!(rt; resource.put(record(alloc, deposed.clone()?, 3)).is_none());
     let taken = resource.remove(&current);
@@ -119,7 +119,7 @@ fn finds_each_of_many_resources(rt: HostRuntime) -> Result<(), Fail> {
     for number in 0..200u32 {
         let name = format!(in alloc; "n{number}")?;
         let label = label(alloc, "sim_net", &name)?;
-        let current = place(alloc, Key::Single, "")?;
+        let current = id(alloc, InstanceKey::Single, "")?;
         let found = state.record(&label, &current);
         assert_eq!(rt; found.map(|record| record.schema_version), Some(number));
     }
@@ -153,15 +153,15 @@ fn either(alloc: Global, is_other: bool, usual: &str) -> Result<String, Fail> {
 // A record of which one part, if any, is another than usual.
 fn record_but(alloc: Global, other: &str) -> Result<Record, Fail> {
     let key = if other == "instance" {
-        Key::Number(0)
+        InstanceKey::Number(0)
     } else {
-        Key::Single
+        InstanceKey::Single
     };
     let deposed = if other == "deposed" { "00000001" } else { "" };
     let mut dependencies = BTreeSet::new(alloc);
     dependencies.insert(either(alloc, other == "dependency", "sim_net.b")?)?;
     Ok(Record {
-        place: place(alloc, key, deposed)?,
+        id: id(alloc, key, deposed)?,
         attributes: Object {
             value: Value::Bool(other == "attributes"),
         },
@@ -186,10 +186,10 @@ fn state_but(alloc: Global, other: &str) -> Result<State, Fail> {
         outputs,
         Vec::new(alloc),
     );
-    let kind = either(alloc, other == "type", "sim_net")?;
+    let type_name = either(alloc, other == "type", "sim_net")?;
     let name = either(alloc, other == "name", "a")?;
     let provider = either(alloc, other == "provider", "P")?;
-    let mut resource = Resource::empty(alloc, Label { kind, name }, provider);
+    let mut resource = Resource::empty(alloc, Label { type_name, name }, provider);
     if other != "no record" {
         resource.reserve(1)?;
         drop(resource.put(record_but(alloc, other)?));
@@ -237,14 +237,14 @@ fn tells_states_apart(rt: HostRuntime) -> Result<(), Fail> {
 
 #[test]
 fn names_providers(rt: HostRuntime) -> Result<(), Fail> {
-    for (kind, name) in [
+    for (type_name, name) in [
         ("sim_net", "sim"),
         ("a_b_c", "a"),
         ("null", "null"),
         ("_x", ""),
     ] {
         let want = format!(in rt.alloc(); "provider[\"registry.terraform.io/hashicorp/{name}\"]")?;
-        assert_eq!(rt; provider_address(rt.alloc(), kind)?.as_str(), want.as_str());
+        assert_eq!(rt; provider_address(rt.alloc(), type_name)?.as_str(), want.as_str());
     }
     Ok(())
 }

@@ -8,7 +8,7 @@ use Rattle.tf_protocol.specs.Schema.{SchemaView}
 use Rattle.tf_protocol.specs.Verdict.{verdict_on, well_formed, contradiction, is_destroy}
 use Rattle.tf_protocol.specs.declared.verdict.Verdict.{Verdict}
 use Rattle.tf_protocol.specs.declared.verdict.Verdict.TheVariants as verdict
-use Rattle.tf_state_data.specs.Places.{AreByPlace}
+use Rattle.tf_state_data.specs.Ids.{AreById}
 use Rattle.tf_state_data.specs.Record.{record_of}
 use Rattle.tf_state_data.specs.Resource.{ResourceView}
 use Rattle.tf_state_data.specs.declared.object.Object.{Object}
@@ -58,7 +58,7 @@ kept h b None = refl
 kept h b (Some x) = refl
 
 -- one record at most stands in order
-pub alone : (rs : List Record) → length rs ≤ 1 → AreByPlace (map record_of rs)
+pub alone : (rs : List Record) → length rs ≤ 1 → AreById (map record_of rs)
 unfolding IsStrictlySortedBy
 alone [] h = tt
 alone (r ∷ []) h = (tt, tt)

@@ -7,7 +7,7 @@ use Rattle.tf_protocol.specs.Schema.{SchemaView}
 use Rattle.tf_protocol.specs.Verdict.{well_formed}
 use Rattle.tf_protocol.specs.declared.verdict.Verdict.{Verdict}
 use Rattle.tf_protocol.specs.declared.verdict.Verdict.TheVariants as verdict
-use Rattle.tf_state_data.specs.Place.{single}
+use Rattle.tf_address.specs.ObjectId.{single}
 use Rattle.tf_state_data.specs.Provider.{provider_text}
 use Rattle.tf_state_data.specs.Resource.{ResourceView}
 use Rattle.tf_state_data.specs.State.{StateView, with_resource}
@@ -48,10 +48,10 @@ abbrev pub resource_after : Head → Saved → ResourceView
 resource_after h s =
     record {
       label = h.label;
-      provider = provider_text h.label.kind;
+      provider = provider_text h.label.type_name;
       records =
           record {
-            place = record { key = single; deposed = None };
+            id = record { key = single; deposed = None };
             attributes = s.0;
             schema_version = h.version;
             tainted = s.1;

@@ -31,7 +31,7 @@ is_good _ = false
 
 -- what a create asks: for the planned object at its address
 abbrev pub request_of : ActionView → Asked
-request_of a = record { op = Create; address = label_text a.label; type_name = a.label.kind; deposed = None; prior = None; object = Some a.object }
+request_of a = record { op = Create; address = label_text a.label; type_name = a.label.type_name; deposed = None; prior = None; object = Some a.object }
 
 -- the answer of the first provider that has the type, and the verdict on it by that provider's schema
 abbrev pub call_of_provider : Asked → Meaning → Done

@@ -21,7 +21,8 @@ use crate::report::Diagnostic;
 use crate::rooms::Room;
 use std::collections::BTreeSet;
 use tf_provider::{Op, Provider, Reply, Schema, Verdict, schema_for, well_formed};
-use tf_state_data::{Key, Object, Place, Record, Resource};
+use tf_address::{InstanceKey, ObjectId};
+use tf_state_data::{Object, Record, Resource};
 use tf_value::Value;
 
 /// What an action adds to the report.
@@ -197,8 +198,8 @@ fn fill(
     let resource = match object {
         Some(attributes) => {
             let record = Record {
-                place: Place {
-                    key: Key::Single,
+                id: ObjectId {
+                    key: InstanceKey::Single,
                     deposed: None,
                 },
                 attributes,

@@ -26,7 +26,7 @@ fn room_for(alloc: Global, action: &Action) -> Result<Room, AllocError>
 {
     let label = action.label.clone()?;
     let address = label.to_string(alloc)?;
-    let provider = provider_address(alloc, label.kind.as_str())?;
+    let provider = provider_address(alloc, label.type_name.as_str())?;
     Ok(Room {
         label,
         version: action.version,

@@ -27,7 +27,7 @@ pub fn ask(alloc: Global, action: &Action) -> Result<Asking, AllocError>
     let request = Request {
         op: Op::Create,
         address: action.label.to_string(alloc)?,
-        type_name: action.label.kind.clone()?,
+        type_name: action.label.type_name.clone()?,
         deposed: None,
         prior: None,
         object: Some(copy(&action.object)?),

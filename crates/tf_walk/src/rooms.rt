@@ -17,7 +17,7 @@ pub struct Room {
     pub message: String,
     pub records: Vec<Record>,
     pub ghost addressed: { string_bytes address ≡ label_text (label_of label) },
-    pub ghost provided: { string_bytes provider ≡ provider_text (label_of label).kind },
+    pub ghost provided: { string_bytes provider ≡ provider_text (label_of label).type_name },
     pub ghost blank: { string_bytes message ≡ [] },
     pub ghost long: { 15 ≤ string_capacity message },
     pub ghost none: { records.items ≡ [] },

@@ -9,5 +9,5 @@ returns-clause-ok c =
       c.in_ok-demand_name.ensures.0,
       arguments_of c.in_ok-block.block,
       c.in_ok-block.ensures.ok,
-      sym (put_in ∙ rw (c.in_ok-kind.ensures.ok, c.in_ok-name.ensures.ok)),
+      sym (put_in ∙ rw (c.in_ok-type_name.ensures.ok, c.in_ok-name.ensures.ok)),
     )

@@ -5,7 +5,7 @@ use Rattle.tf_state.specs.Made.{resource_made, resources_made}
 use Rattle.tf_address.specs.contracts.label.LabelOrd.TheImpl as labels
 use Rattle.tf_address.specs.contracts.label.LabelOrd.TheImpl.Laws.{total-law}
 use Rattle.tf_state.proofs.Ordered.{put_new-insert_entry, put_new-taken, none_from_false}
-use Rattle.tf_state_data.proofs.PlaceOrder.{labels_ordered}
+use Rattle.tf_address.proofs.Orders.{labels_ordered}
 use Rattle.tf_state.proofs.resource_reading.add_resource.Goals as goal
 
 pub returns-clause-ok : goal.returns-clause-ok

@@ -1,7 +1,7 @@
 use Rattle.std.proofs.Common.{◌≡◌, ◌++◌, map, sym, ap, ◌∙◌, subst, append-nil}
 use Rattle.tf_address.specs.Label.{label_cmp}
 use Rattle.tf_address.specs.contracts.label.LabelOrd.TheImpl as labels
-use Rattle.tf_state_data.proofs.PlaceOrder.{labels_ordered}
+use Rattle.tf_address.proofs.Orders.{labels_ordered}
 use Rattle.tf_state_data.specs.Addresses.{AreByAddress}
 use Rattle.tf_state_data.specs.Resource.{ResourceView, resource_of}
 use Rattle.tf_state.specs.Made.{resource_made, resources_made}

@@ -1,7 +1,7 @@
 use Rattle.tf_address.specs.Label.{label_cmp}
 use Rattle.tf_state_data.specs.Resource.{ResourceView}
 use Rattle.tf_state_data.proofs.OneChanged.{put-there, put-others, removed-gone, removed-others}
-use Rattle.tf_state_data.proofs.Totals.{label_total}
+use Rattle.tf_address.proofs.Totals.{label_total}
 use Rattle.tf_state_data.proofs.laws.puts_and_removes_change_one_resource.Goals as goal
 
 pub returns-clause-put : goal.returns-clause-put

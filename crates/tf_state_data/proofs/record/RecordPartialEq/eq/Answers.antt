@@ -2,9 +2,11 @@ use Rattle.std.proofs.Common.{◌≡◌, Bool, ◌&&◌, refl, ◌∙◌}
 use Rattle.std.proofs.lemmas.Bool.Decides.{Decides-at}
 use Rattle.std.specs.Cmp.Lexicographic.{pointwise}
 use Rattle.std.specs.Prelude.{◌==◌, bytes_eq}
-use Rattle.tf_state_data.specs.Equality.{same_place, record_Decides}
+use Rattle.tf_address.specs.Same.{same_object_id}
+use Rattle.tf_state_data.specs.Equality.{record_Decides}
 use Rattle.tf_state_data.specs.Record.{RecordView, record_of}
-use Rattle.tf_state_data.proofs.Equal.{passed, failed, places_equal, dependencies_equal}
+use Rattle.tf_address.proofs.EqualIds.{object_ids_equal}
+use Rattle.tf_state_data.proofs.Equal.{passed, failed, dependencies_equal}
 use Rattle.tf_state_data.proofs.record.RecordPartialEq.eq.Goals as goal
 use Rattle.tf_state_data.proofs.record.RecordPartialEq.eq.Goals.{then-eq, else-eq, then-eq-2, else-eq-2, then-self-other, else-self-other, then-self-other-2, else-self-other-2}
 use Rattle.tf_value.specs.Tree.{same}
@@ -12,7 +14,7 @@ use mathlib.Core.Bool.{beq}
 
 -- the first two parts, three, four and five are the same
 abbrev two : RecordView → RecordView → Bool
-two r s = same_place r.place s.place && same r.attributes s.attributes
+two r s = same_object_id r.id s.id && same r.attributes s.attributes
 
 abbrev three : RecordView → RecordView → Bool
 three r s = two r s && (r.schema_version == s.schema_version)
@@ -28,7 +30,7 @@ pub returns-then-eq-3-clause-value : goal.returns-then-eq-3-clause-value
 returns-then-eq-3-clause-value c =
     let r = record_of c.args.self.now in
     let s = record_of c.args.other.now in
-    let there = c.eq.ensures ∙ places_equal c.args.self.now.place c.args.other.now.place in
+    let there = c.eq.ensures ∙ object_ids_equal c.args.self.now.id c.args.other.now.id in
     let known : c.if-eq.value ≡ two r s =
     elim c.if-eq.branch [ then-eq w ↦ passed there w.if-eq.true (w.value-is ∙ w.eq-then-eq.ensures.value) | else-eq w ↦ failed _ there w.if-eq.false w.value-is ] in
     let followed : c.if-eq-2.value ≡ three r s =
@@ -50,7 +52,7 @@ pub returns-else-eq-3-clause-value : goal.returns-else-eq-3-clause-value
 returns-else-eq-3-clause-value c =
     let r = record_of c.args.self.now in
     let s = record_of c.args.other.now in
-    let there = c.eq.ensures ∙ places_equal c.args.self.now.place c.args.other.now.place in
+    let there = c.eq.ensures ∙ object_ids_equal c.args.self.now.id c.args.other.now.id in
     let known : c.if-eq.value ≡ two r s =
     elim c.if-eq.branch [ then-eq w ↦ passed there w.if-eq.true (w.value-is ∙ w.eq-then-eq.ensures.value) | else-eq w ↦ failed _ there w.if-eq.false w.value-is ] in
     let followed : c.if-eq-2.value ≡ three r s =

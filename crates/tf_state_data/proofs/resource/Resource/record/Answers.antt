@@ -1,6 +1,6 @@
-use Rattle.tf_state_data.specs.Place.{place_of}
-use Rattle.tf_state_data.proofs.Edits.{by_place, element_found}
+use Rattle.tf_address.specs.ObjectId.{object_id_of}
+use Rattle.tf_state_data.proofs.Edits.{by_id, element_found}
 use Rattle.tf_state_data.proofs.resource.Resource.record.Goals as goal
 
 pub returns-in-Ok : goal.returns-in-Ok
-returns-in-Ok c = element_found by_place (place_of c.args.place.now) c.args.self.now.records.items c.in-Ok.index c.index.result.now c.in-Ok.ensures.found c.index.ensures
+returns-in-Ok c = element_found by_id (object_id_of c.args.id.now) c.args.self.now.records.items c.in-Ok.index c.index.result.now c.in-Ok.ensures.found c.index.ensures

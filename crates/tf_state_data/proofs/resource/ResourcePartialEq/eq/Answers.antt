@@ -3,7 +3,8 @@ use Rattle.std.proofs.lemmas.Bool.Decides.{Decides-at}
 use Rattle.std.specs.Prelude.{bytes_eq}
 use Rattle.std.specs.Cmp.Derive.Mapped.{pointwise-map}
 use Rattle.tf_address.specs.Label.{label_of}
-use Rattle.tf_state_data.specs.Equality.{same_label, same_record, resource_Decides}
+use Rattle.tf_address.specs.Same.{same_label}
+use Rattle.tf_state_data.specs.Equality.{same_record, resource_Decides}
 use Rattle.tf_state_data.specs.Record.{record_of}
 use Rattle.tf_state_data.specs.Resource.{resource_of}
 use Rattle.tf_state_data.proofs.Equal.{passed, failed}

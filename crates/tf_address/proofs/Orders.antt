@@ -1,4 +1,4 @@
--- The derived orders of places and of addresses are those of the plain data.
+-- The derived orders of objects and of addresses are those of the plain data.
 use Rattle.std.proofs.Common.{◌≡◌, refl, ap₂}
 use Rattle.std.specs.Prelude.{Option, Some, None, String}
 use Rattle.std.specs.Ordering.{ordering_then}
@@ -8,14 +8,14 @@ use Rattle.std.specs.declared.alloc.Global.{Global}
 use Rattle.tf_address.specs.Label.{label_of, label_cmp}
 use Rattle.tf_address.specs.declared.label.Label.{Label}
 use Rattle.tf_address.specs.contracts.label.LabelOrd.TheImpl as labels
-use Rattle.tf_state_data.specs.Place.{place_of, place_cmp, key_cmp, key_of, deposed_cmp, deposed_of}
-use Rattle.tf_state_data.specs.contracts.key.KeyOrd.TheImpl as keys
-use Rattle.tf_state_data.specs.contracts.key.PlaceOrd.TheImpl as places
-use Rattle.tf_state_data.specs.declared.key.Place.{Place}
-use Rattle.tf_state_data.specs.declared.key.Key.{Key}
-use Rattle.tf_state_data.specs.declared.key.Key.TheVariants.{Single, Number, Name}
+use Rattle.tf_address.specs.ObjectId.{object_id_of, object_id_cmp, instance_key_cmp, instance_key_of, deposed_cmp, deposed_of}
+use Rattle.tf_address.specs.contracts.object_id.InstanceKeyOrd.TheImpl as keys
+use Rattle.tf_address.specs.contracts.object_id.ObjectIdOrd.TheImpl as objects
+use Rattle.tf_address.specs.declared.object_id.ObjectId.{ObjectId}
+use Rattle.tf_address.specs.declared.object_id.InstanceKey.{InstanceKey}
+use Rattle.tf_address.specs.declared.object_id.InstanceKey.TheVariants.{Single, Number, Name}
 
-keys_ordered : (a b : Key) → key_cmp (key_of a) (key_of b) ≡ (keys.cmp-value).it a b
+keys_ordered : (a b : InstanceKey) → instance_key_cmp (instance_key_of a) (instance_key_of b) ≡ (keys.cmp-value).it a b
 keys_ordered Single Single = refl
 keys_ordered Single (Number n) = refl
 keys_ordered Single (Name t) = refl
@@ -32,8 +32,8 @@ deposed_ordered None (Some t) = refl
 deposed_ordered (Some s) None = refl
 deposed_ordered (Some s) (Some t) = refl
 
-pub places_ordered : (p q : Place) → place_cmp (place_of p) (place_of q) ≡ (places.cmp-value).it p q
-places_ordered p q = ap₂ ordering_then (keys_ordered p.key q.key) (deposed_ordered p.deposed q.deposed)
+pub object_ids_ordered : (p q : ObjectId) → object_id_cmp (object_id_of p) (object_id_of q) ≡ (objects.cmp-value).it p q
+object_ids_ordered p q = ap₂ ordering_then (keys_ordered p.key q.key) (deposed_ordered p.deposed q.deposed)
 
 pub labels_ordered : (a b : Label) → label_cmp (label_of a) (label_of b) ≡ (labels.cmp-value).it a b
 labels_ordered a b = refl

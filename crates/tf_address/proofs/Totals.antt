@@ -1,12 +1,12 @@
--- The orders of places and of addresses are total.
+-- The orders of objects and of addresses are total.
 use Rattle.std.proofs.Common.{◌≡◌, ℕ, List, Option, Some, None, Less, Equal, refl}
 use Rattle.std.specs.Cmp.{IsTotalOrder, nat_cmp_total, then_total, on_total}
 use Rattle.std.specs.Ordering.{ordering_reverse}
 use Rattle.std.proofs.lemmas.Cmp.{nat_list_cmp_total}
 use Rattle.tf_address.specs.Label.{LabelView, label_cmp}
-use Rattle.tf_state_data.specs.Place.{KeyView, single, number, name, PlaceView, key_cmp, deposed_cmp, place_cmp}
+use Rattle.tf_address.specs.ObjectId.{InstanceKeyView, single, number, name, ObjectIdView, instance_key_cmp, deposed_cmp, object_id_cmp}
 
-key_antisymm : (x y : KeyView) → key_cmp x y ≡ ordering_reverse (key_cmp y x)
+key_antisymm : (x y : InstanceKeyView) → instance_key_cmp x y ≡ ordering_reverse (instance_key_cmp y x)
 key_antisymm single single = refl
 key_antisymm single (number n) = refl
 key_antisymm single (name t) = refl
@@ -17,7 +17,7 @@ key_antisymm (name s) single = refl
 key_antisymm (name s) (number n) = refl
 key_antisymm (name s) (name t) = nat_list_cmp_total.antisymm s t
 
-key_trans : (x y z : KeyView) → key_cmp x y ≡ Less → key_cmp y z ≡ Less → key_cmp x z ≡ Less
+key_trans : (x y z : InstanceKeyView) → instance_key_cmp x y ≡ Less → instance_key_cmp y z ≡ Less → instance_key_cmp x z ≡ Less
 key_trans single (number n) (number m) e f = refl
 key_trans single (number n) (name t) e f = refl
 key_trans single (name s) (name t) e f = refl
@@ -27,7 +27,7 @@ key_trans (number a) (name s) (name t) e f = refl
 key_trans (name r) (name s) (name t) e f = nat_list_cmp_total.trans r s t e f
 key_trans _ _ _ e f = absurd (cc)
 
-key_congr : (x y z : KeyView) → key_cmp x y ≡ Equal → key_cmp x z ≡ key_cmp y z
+key_congr : (x y z : InstanceKeyView) → instance_key_cmp x y ≡ Equal → instance_key_cmp x z ≡ instance_key_cmp y z
 key_congr single single z e = refl
 key_congr (number a) (number b) single e = refl
 key_congr (number a) (number b) (number c) e = nat_cmp_total.congr a b c e
@@ -37,7 +37,7 @@ key_congr (name r) (name s) (number c) e = refl
 key_congr (name r) (name s) (name t) e = nat_list_cmp_total.congr r s t e
 key_congr _ _ _ e = absurd (cc)
 
-key_total : IsTotalOrder key_cmp
+key_total : IsTotalOrder instance_key_cmp
 key_total = record { antisymm = key_antisymm; trans = key_trans; congr = key_congr }
 
 deposed_antisymm : (x y : Option (List ℕ)) → deposed_cmp x y ≡ ordering_reverse (deposed_cmp y x)
@@ -60,8 +60,8 @@ deposed_congr _ _ _ e = absurd (cc)
 deposed_total : IsTotalOrder deposed_cmp
 deposed_total = record { antisymm = deposed_antisymm; trans = deposed_trans; congr = deposed_congr }
 
-pub place_total : IsTotalOrder place_cmp
-place_total = then_total (on_total (λ (p : PlaceView). p.key) key_total) (on_total (λ (p : PlaceView). p.deposed) deposed_total)
+pub object_id_total : IsTotalOrder object_id_cmp
+object_id_total = then_total (on_total (λ (p : ObjectIdView). p.key) key_total) (on_total (λ (p : ObjectIdView). p.deposed) deposed_total)
 
 pub label_total : IsTotalOrder label_cmp
-label_total = then_total (on_total (λ (l : LabelView). l.kind) nat_list_cmp_total) (on_total (λ (l : LabelView). l.name) nat_list_cmp_total)
+label_total = then_total (on_total (λ (l : LabelView). l.type_name) nat_list_cmp_total) (on_total (λ (l : LabelView). l.name) nat_list_cmp_total)

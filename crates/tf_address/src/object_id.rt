@@ -1,9 +1,9 @@
-//! Which object of a resource a record is of.
+//! The instances of a resource, and their objects.
 
 /// Which instance of a resource. The derived order is the order of addresses: the one without a key, then
 /// numbers, then names byte by byte.
 #[derive(Clone, Debug, PartialEq, Eq, PartialOrd, Ord, Drop)]
-pub enum Key {
+pub enum InstanceKey {
     /// The only instance of a resource without `count` and `for_each`.
     Single,
     /// An instance of a resource with `count`, by its position; below 2^63 in a state that reads back.
@@ -15,9 +15,9 @@ pub enum Key {
 /// Which object of a resource: its instance, and whether it is deposed. The derived order is the order of
 /// writing: by instance, and at one instance the current object before deposed ones by their keys.
 #[derive(Clone, Debug, PartialEq, Eq, PartialOrd, Ord, Drop)]
-pub struct Place {
+pub struct ObjectId {
     /// The instance.
-    pub key: Key,
+    pub key: InstanceKey,
     /// The key of a deposed object, eight lower-case hex digits; none for the current object.
     pub deposed: Option<String>,
 }

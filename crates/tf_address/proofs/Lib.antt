@@ -1,0 +1,4 @@
+pub mod CopiedIds
+pub mod EqualIds
+pub mod Orders
+pub mod Totals
