@@ -125,8 +125,7 @@ impl Resource {
         ensures found { IfOk result (IsAt (λ r. r.id) object_id_cmp (object_id_of id.now) (resource_of self.now).records) }
         ensures absent { IfErr result (IsGapFor (λ r. r.id) object_id_cmp (object_id_of id.now) (resource_of self.now).records) }
     {
-        self.records
-            .binary_search_by(|record| record.id.cmp(id))
+        self.records.binary_search_by(|record| record.id.cmp(id))
     }
 }
 

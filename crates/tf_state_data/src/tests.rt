@@ -244,7 +244,10 @@ fn names_providers(rt: HostRuntime) -> Result<(), Fail> {
         ("_x", ""),
     ] {
         let want = format!(in rt.alloc(); "provider[\"registry.terraform.io/hashicorp/{name}\"]")?;
-        assert_eq!(rt; provider_address(rt.alloc(), type_name)?.as_str(), want.as_str());
+        assert_eq!(rt;
+            provider_address(rt.alloc(), type_name)?.as_str(),
+            want.as_str()
+        );
     }
     Ok(())
 }

@@ -20,8 +20,8 @@ use crate::one_line::one_line;
 use crate::report::Diagnostic;
 use crate::rooms::Room;
 use std::collections::BTreeSet;
-use tf_provider::{Op, Provider, Reply, Schema, Verdict, schema_for, well_formed};
 use tf_address::{InstanceKey, ObjectId};
+use tf_provider::{Op, Provider, Reply, Schema, Verdict, schema_for, well_formed};
 use tf_state_data::{Object, Record, Resource};
 use tf_value::Value;
 
