@@ -18,9 +18,9 @@ done
 program="$work/repo/crates/bench_claims/out/bench_claims"
 (cd "$work/repo/crates/bench_claims" && rt run) > "$work/log" 2>&1 || [ -x "$program" ] || { tail -20 "$work/log"; exit 1; }
 
-# The least of some times, for each action, and whether the steps were always the same.
+# The least of some times for each action, and the steps, which have to be the same each time.
 best() {
-    awk -v nodes="$2" -v threads="$3" '
+    awk -v nodes="$2" '
         NR == 1 || $1 < least { least = $1 }
         NR == 1 { steps = $2 }
         $2 != steps { print "the steps differ:", $2, steps > "/dev/stderr"; exit 1 }
@@ -39,8 +39,8 @@ for shape in independent contended layered dense; do
             { echo "$threads $manner"; cat "$work/graph"; } | "$program" >> "$work/a"
             "$work/yardstick" run "$threads" "$word" < "$work/graph" >> "$work/b"
         done
-        read -r ours steps <<< "$(best "$work/a" "$nodes" "$threads")"
-        read -r theirs same <<< "$(best "$work/b" "$nodes" "$threads")"
+        read -r ours steps <<< "$(best "$work/a" "$nodes")"
+        read -r theirs same <<< "$(best "$work/b" "$nodes")"
         [ "$steps" = "$same" ] || { echo "$shape: the steps differ: $steps $same"; exit 1; }
         awk -v s="$shape" -v t="$threads" -v n="$steps" -v a="$ours" -v b="$theirs" \
             'BEGIN { printf "%-12s %8d %8d %12.1f %12.1f %7.2f\n", s, t, n, a, b, a / b }'
@@ -56,7 +56,7 @@ for shape in independent layered dense; do
         for layout in spaced paired apart; do
             : > "$work/b"
             for turn in 1 2 3; do "$work/yardstick" run "$threads" each "$layout" < "$work/graph" >> "$work/b"; done
-            read -r theirs _ <<< "$(best "$work/b" "$nodes" "$threads")"
+            read -r theirs _ <<< "$(best "$work/b" "$nodes")"
             printf ' %12.1f' "$theirs"
         done
         printf '\n'

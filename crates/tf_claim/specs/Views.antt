@@ -27,7 +27,7 @@ saw n v = record v { seen = n ∷ v.seen }
 abbrev pub saw_all : List ℕ → View → View
 saw_all ns v = record v { seen = ns ++ v.seen }
 
--- the seat has found that somebody had claimed an action
+-- the seat has found an action taken or done
 abbrev pub knew : ℕ → View → View
 knew n v = record v { known = n ∷ v.known }
 

@@ -9,7 +9,7 @@ use std::marker::Model;
 pub struct View {
     /// Actions that it found done.
     pub seen: LinkedList<usize>,
-    /// Actions that somebody else had claimed when it tried to.
+    /// Actions that it tried to claim and found taken or done.
     pub known: LinkedList<usize>,
     /// Actions that it claimed.
     pub claimed: LinkedList<usize>,

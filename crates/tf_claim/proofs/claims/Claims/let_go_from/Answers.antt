@@ -1,4 +1,4 @@
-use Rattle.std.proofs.Common.{◌≡◌, ◌<◌, ◌≤◌, ℕ, sym, ap, subst, ◌∙◌, arith, length, get_or}
+use Rattle.std.proofs.Common.{sym, ap, subst, ◌∙◌, arith, get_or}
 use Rattle.tf_claim.specs.declared.seat.View.{View}
 use Rattle.tf_claim.specs.Views.{edges_from, went, MayLetGo}
 use Rattle.tf_claim.specs.Claims.{Shared}

@@ -1,6 +1,5 @@
-use Rattle.std.proofs.Common.{◌≡◌, ◌<◌, ℕ, List, sym, ap, ◌∙◌, arith, length, get_or}
-use Rattle.tf_graph.specs.Digraph.{Digraph, target, successors_of}
-use Rattle.tf_claim.specs.Views.{edges_from}
+use Rattle.std.proofs.Common.{◌≡◌, ℕ, List, sym, ap, ◌∙◌, arith, get_or}
+use Rattle.tf_graph.specs.Digraph.{target, successors_of}
 use Rattle.tf_claim.specs.Claims.{Shared}
 use Rattle.tf_claim.proofs.Departures.{length-out, from_target}
 use Rattle.tf_claim.proofs.claims.Claims.let_go_out_as.Goals as goal

@@ -1,4 +1,4 @@
-use Rattle.std.proofs.Common.{◌≡◌, ◌<◌, ℕ, sym, ap, subst, ◌∙◌, arith, refl}
+use Rattle.std.proofs.Common.{◌≡◌, sym, ap, subst, ◌∙◌, arith, refl}
 use Rattle.tf_graph.specs.Digraph.{Digraph, target}
 use Rattle.tf_claim.specs.declared.seat.View.{View}
 use Rattle.tf_claim.specs.Views.{Seated, went, MayLetGo}
