@@ -23,4 +23,4 @@ pub use laws::{
 };
 pub use reading::read;
 pub use refusal::{Detail, Refusal};
-pub use tf_operators::EvalFault;
+pub use tf_expr::EvalFault;

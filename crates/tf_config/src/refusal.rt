@@ -6,8 +6,7 @@ ghost use Rattle.tf_config.specs.RefusalText.{refusal_name};
 use crate::names::NameList;
 use std::alloc::{AllocError, AllocFailed};
 use std::fmt;
-use tf_expr::{Cause as ExprCause, ExprFault};
-use tf_operators::EvalFault;
+use tf_expr::{Cause as ExprCause, EvalFault, ExprFault};
 
 /// Why nothing was called: what was wrong with what the user gave, or with the machine.
 #[derive(Debug, Drop)]
