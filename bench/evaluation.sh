@@ -3,7 +3,8 @@
 exec "$(dirname "$0")/beside_json.sh" evaluation "short long join concat json" \
     'tf_address:' \
     'tf_value: serde_json' \
-    'tf_template: tf_address' \
-    'tf_operators: tf_value tf_template' \
-    'tf_eval: tf_value tf_template tf_operators' \
-    'bench_evaluation: tf_value tf_template tf_eval serde_json anyhow'
+    'tf_syntax:' \
+    'tf_template: tf_address tf_syntax' \
+    'tf_operators: tf_value tf_syntax' \
+    'tf_eval: tf_value tf_syntax tf_operators' \
+    'bench_evaluation: tf_value tf_syntax tf_template tf_eval serde_json anyhow'

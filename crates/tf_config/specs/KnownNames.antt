@@ -4,10 +4,9 @@ use Rattle.std.specs.Fmt.{decimal}
 use Rattle.std.specs.List.{AllByRecursion}
 use Rattle.tf_expr.specs.Named.{named_below, called_below}
 use Rattle.tf_expr.specs.Tree.{Tree, null, boolean, whole, template, list, map, Trees, no_trees, tree, Entries, no_entries, entry}
-use Rattle.tf_operators.specs.Functions.{function_named}
-use Rattle.tf_template.specs.Calls.{called}
-use Rattle.tf_template.specs.Names.{named}
-use Rattle.tf_template.specs.Tree.{Woven}
+use Rattle.tf_expr.specs.Functions.{function_named}
+use Rattle.tf_expr.specs.TemplateNames.{called, named}
+use Rattle.tf_expr.specs.TemplateTree.{Woven}
 use Rattle.tf_json_path.specs.Check.{Check, AllMet, IsFirst, demanded}
 use Rattle.tf_config.specs.Config.{BlockView, Blocks}
 use Rattle.tf_config.specs.Demand.{unknown_name}

@@ -4,8 +4,8 @@ use Rattle.std.specs.List.{AllByRecursion}
 use Rattle.std.specs.List.Sorted.{IsStrictlySortedBy}
 use Rattle.serde_json.specs.Data.{Data}
 use Rattle.tf_expr.specs.Demand as expr
-use Rattle.tf_template.specs.Spelling.{SpellsTemplate}
-use Rattle.tf_template.specs.Tree.{Woven}
+use Rattle.tf_expr.specs.Spelling.{SpellsTemplate}
+use Rattle.tf_expr.specs.TemplateTree.{Woven}
 use Rattle.tf_json_path.specs.Check.{IsFirst}
 use Rattle.tf_config.specs.Config.{Blocks, address_cmp}
 use Rattle.tf_config.specs.Configuration.{configuration_checks, IsConfiguration}

@@ -1,8 +1,8 @@
 -- Templates of one interpolation alone.
 use Rattle.std.proofs.Common.{◌≡◌, ◌≢◌, refl, ℕ, true, false, List, [], ◌∷◌, length, get_or, Result, Ok, Err, String, string_bytes, Global}
 use Rattle.tf_value.specs.Tree.{Tree, text}
-use Rattle.tf_template.specs.Tree as syntax
-use Rattle.tf_template.specs.declared.tree.Term.{Term}
+use Rattle.tf_syntax.specs.TemplateTree as syntax
+use Rattle.tf_syntax.specs.declared.tree.Term.{Term}
 use Rattle.tf_operators.specs.Answer.{Answer, item_behind}
 use Rattle.tf_operators.specs.Joining.{joined_value}
 use Rattle.tf_operators.specs.declared.fault.EvalFault.{EvalFault}

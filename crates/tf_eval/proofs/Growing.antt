@@ -1,6 +1,6 @@
 -- Knowledge only grows, from part to part.
 use Rattle.std.proofs.Common.{◌≡◌, refl, ◌⊎◌, ℕ, Bool, true, false, Option, Some, None, List, [], ◌∷◌, Result, Ok, Err, sym, inl, inr, subst, if◌then◌else◌, ◌&&◌, nat_le}
-use Rattle.tf_template.specs.Tree as syntax
+use Rattle.tf_syntax.specs.TemplateTree as syntax
 use Rattle.tf_value.specs.Tree.{Tree, null, boolean, whole, text, list, map, unknown, items_of}
 use Rattle.tf_value.specs.Measure.{weight, depth, max_weight, max_depth}
 use Rattle.tf_value.specs.Refinement.{Refines, RefinesItems}

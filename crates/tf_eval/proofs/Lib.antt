@@ -1,3 +1,5 @@
 pub mod Alone
+pub mod Entries
+pub mod ExprGrowing
 pub mod Growing
 pub mod Rows

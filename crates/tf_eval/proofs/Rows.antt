@@ -3,9 +3,9 @@ use Rattle.std.proofs.Common.{◌≡◌, refl, ℕ, ◌+◌, ◌<◌, ◌≤◌,
 use Rattle.std.proofs.lemmas.List.{append-nil, drop_more, drop_all}
 use Rattle.tf_value.specs.Tree.{Tree, text, Items, no_items, item, items_of}
 use Rattle.tf_value.specs.declared.value.Value.{Value}
-use Rattle.tf_template.specs.Tree as syntax
-use Rattle.tf_template.specs.Tree.{view, terms_view, parts_view}
-use Rattle.tf_template.specs.declared.tree.Term.{Term}
+use Rattle.tf_syntax.specs.TemplateTree as syntax
+use Rattle.tf_syntax.specs.TemplateTree.{view, terms_view, parts_view}
+use Rattle.tf_syntax.specs.declared.tree.Term.{Term}
 use Rattle.tf_operators.specs.Answer.{Answer, Answers, Gives, items_behind, item_behind}
 use Rattle.tf_operators.specs.Functions.{takes, call_value}
 use Rattle.tf_operators.specs.declared.fault.EvalFault.{EvalFault}

@@ -1,5 +1,6 @@
 pub mod Answering
 pub mod Constants
 pub mod Environment
+pub mod ExprMeaning
 pub mod Growth
 pub mod Meaning

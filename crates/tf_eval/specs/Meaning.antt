@@ -1,6 +1,6 @@
 -- What templates and expressions mean.
 use Rattle.std.specs.Prelude.{ℕ, suc, pos, Bool, true, false, if◌then◌else◌, Option, Some, None, List, [], ◌∷◌, Result, Ok, Err}
-use Rattle.tf_template.specs.Tree as syntax
+use Rattle.tf_syntax.specs.TemplateTree as syntax
 use Rattle.tf_value.specs.Tree.{Tree, null, boolean, whole, text, list, map, unknown, Items, no_items, item, items_of}
 use Rattle.tf_operators.specs.Answer.{Answer, limited, whole_value, list_value, item_behind}
 use Rattle.tf_operators.specs.Functions.{function_named, takes, call_value}

@@ -5,7 +5,7 @@ ghost use Rattle.tf_eval.specs.Constants.{constant_in, constants_of};
 use crate::scope::Scope;
 use std::alloc::Global;
 use tf_operators::EvalFault;
-use tf_template::Reference;
+use tf_syntax::Reference;
 use tf_value::Value;
 
 /// A reference, and the value that it stands for.

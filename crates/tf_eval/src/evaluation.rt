@@ -1,7 +1,7 @@
 //! Evaluation.
 
 ghost use Rattle.std.specs.Prelude.{◌≡◌, map as each, pos, string_bytes};
-ghost use Rattle.tf_template.specs.Tree.{template_view, view, terms_view, parts_view};
+ghost use Rattle.tf_syntax.specs.TemplateTree.{template_view, view, terms_view, parts_view};
 ghost use Rattle.tf_operators.specs.Answer.{Gives, whole_value};
 ghost use Rattle.tf_value.specs.Tree.{tree_of};
 ghost use Rattle.tf_operators.specs.Functions.{function_named};
@@ -13,7 +13,7 @@ use std::alloc::Global;
 use tf_operators::{
     EvalFault, Function, Joiner, attribute, binary, call, index, limited, list, unary,
 };
-use tf_template::{Template, Term};
+use tf_syntax::{Template, Term};
 use tf_value::Value;
 
 /// The value of a template in a scope.

@@ -1,6 +1,6 @@
 //! Laws of the meaning.
 
-ghost use Rattle.tf_eval.specs.Growth.{KnowledgeGrows};
+ghost use Rattle.tf_eval.specs.Growth.{ExprKnowledgeGrows, KnowledgeGrows};
 
 use tf_operators::laws::{
     binary_grows, calls_grow, collections_grow, joined_grows, parts_grow, unary_grows,
@@ -19,4 +19,15 @@ pub fn knowledge_grows()
     collections_grow();
     joined_grows();
     calls_grow();
+}
+
+/// Where one environment refines to another, and an expression has a value in both, the first value refines to
+/// the second. It follows from the same of templates, lists and maps, whose laws are named here for their
+/// contracts.
+pub fn expr_knowledge_grows()
+    ensures { ExprKnowledgeGrows }
+{
+    refinement_is_an_order();
+    knowledge_grows();
+    collections_grow();
 }

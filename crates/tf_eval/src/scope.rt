@@ -2,7 +2,7 @@
 
 use std::alloc::Global;
 use tf_operators::EvalFault;
-use tf_template::Reference;
+use tf_syntax::Reference;
 use tf_value::Value;
 
 /// What the references of a template stand for: each one for a value or a fault, always the same.

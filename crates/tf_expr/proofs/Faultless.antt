@@ -10,7 +10,7 @@ use Rattle.tf_value.specs.Known.{known}
 use Rattle.tf_value.specs.Tree as values
 use Rattle.tf_expr.specs.Demand.{Demand, a_plain_name, a_whole_number, a_template, AreMet, IsMet, Fails}
 use Rattle.tf_expr.specs.Reading.{expr_checks, item_checks, member_checks, IsExpr, AreExprs, HoldExprs}
-use Rattle.tf_expr.specs.Tree.{Tree, null, boolean, whole, template, list, map, Trees, no_trees, tree, Entries, no_entries, entry}
+use Rattle.tf_syntax.specs.ExprTree.{Tree, null, boolean, whole, template, list, map, Trees, no_trees, tree, Entries, no_entries, entry}
 use Rattle.tf_expr.specs.declared.fault.Cause.{Cause}
 use Rattle.tf_expr.specs.declared.fault.Cause.TheVariants.{BadShape, At, TooDeep}
 

@@ -1,7 +1,5 @@
 pub mod Faultless
-pub mod Growing
 pub mod Refusals
-pub mod Valued
-pub mod Views
 pub mod Walked
 pub mod Within
+pub use Rattle.tf_syntax.proofs.ExprViews as Views

@@ -2,7 +2,7 @@
 use Rattle.std.specs.Prelude.{◌≡◌, ◌<◌, ◌≤◌, ℕ, List, IsTrue, false}
 use Rattle.serde_json.specs.Data.{Num}
 use Rattle.tf_template.specs.Spelling.{SpellsTemplate}
-use Rattle.tf_template.specs.Tree.{Woven, template_depth}
+use Rattle.tf_syntax.specs.TemplateTree.{Woven, template_depth}
 use Rattle.tf_json_path.specs.Check.{Check, AllMet, IsFirst}
 use Rattle.tf_value.specs.Json.{whole_from}
 use Rattle.tf_value.specs.Known.{known}

@@ -4,7 +4,7 @@ use Rattle.serde_json.specs.Data.{Data}
 use Rattle.tf_json_path.specs.Check.{IsFirst}
 use Rattle.tf_expr.specs.Demand.{AreMet, IsMet, Fails}
 use Rattle.tf_expr.specs.Reading.{expr_checks, IsExpr}
-use Rattle.tf_expr.specs.Tree.{Tree}
+use Rattle.tf_syntax.specs.ExprTree.{Tree}
 use Rattle.tf_expr.specs.declared.fault.Cause.{Cause}
 
 -- All checks of a JSON tree that is an expression are met.

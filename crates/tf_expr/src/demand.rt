@@ -5,7 +5,7 @@ ghost use Rattle.std.specs.Prelude.{◌≡◌, ◌↔◌, IfErr, IfOk, IsTrue, O
 ghost use Rattle.tf_expr.specs.Demand.{Refuses, TellsAt, a_plain_name, a_template, a_whole_number, IsTemplate};
 ghost use Rattle.tf_expr.specs.Fault.{told};
 ghost use Rattle.tf_expr.specs.Opening.{opens, IsPlain};
-ghost use Rattle.tf_template.specs.Tree.{template_view};
+ghost use Rattle.tf_syntax.specs.TemplateTree.{template_view};
 ghost use Rattle.tf_json_path.specs.Check.{demanded};
 ghost use Rattle.tf_json_path.specs.Place.{dotted, place_of};
 ghost use Rattle.tf_value.specs.Json.{whole_from};
@@ -15,7 +15,8 @@ use crate::fault::{Cause, ExprFault};
 use serde_json::Number;
 use std::alloc::Global;
 use tf_json_path::Path;
-use tf_template::{ReadFault, Template, read_template};
+use tf_syntax::Template;
+use tf_template::{ReadFault, read_template};
 
 // A fault at a place, or that there is no memory to write the place out.
 fn refused(alloc: Global, path: &Path<'_>, cause: Cause) -> ExprFault

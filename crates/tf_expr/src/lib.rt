@@ -1,30 +1,28 @@
-//! Expressions: JSON trees whose texts are templates, read.
+//! Templates and expressions: the door to reading and evaluating them.
 //!
-//! The definitions in `specs/` say what a JSON tree has to be (`Reading`: checks in walk order) and which
-//! expression it is. `read_expr` gives that expression, or the first fault with its place. An expression
-//! lists what it names and what it calls, from left to right.
+//! An expression is a JSON tree whose texts are templates. The definitions in `specs/` say what a JSON tree has to
+//! be (`Reading`: checks in walk order) and which expression it is. `read_expr` gives that expression, or the first
+//! fault with its place. Trees stand in `tf_syntax`, reading a template in `tf_template`, and what trees mean in
+//! `tf_eval`; what users of expressions need of them stands here too.
 #![tactic(auto)]
 
-mod calls;
-mod copies;
 mod demand;
-mod evaluation;
-pub mod expr;
 pub mod fault;
 pub mod laws;
-mod names;
 mod reading;
 
-pub use copies::copy;
-pub use evaluation::eval_expr;
-pub use expr::{Expr, find};
 pub use fault::{Cause, ExprFault};
 pub use reading::{read_expr, read_expr_at};
-pub use tf_eval::{Constant, Constants, EvalFault, Scope, eval};
-pub use tf_template::{
-    MAX_DEPTH, Operator, Prefix, ReadFault, Reference, Template, Term, functions, read_template,
-    references,
+pub use tf_eval::{
+    Constant, Constants, EvalFault, Scope, eval, eval_expr, expr_knowledge_grows, knowledge_grows,
 };
+pub use tf_operators::Function;
+pub use tf_syntax::{
+    Expr, Operator, Prefix, Reference, Template, Term, copy, copy_expr, find, functions, references,
+};
+pub use tf_template::{MAX_DEPTH, ReadFault, read_template};
 
+#[cfg(test)]
+mod eval_tests;
 #[cfg(test)]
 mod tests;

@@ -1,5 +1,5 @@
 use crate::laws::{faultless_trees_are_expressions, faulty_trees_are_none};
-use crate::{Cause, Constants, Expr, ExprFault, copy, eval_expr, read_expr, read_expr_at};
+use crate::{Cause, Constants, Expr, ExprFault, copy_expr, eval_expr, read_expr, read_expr_at};
 use serde_json::Value;
 use std::alloc::Global;
 use std::test::Fail;
@@ -199,7 +199,7 @@ fn lists_names_in_walk_order(rt: HostRuntime) -> Result<(), Fail> {
 #[test]
 fn copies_expressions(rt: HostRuntime) -> Result<(), Fail> {
     let expr = read(rt.alloc(), NAMES)?;
-    let copied = copy(&expr)?;
+    let copied = copy_expr(&expr)?;
     let cloned = expr.clone()?;
     let text = format!(in rt.alloc(); "{expr:?}")?;
     assert_eq!(rt;

@@ -1,10 +1,10 @@
 -- Where more is known of operands, no more than more is known of results.
 use Rattle.std.proofs.Common.{◌≡◌, ◌⊎◌, ◌&&◌, ℕ, zero, suc, ℤ, pos, negsuc, List, Bool, true, false, cond, Option, Some, None, Ok, refl, sym, ap, ◌∙◌, subst, inl, inr}
 use Rattle.std.specs.Str.{bytes_eq}
-use Rattle.tf_template.specs.declared.token.Operator.{Operator}
-use Rattle.tf_template.specs.declared.token.Operator.TheVariants.{Equal, NotEqual}
-use Rattle.tf_template.specs.declared.tree.Prefix.{Prefix}
-use Rattle.tf_template.specs.declared.tree.Prefix.TheVariants.{Not, Negate}
+use Rattle.tf_syntax.specs.declared.operator.Operator.{Operator}
+use Rattle.tf_syntax.specs.declared.operator.Operator.TheVariants.{Equal, NotEqual}
+use Rattle.tf_syntax.specs.declared.tree.Prefix.{Prefix}
+use Rattle.tf_syntax.specs.declared.tree.Prefix.TheVariants.{Not, Negate}
 use Rattle.tf_value.specs.Tree.{Tree, boolean, whole, text, list, map, unknown, Items, no_items, item, Entries, no_entries, entry, get}
 use Rattle.tf_value.specs.Known.{known, known_items}
 use Rattle.tf_value.specs.Refinement.{Refines, RefinesItems, RefinesEntries}

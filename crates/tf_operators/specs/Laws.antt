@@ -1,7 +1,7 @@
 -- What holds of operations, whatever their operands are.
 use Rattle.std.specs.Prelude.{ℕ, List, ◌≡◌, true, Option, Some, None, Ok, ⊤}
-use Rattle.tf_template.specs.declared.token.Operator.{Operator}
-use Rattle.tf_template.specs.declared.tree.Prefix.{Prefix}
+use Rattle.tf_syntax.specs.declared.operator.Operator.{Operator}
+use Rattle.tf_syntax.specs.declared.tree.Prefix.{Prefix}
 use Rattle.tf_value.specs.Tree.{Tree, Items, no_items, item, Entries, no_entries, entry, get}
 use Rattle.tf_value.specs.Known.{known, known_items, known_entries}
 use Rattle.tf_value.specs.Refinement.{Refines, RefinesItems, RefinesEntries}

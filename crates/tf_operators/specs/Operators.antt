@@ -2,10 +2,10 @@
 use Rattle.std.specs.Prelude.{Bool, not, ◌&&◌, ◌||◌, ℤ, ◌+ℤ◌, ◌-ℤ◌, ◌*ℤ◌, neg_ℤ, int_lt, int_le, if◌then◌else◌, Ok, Err}
 use Rattle.tf_value.specs.Tree.{Tree, boolean, whole, unknown, same}
 use Rattle.tf_value.specs.Known.{known}
-use Rattle.tf_template.specs.declared.token.Operator.{Operator}
-use Rattle.tf_template.specs.declared.token.Operator.TheVariants.{Or, And, Equal, NotEqual, Greater, GreaterOrEqual, Less, LessOrEqual, Add, Subtract, Multiply}
-use Rattle.tf_template.specs.declared.tree.Prefix.{Prefix}
-use Rattle.tf_template.specs.declared.tree.Prefix.TheVariants.{Not, Negate}
+use Rattle.tf_syntax.specs.declared.operator.Operator.{Operator}
+use Rattle.tf_syntax.specs.declared.operator.Operator.TheVariants.{Or, And, Equal, NotEqual, Greater, GreaterOrEqual, Less, LessOrEqual, Add, Subtract, Multiply}
+use Rattle.tf_syntax.specs.declared.tree.Prefix.{Prefix}
+use Rattle.tf_syntax.specs.declared.tree.Prefix.TheVariants.{Not, Negate}
 use Rattle.tf_operators.specs.declared.fault.EvalFault.TheVariants.{WrongKind}
 use Rattle.tf_operators.specs.Answer.{Answer, whole_value}
 

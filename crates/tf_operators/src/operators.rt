@@ -7,7 +7,7 @@ ghost use Rattle.tf_operators.specs.Answer.{Answers, whole_value};
 ghost use Rattle.tf_operators.specs.Operators.{unary_value, binary_value, equal_value, unequal_value, scalars_value, truths_value, wholes_value};
 
 use crate::fault::EvalFault;
-use tf_template::{Operator, Prefix};
+use tf_syntax::{Operator, Prefix};
 use tf_value::{Value, is_known};
 
 /// What an operator before its operand answers: `!` of a truth value, `-` of a whole number; `Unknown` of

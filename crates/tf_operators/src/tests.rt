@@ -5,7 +5,7 @@ use std::alloc::{AllocError, Global};
 use std::collections::BTreeMap;
 use std::process::Abort;
 use std::test::Fail;
-use tf_template::{Operator, Prefix};
+use tf_syntax::{Operator, Prefix};
 use tf_value::Value;
 
 type Answer = Result<Value, EvalFault>;

@@ -7,8 +7,8 @@ use Rattle.tf_protocol.specs.declared.schema.Kind.{Kind}
 use Rattle.tf_protocol.specs.declared.schema.Kind.TheVariants as kinds
 use Rattle.tf_protocol.specs.declared.schema.Mode.{Mode}
 use Rattle.tf_protocol.specs.declared.schema.Mode.TheVariants as modes
-use Rattle.tf_operators.specs.Answer.{Answer}
-use Rattle.tf_eval.specs.Constants.{constant_in}
+use Rattle.tf_expr.specs.Answer.{Answer}
+use Rattle.tf_expr.specs.Constants.{constant_in}
 use Rattle.tf_expr.specs.Meaning.{meaning}
 use Rattle.tf_expr.specs.Tree as expr
 use Rattle.tf_plan.specs.declared.argument.ArgumentFault.{ArgumentFault}

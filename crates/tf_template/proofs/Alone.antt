@@ -4,12 +4,12 @@ use Rattle.tf_template.specs.Literal.{piece, opens, closes}
 use Rattle.tf_template.specs.Reads.{Turns, IsOperand, Holds, Stops, begins, binding}
 use Rattle.tf_template.specs.Spelling.{Spells, SpellsList, SpellsParts, SpellsTemplate, Takes, TakesName, IsEmpty, prefix_token, truth_word}
 use Rattle.tf_template.specs.Token.{token_kind, token_word, after_token}
-use Rattle.tf_template.specs.Tree.{Tree, number, truth, null, quoted, reference, call, group, listed, attribute, index, unary, binary, conditional, Trees, no_trees, tree, Parts, no_parts, part, Woven, level, level_of}
+use Rattle.tf_syntax.specs.TemplateTree.{Tree, number, truth, null, quoted, reference, call, group, listed, attribute, index, unary, binary, conditional, Trees, no_trees, tree, Parts, no_parts, part, Woven, level, level_of}
 use Rattle.tf_template.specs.Word.{keyword}
 use Rattle.tf_template.specs.declared.token.Kind.{Kind}
 use Rattle.tf_template.specs.declared.token.Kind.TheVariants.{Name, Number, Quote, Bang, Binary, Question, Colon, OpenParen, CloseParen, OpenBracket, CloseBracket, CloseBrace, Comma, Dot, Wrong}
-use Rattle.tf_template.specs.declared.tree.Prefix.{Prefix}
-use Rattle.tf_template.specs.declared.tree.Prefix.TheVariants.{Not, Negate}
+use Rattle.tf_syntax.specs.declared.tree.Prefix.{Prefix}
+use Rattle.tf_syntax.specs.declared.tree.Prefix.TheVariants.{Not, Negate}
 use Rattle.tf_template.specs.declared.word.Keyword.TheVariants.{Null, Free}
 use Rattle.tf_template.proofs.Begun.{at_binary, at_question, at_bracket, stops_at}
 use Rattle.tf_template.proofs.Growing.{Grows, done, again, spine, holds_where, turns_needs, last_step, level_some, spells_begins}

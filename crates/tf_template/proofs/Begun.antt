@@ -3,7 +3,7 @@ use Rattle.std.proofs.Common.{◌≡◌, true, false, ℕ, ◌<◌, List, Result
 use Rattle.tf_template.specs.Reads.{Answers, Fails, Makes, Turns, IsOperand, Stops, begins, binding, closing}
 use Rattle.tf_template.specs.Spelling.{Spells, SpellsParts, Takes, prefix_token}
 use Rattle.tf_template.specs.Token.{token_kind, token_word, after_token}
-use Rattle.tf_template.specs.Tree.{Tree, number, truth, null, quoted, reference, call, group, listed, attribute, index, unary, binary, conditional, Parts, level, level_of, tree_depth}
+use Rattle.tf_syntax.specs.TemplateTree.{Tree, number, truth, null, quoted, reference, call, group, listed, attribute, index, unary, binary, conditional, Parts, level, level_of, tree_depth}
 use Rattle.tf_template.specs.Word.{decimal}
 use Rattle.tf_template.specs.declared.fault.Fault.{Fault}
 use Rattle.tf_template.specs.declared.make.Found.{Found}
@@ -11,10 +11,10 @@ use Rattle.tf_template.specs.declared.token.Bracket.{Bracket}
 use Rattle.tf_template.specs.declared.token.Bracket.TheVariants.{Round, Square}
 use Rattle.tf_template.specs.declared.token.Kind.{Kind}
 use Rattle.tf_template.specs.declared.token.Kind.TheVariants.{Name, Number, Quote, Bang, Binary, Question, Colon, OpenParen, CloseParen, OpenBracket, CloseBracket, Comma, Dot}
-use Rattle.tf_template.specs.declared.token.Operator.{Operator}
-use Rattle.tf_template.specs.declared.token.Operator.TheVariants.{Subtract}
-use Rattle.tf_template.specs.declared.tree.Prefix.{Prefix}
-use Rattle.tf_template.specs.declared.tree.Prefix.TheVariants.{Not, Negate}
+use Rattle.tf_syntax.specs.declared.operator.Operator.{Operator}
+use Rattle.tf_syntax.specs.declared.operator.Operator.TheVariants.{Subtract}
+use Rattle.tf_syntax.specs.declared.tree.Prefix.{Prefix}
+use Rattle.tf_syntax.specs.declared.tree.Prefix.TheVariants.{Not, Negate}
 
 pub closing_plain : (b : Bracket) → binding (closing b) ≡ 0
 closing_plain Round = refl

@@ -13,7 +13,7 @@ use Rattle.tf_template.specs.Canonical.{HasTexts, HaveTexts, PartsHaveTexts, Tem
 use Rattle.tf_template.specs.Literal.{Piece, stands, opens, closes, wrong, piece, begun, escape, Literal, nothing, more}
 use Rattle.tf_template.specs.Spelling.{Spells, SpellsList, SpellsParts, SpellsTemplate, Takes, TakesName}
 use Rattle.tf_template.specs.Token.{sign, front, trimmed, after_token}
-use Rattle.tf_template.specs.Tree.{Tree, number, truth, null, quoted, reference, call, group, listed, attribute, index, unary, binary, conditional, Trees, no_trees, tree, Parts, no_parts, part, Woven}
+use Rattle.tf_syntax.specs.TemplateTree.{Tree, number, truth, null, quoted, reference, call, group, listed, attribute, index, unary, binary, conditional, Trees, no_trees, tree, Parts, no_parts, part, Woven}
 use Rattle.tf_template.specs.declared.token.Kind.{Kind}
 use Rattle.tf_template.proofs.Cuts.{after_one, after_run, after_sign, within_text, space_is_ascii, digit_is_ascii, name_is_ascii}
 use Rattle.tf_template.proofs.Fronts.{both_true}

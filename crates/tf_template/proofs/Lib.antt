@@ -1,13 +1,10 @@
 pub mod Alone
 pub mod Begun
-pub mod Called
-pub mod Copied
 pub mod Cuts
 pub mod Cutting
 pub mod Fronts
 pub mod Growing
 pub mod Literals
-pub mod Named
 pub mod Numbers
 pub mod Pieces
 pub mod Rowing

@@ -3,13 +3,13 @@ use Rattle.std.proofs.Common.{◌≡◌, ◌⊎◌, false, true≢false, ℕ, �
 use Rattle.tf_template.specs.Spelling.{Spells, SpellsList, Takes, IsEmpty}
 use Rattle.tf_template.specs.Reads.{Stops, Fails, begins, binding}
 use Rattle.tf_template.specs.Token.{token_kind, after_token}
-use Rattle.tf_template.specs.Tree.{level, Tree, Trees, no_trees, tree, tree_depth, trees_depth, view, terms_view}
+use Rattle.tf_syntax.specs.TemplateTree.{level, Tree, Trees, no_trees, tree, tree_depth, trees_depth, view, terms_view}
 use Rattle.tf_template.proofs.Growing.{Fails-more, spells_begins, level_some}
 use Rattle.tf_template.specs.declared.fault.Fault.{Fault}
 use Rattle.tf_template.specs.declared.make.Found.{Found}
 use Rattle.tf_template.specs.declared.token.Kind.{Kind}
 use Rattle.tf_template.specs.declared.token.Kind.TheVariants.{Comma}
-use Rattle.tf_template.specs.declared.tree.Term.{Term}
+use Rattle.tf_syntax.specs.declared.tree.Term.{Term}
 
 -- the parts so far, and then these
 abbrev pub joined : List Term → Trees → Trees

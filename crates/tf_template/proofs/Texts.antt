@@ -7,13 +7,13 @@ use Rattle.tf_template.specs.Literal.{piece, opens, closes, begun, Literal}
 use Rattle.tf_template.specs.Reads.{begins}
 use Rattle.tf_template.specs.Spelling.{Spells, SpellsList, SpellsParts, SpellsTemplate, Takes, prefix_token}
 use Rattle.tf_template.specs.Token.{token_kind}
-use Rattle.tf_template.specs.Tree.{Tree, number, truth, null, quoted, reference, call, group, listed, attribute, index, unary, binary, conditional, Trees, no_trees, tree, Parts, no_parts, part, Woven}
+use Rattle.tf_syntax.specs.TemplateTree.{Tree, number, truth, null, quoted, reference, call, group, listed, attribute, index, unary, binary, conditional, Trees, no_trees, tree, Parts, no_parts, part, Woven}
 use Rattle.tf_template.specs.Word.{decimal, keyword}
 use Rattle.tf_template.specs.declared.token.Kind.{Kind}
 use Rattle.tf_template.specs.declared.token.Kind.TheVariants.{Name, Number, Quote, OpenParen, CloseParen, OpenBracket, CloseBracket}
-use Rattle.tf_template.specs.declared.token.Operator.{Operator}
-use Rattle.tf_template.specs.declared.tree.Prefix.{Prefix}
-use Rattle.tf_template.specs.declared.tree.Prefix.TheVariants.{Not, Negate}
+use Rattle.tf_syntax.specs.declared.operator.Operator.{Operator}
+use Rattle.tf_syntax.specs.declared.tree.Prefix.{Prefix}
+use Rattle.tf_syntax.specs.declared.tree.Prefix.TheVariants.{Not, Negate}
 use Rattle.tf_template.proofs.Fronts.{takes_spaced, takes_name_spaced, word_spaced, takes_name, takes_keyword, truth_name, truth_keyword, null_keyword, takes_number, takes_quote, takes_open_paren, takes_close_paren, takes_open_bracket, takes_close_bracket, takes_close_brace, takes_comma, takes_dot, takes_minus, takes_question, takes_colon, takes_sign, takes_bang, sign_first}
 use Rattle.tf_template.proofs.Growing.{spells_begins}
 use Rattle.tf_template.proofs.Literals.{literal_reads}

@@ -11,11 +11,11 @@ use Rattle.std.specs.Prelude.{codes, encode_utf8_all}
 use Rattle.std.specs.Str.{IsUtf8, all_scalars}
 use Rattle.tf_address.specs.Name.{starts_name, continues_name, is_name}
 use Rattle.tf_template.specs.Canonical.{IsWritable, AreWritable, ArePartsWritable, IsWritableTemplate, HasTexts, HaveTexts, PartsHaveTexts, TemplateHasTexts, byte_text, literal_text, truth_text, prefix_text, sign_text, comma_text, tree_text, trees_text, parts_text, canonical}
-use Rattle.tf_template.specs.Tree.{Tree, number, truth, null, quoted, reference, call, group, listed, attribute, index, unary, binary, conditional, Trees, no_trees, tree, Parts, no_parts, part, Woven}
-use Rattle.tf_template.specs.declared.token.Operator.{Operator}
-use Rattle.tf_template.specs.declared.token.Operator.TheVariants.{Or, And, Equal, NotEqual, Greater, GreaterOrEqual, Less, LessOrEqual, Add, Subtract, Multiply}
-use Rattle.tf_template.specs.declared.tree.Prefix.{Prefix}
-use Rattle.tf_template.specs.declared.tree.Prefix.TheVariants.{Not, Negate}
+use Rattle.tf_syntax.specs.TemplateTree.{Tree, number, truth, null, quoted, reference, call, group, listed, attribute, index, unary, binary, conditional, Trees, no_trees, tree, Parts, no_parts, part, Woven}
+use Rattle.tf_syntax.specs.declared.operator.Operator.{Operator}
+use Rattle.tf_syntax.specs.declared.operator.Operator.TheVariants.{Or, And, Equal, NotEqual, Greater, GreaterOrEqual, Less, LessOrEqual, Add, Subtract, Multiply}
+use Rattle.tf_syntax.specs.declared.tree.Prefix.{Prefix}
+use Rattle.tf_syntax.specs.declared.tree.Prefix.TheVariants.{Not, Negate}
 use Rattle.tf_template.proofs.Cuts.{name_is_ascii}
 use Rattle.tf_template.proofs.Fronts.{both_true, name_goes_on}
 use Rattle.tf_template.proofs.Literals.{chosen}

@@ -6,12 +6,12 @@ use Rattle.tf_template.specs.Reads.{Stops, Fails, binding}
 use Rattle.tf_template.specs.Token.{token_kind, after_token}
 use Rattle.tf_template.proofs.Growing.{Fails-more, level_some}
 use Rattle.tf_template.proofs.Pieces.{closes-end, Literal-same, at_closes, at_opens, at_wrong}
-use Rattle.tf_template.specs.Tree.{level, Tree, Parts, no_parts, part, tree_depth, parts_depth, view, template_view, parts_view}
+use Rattle.tf_syntax.specs.TemplateTree.{level, Tree, Parts, no_parts, part, tree_depth, parts_depth, view, template_view, parts_view}
 use Rattle.tf_template.specs.declared.fault.Fault.{Fault}
 use Rattle.tf_template.specs.declared.make.Found.{Found}
 use Rattle.tf_template.specs.declared.token.Kind.TheVariants.{CloseBrace}
-use Rattle.tf_template.specs.declared.tree.Template.{roll-Template, the_lemmas}
-use Rattle.tf_template.specs.declared.tree.Term.{Term}
+use Rattle.tf_syntax.specs.declared.tree.Template.{roll-Template, the_lemmas}
+use Rattle.tf_syntax.specs.declared.tree.Term.{Term}
 
 -- the parts so far, and then these
 abbrev pub woven : List (String Global × Term) → Parts → Parts

@@ -10,7 +10,7 @@ use Rattle.tf_template.specs.Canonical.{IsWritable, AreWritable, ArePartsWritabl
 use Rattle.tf_template.specs.Literal.{Piece, stands, opens, closes, wrong, piece, begun, escape, Literal, nothing, more}
 use Rattle.tf_template.specs.Spelling.{Spells, SpellsList, SpellsParts, SpellsTemplate, TakesName}
 use Rattle.tf_template.specs.Token.{sign, front, trimmed, token_kind, token_word}
-use Rattle.tf_template.specs.Tree.{Tree, number, truth, null, quoted, reference, call, group, listed, attribute, index, unary, binary, conditional, Trees, no_trees, tree, Parts, no_parts, part, Woven}
+use Rattle.tf_syntax.specs.TemplateTree.{Tree, number, truth, null, quoted, reference, call, group, listed, attribute, index, unary, binary, conditional, Trees, no_trees, tree, Parts, no_parts, part, Woven}
 use Rattle.tf_template.specs.declared.token.Kind.{Kind}
 use Rattle.tf_template.specs.declared.token.Kind.TheVariants.{Name, Number}
 use Rattle.tf_template.proofs.Fronts.{front-name, front-digit, name_goes_on}

@@ -1,12 +1,9 @@
 pub mod Bytes
-pub mod Calls
 pub mod Canonical
 pub mod Literal
-pub mod Names
 pub mod Reads
 pub mod Refusal
 pub mod Spelling
 pub mod Steps
 pub mod Token
-pub mod Tree
 pub mod Word

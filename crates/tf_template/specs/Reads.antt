@@ -3,7 +3,7 @@ use Rattle.std.specs.Prelude.{◌≡◌, ◌<◌, ◌≤◌, ℕ, suc, Bool, tru
 use Rattle.std.specs.Borrow.{Bor}
 use Rattle.tf_template.specs.Spelling.{Spells, SpellsList, SpellsParts, Takes, TakesName}
 use Rattle.tf_template.specs.Token.{token_kind, after_token}
-use Rattle.tf_template.specs.Tree.{Tree, number, truth, null, quoted, reference, call, group, listed, attribute, index, unary, binary, conditional, Trees, Woven, tree_depth, trees_depth, parts_depth, level, level_of, view, terms_view, template_view}
+use Rattle.tf_syntax.specs.TemplateTree.{Tree, number, truth, null, quoted, reference, call, group, listed, attribute, index, unary, binary, conditional, Trees, Woven, tree_depth, trees_depth, parts_depth, level, level_of, view, terms_view, template_view}
 use Rattle.tf_template.specs.declared.fault.Fault.{Fault}
 use Rattle.tf_template.specs.declared.fault.Fault.TheVariants.{At, TooDeep, OutOfMemory}
 use Rattle.tf_template.specs.declared.make.Found.{Found}
@@ -13,7 +13,7 @@ use Rattle.tf_template.specs.declared.token.Bracket.{Bracket}
 use Rattle.tf_template.specs.declared.token.Bracket.TheVariants.{Round, Square}
 use Rattle.tf_template.specs.declared.token.Kind.{Kind}
 use Rattle.tf_template.specs.declared.token.Kind.TheVariants.{Name, Number, Quote, Bang, Binary, Question, Colon, OpenParen, CloseParen, OpenBracket, CloseBracket, CloseBrace, Comma, Dot, Wrong}
-use Rattle.tf_template.specs.declared.token.Operator.TheVariants.{Or, And, Equal, NotEqual, Greater, GreaterOrEqual, Less, LessOrEqual, Add, Subtract, Multiply}
+use Rattle.tf_syntax.specs.declared.operator.Operator.TheVariants.{Or, And, Equal, NotEqual, Greater, GreaterOrEqual, Less, LessOrEqual, Add, Subtract, Multiply}
 use Rattle.tf_template.specs.declared.word.Keyword.{Keyword}
 use Rattle.tf_template.specs.declared.word.Keyword.TheVariants.{True, False, Null, Free}
 

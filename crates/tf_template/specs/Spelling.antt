@@ -2,12 +2,12 @@
 use Rattle.std.specs.Prelude.{◌≡◌, ◌⊎◌, ◌<◌, ◌≤◌, ◌^◌, ℕ, Bool, true, false, List, []}
 use Rattle.tf_template.specs.Literal.{Literal, piece, opens, closes}
 use Rattle.tf_template.specs.Token.{token_kind, token_word, after_token}
-use Rattle.tf_template.specs.Tree.{Tree, number, truth, null, quoted, reference, call, group, listed, attribute, index, unary, binary, conditional, Trees, no_trees, tree, Parts, no_parts, part, Woven, level, level_of}
+use Rattle.tf_syntax.specs.TemplateTree.{Tree, number, truth, null, quoted, reference, call, group, listed, attribute, index, unary, binary, conditional, Trees, no_trees, tree, Parts, no_parts, part, Woven, level, level_of}
 use Rattle.tf_template.specs.declared.token.Kind.{Kind}
 use Rattle.tf_template.specs.declared.token.Kind.TheVariants.{Name, Number, Quote, Bang, Binary, Question, Colon, OpenParen, CloseParen, OpenBracket, CloseBracket, CloseBrace, Comma, Dot}
-use Rattle.tf_template.specs.declared.token.Operator.TheVariants.{Subtract}
-use Rattle.tf_template.specs.declared.tree.Prefix.{Prefix}
-use Rattle.tf_template.specs.declared.tree.Prefix.TheVariants.{Not, Negate}
+use Rattle.tf_syntax.specs.declared.operator.Operator.TheVariants.{Subtract}
+use Rattle.tf_syntax.specs.declared.tree.Prefix.{Prefix}
+use Rattle.tf_syntax.specs.declared.tree.Prefix.TheVariants.{Not, Negate}
 use Rattle.tf_template.specs.declared.word.Keyword.{Keyword}
 use Rattle.tf_template.specs.declared.word.Keyword.TheVariants.{True, False, Null, Free}
 use Rattle.tf_template.specs.Word.{decimal, keyword}

@@ -5,7 +5,7 @@ use Rattle.tf_address.specs.Name.{starts_name, continues_name}
 use Rattle.tf_template.specs.Bytes.{is_space, is_digit}
 use Rattle.tf_template.specs.declared.token.Kind.{Kind}
 use Rattle.tf_template.specs.declared.token.Kind.TheVariants.{Name, Number, Quote, Bang, Binary, Question, Colon, OpenParen, CloseParen, OpenBracket, CloseBracket, CloseBrace, Comma, Dot, Wrong}
-use Rattle.tf_template.specs.declared.token.Operator.TheVariants.{Or, And, Equal, NotEqual, Greater, GreaterOrEqual, Less, LessOrEqual, Add, Subtract, Multiply}
+use Rattle.tf_syntax.specs.declared.operator.Operator.TheVariants.{Or, And, Equal, NotEqual, Greater, GreaterOrEqual, Less, LessOrEqual, Add, Subtract, Multiply}
 
 -- the sign that begins with these two bytes, and its length; past the end of the text a byte counts as 0
 unfoldable pub sign : ℕ → ℕ → Kind × ℕ

@@ -4,7 +4,7 @@ ghost use Rattle.std.specs.Prelude.{◌≡◌, ℕ, List};
 ghost use Rattle.std.specs.Str.{IsUtf8};
 ghost use Rattle.tf_template.specs.Canonical.{IsWritableTemplate, TemplateHasTexts, canonical};
 ghost use Rattle.tf_template.specs.Spelling.{SpellsTemplate};
-ghost use Rattle.tf_template.specs.Tree.{Woven};
+ghost use Rattle.tf_syntax.specs.TemplateTree.{Woven};
 
 /// A text spells one template at most, however deep.
 pub fn one_template()

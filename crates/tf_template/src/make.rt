@@ -3,15 +3,15 @@
 ghost use Rattle.std.specs.Prelude.{◌≡◌, ◌<◌, ◌^◌, ◌+◌, max, suc, length, IfOk, MatchResult, string_bytes};
 ghost use Rattle.tf_template.specs.Reads.{Makes, constant_tree};
 ghost use Rattle.tf_template.specs.Token.{token_kind, token_word, after_token};
-ghost use Rattle.tf_template.specs.Tree.{attribute, binary, call, conditional, group, index, listed, number, quoted, reference, terms_view, template_view, unary, view};
+ghost use Rattle.tf_syntax.specs.TemplateTree.{attribute, binary, call, conditional, group, index, listed, number, quoted, reference, terms_view, template_view, unary, view};
 ghost use Rattle.tf_template.specs.Word.{decimal};
 ghost use Rattle.tf_template.specs.declared.token.Kind.TheVariants.{CloseBracket, CloseParen, Name};
 
 use crate::fault::{Fault, refusal, refusal_behind};
-use crate::token::{Kind, Operator, Token, next_token};
-use crate::tree::{Prefix, Reference, Template, Term};
+use crate::token::{Kind, Token, next_token};
 use crate::word::{Keyword, number_of};
 use std::alloc::Global;
+use tf_syntax::{Operator, Prefix, Reference, Template, Term};
 
 /// An expression that was read, its depth, and what follows it.
 #[derive(Debug, Drop)]

@@ -4,7 +4,7 @@ ghost use Rattle.std.specs.Prelude.{◌≡◌, ◌<◌, ◌≤◌, ℕ, List, Bo
 ghost use Rattle.tf_template.specs.Reads.{Answers, AnswersList, AnswersParts, Holds, IsFound, IsListed, IsOperand, IsRead, Stops, Turns, closing};
 ghost use Rattle.tf_template.specs.Spelling.{Spells, SpellsList, SpellsParts};
 ghost use Rattle.tf_template.specs.Token.{token_kind};
-ghost use Rattle.tf_template.specs.Tree.{Tree, Trees, Woven, level, tree_depth, view};
+ghost use Rattle.tf_syntax.specs.TemplateTree.{Tree, Trees, Woven, level, tree_depth, view};
 ghost use Rattle.tf_template.specs.declared.token.Kind.TheVariants.{Name};
 
 use crate::fault::{Fault, last_level, pass_brace, pass_colon, refusal, refusal_behind};
@@ -14,10 +14,10 @@ use crate::make::{
     number, quoted, reference, unary,
 };
 use crate::scan::Rest;
-use crate::token::{Bracket, Kind, Operator, next_token};
-use crate::tree::{Prefix, Template};
+use crate::token::{Bracket, Kind, next_token};
 use crate::word::{Keyword, keyword_of};
 use std::alloc::Global;
+use tf_syntax::{Operator, Prefix, Template};
 
 // An expression of operators that bind at least so tightly. Where no level is left, none is read: whatever
 // stands there, each is too deep.

@@ -3,14 +3,14 @@
 ghost use Rattle.std.specs.Prelude.{◌≡◌, ◌<◌, ◌≤◌, IfOk, MatchResult};
 ghost use Rattle.tf_template.specs.Refusal.{Refuses};
 ghost use Rattle.tf_template.specs.Spelling.{SpellsTemplate};
-ghost use Rattle.tf_template.specs.Tree.{Woven, template_depth, template_view};
+ghost use Rattle.tf_syntax.specs.TemplateTree.{Woven, template_depth, template_view};
 
 use crate::fault::Fault;
 use crate::reader::template;
-use crate::tree::Template;
 use std::alloc::Global;
 use std::error::Error;
 use std::fmt;
+use tf_syntax::Template;
 
 /// How deep a template may be.
 pub const MAX_DEPTH: usize = 64;

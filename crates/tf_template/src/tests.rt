@@ -1,7 +1,8 @@
-use crate::{ReadFault, copy, functions, read_template, references};
+use crate::{ReadFault, read_template};
 use std::alloc::Global;
 use std::process::Abort;
 use std::test::Fail;
+use tf_syntax::{functions, references};
 
 // The tree that a text spells, or why none is read.
 fn shown(alloc: Global, text: &str) -> Result<String, Fail> {
@@ -203,33 +204,19 @@ fn refusal_of(
     Ok(read_template(alloc, text.as_str()).err())
 }
 
-// After the 63rd of these each completion is too deep, whatever stands behind it, a wrong token too. After the
-// 62nd a wrong token is the first that begins no template.
-#[test]
-fn is_too_deep_at_the_last_level(rt: HostRuntime) -> Result<(), Fail> {
-    for part in ["!", "-", "(", "\"${"] {
-        for behind in ["", ")", "]", "+", "9223372036854775808", "1 2", "\"%{"] {
+// Each of these texts behind each of the repeated ones is too deep.
+fn are_too_deep(
+    rt: &impl Abort,
+    alloc: Global,
+    parts: &[&str],
+    times: usize,
+    behinds: &[&str],
+) -> Result<(), Fail> {
+    for part in parts {
+        for behind in behinds {
             assert_eq!(rt;
-                refusal_of(rt.alloc(), part, 63, behind)?,
+                refusal_of(alloc, part, times, behind)?,
                 Some(ReadFault::TooDeep),
-                "{part} {behind}"
-            );
-        }
-        for (behind, more) in [
-            (")", 0),
-            ("]", 0),
-            ("9223372036854775808", 0),
-            ("\"%{", 1),
-            ("", 0),
-        ] {
-            let offset = part
-                .len()
-                .saturating_mul(62)
-                .saturating_add(more)
-                .saturating_add(2);
-            assert_eq!(rt;
-                refusal_of(rt.alloc(), part, 62, behind)?,
-                Some(ReadFault::At(offset)),
                 "{part} {behind}"
             );
         }
@@ -237,60 +224,80 @@ fn is_too_deep_at_the_last_level(rt: HostRuntime) -> Result<(), Fail> {
     Ok(())
 }
 
-// A list on the last level may still close, so a token there is wrong before it is too deep.
+// Each of these texts behind each of the repeated ones is refused so many bytes on.
+fn are_refused(
+    rt: &impl Abort,
+    alloc: Global,
+    parts: &[&str],
+    times: usize,
+    behinds: &[(&str, usize)],
+) -> Result<(), Fail> {
+    for part in parts {
+        for (behind, more) in behinds {
+            let offset = part.len().saturating_mul(times).saturating_add(*more);
+            assert_eq!(rt;
+                refusal_of(alloc, part, times, behind)?,
+                Some(ReadFault::At(offset.saturating_add(2))),
+                "{part} {behind}"
+            );
+        }
+    }
+    Ok(())
+}
+
+// After the 63rd of these each completion is too deep, whatever stands behind it, a wrong token too. After the
+// 62nd a wrong token is the first that begins no template.
+#[test]
+fn is_too_deep_at_the_last_level(rt: HostRuntime) -> Result<(), Fail> {
+    let parts = ["!", "-", "(", "\"${"];
+    let wrong = ["", ")", "]", "+", "9223372036854775808", "1 2", "\"%{"];
+    are_too_deep(&rt, rt.alloc(), &parts, 63, &wrong)?;
+    let refused = [
+        ("", 0),
+        (")", 0),
+        ("]", 0),
+        ("9223372036854775808", 0),
+        ("\"%{", 1),
+    ];
+    are_refused(&rt, rt.alloc(), &parts, 62, &refused)
+}
+
+// A list on the last level may still close, so a token there may be wrong before it is too deep.
 #[test]
 fn lists_may_close_on_the_last_level(rt: HostRuntime) -> Result<(), Fail> {
     for (part, close) in [("[", "]"), ("f(", ")")] {
         let whole = nested(rt.alloc(), part, "", close, 63)?;
         assert!(rt; is_read(rt.alloc(), whole.as_str()), "{part}");
-        for behind in ["1", "a", "!", "(", "\"%{", "[", "- )"] {
-            assert_eq!(rt;
-                refusal_of(rt.alloc(), part, 63, behind)?,
-                Some(ReadFault::TooDeep),
-                "{part} {behind}"
-            );
-        }
-        for behind in ["", ",", "+", "}", "9223372036854775808", "%"] {
-            let offset = part.len().saturating_mul(63).saturating_add(2);
-            assert_eq!(rt;
-                refusal_of(rt.alloc(), part, 63, behind)?,
-                Some(ReadFault::At(offset)),
-                "{part} {behind}"
-            );
-        }
     }
-    Ok(())
+    let parts = ["[", "f("];
+    let deep = ["1", "a", "!", "(", "\"%{", "[", "- )"];
+    are_too_deep(&rt, rt.alloc(), &parts, 63, &deep)?;
+    let refused = [
+        ("", 0),
+        (",", 0),
+        ("+", 0),
+        ("}", 0),
+        ("9223372036854775808", 0),
+        ("%", 0),
+    ];
+    are_refused(&rt, rt.alloc(), &parts, 63, &refused)
 }
 
 // So with operators behind what is already of the last level.
 #[test]
 fn operators_are_too_deep_on_the_last_level(rt: HostRuntime) -> Result<(), Fail> {
-    for behind in [
+    let deep = [
         "1 + )",
         "1 ? ]",
         "1 &&",
         "a.b.1",
         "a.b[",
         "f()[9223372036854775808",
-    ] {
-        assert_eq!(rt;
-            refusal_of(rt.alloc(), "!", 62, behind)?,
-            Some(ReadFault::TooDeep),
-            "{behind}"
-        );
-    }
-    for (behind, offset) in [("1[0]", 65), ("1 2", 66), ("a", 65), ("true.x", 68)] {
-        assert_eq!(rt;
-            refusal_of(rt.alloc(), "!", 62, behind)?,
-            Some(ReadFault::At(offset)),
-            "{behind}"
-        );
-    }
-    assert_eq!(rt;
-        refusal_of(rt.alloc(), "!", 61, "1 + )")?,
-        Some(ReadFault::At(67))
-    );
-    Ok(())
+    ];
+    are_too_deep(&rt, rt.alloc(), &["!"], 62, &deep)?;
+    let refused = [("1[0]", 1), ("1 2", 2), ("a", 1), ("true.x", 4)];
+    are_refused(&rt, rt.alloc(), &["!"], 62, &refused)?;
+    are_refused(&rt, rt.alloc(), &["!"], 61, &[("1 + )", 4)])
 }
 
 // What is too deep is so within the first 64 levels, however long the text is.
@@ -317,12 +324,10 @@ fn answers_deep_texts_at_once(rt: HostRuntime) -> Result<(), Fail> {
 
 #[test]
 fn answers_long_texts_at_once(rt: HostRuntime) -> Result<(), Fail> {
-    for (part, times) in [("$", 4_000_000), ("\"", 4_194_304), ("%", 1_000_000)] {
-        let text = repeated(rt.alloc(), part, times)?;
-        let template = read_template(rt.alloc(), text.as_str()).map_err(|_| "refused")?;
-        assert_eq!(rt; template.last.len(), times, "{part}");
-    }
     for (before, part, times, behind) in [
+        ("", "$", 4_000_000, ""),
+        ("", "\"", 4_194_304, ""),
+        ("", "%", 1_000_000, ""),
         ("${[", "1, ", 1_000_000, "]}"),
         ("${\"", "\\\"", 2_097_152, "\"}"),
         ("", "${a.b}", 200_000, ""),
@@ -361,20 +366,8 @@ fn copies_each_form(rt: HostRuntime) -> Result<(), Fail> {
     let text = "a${1}${true ? null : [-2, !c.d[0].e]}\n${f(\"x${(1 + 2) * 3}y\", g())}b";
     let template = read_template(rt.alloc(), text).map_err(|_| "refused")?;
     let written = format!(in rt.alloc(); "{template:?}")?;
-    let copied = format!(in rt.alloc(); "{:?}", copy(&template)?)?;
-    assert_eq!(rt; copied.as_str(), written.as_str());
     let cloned = format!(in rt.alloc(); "{:?}", template.clone()?)?;
     assert_eq!(rt; cloned.as_str(), written.as_str());
-    for (_, term) in template.parts.iter() {
-        let written = format!(in rt.alloc(); "{term:?}")?;
-        let cloned = format!(in rt.alloc(); "{:?}", term.clone()?)?;
-        assert_eq!(rt; cloned.as_str(), written.as_str());
-    }
-    for reference in references(rt.alloc(), &template)?.iter() {
-        let cloned = reference.clone()?;
-        assert_eq!(rt; cloned.first.as_str(), "c");
-        assert_eq!(rt; cloned.name.as_str(), "d");
-    }
     Ok(())
 }
 

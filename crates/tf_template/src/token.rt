@@ -7,33 +7,7 @@ ghost use Rattle.std.specs.Prelude.{if◌then◌else◌};
 ghost use Rattle.tf_template.specs.declared.token.Kind.TheVariants.{Wrong};
 
 use crate::scan::{byte_at, cut, digit_len, is_digit, name_len, space_len, starts_name};
-
-/// A binary operator.
-#[derive(Clone, Copy, Debug, PartialEq, Eq)]
-pub enum Operator {
-    /// `||`
-    Or,
-    /// `&&`
-    And,
-    /// `==`
-    Equal,
-    /// `!=`
-    NotEqual,
-    /// `>`
-    Greater,
-    /// `>=`
-    GreaterOrEqual,
-    /// `<`
-    Less,
-    /// `<=`
-    LessOrEqual,
-    /// `+`
-    Add,
-    /// `-`
-    Subtract,
-    /// `*`
-    Multiply,
-}
+use tf_syntax::Operator;
 
 /// What a token is.
 #[derive(Clone, Copy, Debug)]
@@ -61,26 +35,6 @@ pub(crate) enum Kind {
 pub(crate) enum Bracket {
     Round,
     Square,
-}
-
-impl Operator {
-    ghost use Rattle.std.specs.Prelude.{◌≡◌};
-    ghost use Rattle.tf_template.specs.Tree.{level_of};
-
-    /// How tightly the operator binds, from 2 to 7.
-    pub fn level(self) -> usize
-        ensures { result ≡ level_of self }
-    {
-        match self {
-            Operator::Or => 2,
-            Operator::And => 3,
-            Operator::Equal | Operator::NotEqual => 4,
-            Operator::Greater | Operator::GreaterOrEqual | Operator::Less | Operator::LessOrEqual =>
-                5,
-            Operator::Add | Operator::Subtract => 6,
-            Operator::Multiply => 7,
-        }
-    }
 }
 
 impl Kind {

@@ -2,16 +2,17 @@ use Rattle.std.proofs.lemmas.Result.{err_from_is_err_and}
 use Rattle.std.proofs.lemmas.List.{length-map}
 use Rattle.std.proofs.Common.{◌≡◌, ◌<◌, [], ◌∷◌, ◌++◌, length, get_or, map, string_bytes, sym, ap, ◌∙◌, arith}
 use Rattle.tf_value.specs.Tree.{no_items, tree_of, text}
-use Rattle.tf_template.specs.Tree.{parts_view}
+use Rattle.tf_syntax.specs.TemplateTree.{parts_view, terms_view}
 use Rattle.tf_operators.specs.Answer.{items_behind, item_behind}
+use Rattle.tf_operators.specs.Functions.{function_named}
 use Rattle.tf_operators.specs.Joiner.{answer_so_far}
-use Rattle.tf_eval.specs.Meaning.{and_then, between, laid, woven}
+use Rattle.tf_eval.specs.Meaning.{and_then, between, laid, meanings, woven}
 use Rattle.tf_eval.proofs.Alone.{joined_is}
 use Rattle.tf_eval.proofs.Rows.{onto-nil, pieces-more, laid-more, behind-nil, gives-along, values-count, called-few, called-fails, called-is}
 use Rattle.tf_eval.proofs.evaluation.+eval.Goals as goal
 
 pub join_parts-loop-part-init : goal.join_parts-loop-part-init
-join_parts-loop-part-init g t c = ([], onto-nil _, λ ts h. rw (behind-nil ts) h)
+join_parts-loop-part-init g t c = ([], onto-nil (between (g.S.Scope.environment c.args.scope.now) (parts_view c.args.parts.now.items)), λ ts h. rw (behind-nil ts) h)
 
 pub join_parts-loop-part-preserved : goal.join_parts-loop-part-preserved
 join_parts-loop-part-preserved g t c =
@@ -24,7 +25,7 @@ join_parts-loop-part-preserved g t c =
     let is : c.part-item.result ≡ get_or c.args.parts.now.items c.loop-part.part-index c.part-item.result = c.part-item.is ∙ ap (λ ys. get_or ys i c.part-item.result) xs in
     let v = tree_of c.in_ok-value.value in (
       done ++ (string_bytes p.0, v) ∷ [],
-      pieces-more (g.S.Scope.environment c.args.scope.now) c.args.parts.now.items i p _ done v within is inv.1 c.in_ok-value.ensures,
+      pieces-more (g.S.Scope.environment c.args.scope.now) c.args.parts.now.items i p (between (g.S.Scope.environment c.args.scope.now) (parts_view c.args.parts.now.items)) done v within is inv.1 c.in_ok-value.ensures,
       λ ts h. rw (← laid-more ts done (string_bytes p.0) v) (c.in_ok-push_value.ensures.ok (item_behind (items_behind ts (laid done)) (text (string_bytes p.0))) (rw (← c.as_str.ensures.value) (c.in_ok-push_text.ensures.ok (items_behind ts (laid done)) (inv.2 ts h)))),
     )
 
@@ -42,12 +43,12 @@ woven_value-returns g t c =
 
 pub call_value-returns-then-not-takes : goal.call_value-returns-then-not-takes
 call_value-returns-then-not-takes g t c =
-    called-few c.in-Some.function _ c.args.terms.now.items c.len.result _ c.in-Some.ensures (c.len.ensures ∙ c.args.terms.now.ok.0) (sym c.takes.ensures ∙ c.if-not-takes.true)
+    called-few c.in-Some.function (function_named c.args.name.now) c.args.terms.now.items c.len.result (meanings (g.S.Scope.environment c.args.scope.now) (terms_view c.args.terms.now.items)) c.in-Some.ensures (c.len.ensures ∙ c.args.terms.now.ok.0) (sym c.takes.ensures ∙ c.if-not-takes.true)
 
 pub call_value-returns-in_err-term_values : goal.call_value-returns-in_err-term_values
 call_value-returns-in_err-term_values g t c =
     let e = err_from_is_err_and c.from_residual.result c.from_residual.ensures.1 in
-    rw (e.1, e.2) (called-fails c.in-Some.function _ c.args.terms.now.items c.len.result _ c.in_err-term_values.field-0.0 c.in-Some.ensures (c.len.ensures ∙ c.args.terms.now.ok.0) (sym c.takes.ensures ∙ c.if-not-takes.false) c.in_err-term_values.ensures)
+    rw (e.1, e.2) (called-fails c.in-Some.function (function_named c.args.name.now) c.args.terms.now.items c.len.result (meanings (g.S.Scope.environment c.args.scope.now) (terms_view c.args.terms.now.items)) c.in_err-term_values.field-0.0 c.in-Some.ensures (c.len.ensures ∙ c.args.terms.now.ok.0) (sym c.takes.ensures ∙ c.if-not-takes.false) c.in_err-term_values.ensures)
 
 pub call_value-call-requires : goal.call_value-call-requires
 call_value-call-requires g t c =
@@ -56,5 +57,5 @@ call_value-call-requires g t c =
 
 pub call_value-returns : goal.call_value-returns
 call_value-returns g t c =
-    let is = called-is c.in-Some.function _ c.args.terms.now.items c.len.result _ (map tree_of c.in_ok-term_values.field-0.items) c.in-Some.ensures (c.len.ensures ∙ c.args.terms.now.ok.0) (sym c.takes.ensures ∙ c.if-not-takes.false) c.in_ok-term_values.ensures in
+    let is = called-is c.in-Some.function (function_named c.args.name.now) c.args.terms.now.items c.len.result (meanings (g.S.Scope.environment c.args.scope.now) (terms_view c.args.terms.now.items)) (map tree_of c.in_ok-term_values.field-0.items) c.in-Some.ensures (c.len.ensures ∙ c.args.terms.now.ok.0) (sym c.takes.ensures ∙ c.if-not-takes.false) c.in_ok-term_values.ensures in
     rw is c.call.ensures

@@ -1,6 +1,6 @@
 use Rattle.std.proofs.Common.{◌≡◌, ℕ, List, map, drop}
 use Rattle.tf_value.specs.Tree.{Tree, Items, tree_of}
-use Rattle.tf_template.specs.Tree.{parts_view, terms_view}
+use Rattle.tf_syntax.specs.TemplateTree.{parts_view, terms_view}
 use Rattle.tf_operators.specs.Answer.{items_behind}
 use Rattle.tf_operators.specs.Joiner.{Joins}
 use Rattle.tf_eval.specs.Meaning.{between, laid, meanings}

@@ -6,7 +6,7 @@ use Rattle.tf_template.specs.Token.{token_kind, after_token}
 use Rattle.tf_template.specs.Steps.{EndsWithin, end_of}
 use Rattle.tf_template.specs.declared.literal.End.TheVariants.{Opens, Closes, Wrong}
 use Rattle.tf_template.specs.declared.token.Kind.TheVariants.{CloseParen, CloseBracket, Colon}
-use Rattle.tf_template.specs.Tree.{Parts, Woven, quoted, conditional, level_of, parts_depth, tree_depth, view}
+use Rattle.tf_syntax.specs.TemplateTree.{Parts, Woven, quoted, conditional, level_of, parts_depth, tree_depth, view}
 use Rattle.tf_template.specs.Word.{decimal}
 use Rattle.tf_template.proofs.Begun.{closing_plain, closing_last, closing_other, at_quote, at_group, at_binary, at_question, at_bracket, stops_at, made_answers, number_fits, deep_some}
 use Rattle.tf_template.proofs.Growing.{Fails-more, spells_begins, level_some, first_fails, first_grows, next_fails, climbs, climbed}

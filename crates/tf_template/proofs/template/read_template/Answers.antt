@@ -1,6 +1,6 @@
 use Rattle.std.proofs.Common.{false, subst, arith}
 use Rattle.tf_template.specs.Spelling.{SpellsParts}
-use Rattle.tf_template.specs.Tree.{template_view}
+use Rattle.tf_syntax.specs.TemplateTree.{template_view}
 use Rattle.tf_template.proofs.Weaving.{nothing_left}
 use Rattle.tf_template.proofs.template.read_template.Goals as goal
 

@@ -1,0 +1,70 @@
+//! Evaluation of expressions.
+
+ghost use Rattle.std.specs.Prelude.{map as each};
+ghost use Rattle.tf_value.specs.Tree.{tree_of as value_of, entries_view as entries_of_values};
+ghost use Rattle.tf_operators.specs.Answer.{Gives};
+ghost use Rattle.tf_eval.specs.Answering.{GivesAs};
+ghost use Rattle.tf_eval.specs.ExprMeaning.{meaning, meanings, below};
+ghost use Rattle.tf_syntax.specs.ExprTree.{tree_of, trees_view, entries_view};
+
+use crate::evaluation::eval;
+use crate::scope::Scope;
+use std::alloc::Global;
+use std::collections::BTreeMap;
+use tf_operators::{EvalFault, list, map};
+use tf_syntax::Expr;
+use tf_value::Value;
+
+/// The value of an expression in a scope.
+///
+/// # Errors
+///
+/// The first fault of its parts, elements in order and properties in byte order of their names; `TooLarge`
+/// where a list or a map is beyond the limits on values; and `OutOfMemory`.
+#[cycle(eval)]
+pub fn eval_expr<S: Scope>(alloc: Global, expr: &Expr, scope: &S) -> Result<Value, EvalFault>
+    ensures { Gives (meaning (S.environment scope.now) (tree_of expr.now)) result }
+{
+    match expr {
+        Expr::Null => Ok(Value::Null),
+        Expr::Bool(truth) => Ok(Value::Bool(*truth)),
+        Expr::Int(number) => Ok(Value::Int(*number)),
+        Expr::Template(template) => eval(alloc, template, scope),
+        Expr::List(exprs) => list(eval_exprs(alloc, exprs, scope)?),
+        Expr::Map(entries) => map(eval_entries(alloc, entries, scope)?),
+    }
+}
+
+/// The values of expressions in a row.
+#[cycle(eval)]
+fn eval_exprs<S: Scope>(
+    alloc: Global,
+    exprs: &Vec<Expr>,
+    scope: &S,
+) -> Result<Vec<Value>, EvalFault>
+    ensures { GivesAs (λ v. each value_of v.items) (meanings (S.environment scope.now) (trees_view exprs.now.items)) result }
+{
+    let mut values = Vec::with_capacity(alloc, exprs.len())?;
+    for expr in exprs {
+        values.push(eval_expr(alloc, expr, scope)?)?;
+    }
+    Ok(values)
+}
+
+/// The values of expressions under their names.
+#[cycle(eval)]
+fn eval_entries<S: Scope>(
+    alloc: Global,
+    entries: &BTreeMap<String, Expr>,
+    scope: &S,
+) -> Result<BTreeMap<String, Value>, EvalFault>
+    ensures { GivesAs (λ m. entries_of_values m.entries) (below (S.environment scope.now) (entries_view entries.now.entries)) result }
+{
+    let mut values = BTreeMap::new(alloc);
+    for (key, expr) in entries.iter() {
+        let value = eval_expr(alloc, expr, scope)?;
+        let name = key.clone()?;
+        drop(values.insert(name, value)?);
+    }
+    Ok(values)
+}

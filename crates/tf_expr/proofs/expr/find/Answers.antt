@@ -1,7 +1,0 @@
-use Rattle.std.proofs.Common.{option_map, ◌∙◌, ap}
-use Rattle.tf_expr.specs.Tree.{tree_of}
-use Rattle.tf_expr.proofs.Views.{tree_of-lookup, tree_of_ref}
-use Rattle.tf_expr.proofs.expr.find.Goals as goal
-
-pub returns : goal.returns
-returns c = tree_of_ref c.get.result ∙ ap (option_map tree_of) c.get.ensures.value ∙ tree_of-lookup c.args.name.now c.args.entries.now.entries

@@ -1,0 +1,4 @@
+pub mod ExprNames
+pub mod ExprTree
+pub mod TemplateNames
+pub mod TemplateTree

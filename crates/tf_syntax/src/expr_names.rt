@@ -1,0 +1,89 @@
+//! What an expression names and calls.
+
+ghost use Rattle.std.specs.Prelude.{◌≡◌, ◌++◌, IfOk, OnOk, map, string_bytes};
+ghost use Rattle.tf_syntax.specs.ExprNames.{called_among, called_below, called_by, named_among, named_below, named_by};
+ghost use Rattle.tf_syntax.specs.ExprTree.{entries_view, tree_of, trees_view};
+ghost use Rattle.tf_syntax.specs.TemplateNames.{reference_of};
+
+use crate::expr::Expr;
+use crate::names::{Names, add_parts};
+use crate::tree::Reference;
+use std::alloc::{AllocError, Global};
+use std::collections::BTreeMap;
+
+impl Expr {
+    /// Each reference of the expression's templates, in walk order, as often as it stands there.
+    ///
+    /// # Errors
+    ///
+    /// Only where memory runs out.
+    pub fn references(&self, alloc: Global) -> Result<Vec<Reference>, AllocError>
+        ensures { IfOk result (λ v. map reference_of v.items ≡ named_by (tree_of self.now)) }
+    {
+        let names = names_of(alloc, self)?;
+        Ok(names.references)
+    }
+
+    /// The name of each function that the expression's templates call, in walk order, as often as it is
+    /// called. A call stands before the calls among its arguments.
+    ///
+    /// # Errors
+    ///
+    /// Only where memory runs out.
+    pub fn functions(&self, alloc: Global) -> Result<Vec<String>, AllocError>
+        ensures { IfOk result (λ v. map string_bytes v.items ≡ called_by (tree_of self.now)) }
+    {
+        let names = names_of(alloc, self)?;
+        Ok(names.functions)
+    }
+}
+
+fn names_of(alloc: Global, expr: &Expr) -> Result<Names, AllocError>
+    ensures named { IfOk result (λ n. map reference_of n.references.items ≡ named_by (tree_of expr.now)) }
+    ensures called { IfOk result (λ n. map string_bytes n.functions.items ≡ called_by (tree_of expr.now)) }
+{
+    let mut found = Names::new(alloc);
+    add(expr, &mut found)?;
+    Ok(found)
+}
+
+#[cycle(names)]
+fn add(expr: &Expr, found: &mut Names) -> Result<(), AllocError>
+    ensures named { OnOk result (map reference_of found.new.references.items
+        ≡ map reference_of found.old.references.items ++ named_by (tree_of expr.now)) }
+    ensures called { OnOk result (map string_bytes found.new.functions.items
+        ≡ map string_bytes found.old.functions.items ++ called_by (tree_of expr.now)) }
+{
+    match expr {
+        Expr::Null | Expr::Bool(_) | Expr::Int(_) => Ok(()),
+        Expr::Template(template) => add_parts(&template.parts, found),
+        Expr::List(exprs) => add_list(exprs, found),
+        Expr::Map(entries) => add_entries(entries, found),
+    }
+}
+
+#[cycle(names)]
+fn add_list(exprs: &Vec<Expr>, found: &mut Names) -> Result<(), AllocError>
+    ensures named { OnOk result (map reference_of found.new.references.items
+        ≡ map reference_of found.old.references.items ++ named_among (trees_view exprs.now.items)) }
+    ensures called { OnOk result (map string_bytes found.new.functions.items
+        ≡ map string_bytes found.old.functions.items ++ called_among (trees_view exprs.now.items)) }
+{
+    for expr in exprs {
+        add(expr, found)?;
+    }
+    Ok(())
+}
+
+#[cycle(names)]
+fn add_entries(entries: &BTreeMap<String, Expr>, found: &mut Names) -> Result<(), AllocError>
+    ensures named { OnOk result (map reference_of found.new.references.items
+        ≡ map reference_of found.old.references.items ++ named_below (entries_view entries.now.entries)) }
+    ensures called { OnOk result (map string_bytes found.new.functions.items
+        ≡ map string_bytes found.old.functions.items ++ called_below (entries_view entries.now.entries)) }
+{
+    for (_, expr) in entries.iter() {
+        add(expr, found)?;
+    }
+    Ok(())
+}

@@ -1,0 +1,138 @@
+//! What a template names and calls.
+
+ghost use Rattle.std.specs.Prelude.{◌≡◌, [], ◌∷◌, ◌++◌, IfOk, OnOk, map, string_bytes};
+ghost use Rattle.tf_syntax.specs.TemplateNames.{called, called_among, called_between, called_by, named, named_among, named_between, named_by, reference_of};
+ghost use Rattle.tf_syntax.specs.TemplateTree.{parts_view, template_view, terms_view, view};
+
+use crate::tree::{Reference, Template, Term};
+use std::alloc::{AllocError, Global};
+
+/// Each reference of a template, from left to right, as often as it stands there.
+///
+/// # Errors
+///
+/// Only where memory runs out.
+pub fn references(alloc: Global, template: &Template) -> Result<Vec<Reference>, AllocError>
+    ensures { IfOk result (λ v. map reference_of v.items ≡ named (template_view template.now)) }
+{
+    let names = names_of(alloc, template)?;
+    Ok(names.references)
+}
+
+/// The name of each function that a template calls, from left to right, as often as it is called. A call
+/// stands before the calls among its arguments.
+///
+/// # Errors
+///
+/// Only where memory runs out.
+pub fn functions(alloc: Global, template: &Template) -> Result<Vec<String>, AllocError>
+    ensures { IfOk result (λ v. map string_bytes v.items ≡ called (template_view template.now)) }
+{
+    let names = names_of(alloc, template)?;
+    Ok(names.functions)
+}
+
+/// What was found so far.
+#[derive(Drop)]
+pub(crate) struct Names {
+    pub(crate) references: Vec<Reference>,
+    pub(crate) functions: Vec<String>,
+}
+
+impl Names {
+    ghost use Rattle.std.specs.Prelude.{◌≡◌, []};
+
+    /// Nothing yet.
+    pub(crate) fn new(alloc: Global) -> Names
+        ensures named { result.references.items ≡ [] }
+        ensures called { result.functions.items ≡ [] }
+    {
+        Names {
+            references: Vec::new(alloc),
+            functions: Vec::new(alloc),
+        }
+    }
+}
+
+fn names_of(alloc: Global, template: &Template) -> Result<Names, AllocError>
+    ensures named { IfOk result (λ n. map reference_of n.references.items ≡ named (template_view template.now)) }
+    ensures called { IfOk result (λ n. map string_bytes n.functions.items ≡ called (template_view template.now)) }
+{
+    let mut found = Names::new(alloc);
+    add_parts(&template.parts, &mut found)?;
+    Ok(found)
+}
+
+#[cycle(names)]
+fn add(term: &Term, found: &mut Names) -> Result<(), AllocError>
+    ensures named { OnOk result (map reference_of found.new.references.items
+        ≡ map reference_of found.old.references.items ++ named_by (view term.now)) }
+    ensures called { OnOk result (map string_bytes found.new.functions.items
+        ≡ map string_bytes found.old.functions.items ++ called_by (view term.now)) }
+{
+    match term {
+        Term::Number(_) | Term::Truth(_) | Term::Null => Ok(()),
+        Term::Quoted(template) => add_parts(&template.parts, found),
+        Term::Reference(reference) => add_reference(reference, found),
+        Term::Call(name, terms) => {
+            add_function(name, found)?;
+            add_terms(terms, found)
+        }
+        Term::List(terms) => add_terms(terms, found),
+        Term::Group(inner) | Term::Attribute(inner, _) | Term::Unary(_, inner) => add(inner, found),
+        Term::Index(left, right) | Term::Binary(_, left, right) => {
+            add(left, found)?;
+            add(right, found)
+        }
+        Term::Conditional(condition, yes, no) => {
+            add(condition, found)?;
+            add(yes, found)?;
+            add(no, found)
+        }
+    }
+}
+
+#[cycle(names)]
+fn add_terms(terms: &Vec<Term>, found: &mut Names) -> Result<(), AllocError>
+    ensures named { OnOk result (map reference_of found.new.references.items
+        ≡ map reference_of found.old.references.items ++ named_among (terms_view terms.now.items)) }
+    ensures called { OnOk result (map string_bytes found.new.functions.items
+        ≡ map string_bytes found.old.functions.items ++ called_among (terms_view terms.now.items)) }
+{
+    for term in terms {
+        add(term, found)?;
+    }
+    Ok(())
+}
+
+/// Adds what interpolations name and call.
+#[cycle(names)]
+pub(crate) fn add_parts(parts: &Vec<(String, Term)>, found: &mut Names) -> Result<(), AllocError>
+    ensures named { OnOk result (map reference_of found.new.references.items
+        ≡ map reference_of found.old.references.items ++ named_between (parts_view parts.now.items)) }
+    ensures called { OnOk result (map string_bytes found.new.functions.items
+        ≡ map string_bytes found.old.functions.items ++ called_between (parts_view parts.now.items)) }
+{
+    for part in parts {
+        add(&part.1, found)?;
+    }
+    Ok(())
+}
+
+fn add_reference(reference: &Reference, found: &mut Names) -> Result<(), AllocError>
+    ensures named { OnOk result (map reference_of found.new.references.items
+        ≡ map reference_of found.old.references.items ++ reference_of reference.now ∷ []) }
+    ensures called { found.new.functions ≡ found.old.functions }
+{
+    found.references.push(reference.clone()?)?;
+    Ok(())
+}
+
+fn add_function(name: &String, found: &mut Names) -> Result<(), AllocError>
+    ensures named { found.new.references ≡ found.old.references }
+    ensures called { OnOk result (map string_bytes found.new.functions.items
+        ≡ map string_bytes found.old.functions.items ++ string_bytes name.now ∷ []) }
+{
+    found.functions.push(name.clone()?)?;
+    Ok(())
+}
