@@ -85,7 +85,7 @@ fn keeps_records_by_place(rt: HostRuntime) -> Result<(), Fail> {
     Ok(())
 }
 
-// A second put at a place gives the record that was there, and a remove leaves the others.
+// A second put of an object gives the record that was there, and a remove leaves the others.
 #[test]
 fn replaces_and_removes_records(rt: HostRuntime) -> Result<(), Fail> {
     let alloc = rt.alloc();
@@ -244,7 +244,10 @@ fn names_providers(rt: HostRuntime) -> Result<(), Fail> {
         ("_x", ""),
     ] {
         let want = format!(in rt.alloc(); "provider[\"registry.terraform.io/hashicorp/{name}\"]")?;
-        assert_eq!(rt; provider_address(rt.alloc(), type_name)?.as_str(), want.as_str());
+        assert_eq!(rt;
+            provider_address(rt.alloc(), type_name)?.as_str(),
+            want.as_str()
+        );
     }
     Ok(())
 }
