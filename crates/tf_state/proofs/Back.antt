@@ -14,7 +14,9 @@ use Rattle.tf_value.proofs.Forms.{value_from-value_data}
 use Rattle.tf_address.specs.ObjectId.{InstanceKeyView, single, number, name}
 use Rattle.tf_state.specs.Reading.{value_in, values_in, key_in, deposed_in, attributes_in, addresses_in, dependencies_in, tainted_in, flag_in, put_text, put_new, below, below_or_zero, output_in}
 use Rattle.tf_state.specs.Text.{key_data, status_data, flag_data, dependencies_data, output_data, outputs_data}
-use Rattle.tf_state.specs.Valid.{IsSaved, AreSaved, IsTable, IsAttributes, IsKey, IsDeposed, AreAddresses}
+use Rattle.tf_value.specs.Stored.{IsTable}
+use Rattle.tf_state.proofs.ShownTables.{IsSaved, AreSaved, shown}
+use Rattle.tf_state.specs.Valid.{IsAttributes, IsKey, IsDeposed, AreAddresses}
 use Rattle.tf_state.proofs.ValueForms.{value_read}
 
 -- ---- values
@@ -107,10 +109,14 @@ outputs_saved-back no_entries h = tt
 outputs_saved-back (entry k t es) h = (value-back t h.0, outputs_saved-back es h.1)
 
 pub table-back : (es : Entries) → IsTable es → values_in value_in (entries_data es) no_entries ≡ Some es
-table-back es h = ap (λ ms. values_in value_in ms no_entries) (entries-members es) ∙ values-back value_in value_data es (saved-back es h.1) h.0
+table-back es h =
+    let all = shown es h in
+    ap (λ ms. values_in value_in ms no_entries) (entries-members es) ∙ values-back value_in value_data es (saved-back es all.1) all.0
 
 pub outputs-back : (es : Entries) → IsTable es → values_in output_in (outputs_data es) no_entries ≡ Some es
-outputs-back es h = ap (λ ms. values_in output_in ms no_entries) (outputs-members es) ∙ values-back output_in output_data es (outputs_saved-back es h.1) h.0
+outputs-back es h =
+    let all = shown es h in
+    ap (λ ms. values_in output_in ms no_entries) (outputs-members es) ∙ values-back output_in output_data es (outputs_saved-back es all.1) all.0
 
 -- ---- properties of a record
 

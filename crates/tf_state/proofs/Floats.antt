@@ -14,6 +14,7 @@ use Rattle.tf_state_data.specs.Record.{RecordView}
 use Rattle.tf_state_data.specs.Resource.{ResourceView}
 use Rattle.tf_state_data.specs.State.{StateView}
 use Rattle.tf_state.specs.Text.{put_some, key_data, status_data, flag_data, dependencies_data, record_data, resource_data, output_data, outputs_data, state_data}
+use Rattle.tf_state.specs.Arrangement.{with_records}
 use Rattle.tf_state.specs.Types.{type_data, item_types, entry_types}
 
 neither : (b c : Bool) → b ≡ false → c ≡ false → (b || c) ≡ false
@@ -169,5 +170,5 @@ outputs_data-whole (entry k t es) = neither _ _ (output_data-whole t) (outputs_d
 pub state_data-whole : (s : StateView) → has_float (state_data s) ≡ false
 state_data-whole s =
     (put-whole (codes "lineage") _ _ (text-whole s.lineage) (put-whole (codes "outputs") _ _ (whole (json.object (outputs_data s.outputs)) (outputs_data-whole s.outputs))
-    (put-whole (codes "resources") _ _ (whole (json.array (items_of (each resource_data s.resources))) (resources-whole s.resources)) (put-whole (codes "serial") _ _ (number-whole s.serial)
+    (put-whole (codes "resources") _ _ (whole (json.array (items_of (each resource_data (with_records s.resources)))) (resources-whole (with_records s.resources))) (put-whole (codes "serial") _ _ (number-whole s.serial)
     (put-whole (codes "terraform_version") _ _ (text-whole s.terraform_version) (put-whole (codes "version") _ _ (number-whole 4) no_members-whole)))))).fact

@@ -1,5 +1,5 @@
 -- Puts and removes keep valid states valid.
-use Rattle.std.proofs.Common.{◌≡◌, true, List, [], ◌∷◌, ◌++◌, Ordering, refl}
+use Rattle.std.proofs.Common.{◌≡◌, ◌<◌, ◌^◌, arith, true, List, [], ◌∷◌, ◌++◌, Ordering, refl}
 use Rattle.std.specs.List.{AllByRecursion}
 use Rattle.std.specs.Ordering.{is_lt, is_gt}
 use Rattle.tf_address.specs.Label.{label_cmp}
@@ -9,10 +9,11 @@ use Rattle.tf_state_data.specs.Record.{RecordView}
 use Rattle.tf_state_data.specs.Resource.{ResourceView, with_record}
 use Rattle.tf_state_data.proofs.OrderKept.{with-sorted, without-sorted}
 use Rattle.tf_address.proofs.Totals.{object_id_total, label_total}
-use Rattle.tf_state.specs.Laws.{PutKeepsState, PutKeepsResource, RemoveKeepsState, RemoveKeepsResource}
+use Rattle.tf_value.proofs.Tables.{no_table}
+use Rattle.tf_state.specs.Laws.{EmptyIsValid, OutputsKeepState, SerialKeepsState, PutKeepsState, PutKeepsResource, RemoveKeepsState, RemoveKeepsResource}
 use Rattle.tf_state.specs.Arrangement.{is_some_record}
 use Rattle.tf_state.specs.Valid.{AreRecords, AreResources, IsPresent, IsRecord, IsResource}
-use Rattle.tf_state.proofs.Orders.{all-filter}
+use Rattle.tf_state.proofs.Orders.{all-filter, nothing_ordered}
 
 -- ---- a property of each
 
@@ -65,3 +66,14 @@ remove_keeps_resource id r h =
       name = h.name;
       records = (without_one-all (λ q. q.id) object_id_cmp IsRecord id r.records h.records.0, without-sorted (λ q. q.id) object_id_cmp object_id_total id r.records h.records.1);
     }
+
+pub empty_valid : EmptyIsValid
+empty_valid lineage =
+    let small : 0 < 2 ^ 32 = omega arith in
+    record { serial = small; outputs = no_table; resources = (tt, nothing_ordered label_cmp) }
+
+pub serial_keeps_state : SerialKeepsState
+serial_keeps_state serial s small h = record { serial = small; outputs = h.outputs; resources = h.resources }
+
+pub outputs_keep_state : OutputsKeepState
+outputs_keep_state outputs s table h = record { serial = h.serial; outputs = table; resources = h.resources }

@@ -15,6 +15,10 @@ pub items_len-map : {A B : Type 0} (f : B → Data) (g : A → B) (xs : List A) 
 items_len-map f g [] = refl
 items_len-map f g (x ∷ xs) = ap suc (items_len-map f g xs)
 
+pub items_len-each : {B : Type 0} (f : B → Data) (xs : List B) → items_len (json_items_of (map f xs)) ≡ length xs
+items_len-each f [] = refl
+items_len-each f (x ∷ xs) = ap suc (items_len-each f xs)
+
 pub outputs_len : (es : List (String Global × Object)) → members_len (outputs_data (outputs_of es)) ≡ length es
 outputs_len [] = refl
 outputs_len (e ∷ es) = ap suc (outputs_len es)

@@ -20,3 +20,4 @@ pub mod StateBack
 pub mod StateLaws
 pub mod Tables
 pub mod ValueForms
+pub mod ShownTables

@@ -1,5 +1,5 @@
 -- One step of a loop over items, and what a set or a map gains.
-use Rattle.std.proofs.Common.{◌≡◌, ℕ, ◌+◌, ◌<◌, ◌≤◌, false, List, [], ◌∷◌, length, get_or, drop, map, Some, String, Global, Ordering, Less, Equal, Greater, string_bytes, string_cmp, refl, ap, ◌∙◌, arith, add-one}
+use Rattle.std.proofs.Common.{◌≡◌, ℕ, suc, sym, ◌+◌, ◌<◌, ◌≤◌, false, List, [], ◌∷◌, length, get_or, drop, map, Some, String, Global, Ordering, Less, Equal, Greater, string_bytes, string_cmp, refl, ap, ◌∙◌, arith, add-one}
 use Rattle.std.proofs.Math.Seq.{drop-cons}
 use Rattle.std.specs.BTreeMap.{insert_entry}
 use Rattle.std.specs.BTreeSet.{insert_key}
@@ -11,6 +11,10 @@ use Rattle.tf_value.specs.Tree.{put, tree_of}
 use Rattle.tf_state.specs.Reading.{put_text, is_unsensitive}
 use Rattle.tf_state_data.specs.State.{outputs_of}
 use Rattle.tf_state_data.specs.declared.object.Object.{Object}
+
+-- what is left of a list from a place on is the element there and those behind it
+pub rest_from : {A : Type 0} (xs : List A) (i : ℕ) (x : A) → i < length xs → x ≡ get_or xs i x → drop i xs ≡ x ∷ drop (i + 1) xs
+rest_from xs i x within is = rw add-one (drop-cons xs i x within ∙ ap (λ y. y ∷ drop (suc i) xs) (sym is))
 
 -- the items from a place on are the one there and those from the next place on
 pub next_item : (vs : List Value) (i : ℕ) (v : Value) → i < length vs → v ≡ get_or vs i v → items_view (drop i vs) ≡ item (view v) (items_view (drop (i + 1) vs))

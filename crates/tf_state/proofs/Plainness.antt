@@ -14,8 +14,11 @@ use Rattle.tf_state_data.specs.Record.{RecordView}
 use Rattle.tf_state_data.specs.Resource.{ResourceView}
 use Rattle.tf_state_data.specs.State.{StateView}
 use Rattle.tf_state.specs.Text.{put_some, key_data, status_data, flag_data, dependencies_data, record_data, resource_data, output_data, outputs_data, state_data}
+use Rattle.tf_state.specs.Arrangement.{is_some_record, with_records}
 use Rattle.tf_state.specs.Types.{type_data, item_types, entry_types}
-use Rattle.tf_state.specs.Valid.{AreSaved, IsAttributes, IsKey, IsRecord, IsResource, IsPresent, IsValid}
+use Rattle.tf_state.proofs.Orders.{all-filter}
+use Rattle.tf_state.proofs.ShownTables.{AreSaved, shown}
+use Rattle.tf_state.specs.Valid.{IsAttributes, IsKey, IsRecord, IsResource, IsPresent, IsValid}
 
 -- ---- types
 
@@ -99,7 +102,7 @@ dependencies-plain [] = tt
 dependencies-plain (t ∷ ts) = texts-plain (t ∷ ts)
 
 attributes-plain : (t : Tree) → IsAttributes t → IsPlain (value_data t)
-attributes-plain (map es) h = h.0
+attributes-plain (map es) h = (shown es h).0
 attributes-plain _ h = absurd (assumption)
 
 record-plain : (r : RecordView) → IsRecord r → IsPlain (record_data r)
@@ -119,6 +122,10 @@ resource-plain r h =
     (and_put (codes "instances") (array (items_of (each record_data r.records))) _ (records-plain r.records h.records.0) (and_put (codes "mode") (string (codes "managed")) _ tt
     (and_put (codes "name") (string r.label.name) _ tt (and_put (codes "provider") (string r.provider) _ tt (and_put (codes "type") (string r.label.type_name) _ tt nothing_put))))).fact
 
+-- those with records are so still
+kept-present : (rs : List ResourceView) → AllByRecursion IsPresent rs → AllByRecursion IsPresent (with_records rs)
+kept-present rs h = all-filter IsPresent (λ r. is_some_record r.records) rs h
+
 resources-plain : (rs : List ResourceView) → AllByRecursion IsPresent rs → ArePlain (items_of (each resource_data rs))
 resources-plain [] h = tt
 resources-plain (r ∷ rs) h = (resource-plain r h.0.0, resources-plain rs h.1)
@@ -127,8 +134,8 @@ pub state-plain : (s : StateView) → IsValid s → IsPlain (state_data s)
 state-plain s h =
     let serial : s.serial < 2 ^ 64 = let small = h.serial in omega arith in
     let four : 4 < 2 ^ 64 = omega arith in
-    (and_put (codes "lineage") (string s.lineage) _ tt (and_put (codes "outputs") (object (outputs_data s.outputs)) _ (outputs-plain s.outputs h.outputs.0)
-    (and_put (codes "resources") (array (items_of (each resource_data s.resources))) _ (resources-plain s.resources h.resources.0) (and_put (codes "serial") (json_number (unsigned s.serial)) _ serial
+    (and_put (codes "lineage") (string s.lineage) _ tt (and_put (codes "outputs") (object (outputs_data s.outputs)) _ (outputs-plain s.outputs (shown s.outputs h.outputs).0)
+    (and_put (codes "resources") (array (items_of (each resource_data (with_records s.resources)))) _ (resources-plain (with_records s.resources) (kept-present s.resources h.resources.0)) (and_put (codes "serial") (json_number (unsigned s.serial)) _ serial
     (and_put (codes "terraform_version") (string s.terraform_version) _ tt (and_put (codes "version") (json_number (unsigned 4)) _ four nothing_put)))))).fact
 
 -- ---- depth
@@ -220,7 +227,7 @@ dependencies-depth [] = tt
 dependencies-depth (t ∷ ts) = omega (arith, texts-depth (t ∷ ts))
 
 attributes-depth : (t : Tree) → IsAttributes t → depth (value_data t) ≤ 33
-attributes-depth (map es) h = omega (arith, saved-depth es h.1)
+attributes-depth (map es) h = omega (arith, saved-depth es (shown es h).1)
 attributes-depth _ h = absurd (assumption)
 
 record-depth : (r : RecordView) → IsRecord r → depth (record_data r) ≤ 34
@@ -248,6 +255,6 @@ resources-depth (r ∷ rs) h = omega (arith, resource-depth r h.0.0, resources-d
 
 pub state-depth : (s : StateView) → IsValid s → depth (state_data s) ≤ 127
 state-depth s h =
-    let outputs : depth (object (outputs_data s.outputs)) ≤ 66 = omega (arith, outputs-depth s.outputs h.outputs.1) in
-    let resources : depth (array (items_of (each resource_data s.resources))) ≤ 66 = omega (arith, resources-depth s.resources h.resources.0) in
+    let outputs : depth (object (outputs_data s.outputs)) ≤ 66 = omega (arith, outputs-depth s.outputs (shown s.outputs h.outputs).1) in
+    let resources : depth (array (items_of (each resource_data (with_records s.resources)))) ≤ 66 = omega (arith, resources-depth (with_records s.resources) (kept-present s.resources h.resources.0)) in
     omega (arith, outputs, resources)

@@ -16,7 +16,8 @@ use Rattle.tf_json_text.proofs.Sorted.{read_is_sorted, sorted-get}
 use Rattle.tf_value.specs.Json.{IsJson, IsArray, IsObject, value_data, entries_data, tree_from}
 use Rattle.tf_value.specs.Known.{known}
 use Rattle.tf_value.specs.Tree.{Tree, null, boolean, whole, text, list, map, unknown, Items, no_items, item, Entries, no_entries, entry, put, IsHeld, AreHeld, AreHeldEntries}
-use Rattle.tf_value.proofs.Forms.{form_of, form-tree_from, IsJson-one_form}
+use Rattle.tf_value.proofs.Forms.{form_of, form-held, form-tree_from, IsJson-one_form}
+use Rattle.tf_value.specs.Stored.{IsTable}
 use Rattle.tf_state.specs.Laws.{ReadIsValid}
 use Rattle.tf_address.specs.Label.{label_cmp}
 use Rattle.tf_state_data.specs.Addresses.{AreByAddress}
@@ -28,26 +29,17 @@ use Rattle.tf_address.proofs.Totals.{object_id_total, label_total}
 use Rattle.tf_state.specs.Arrangement.{record_cmp, resource_cmp, is_some_record, with_records}
 use Rattle.tf_state.specs.Reading.{put_text, put_new, is_within, value_in, values_in, attributes_in, address_in, addresses_in, dependencies_in, record_in, records_in, instances_in, resource_in, resources_in, all_resources_in, outputs_in, output_in, required_value, state_in}
 use Rattle.tf_state.specs.Table.{SaysKey, SaysDeposed, SaysNumberOrZero}
-use Rattle.tf_state.specs.Valid.{IsSaved, AreSaved, IsTable, IsAttributes, IsKey, IsDeposed, AreAddresses, IsRecord, AreRecords, IsResource, IsPresent, AreResources, IsValid}
+use Rattle.tf_state.specs.Valid.{IsAttributes, IsKey, IsDeposed, AreAddresses, IsRecord, AreRecords, IsResource, IsPresent, AreResources, IsValid}
 use Rattle.tf_state.specs.Words.{is_address, is_shaped}
 use Rattle.tf_state.specs.declared.shape.Shape.TheVariants as shapes
 use Rattle.tf_state.proofs.ByTable.{instances_said, record_says, resource_says, resources_said, state_said, state_says}
 use Rattle.tf_state.proofs.Contents.{attributes_said, dependencies_said, outputs_said}
 use Rattle.tf_state.proofs.Orders.{nothing_ordered, order-filter, put_new-all, put_new-order}
 use Rattle.tf_state.proofs.Properties.{inverted, guarded, mapped}
+use Rattle.tf_state.proofs.ShownTables.{IsSaved, AreSaved, IsShown, integer-plain, shown_table}
 use Rattle.tf_state.proofs.ValueForms.{within-limits}
 
 -- ---- values
-
-below_pos : (n : ℕ) → FitsSigned w64 (pos n) → n < 2 ^ 64
-below_pos n h = first_of (omega (arith, ints), grind (arith, ints), search rules)
-
-below_negsuc : (n : ℕ) → FitsSigned w64 (negsuc n) → n < 2 ^ 63
-below_negsuc n h = first_of (omega (arith, ints), grind (arith, ints), search rules)
-
-integer-plain : (z : ℤ) → FitsSigned w64 z → IsPlain (json.number (of_integer z))
-integer-plain (pos n) h = below_pos n h
-integer-plain (negsuc n) h = below_negsuc n h
 
 mutual
   form-plain : (t : Tree) (d : json.Data) → IsJson t d → IsSorted d → IsPlain d
@@ -68,27 +60,6 @@ mutual
   object-plain no_entries json.no_members h s = tt
   object-plain (entry k t es) (json.member l d ms) h s = (s.0, form-plain t d h.1 s.1, object-plain es ms h.2 s.2)
   object-plain _ _ h s = absurd (assumption)
-
-mutual
-  form-held : (t : Tree) (d : json.Data) → IsJson t d → IsHeld t
-  form-held null d h = tt
-  form-held (boolean b) d h = tt
-  form-held (whole z) (json.number n) h = h.0
-  form-held (text u) d h = tt
-  form-held (list ts) (json.array ds) h = array-held ts ds h
-  form-held (map es) (json.object ms) h = object-held es ms h
-  form-held unknown d h = tt
-  form-held _ _ h = absurd (assumption)
-
-  array-held : (ts : Items) (ds : json.Items) → IsArray ts ds → AreHeld ts
-  array-held no_items d h = tt
-  array-held (item t ts) (json.item d ds) h = (form-held t d h.0, array-held ts ds h.1)
-  array-held _ _ h = absurd (assumption)
-
-  object-held : (es : Entries) (ms : json.Members) → IsObject es ms → AreHeldEntries es
-  object-held no_entries d h = tt
-  object-held (entry k t es) (json.member l d ms) h = (form-held t d h.1, object-held es ms h.2)
-  object-held _ _ h = absurd (assumption)
 
 same : {A : Type 0} (a b : A) → Some a ≡ Some b → a ≡ b
 same a b e = cc
@@ -126,13 +97,13 @@ saved-put : (k : List ℕ) (t : Tree) (es : Entries) → IsSaved t → AreSaved 
 saved-put k t no_entries p h = (p, tt)
 saved-put k t (entry l u es) p h = saved_at (slice_cmp nat_cmp k l) (entry k t (entry l u es)) (entry l t es) (entry l u (put k t es)) (p, h) (p, h.1) (h.0, saved-put k t es p h.1)
 
-table-put : (k : List ℕ) (t : Tree) (es : Entries) → IsFine t → IsTable es → IsTable (put k t es)
+table-put : (k : List ℕ) (t : Tree) (es : Entries) → IsFine t → IsShown es → IsShown (put k t es)
 table-put k t es fine h =
     (subst ArePlainMembers (sym (entries_data-put k t es)) (plain-put k (value_data t) (entries_data es) fine.1 h.0), saved-put k t es fine.0 h.1)
 
-table-read : (read_one : json.Data → Option Tree) → ((d : json.Data) (t : Tree) → IsSorted d → read_one d ≡ Some t → IsFine t) → (ms : json.Members) (found es : Entries) → AreSortedMembers ms → IsTable found → values_in read_one ms found ≡ Some es
-    → IsTable es
-table-read read_one fine json.no_members found es s h e = subst IsTable (same found es e) h
+table-read : (read_one : json.Data → Option Tree) → ((d : json.Data) (t : Tree) → IsSorted d → read_one d ≡ Some t → IsFine t) → (ms : json.Members) (found es : Entries) → AreSortedMembers ms → IsShown found → values_in read_one ms found ≡ Some es
+    → IsShown es
+table-read read_one fine json.no_members found es s h e = subst IsShown (same found es e) h
 table-read read_one fine (json.member k d ms) found es s h e =
     let i = inverted (λ t. values_in read_one ms (put k t found)) (read_one d) es e in
     table-read read_one fine ms (put k i.0 found) es s.2 (table-put k i.0 found (fine d i.0 s.1 i.1) h) i.2
@@ -160,7 +131,7 @@ deposed-valid (Some _) p h = absurd (assumption)
 
 attributes-valid : (o : Option json.Data) (t : Tree) → ((e : json.Data) → o ≡ Some e → IsSorted e) → attributes_in o ≡ Some t → IsAttributes t
 attributes-valid (Some (json.object ms)) t s e =
-    let m = mapped map (values_in value_in ms no_entries) t e in subst IsAttributes m.2 (table-read value_in value-fine ms no_entries m.0 (s (json.object ms) refl) (tt, tt) m.1)
+    let m = mapped map (values_in value_in ms no_entries) t e in subst IsAttributes m.2 (shown_table m.0 (table-read value_in value-fine ms no_entries m.0 (s (json.object ms) refl) (tt, tt) m.1))
 attributes-valid _ t s e = absurd (cc)
 
 version-valid : (o : Option json.Data) (n : ℕ) → SaysNumberOrZero (2 ^ 32) o n → n < 2 ^ 32
@@ -271,8 +242,8 @@ resources-valid (Some (json.array ds)) rs s e =
 resources-valid (Some _) rs s e = absurd (cc)
 
 outputs-valid : (o : Option json.Data) (es : Entries) → ((e : json.Data) → o ≡ Some e → IsSorted e) → outputs_in o ≡ Some es → IsTable es
-outputs-valid None es s e = subst IsTable (same no_entries es e) (tt, tt)
-outputs-valid (Some (json.object ms)) es s e = table-read output_in output-fine ms no_entries es (s (json.object ms) refl) (tt, tt) e
+outputs-valid None es s e = subst IsTable (same no_entries es e) (shown_table no_entries (tt, tt))
+outputs-valid (Some (json.object ms)) es s e = shown_table es (table-read output_in output-fine ms no_entries es (s (json.object ms) refl) (tt, tt) e)
 outputs-valid (Some _) es s e = absurd (cc)
 
 -- ---- states

@@ -1,18 +1,19 @@
 -- What is sent member by member is sent whole.
-use Rattle.std.proofs.Common.{◌≡◌, ◌+◌, ℕ, List, [], Option, Some, None, option_map, map as each, codes, refl, sym, ap, ◌∙◌, subst, arith}
+use Rattle.std.proofs.Common.{◌≡◌, ◌+◌, ℕ, Bool, true, false, cond, List, [], ◌∷◌, Option, Some, None, option_map, map as each, codes, refl, sym, ap, ◌∙◌, subst, arith}
 use Rattle.std.specs.Cmp.Lexicographic.{slice_cmp}
 use Rattle.std.specs.Ordering.{nat_cmp, match_ordering}
 use Rattle.std.specs.declared.cmp.Ordering.TheVariants.{Less, Greater}
 use Rattle.serde.specs.Event.{Log, Logs, map_begins, map_ends, field_key}
 use Rattle.serde.specs.declared.name.Case.TheVariants.{AsIs}
 use Rattle.serde_json.specs.Data.{Data, number as json_number, unsigned, string, array, object, Members, no_members, member, put}
-use Rattle.serde_json.specs.Events.{SendsValue, SendsMembers, members_len}
+use Rattle.serde_json.specs.Events.{SendsValue, SendsItems, SendsMembers, members_len}
 use Rattle.serde_json.specs.View.{items_of}
 use Rattle.tf_json_text.specs.Plain.{AreAbove}
 use Rattle.tf_state_data.specs.Record.{RecordView}
 use Rattle.tf_state_data.specs.Resource.{ResourceView}
 use Rattle.tf_state_data.specs.State.{StateView}
-use Rattle.tf_state.specs.Sending.{SendsSome, one_if_some, member_count}
+use Rattle.tf_state.specs.Arrangement.{is_some_record, with_records}
+use Rattle.tf_state.specs.Sending.{SendsSome, SendsWhere, one_if_some, member_count}
 use Rattle.tf_state.specs.Text.{put_some, dependencies_data, flag_data, key_data, outputs_data, record_data, resource_data, state_data, status_data}
 use Rattle.tf_value.specs.Json.{value_data}
 
@@ -192,9 +193,21 @@ state_in_order a b c d e f = refl
 
 -- What is sent of a state, member after member, is the state.
 pub state_sent : (s : StateView) (l0 l1 l2 l3 l4 l5 l6 l7 l8 : Log) → Logs l0 l1 (map_begins (Some 6)) → Sends (codes "lineage") (string s.lineage) l1 l2 → Sends (codes "outputs") (object (outputs_data s.outputs)) l2 l3
-    → Sends (codes "resources") (array (items_of (each resource_data s.resources))) l3 l4 → Sends (codes "serial") (json_number (unsigned s.serial)) l4 l5 → Sends (codes "terraform_version") (string s.terraform_version) l5 l6
+    → Sends (codes "resources") (array (items_of (each resource_data (with_records s.resources)))) l3 l4 → Sends (codes "serial") (json_number (unsigned s.serial)) l4 l5 → Sends (codes "terraform_version") (string s.terraform_version) l5 l6
     → Sends (codes "version") (json_number (unsigned 4)) l6 l7 → Logs l7 l8 map_ends → SendsValue (state_data s) l0 l8
 state_sent s l0 l1 l2 l3 l4 l5 l6 l7 l8 begun lineage outputs resources serial version format ended =
-    let members : SendsMembers (member (codes "lineage") (string s.lineage) (member (codes "outputs") (object (outputs_data s.outputs)) (member (codes "resources") (array (items_of (each resource_data s.resources))) (member (codes "serial") (json_number (unsigned s.serial)) (member (codes "terraform_version") (string s.terraform_version) (member (codes "version") (json_number (unsigned 4)) no_members)))))) l1 l8 =
+    let members : SendsMembers (member (codes "lineage") (string s.lineage) (member (codes "outputs") (object (outputs_data s.outputs)) (member (codes "resources") (array (items_of (each resource_data (with_records s.resources)))) (member (codes "serial") (json_number (unsigned s.serial)) (member (codes "terraform_version") (string s.terraform_version) (member (codes "version") (json_number (unsigned 4)) no_members)))))) l1 l8 =
     (lineage.0, l2, lineage.1, lineage.2, (outputs.0, l3, outputs.1, outputs.2, (resources.0, l4, resources.1, resources.2, (serial.0, l5, serial.1, serial.2, (version.0, l6, version.1, version.2, (format.0, l7, format.1, format.2, ended)))))) in
-    subst (λ ms. SendsValue (object ms) l0 l8) (sym (state_in_order (string s.lineage) (object (outputs_data s.outputs)) (array (items_of (each resource_data s.resources))) (json_number (unsigned s.serial)) (string s.terraform_version) (json_number (unsigned 4)))) (l1, begun, members)
+    subst (λ ms. SendsValue (object ms) l0 l8) (sym (state_in_order (string s.lineage) (object (outputs_data s.outputs)) (array (items_of (each resource_data (with_records s.resources)))) (json_number (unsigned s.serial)) (string s.terraform_version) (json_number (unsigned 4)))) (l1, begun, members)
+
+-- ---- resources with records
+
+present_at : (b : Bool) (r : ResourceView) (rest : List ResourceView) (x y z : Log) → SendsWhere b (resource_data r) x y → SendsItems (items_of (each resource_data rest)) y z
+    → SendsItems (items_of (each resource_data (cond b (r ∷ rest) rest))) x z
+present_at true r rest x y z h more = (y, h, more)
+present_at false r rest x y z h more = subst (λ l. SendsItems (items_of (each resource_data rest)) l z) h more
+
+-- a resource is sent before the others where it has records
+pub present_sent : (r : ResourceView) (rs : List ResourceView) (x y z : Log) → SendsWhere (is_some_record r.records) (resource_data r) x y → SendsItems (items_of (each resource_data (with_records rs))) y z
+    → SendsItems (items_of (each resource_data (with_records (r ∷ rs)))) x z
+present_sent r rs x y z h more = present_at (is_some_record r.records) r (with_records rs) x y z h more

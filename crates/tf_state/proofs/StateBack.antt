@@ -43,7 +43,11 @@ all_with_records : (rs : List ResourceView) → AllByRecursion IsPresent rs → 
 all_with_records [] h = refl
 all_with_records (r ∷ rs) h = let some = h.0.1 in rw some (ap (λ qs. r ∷ qs) (all_with_records rs h.1))
 
+-- the resources of a valid state all have records
+all_written : (rs : List ResourceView) → AllByRecursion IsPresent rs → AreByAddress rs → resources_in (items_of (each resource_data (with_records rs))) [] ≡ Some rs
+all_written rs h order = ap (λ qs. resources_in (items_of (each resource_data qs)) []) (all_with_records rs h) ∙ resources_onto rs [] h order (EachAbove-nothing resource_cmp rs)
+
 pub state-back : (s : StateView) → IsValid s → state_in (state_data s) ≡ Some s
 state-back s h =
-    rw (serial-back (2 ^ 32) s.serial h.serial, outputs-back s.outputs h.outputs, resources_onto s.resources [] h.resources.0 h.resources.1 (EachAbove-nothing resource_cmp s.resources), all_with_records s.resources h.resources.0)
+    rw (serial-back (2 ^ 32) s.serial h.serial, outputs-back s.outputs h.outputs, all_written s.resources h.resources.0 h.resources.1, all_with_records s.resources h.resources.0)
     refl

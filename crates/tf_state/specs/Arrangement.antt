@@ -6,7 +6,7 @@ use Rattle.tf_address.specs.ObjectId.{object_id_cmp}
 use Rattle.tf_state_data.specs.Record.{RecordView}
 use Rattle.tf_state_data.specs.Resource.{ResourceView}
 
--- records stand by their places, resources by their addresses
+-- records stand by their ids, resources by their addresses
 abbrev pub record_cmp : RecordView → RecordView → Ordering
 record_cmp a b = object_id_cmp a.id b.id
 

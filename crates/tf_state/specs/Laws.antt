@@ -1,10 +1,12 @@
 -- What holds of states and their texts, whatever they are.
-use Rattle.std.specs.Prelude.{◌≡◌, ℕ, List, IsUtf8}
+use Rattle.std.specs.Prelude.{◌≡◌, ℕ, ◌^◌, ◌<◌, List, IsUtf8}
 use Rattle.tf_address.specs.Label.{LabelView}
 use Rattle.tf_address.specs.ObjectId.{ObjectIdView}
 use Rattle.tf_state_data.specs.Record.{RecordView}
 use Rattle.tf_state_data.specs.Resource.{ResourceView, with_record, without_record}
-use Rattle.tf_state_data.specs.State.{StateView, with_resource, without_resource}
+use Rattle.tf_state_data.specs.State.{StateView, empty_state, with_resource, without_resource}
+use Rattle.tf_value.specs.Stored.{IsTable}
+use Rattle.tf_value.specs.Tree.{Entries}
 use Rattle.tf_state.specs.Table.{Reads}
 use Rattle.tf_state.specs.Text.{state_text}
 use Rattle.tf_state.specs.Valid.{IsPresent, IsRecord, IsResource, IsValid}
@@ -29,7 +31,7 @@ ReadIsValid = (bytes : List ℕ) (s : StateView) → Reads bytes s → IsValid s
 abbrev pub PutKeepsState : Type 0
 PutKeepsState = (new : ResourceView) (s : StateView) → IsPresent new → IsValid s → IsValid (with_resource new s)
 
--- A valid resource with a record put in, at its place, is valid, and has a record.
+-- A valid resource with a record put in, of its object, is valid, and has a record.
 abbrev pub PutKeepsResource : Type 0
 PutKeepsResource = (new : RecordView) (r : ResourceView) → IsRecord new → IsResource r → IsPresent (with_record new r)
 
@@ -37,6 +39,18 @@ PutKeepsResource = (new : RecordView) (r : ResourceView) → IsRecord new → Is
 abbrev pub RemoveKeepsState : Type 0
 RemoveKeepsState = (label : LabelView) (s : StateView) → IsValid s → IsValid (without_resource label s)
 
--- A valid resource without the record at a place is valid, though it may be left without records.
+-- A valid resource without the record of an object is valid, though it may be left without records.
 abbrev pub RemoveKeepsResource : Type 0
 RemoveKeepsResource = (id : ObjectIdView) (r : ResourceView) → IsResource r → IsResource (without_record id r)
+
+-- The state before anything exists is valid.
+abbrev pub EmptyIsValid : Type 0
+EmptyIsValid = (lineage : List ℕ) → IsValid (empty_state lineage)
+
+-- A valid state with another serial of 32 bits is valid.
+abbrev pub SerialKeepsState : Type 0
+SerialKeepsState = (serial : ℕ) (s : StateView) → serial < 2 ^ 32 → IsValid s → IsValid (record s { serial = serial })
+
+-- A valid state with other outputs, each of which may be stored, is valid.
+abbrev pub OutputsKeepState : Type 0
+OutputsKeepState = (outputs : Entries) (s : StateView) → IsTable outputs → IsValid s → IsValid (record s { outputs = outputs })

@@ -10,7 +10,7 @@ use Rattle.tf_state.specs.declared.body.Body.{Body}
 use Rattle.tf_state.specs.declared.body.Held.{Held}
 use Rattle.tf_address.specs.declared.object_id.ObjectId.{ObjectId}
 
--- the record of a place with a body
+-- the record of an object with a body
 abbrev pub record_made : ObjectId → Body → RecordView
 record_made p b =
     record {
@@ -22,7 +22,7 @@ record_made p b =
       create_before_destroy = b.create_before_destroy;
     }
 
--- the records under their places
+-- the records under their ids
 abbrev pub records_made : List (ObjectId × Body) → List RecordView
 records_made es = map (λ e. record_made e.0 e.1) es
 

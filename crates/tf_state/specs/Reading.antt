@@ -1,5 +1,6 @@
 -- The table of the format as functions: each answers what a part is read as, and none where the format refuses it. They
--- say what the table says (`Table`), and what the functions that read are shown to answer.
+-- say what the table says (`Table`), and what the functions that read are shown to answer. Private to this crate: nothing above
+-- it speaks of them.
 use Rattle.std.specs.Prelude.{◌≡◌, ℕ, ◌^◌, ◌<◌, ◌≤◌, ◌⊎◌, Bool, true, false, ◌&&◌, ◌==◌, nat_lt, nat_le, if◌then◌else◌, List, [], ◌∷◌, length, filter, Option, Some, None, option_map, option_and_then, codes, IsUtf8}
 use Rattle.std.specs.Cmp.Lexicographic.{slice_cmp}
 use Rattle.std.specs.Ordering.{nat_cmp, match_ordering}
@@ -113,7 +114,7 @@ is_unsensitive (Some _) = false
 
 -- ---- records
 
--- the place of a record
+-- the id of a record
 abbrev pub id_in : Data → Option ObjectIdView
 id_in d =
     option_and_then (λ k. option_map (λ p. record { key = k; deposed = p }) (deposed_in (get (codes "deposed") d))) (key_in (get (codes "index_key") d))
@@ -122,7 +123,7 @@ id_in d =
 abbrev pub is_record : Data → Bool
 is_record d = is_shaped shapes.Record d && is_unsensitive (get (codes "sensitive_attributes") d)
 
--- a record of a place
+-- a record of an object
 abbrev pub record_at : ObjectIdView → Data → Option RecordView
 record_at id d =
     option_and_then

@@ -1,5 +1,5 @@
--- Members that are sent where there is a value for them.
-use Rattle.std.specs.Prelude.{◌≡◌, ◌+◌, ℕ, List, Option, Some, None, option_map}
+-- Members that are sent where there is a value for them, and resources where they have records.
+use Rattle.std.specs.Prelude.{◌≡◌, ◌+◌, ℕ, Bool, true, false, List, Option, Some, None, option_map}
 use Rattle.serde.specs.Event.{Log, Logs, field_key}
 use Rattle.serde.specs.declared.name.Case.TheVariants.{AsIs}
 use Rattle.serde_json.specs.Data.{Data, string}
@@ -21,3 +21,8 @@ abbrev pub member_count : RecordView → ℕ
 member_count r =
     2 + one_if_some (flag_data r.create_before_destroy) + one_if_some (dependencies_data r.dependencies) + one_if_some (option_map string r.id.deposed)
     + one_if_some (key_data r.id.key) + one_if_some (status_data r.tainted)
+
+-- a tree is sent where it counts, and nothing where it doesn't
+abbrev pub SendsWhere : Bool → Data → Log → Log → Type 0
+SendsWhere true d old new = SendsValue d old new
+SendsWhere false d old new = new ≡ old

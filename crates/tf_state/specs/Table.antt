@@ -164,7 +164,7 @@ pub record SaysRecord (d : Data) (r : RecordView) : Type 0 where
   pub dependencies : SaysDependencies (get (codes "dependencies") d) r.dependencies
   pub create_before_destroy : SaysFlag (get (codes "create_before_destroy") d) r.create_before_destroy
 
--- an array of records, which stand by their places, no two at one
+-- an array of records, which stand by their ids, no two with one
 abbrev pub SaysInstances : Option Data → List RecordView → Type 0
 SaysInstances (Some (array ds)) rs = (said : List RecordView) × EachSays SaysRecord ds said × IsArranged record_cmp said rs
 SaysInstances _ rs = ⊥

@@ -9,6 +9,7 @@ use Rattle.tf_address.specs.ObjectId.{InstanceKeyView, single, number, name}
 use Rattle.tf_state_data.specs.Record.{RecordView}
 use Rattle.tf_state_data.specs.Resource.{ResourceView}
 use Rattle.tf_state_data.specs.State.{StateView}
+use Rattle.tf_state.specs.Arrangement.{with_records}
 use Rattle.tf_state.specs.Types.{type_data}
 
 -- the members with a value at a key, where there is a value
@@ -58,10 +59,10 @@ abbrev pub outputs_data : Entries → Members
 outputs_data no_entries = no_members
 outputs_data (entry k t es) = member k (output_data t) (outputs_data es)
 
--- a state
+-- a state; a resource without records isn't written
 abbrev pub state_data : StateView → Data
 state_data s =
-    object (put (codes "lineage") (string s.lineage) (put (codes "outputs") (object (outputs_data s.outputs)) (put (codes "resources") (array (items_of (each resource_data s.resources))) (put (codes "serial") (json_number (unsigned s.serial)) (put (codes "terraform_version") (string s.terraform_version) (put (codes "version") (json_number (unsigned 4)) no_members))))))
+    object (put (codes "lineage") (string s.lineage) (put (codes "outputs") (object (outputs_data s.outputs)) (put (codes "resources") (array (items_of (each resource_data (with_records s.resources)))) (put (codes "serial") (json_number (unsigned s.serial)) (put (codes "terraform_version") (string s.terraform_version) (put (codes "version") (json_number (unsigned 4)) no_members))))))
 
 -- the one text of a state
 abbrev pub state_text : StateView → List ℕ

@@ -5,11 +5,8 @@ use Rattle.std.specs.List.{AllByRecursion}
 use Rattle.std.specs.Ordering.{nat_cmp}
 use Rattle.std.specs.declared.cmp.Ordering.TheVariants.{Greater}
 use Rattle.tf_address.specs.Name.{is_name}
-use Rattle.tf_json_text.specs.Plain.{ArePlainMembers}
-use Rattle.tf_value.specs.Json.{entries_data}
-use Rattle.tf_value.specs.Known.{known}
-use Rattle.tf_value.specs.Measure.{IsWithinLimits}
-use Rattle.tf_value.specs.Tree.{Tree, map, Entries, no_entries, entry, IsHeld}
+use Rattle.tf_value.specs.Stored.{IsTable}
+use Rattle.tf_value.specs.Tree.{Tree, map}
 use Rattle.tf_state_data.specs.Addresses.{AreByAddress}
 use Rattle.tf_address.specs.ObjectId.{InstanceKeyView, single, number, name}
 use Rattle.tf_state_data.specs.Ids.{AreById}
@@ -19,19 +16,7 @@ use Rattle.tf_state_data.specs.Resource.{ResourceView}
 use Rattle.tf_state_data.specs.State.{StateView}
 use Rattle.tf_state.specs.Words.{is_address, is_deposed_key}
 
--- A value that may be saved: it is known, its whole numbers are those of 64 bits, and it is within the limits.
-abbrev pub IsSaved : Tree → Type 0
-IsSaved t = IsHeld t × (known t ≡ true) × IsWithinLimits t
-
-abbrev pub AreSaved : Entries → Type 0
-AreSaved no_entries = ⊤
-AreSaved (entry k t es) = IsSaved t × AreSaved es
-
--- values by name: each may be saved, and the keys in them and their own stand strictly in byte order
-abbrev pub IsTable : Entries → Type 0
-IsTable es = ArePlainMembers (entries_data es) × AreSaved es
-
--- attributes are values by name
+-- attributes are values by name, each of which may be stored
 abbrev pub IsAttributes : Tree → Type 0
 IsAttributes (map es) = IsTable es
 IsAttributes _ = ⊥
@@ -59,7 +44,7 @@ pub record IsRecord (r : RecordView) : Type 0 where
   pub version : r.schema_version < 2 ^ 32
   pub dependencies : AreAddresses r.dependencies
 
--- records, in the order of their places, no two at one
+-- records, in the order of their ids, no two with one
 abbrev pub AreRecords : List RecordView → Type 0
 AreRecords rs = AllByRecursion IsRecord rs × AreById rs
 

@@ -1,6 +1,6 @@
 // Laws of states and their texts, proved for every state: each function's contract is a law, and its body does
 // nothing.
-ghost use Rattle.tf_state.specs.Laws.{PutKeepsResource, PutKeepsState, ReadIsValid, RemoveKeepsResource, RemoveKeepsState, StateOfTextIsOne, TextIsOfOne, TextReadsAsState};
+ghost use Rattle.tf_state.specs.Laws.{EmptyIsValid, OutputsKeepState, PutKeepsResource, PutKeepsState, ReadIsValid, RemoveKeepsResource, RemoveKeepsState, SerialKeepsState, StateOfTextIsOne, TextIsOfOne, TextReadsAsState};
 
 /// Bytes are the text of at most one state.
 pub fn texts_are_of_one()
@@ -26,4 +26,13 @@ pub fn puts_and_removes_keep_states_valid()
     ensures records { PutKeepsResource }
     ensures left_resources { RemoveKeepsState }
     ensures left_records { RemoveKeepsResource }
+{}
+
+/// The state before anything exists is valid, and a valid state stays so with another serial and with other outputs,
+/// each of which may be stored. So a state that is made of the empty one or of one that was read, by serials, outputs,
+/// puts and removes, has a text that reads as it.
+pub fn new_states_are_valid()
+    ensures empty { EmptyIsValid }
+    ensures serials { SerialKeepsState }
+    ensures outputs { OutputsKeepState }
 {}

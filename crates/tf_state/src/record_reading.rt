@@ -23,7 +23,7 @@ use std::collections::BTreeMap;
 use tf_address::ObjectId;
 use tf_state_data::Record;
 
-/// The records of a resource, in the order of their places. Each part of the tree goes once it is read.
+/// The records of a resource, in the order of their ids. Each part of the tree goes once it is read.
 pub(crate) fn read_instances(alloc: Global, json: Option<Json>) -> Result<Vec<Record>, StateFault>
     ensures ok { IfOk result (λ rs. instances_in (option_map view json) ≡ Some (map record_of rs.items)) }
     ensures ordered { IfOk result (λ rs. AreById (map record_of rs.items)) }

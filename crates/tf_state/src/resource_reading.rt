@@ -50,7 +50,8 @@ fn in_order(alloc: Global, resources: BTreeMap<Label, Held>) -> Result<Vec<Resou
     Ok(ordered)
 }
 
-fn has_records(records: &[Record]) -> bool
+/// Whether there is any record.
+pub(crate) fn has_records(records: &[Record]) -> bool
     ensures { result ≡ is_some_record (map record_of records.now) }
 {
     match records {

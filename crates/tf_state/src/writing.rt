@@ -1,16 +1,19 @@
 //! The text of a state.
 
-ghost use Rattle.std.specs.Prelude.{◌≡◌, IfOk, OnOk, map, string_bytes};
+ghost use Rattle.std.specs.Prelude.{◌≡◌, IfOk, OnOk, length, map, string_bytes};
 ghost use Rattle.serde_json.specs.Data.{array, object};
 ghost use Rattle.serde_json.specs.Events.{SendsValue};
 ghost use Rattle.serde_json.specs.View.{items_of};
 ghost use Rattle.tf_state_data.specs.Record.{record_of};
 ghost use Rattle.tf_state_data.specs.Resource.{resource_of};
 ghost use Rattle.tf_state_data.specs.State.{outputs_of, state_of};
+ghost use Rattle.tf_state.specs.Arrangement.{is_some_record, with_records};
+ghost use Rattle.tf_state.specs.Sending.{SendsWhere};
 ghost use Rattle.tf_state.specs.Text.{output_data, outputs_data, record_data, resource_data, state_data, state_text};
 ghost use Rattle.tf_value.specs.Tree.{tree_of};
 
 use crate::record_writing::send_record;
+use crate::resource_reading::has_records;
 use crate::types::send_type;
 use serde::{Described, Serialize, Serializer};
 use std::alloc::{AllocError, Global};
@@ -18,7 +21,7 @@ use std::collections::BTreeMap;
 use tf_state_data::{Object, Record, Resource, State};
 
 /// The one text of a state: Terraform's state file format, version 4, two spaces a level, keys in byte order,
-/// and one newline at the end. Refused only where there is no memory.
+/// and one newline at the end. A resource without records isn't written. Refused only where there is no memory.
 pub fn write(alloc: Global, state: &State) -> Result<String, AllocError>
     ensures { IfOk result (λ text. string_bytes text ≡ state_text (state_of state.now)) }
 {
@@ -90,13 +93,40 @@ fn send_output<S: Serializer>(output: &Object, out: &mut S) -> Result<(), S::Err
 }
 
 fn send_resources<S: Serializer>(resources: &[Resource], out: &mut S) -> Result<(), S::Error>
-    ensures { OnOk result (SendsValue (array (items_of (map resource_data (map resource_of resources.now)))) (S.written out.old) (S.written out.new)) }
+    ensures { OnOk result (SendsValue (array (items_of (map resource_data (with_records (map resource_of resources.now))))) (S.written out.old) (S.written out.new)) }
 {
-    out.begin_seq(Some(resources.len()))?;
+    out.begin_seq(Some(count_present(resources)))?;
     for resource in resources {
-        send_resource(resource, out)?;
+        send_present(resource, out)?;
     }
     out.end_seq()
+}
+
+/// How many resources have records.
+fn count_present(resources: &[Resource]) -> usize
+    ensures { result ≡ length (with_records (map resource_of resources.now)) }
+{
+    let mut count = 0;
+    for resource in resources {
+        count += usize::from(is_present(resource));
+    }
+    count
+}
+
+fn is_present(resource: &Resource) -> bool
+    ensures { result ≡ is_some_record (resource_of resource.now).records }
+{
+    has_records(resource.records())
+}
+
+/// A resource that has records; one without isn't written.
+fn send_present<S: Serializer>(resource: &Resource, out: &mut S) -> Result<(), S::Error>
+    ensures { OnOk result (SendsWhere (is_some_record (resource_of resource.now).records) (resource_data (resource_of resource.now)) (S.written out.old) (S.written out.new)) }
+{
+    if !is_present(resource) {
+        return Ok(());
+    }
+    send_resource(resource, out)
 }
 
 fn send_resource<S: Serializer>(resource: &Resource, out: &mut S) -> Result<(), S::Error>

@@ -1,4 +1,4 @@
--- What a put and a remove change: what stands at the one address or place, and nothing else.
+-- What a put and a remove change: what stands at the one address, or is known of the one object, and nothing else.
 use Rattle.std.specs.Prelude.{◌≡◌, false, Some, None}
 use Rattle.std.specs.Ordering.{is_eq}
 use Rattle.tf_address.specs.Label.{LabelView, label_cmp}
@@ -17,12 +17,12 @@ pub record RemoveChangesOneResource (label : LabelView) (s : StateView) : Type 0
   pub gone : resource_at label (without_resource label s).resources ≡ None
   pub others : (other : LabelView) → is_eq (label_cmp other label) ≡ false → resource_at other (without_resource label s).resources ≡ resource_at other s.resources
 
--- A record that was put stands at its place, and at each other place what stood there before.
+-- A record that was put is that of its object, and of each other object there is what there was before.
 pub record PutChangesOneRecord (new : RecordView) (r : ResourceView) : Type 0 where
   pub there : record_at new.id (with_record new r).records ≡ Some new
   pub others : (id : ObjectIdView) → is_eq (object_id_cmp id new.id) ≡ false → record_at id (with_record new r).records ≡ record_at id r.records
 
--- Where a record was taken out there is none, and at each other place what stood there before.
+-- Where a record was taken out there is none, and of each other object there is what there was before.
 pub record RemoveChangesOneRecord (id : ObjectIdView) (r : ResourceView) : Type 0 where
   pub gone : record_at id (without_record id r).records ≡ None
   pub others : (other : ObjectIdView) → is_eq (object_id_cmp other id) ≡ false → record_at other (without_record id r).records ≡ record_at other r.records

@@ -15,15 +15,15 @@ pub record ResourceView : Type 0 where
 abbrev pub resource_of : Resource → ResourceView
 resource_of r = record { label = label_of r.label; provider = string_bytes r.provider; records = map record_of r.records.items }
 
--- the record at a place
+-- the record of an object
 abbrev pub record_at : ObjectIdView → List RecordView → Option RecordView
 record_at = at_key (λ r. r.id) object_id_cmp
 
--- the resource with a record at its place, whether one was there or not
+-- the resource with a record, whether one of the same object was there or not
 abbrev pub with_record : RecordView → ResourceView → ResourceView
 with_record new r = record r { records = with_one (λ x. x.id) object_id_cmp new r.records }
 
--- the resource without the record at a place
+-- the resource without the record of an object
 abbrev pub without_record : ObjectIdView → ResourceView → ResourceView
 without_record id r = record r { records = without_one (λ x. x.id) object_id_cmp id r.records }
 

@@ -40,7 +40,7 @@ empty_state lineage = record { serial = 0; lineage = lineage; terraform_version 
 abbrev pub resource_at : LabelView → List ResourceView → Option ResourceView
 resource_at = at_key (λ r. r.label) label_cmp
 
--- the record of a state, by the address of its resource and by its place
+-- the record of a state, by the address of its resource and by its id
 abbrev pub record_in : LabelView → ObjectIdView → StateView → Option RecordView
 record_in label id s = option_and_then (λ r. record_at id r.records) (resource_at label s.resources)
 

@@ -13,7 +13,7 @@ pub fn puts_and_removes_change_one_resource()
     ensures removed { (label : LabelView) (s : StateView) → RemoveChangesOneResource label s }
 {}
 
-/// A put and a remove of a record change what stands at its place alone.
+/// A put and a remove of a record change what is known of its object alone.
 pub fn puts_and_removes_change_one_record()
     ensures put { (new : RecordView) (r : ResourceView) → PutChangesOneRecord new r }
     ensures removed { (id : ObjectIdView) (r : ResourceView) → RemoveChangesOneRecord id r }

@@ -1,4 +1,4 @@
-//! The state as data: resources by address, and the records of what exists of each, by place.
+//! The state as data: resources by address, and the records of what exists of each, by id.
 //!
 //! That resources and records stand in order, none twice, is part of the types, so a look-up halves what is
 //! left at each step, and a put can't make a second one.

@@ -21,7 +21,7 @@ pub struct Record {
     pub create_before_destroy: bool,
 }
 
-/// Two records are equal exactly where all that they say is the same: the place, the attributes, the version of
+/// Two records are equal exactly where all that they say is the same: the id, the attributes, the version of
 /// the schema, the dependencies and both flags.
 impl PartialEq for Record {
     ghost use Rattle.std.specs.Ordering.{on};

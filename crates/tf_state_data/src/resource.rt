@@ -10,7 +10,7 @@ use std::alloc::{AllocError, Global};
 use std::mem;
 use tf_address::{Label, ObjectId};
 
-/// A resource and the records of its objects, which stand in the order of their places, no two at one place.
+/// A resource and the records of its objects, which stand in the order of their ids, no two with one.
 #[derive(Debug, Drop)]
 pub struct Resource {
     label: Label,
@@ -20,7 +20,7 @@ pub struct Resource {
 }
 
 impl Resource {
-    ghost use Rattle.std.specs.Prelude.{◌+◌, [], ◌<◌, ℕ, IfErr, IfOk, OnOk, option_map, string_bytes};
+    ghost use Rattle.std.specs.Prelude.{◌+◌, [], ◌<◌, ℕ, IfErr, IfOk, IfSome, OnOk, option_map, string_bytes};
     ghost use Rattle.tf_address.specs.Label.{label_of};
     ghost use Rattle.tf_state_data.specs.Order.{IsAt, IsGapFor};
     ghost use Rattle.tf_address.specs.ObjectId.{object_id_cmp, object_id_of};
@@ -38,7 +38,7 @@ impl Resource {
         }
     }
 
-    /// A resource at an address, with the address of its provider, and with records in the order of their places.
+    /// A resource at an address, with the address of its provider, and with records in the order of their ids.
     pub fn new(label: Label, provider: String, records: Vec<Record>) -> Resource
         requires { AreById (map record_of records.items) }
         ensures { resource_of result
@@ -65,7 +65,7 @@ impl Resource {
         self.provider.as_str()
     }
 
-    /// Its objects, in the order of their places.
+    /// Its objects, in the order of their ids.
     pub fn records(&self) -> &[Record]
         ensures records { map record_of result.now ≡ (resource_of self.now).records }
         ensures ordered { AreById (resource_of self.now).records }
@@ -73,7 +73,7 @@ impl Resource {
         &self.records
     }
 
-    /// The record at a place, where the resource has one.
+    /// The record of an object, where the resource has one.
     pub fn record(&self, id: &ObjectId) -> Option<&Record>
         ensures { option_map (λ r. record_of r.now) result ≡ record_at (object_id_of id.now) (resource_of self.now).records }
     {
@@ -91,7 +91,7 @@ impl Resource {
         self.records.reserve(additional)
     }
 
-    /// Puts a record into its place, and gives the one that was there. It takes no memory, since there has to
+    /// Puts a record in, and gives the one of the same object that was there. It takes no memory, since there has to
     /// be room (`reserve`).
     pub fn put(&mut self, new: Record) -> Option<Record>
         requires { HasRoomForRecords 1 self.old }
@@ -108,11 +108,13 @@ impl Resource {
         }
     }
 
-    /// Takes the record at a place out of the resource, where it has one. The room for it stays.
+    /// Takes the record of an object out of the resource, where it has one. Its room is free again, so it can be put
+    /// back, changed, without memory.
     pub fn remove(&mut self, id: &ObjectId) -> Option<Record>
         ensures taken { option_map record_of result ≡ record_at (object_id_of id.now) (resource_of self.old).records }
         ensures left { resource_of self.new ≡ without_record (object_id_of id.now) (resource_of self.old) }
         ensures room { (n : ℕ) → HasRoomForRecords n self.old → HasRoomForRecords n self.new }
+        ensures freed { IfSome result (λ _. (n : ℕ) → HasRoomForRecords n self.old → HasRoomForRecords (n + 1) self.new) }
     {
         match self.search(id) {
             Ok(index) => Some(self.records.remove(index)),
@@ -120,7 +122,7 @@ impl Resource {
         }
     }
 
-    /// Where the record at a place stands, or where it would stand.
+    /// Where the record of an object stands, or where it would stand.
     fn search(&self, id: &ObjectId) -> Result<usize, usize>
         ensures found { IfOk result (IsAt (λ r. r.id) object_id_cmp (object_id_of id.now) (resource_of self.now).records) }
         ensures absent { IfErr result (IsGapFor (λ r. r.id) object_id_cmp (object_id_of id.now) (resource_of self.now).records) }

@@ -26,7 +26,7 @@ pub struct State {
 }
 
 impl State {
-    ghost use Rattle.std.specs.Prelude.{◌+◌, ℕ, IfErr, IfOk, OnOk, option_map, string_bytes};
+    ghost use Rattle.std.specs.Prelude.{◌+◌, ℕ, IfErr, IfOk, IfSome, OnOk, option_map, string_bytes};
     ghost use Rattle.tf_address.specs.Label.{label_cmp, label_of};
     ghost use Rattle.tf_state_data.specs.Order.{IsAt, IsGapFor};
     ghost use Rattle.tf_address.specs.ObjectId.{object_id_of};
@@ -137,7 +137,7 @@ impl State {
         }
     }
 
-    /// The record at an address and a place, where the state has one.
+    /// The record of an object, by the address of its resource and by its id, where the state has one.
     pub fn record(&self, label: &Label, id: &ObjectId) -> Option<&Record>
         ensures { option_map (λ r. record_of r.now) result ≡ record_in (label_of label.now) (object_id_of id.now) (state_of self.now) }
     {
@@ -172,11 +172,13 @@ impl State {
         }
     }
 
-    /// Takes the resource at an address out of the state, where it has one. The room for it stays.
+    /// Takes the resource at an address out of the state, where it has one. Its room is free again, so it can be put
+    /// back, changed, without memory.
     pub fn remove(&mut self, label: &Label) -> Option<Resource>
         ensures taken { option_map resource_of result ≡ resource_at (label_of label.now) (state_of self.old).resources }
         ensures left { state_of self.new ≡ without_resource (label_of label.now) (state_of self.old) }
         ensures room { (n : ℕ) → HasRoomForResources n self.old → HasRoomForResources n self.new }
+        ensures freed { IfSome result (λ _. (n : ℕ) → HasRoomForResources n self.old → HasRoomForResources (n + 1) self.new) }
     {
         match self.search(label) {
             Ok(index) => Some(self.resources.remove(index)),

@@ -85,7 +85,7 @@ fn keeps_records_by_place(rt: HostRuntime) -> Result<(), Fail> {
     Ok(())
 }
 
-// A second put at a place gives the record that was there, and a remove leaves the others.
+// A second put of an object gives the record that was there, and a remove leaves the others.
 #[test]
 fn replaces_and_removes_records(rt: HostRuntime) -> Result<(), Fail> {
     let alloc = rt.alloc();

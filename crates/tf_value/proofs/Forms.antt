@@ -80,6 +80,28 @@ mutual
   IsObject-known (entry k t es) (json.member l d ms) h = and-both _ _ (IsJson-known t d h.1) (IsObject-known es ms h.2)
   IsObject-known _ _ h = absurd (assumption)
 
+-- and its whole numbers are those of 64 bits
+mutual
+  pub form-held : (t : Tree) (d : json.Data) → IsJson t d → IsHeld t
+  form-held null d h = tt
+  form-held (boolean b) d h = tt
+  form-held (whole z) (json.number n) h = h.0
+  form-held (text u) d h = tt
+  form-held (list ts) (json.array ds) h = array-held ts ds h
+  form-held (map es) (json.object ms) h = object-held es ms h
+  form-held unknown d h = tt
+  form-held _ _ h = absurd (assumption)
+
+  array-held : (ts : Items) (ds : json.Items) → IsArray ts ds → AreHeld ts
+  array-held no_items d h = tt
+  array-held (item t ts) (json.item d ds) h = (form-held t d h.0, array-held ts ds h.1)
+  array-held _ _ h = absurd (assumption)
+
+  object-held : (es : Entries) (ms : json.Members) → IsObject es ms → AreHeldEntries es
+  object-held no_entries d h = tt
+  object-held (entry k t es) (json.member l d ms) h = (form-held t d h.1, object-held es ms h.2)
+  object-held _ _ h = absurd (assumption)
+
 below_pos : (n : ℕ) → FitsSigned w64 (pos n) → n < 2 ^ 63
 below_pos n h = first_of (omega (arith, ints), grind (arith, ints), search rules)
 

@@ -9,3 +9,4 @@ pub mod Ordered
 pub mod Refining
 pub mod Scalars
 pub mod Storing
+pub mod Tables

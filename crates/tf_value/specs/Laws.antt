@@ -8,7 +8,7 @@ use Rattle.tf_value.specs.Place.{Place, with_part}
 use Rattle.tf_value.specs.Measure.{IsWithinLimits, IsTooLarge, weight, depth}
 use Rattle.tf_value.specs.Nulls.{with_nulls}
 use Rattle.tf_value.specs.Scalar.{scalar_text}
-use Rattle.tf_value.specs.Stored.{MayBeStored, may_be_stored}
+use Rattle.tf_value.specs.Stored.{IsTable, MayBeStored, may_be_stored}
 use Rattle.tf_value.specs.Json.{IsJson, value_data, value_from}
 
 -- Each value refines to itself.
@@ -101,6 +101,10 @@ NullsMayBeStored = (t : Tree) → IsHeld t → IsSorted t → IsWithinLimits t �
 -- `may_be_stored` answers, of what a `Value` holds, whether it may be stored.
 abbrev pub StoredIsTested : Type 0
 StoredIsTested = (t : Tree) → IsHeld t → IsSorted t → (may_be_stored t ≡ true) ↔ MayBeStored t
+
+-- A table with a value put in is a table.
+abbrev pub PutKeepsTable : Type 0
+PutKeepsTable = (k : List ℕ) (t : Tree) (es : Entries) → MayBeStored t → IsTable es → IsTable (put k t es)
 
 -- What has a text among texts is known.
 abbrev pub ScalarIsKnown : Type 0

@@ -1,5 +1,5 @@
 // Laws of values, proved for every value: each function's contract is a law, and its body does nothing.
-ghost use Rattle.tf_value.specs.Laws.{RefinementIsReflexive, RefinementIsTransitive, RefinementIsAntisymmetric, KnownStays, PartsRefine, SameIsEquality, FormIsOne, ValueOfFormIsOne, FormedIsKnown, KnownHasForm, ReadsForms, ReadsFormsAlone, FormReadsBack, LimitsDecide, PutIsFound, PutLeavesOthers, RefinedIsRefinement, NullsAreKnown, KnownKeepsItself, NullsRefine, NullsMeasureTheSame, NullsMayBeStored, StoredIsTested, ScalarIsKnown};
+ghost use Rattle.tf_value.specs.Laws.{RefinementIsReflexive, RefinementIsTransitive, RefinementIsAntisymmetric, KnownStays, PartsRefine, SameIsEquality, FormIsOne, ValueOfFormIsOne, FormedIsKnown, KnownHasForm, ReadsForms, ReadsFormsAlone, FormReadsBack, LimitsDecide, PutIsFound, PutLeavesOthers, RefinedIsRefinement, NullsAreKnown, KnownKeepsItself, NullsRefine, NullsMeasureTheSame, NullsMayBeStored, StoredIsTested, PutKeepsTable, ScalarIsKnown};
 
 /// Refinement is an order: each value refines to itself, refinements follow one another, and two values that
 /// refine to each other are equal. `refined` tests it.
@@ -63,10 +63,11 @@ pub fn nulls_stand_for_unknowns()
 {}
 
 /// A value may be stored exactly where `may_be_stored` says so, and one within the limits with null for what is
-/// unknown.
+/// unknown. A table of such values stays one where one more is put in.
 pub fn stored_values_are_known()
     ensures tested { StoredIsTested }
     ensures nulls { NullsMayBeStored }
+    ensures tables { PutKeepsTable }
 {}
 
 /// What has a text among texts is known.

@@ -32,6 +32,6 @@ pub use nulls::with_nulls;
 pub use reading::from_json;
 pub use refinement::refines;
 pub use scalar::scalar_text;
-pub use stored::may_be_stored;
+pub use stored::{each_may_be_stored, may_be_stored};
 pub use value::{Value, find};
 pub use writing::{entries_to_json, to_json};

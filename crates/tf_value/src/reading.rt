@@ -1,6 +1,7 @@
 ghost use Rattle.std.specs.Prelude.{◌≡◌, ◌^◌, ◌-◌, min, IfOk, IfErr, Some, true};
 ghost use Rattle.serde_json.specs.View.{view, items_view as json_items, members_view};
-ghost use Rattle.tf_value.specs.Tree.{tree_of, items_view, entries_view};
+ghost use Rattle.tf_value.specs.Stored.{MayBeStored};
+ghost use Rattle.tf_value.specs.Tree.{map, tree_of, items_view, entries_view, IsSorted, AreSorted};
 ghost use Rattle.tf_value.specs.Known.{known, known_items, known_entries};
 ghost use Rattle.tf_value.specs.Measure.{weight, weight_of_items, weight_of_entries, depth, depth_of_items, depth_of_entries, IsWithinLimits};
 ghost use Rattle.tf_value.specs.Json.{IsUnread, value_from, tree_from, items_from, entries_from};
@@ -16,10 +17,12 @@ use std::collections::BTreeMap;
 /// number in it isn't held as a whole number of 64 bits with a sign (`1.0`, `1e3`, `-0`, 2^63); else `TooLarge`
 /// exactly where the value is beyond the limits, `MAX_WEIGHT` and `MAX_DEPTH`; else only where there is no memory.
 ///
-/// The tree is measured before the value is built, so nothing beyond the limits is built.
+/// The tree is measured before the value is built, so nothing beyond the limits is built; and what is read may be
+/// stored.
 pub fn from_json(alloc: Global, json: &Json) -> Result<Value, JsonFault>
     ensures ok { IfOk result (λ v. value_from (view json.now) ≡ Some (tree_of v)) }
     ensures within { IfOk result (λ v. IsWithinLimits (tree_of v)) }
+    ensures stored { IfOk result (λ v. MayBeStored (tree_of v)) }
     ensures err { IfErr result (λ e. IsUnread (view json.now) e) }
 {
     if !is_whole(json) {
@@ -71,7 +74,8 @@ fn members_are_whole(members: &Map<String, Json>) -> bool
 // The weight of the value that the tree reads as.
 #[cycle(weigh)]
 fn weight_of(json: &Json) -> u64
-    ensures { result ≡ min (weight (tree_from (view json.now))) (2 ^ 64 - 1) }
+    ensures sorted { IsSorted (tree_from (view json.now)) }
+    ensures total { result ≡ min (weight (tree_from (view json.now))) (2 ^ 64 - 1) }
 {
     match json {
         Json::String(text) => (text.len() as u64).saturating_add(1),
@@ -83,7 +87,8 @@ fn weight_of(json: &Json) -> u64
 
 #[cycle(weigh)]
 fn weigh_items(items: &Vec<Json>) -> u64
-    ensures { result ≡ min (weight_of_items (items_from (json_items items.now.items))) (2 ^ 64 - 1) }
+    ensures sorted { AreSorted (items_from (json_items items.now.items)) }
+    ensures total { result ≡ min (weight_of_items (items_from (json_items items.now.items))) (2 ^ 64 - 1) }
 {
     let mut total = 0u64;
     for item in items {
@@ -93,8 +98,10 @@ fn weigh_items(items: &Vec<Json>) -> u64
 }
 
 #[cycle(weigh)]
+#[tactic(auto, using(crate::proofs::Ordered::members_sorted))]
 fn weigh_members(members: &Map<String, Json>) -> u64
-    ensures { result ≡ min (weight_of_entries (entries_from (members_view members.now.entries))) (2 ^ 64 - 1) }
+    ensures sorted { IsSorted (map (entries_from (members_view members.now.entries))) }
+    ensures total { result ≡ min (weight_of_entries (entries_from (members_view members.now.entries))) (2 ^ 64 - 1) }
 {
     let mut total = 0u64;
     for (key, member) in members.iter() {

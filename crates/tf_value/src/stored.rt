@@ -2,12 +2,13 @@
 
 ghost use Rattle.std.specs.Bool.{OnTrue};
 ghost use Rattle.std.specs.Prelude.{◌≡◌};
-ghost use Rattle.tf_value.specs.Stored.{MayBeStored, may_be_stored};
-ghost use Rattle.tf_value.specs.Tree.{tree_of};
+ghost use Rattle.tf_value.specs.Stored.{IsTable, MayBeStored, each_may_be_stored, may_be_stored};
+ghost use Rattle.tf_value.specs.Tree.{entries_view, tree_of};
 
 use crate::known::is_known;
 use crate::measure::is_within_limits;
 use crate::value::Value;
+use std::collections::BTreeMap;
 
 /// Whether a value may be stored: all of it is known, and it is within the limits.
 pub fn may_be_stored(value: &Value) -> bool
@@ -16,4 +17,18 @@ pub fn may_be_stored(value: &Value) -> bool
 {
     let within = is_within_limits(value);
     within && is_known(value)
+}
+
+/// Whether each value of a map's entries may be stored.
+#[tactic(auto, using(crate::proofs::Ordered::keys_sorted))]
+pub fn each_may_be_stored(entries: &BTreeMap<String, Value>) -> bool
+    ensures exact { result ≡ each_may_be_stored (entries_view entries.now.entries) }
+    ensures stored { OnTrue result (IsTable (entries_view entries.now.entries)) }
+{
+    for (_, value) in entries.iter() {
+        if !may_be_stored(value) {
+            return false;
+        }
+    }
+    true
 }

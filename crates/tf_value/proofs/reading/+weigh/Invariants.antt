@@ -2,16 +2,19 @@ use Rattle.std.proofs.Common.{◌≡◌, ◌+◌, ◌-◌, ◌<◌, ◌^◌, min
 use Rattle.serde_json.specs.View.{items_view, members_view}
 use Rattle.tf_value.specs.Json.{items_from, entries_from}
 use Rattle.tf_value.specs.Measure.{weight_of_items, weight_of_entries}
+use Rattle.tf_value.specs.Tree.{AreSorted, AreSortedEntries}
 use Rattle.tf_value.proofs.reading.+weigh.Given as goal
 
 abbrev pub invariant-weigh_items-loop-item : goal.invariant-weigh_items-loop-item
 invariant-weigh_items-loop-item l = record {
   fits : l.total < 2 ^ 64;
   left : min (l.total + weight_of_items (items_from (items_view (drop l.item-index l.item-items)))) (2 ^ 64 - 1) ≡ min (weight_of_items (items_from (items_view l.item-items))) (2 ^ 64 - 1);
+  sorted : AreSorted (items_from (items_view (drop l.item-index l.item-items))) → AreSorted (items_from (items_view l.item-items));
 }
 
 abbrev pub invariant-weigh_members-loop-key : goal.invariant-weigh_members-loop-key
 invariant-weigh_members-loop-key l = record {
   fits : l.total < 2 ^ 64;
   left : min (l.total + weight_of_entries (entries_from (members_view l.key-iterator))) (2 ^ 64 - 1) ≡ min (weight_of_entries (entries_from (members_view l.members.entries))) (2 ^ 64 - 1);
+  sorted : AreSortedEntries (entries_from (members_view l.key-iterator)) → AreSortedEntries (entries_from (members_view l.members.entries));
 }
