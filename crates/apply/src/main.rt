@@ -4,8 +4,10 @@
 use std::fs::OpenFile;
 use std::process::ExitCode;
 use std::{fs, io};
-use tf_cli::program::{Given, end, providers, read_given};
+use tf_cli::program::{Given, end, read_given};
 use tf_cli::{Applied, Refused, Report, SaveFault, apply_text, save, show};
+use tf_provider::Provider;
+use tf_sim::Sim;
 
 fn main(rt: HostRuntime) -> io::Result<ExitCode> {
     let answer = match read_given(&rt) {
@@ -18,7 +20,8 @@ fn main(rt: HostRuntime) -> io::Result<ExitCode> {
 
 fn run(rt: &HostRuntime, given: &Given) -> io::Result<ExitCode> {
     let state = given.state.as_ref().map(|state| state.as_slice());
-    let providers = providers(rt.alloc())?;
+    let mut providers: Vec<Box<dyn Provider + Sync>> = Vec::new(rt.alloc());
+    providers.push(Box::new(rt.alloc(), Sim::new(rt.alloc())?)?)?;
     let answer = apply_text(
         rt.alloc(),
         given.config.as_slice(),

@@ -3,8 +3,10 @@
 
 use std::io;
 use std::process::ExitCode;
-use tf_cli::program::{Given, end, providers, read_given};
+use tf_cli::program::{Given, end, read_given};
 use tf_cli::{plan_text, print_refused, save};
+use tf_provider::Provider;
+use tf_sim::Sim;
 
 fn main(rt: HostRuntime) -> io::Result<ExitCode> {
     let answer = match read_given(&rt) {
@@ -17,7 +19,8 @@ fn main(rt: HostRuntime) -> io::Result<ExitCode> {
 
 fn run(rt: &HostRuntime, given: &Given) -> io::Result<ExitCode> {
     let state = given.state.as_ref().map(|state| state.as_slice());
-    let providers = providers(rt.alloc())?;
+    let mut providers: Vec<Box<dyn Provider + Sync>> = Vec::new(rt.alloc());
+    providers.push(Box::new(rt.alloc(), Sim::new(rt.alloc())?)?)?;
     match plan_text(
         rt.alloc(),
         given.config.as_slice(),

@@ -1,13 +1,10 @@
 //! What both programs do around their work: they read their words and files, and tell want of memory.
 
 use crate::printing::print_refused;
-use std::alloc::{AllocError, Global};
 use std::process::ExitCode;
 use std::{env, fs, io};
 use tf_options::{Options, options};
 use tf_plan::Refused;
-use tf_provider::Provider;
-use tf_sim::Sim;
 
 /// What a program was given.
 #[derive(Drop)]
@@ -50,13 +47,6 @@ pub fn read_given(rt: &HostRuntime) -> io::Result<Result<Given, ExitCode>> {
 fn unread(rt: &HostRuntime, file: &str) -> io::Result<Result<Given, ExitCode>> {
     eprintln!(rt; "error: cannot read {file}")?;
     Ok(Err(ExitCode::FAILURE))
-}
-
-/// The providers that the programs know: `sim` alone.
-pub fn providers(alloc: Global) -> Result<Vec<Box<dyn Provider + Sync>>, AllocError> {
-    let mut providers: Vec<Box<dyn Provider + Sync>> = Vec::new(alloc);
-    providers.push(Box::new(alloc, Sim::new(alloc)?)?)?;
-    Ok(providers)
 }
 
 /// How a program ends. Want of memory before its work was done is told as the refusal that it is.
