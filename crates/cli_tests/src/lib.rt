@@ -2,14 +2,4 @@
 #![tactic(auto)]
 
 #[cfg(test)]
-mod applies;
-#[cfg(test)]
-mod applying;
-#[cfg(test)]
-mod plans;
-#[cfg(test)]
-mod refusals;
-#[cfg(test)]
-mod replies;
-#[cfg(test)]
-mod shown;
+mod tests;

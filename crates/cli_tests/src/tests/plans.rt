@@ -1,6 +1,6 @@
 //! Plans, byte for byte.
 
-use crate::applying::{CONFIG, planned};
+use crate::tests::applying::{CONFIG, planned};
 use std::alloc::Global;
 use std::test::Fail;
 

@@ -1,6 +1,6 @@
 //! Texts that are refused, before which no provider is called, and the limits.
 
-use crate::applying::{check_refused, planned};
+use crate::tests::applying::{check_refused, planned};
 use std::alloc::{AllocError, Global};
 use std::test::Fail;
 

@@ -1,6 +1,6 @@
 //! What is shown of an answer, also where a writer has no more room.
 
-use crate::applying::{CONFIG, state_after};
+use crate::tests::applying::{CONFIG, state_after};
 use std::alloc::{AllocError, Global};
 use std::io;
 use std::test::Fail;

@@ -1,6 +1,6 @@
 //! What comes of an apply, byte for byte.
 
-use crate::applying::{CONFIG, NOTHING, watch_apply};
+use crate::tests::applying::{CONFIG, NOTHING, watch_apply};
 use std::alloc::{AllocError, Global};
 use std::test::Fail;
 

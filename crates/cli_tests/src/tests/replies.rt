@@ -3,7 +3,7 @@
 ghost use Rattle.std.specs.Prelude.{◌≡◌, IfOk, option_map};
 ghost use Rattle.tf_value.specs.Tree.{tree_of};
 
-use crate::applying::{CONFIG, NOTHING, apply_by};
+use crate::tests::applying::{CONFIG, NOTHING, apply_by};
 use std::alloc::{AllocError, Global};
 use std::collections::BTreeMap;
 use std::test::Fail;

@@ -1,0 +1,6 @@
+mod applies;
+mod applying;
+mod plans;
+mod refusals;
+mod replies;
+mod shown;
