@@ -1,15 +1,15 @@
 #!/bin/sh
 # Runs two programs once for each of their allocations, with that one refused, and says how the runs ended: `apply` on
-# the first example, and the test of `allocation_tests`, an apply whose calls are counted. A run that ends in a way that
+# the first example, and a test of `cli_tests`, an apply whose calls are counted. A run that ends in a way that
 # loses something, or in none of the stated ways, is printed, and then the status is 1. Needs gcc; build both first:
-# ./bixundor apply --help, and rt test in crates/allocation_tests.
+# ./bixundor apply --help, and rt test in crates/cli_tests.
 here=$(cd "$(dirname "$0")" && pwd) || exit 1
 root=$here/../..
 work=$(mktemp -d) || exit 1
 trap 'rm -rf "$work"' EXIT
 gcc -shared -fPIC -O1 -o "$work/refuse.so" "$here/refuse.c" -ldl || exit 1
 apply=${APPLY:-$root/crates/apply/out/apply}
-counted=${COUNTED:-$root/crates/allocation_tests/out/allocation_tests_tests}
+counted=${COUNTED:-$root/crates/cli_tests/out/cli_tests_tests}
 
 # Runs a program, in a folder of its own, with the allocation of this number refused.
 once() {
@@ -65,5 +65,5 @@ each() {
 
 bad=0
 each end_of_apply "$apply" --config "$root/examples/first/main.tf.json"
-each end_of_counted "$counted" counted::a_call_is_in_the_journal
+each end_of_counted "$counted" tests::counted::a_call_is_in_the_journal
 exit "$bad"

@@ -1,5 +1,6 @@
 mod applies;
 mod applying;
+mod counted;
 mod plans;
 mod refusals;
 mod replies;

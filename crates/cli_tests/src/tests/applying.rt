@@ -46,6 +46,8 @@ pub struct Seen {
     pub state: String,
     pub changed: bool,
     pub calls: usize,
+    /// How many calls are in the journal.
+    pub recorded: usize,
 }
 
 /// Applies a configuration.
@@ -79,7 +81,11 @@ pub fn apply_by(
     let mut output = Vec::new(alloc);
     let mut errors = Vec::new(alloc);
     let status = show(&answer, &mut output, &mut errors);
-    let (state, changed) = state_after(alloc, answer);
+    let After {
+        state,
+        changed,
+        recorded,
+    } = state_after(alloc, answer);
     Ok(Seen {
         output: String::from_utf8(output)?,
         errors: String::from_utf8(errors)?,
@@ -87,13 +93,28 @@ pub fn apply_by(
         state,
         changed,
         calls: 0,
+        recorded,
     })
 }
 
-/// The text of the state after, and whether it has changed. All else goes.
-pub fn state_after(alloc: Global, answer: Result<Applied, Refused>) -> (String, bool) {
+/// What an answer says of the state after.
+#[derive(Drop)]
+pub struct After {
+    /// The text of the state, where nothing is refused and there was memory for it.
+    state: String,
+    changed: bool,
+    /// How many calls are in the journal.
+    recorded: usize,
+}
+
+/// What an answer says of the state after. All else goes.
+pub fn state_after(alloc: Global, answer: Result<Applied, Refused>) -> After {
     let Ok(applied) = answer else {
-        return (String::new(alloc), false);
+        return After {
+            state: String::new(alloc),
+            changed: false,
+            recorded: 0,
+        };
     };
     let Applied {
         plan: _,
@@ -105,13 +126,22 @@ pub fn state_after(alloc: Global, answer: Result<Applied, Refused>) -> (String, 
         state: _,
         outcomes: _,
         diagnostics: _,
-        journal: _,
+        journal,
         excused: _,
         good: _,
     } = walked.into_report();
+    let recorded = journal.entries().len();
     match state {
-        Ok(text) => (text, changed),
-        Err(AllocError) => (String::new(alloc), false),
+        Ok(state) => After {
+            state,
+            changed,
+            recorded,
+        },
+        Err(AllocError) => After {
+            state: String::new(alloc),
+            changed: false,
+            recorded,
+        },
     }
 }
 
