@@ -1,42 +1,69 @@
 #!/bin/sh
-# Runs the built program `apply` on the first example once for each of its allocations, with that one refused, and
-# says how the runs ended. A run that ends in a way that loses something, or in none of the stated ways, is printed,
-# and then the status is 1. Needs gcc; build the program first: ./bixundor apply --help
+# Runs two programs once for each of their allocations, with that one refused, and says how the runs ended: `apply` on
+# the first example, and a test of `cli_tests`, an apply whose calls are counted. A run that ends in a way that
+# loses something, or in none of the stated ways, is printed, and then the status is 1. Needs gcc; build both first:
+# ./bixundor apply --help, and rt test in crates/cli_tests.
 here=$(cd "$(dirname "$0")" && pwd) || exit 1
 root=$here/../..
 work=$(mktemp -d) || exit 1
 trap 'rm -rf "$work"' EXIT
 gcc -shared -fPIC -O1 -o "$work/refuse.so" "$here/refuse.c" -ldl || exit 1
 apply=${APPLY:-$root/crates/apply/out/apply}
+counted=${COUNTED:-$root/crates/cli_tests/out/cli_tests_tests}
+
+# Runs a program, in a folder of its own, with the allocation of this number refused.
 once() {
+  number=$1
+  shift
   rm -rf "$work/run" && mkdir "$work/run" && cd "$work/run" || exit 1
-  REFUSE=$1 COUNT=$work/count LD_PRELOAD=$work/refuse.so timeout 20 "$apply" --config "$root/examples/first/main.tf.json" > out 2> err
+  timeout 20 env REFUSE="$number" COUNT="$work/count" LD_PRELOAD="$work/refuse.so" "$@" > out 2> err
   status=$?
 }
-once 0
-[ "$status" = 0 ] || { echo "apply doesn't run: status $status" >&2; exit 1; }
-all=$(cat "$work/count")
-echo "$all allocations"
-number=1
-bad=0
-: > "$work/ends"
-while [ "$number" -le "$all" ]; do
-  once "$number"
+
+# How a run of apply ended, or nothing where it ended in none of the ways that it may.
+end_of_apply() {
   told=$(tr '\n' ' ' < err)
   case "$status,$told" in
-    0,) [ -s terraform.tfstate ] && end="0: done, and the state is written" ;;
-    1,"error 15 at memory: OutOfMemory "|1,"error: out of memory "|1,"error: cannot read "*) [ -s out ] || end="1: $told(nothing called)" ;;
-    2,"error 26 at sim_net.office create: no memory ") [ ! -e terraform.tfstate ] && end="2: $told(nothing created)" ;;
-    3,"error: state not written ") [ ! -e terraform.tfstate ] && end="3: $told(created)" ;;
+    0,) [ -s terraform.tfstate ] && echo "0: done, and the state is written" ;;
+    1,"error 15 at memory: OutOfMemory "|1,"error: out of memory "|1,"error: cannot read "*) [ -s out ] || echo "1: $told(nothing called)" ;;
+    2,"error 26 at sim_net.office create: no memory ") [ ! -e terraform.tfstate ] && echo "2: $told(nothing created)" ;;
+    3,"error: state not written ") [ ! -e terraform.tfstate ] && echo "3: $told(created)" ;;
   esac
-  if [ -z "$end" ]; then
-    echo "allocation $number: status $status, $told"
-    bad=1
-  else
-    echo "$end" >> "$work/ends"
-  fi
-  end=
-  number=$((number + 1))
-done
-sort "$work/ends" | uniq -c
+}
+
+# How a run of the test ended: each call that was made is in the journal, or the test itself had no memory.
+end_of_counted() {
+  case "$status,$(head -1 err)" in
+    0,) echo "0: each call is in the journal" ;;
+    101,"error: Alloc"*) echo "101: the test itself had no memory" ;;
+  esac
+}
+
+# Refuses each allocation of a program in turn.
+each() {
+  end=$1
+  shift
+  once 0 "$@"
+  [ "$status" = 0 ] || { echo "$1 doesn't run: status $status" >&2; exit 1; }
+  all=$(cat "$work/count")
+  echo "$1: $all allocations"
+  : > "$work/ends"
+  refused=1
+  while [ "$refused" -le "$all" ]; do
+    once "$refused" "$@"
+    ended=$("$end")
+    if [ -z "$ended" ]; then
+      echo "allocation $refused: status $status, $(tr '\n' ' ' < err)"
+      bad=1
+    else
+      echo "$ended" >> "$work/ends"
+    fi
+    refused=$((refused + 1))
+  done
+  sort "$work/ends" | uniq -c
+}
+
+bad=0
+each end_of_apply "$apply" --config "$root/examples/first/main.tf.json"
+each end_of_counted "$counted" tests::counted::a_call_is_in_the_journal
 exit "$bad"

@@ -1,48 +1,29 @@
 //! Prints the plan of a configuration.
 #![tactic(auto)]
 
+use std::io;
 use std::process::ExitCode;
-use std::{env, fs, io};
-use tf_cli::{Options, Refused, options, plan_text, print_refused, save};
+use tf_cli::program::{Given, end, read_given};
+use tf_cli::{plan_text, print_refused, save};
 use tf_provider::Provider;
 use tf_sim::Sim;
 
 fn main(rt: HostRuntime) -> io::Result<ExitCode> {
-    match answer(&rt) {
-        Err(error) if error.kind() == io::ErrorKind::OutOfMemory => {
-            let _ = print_refused(&Refused::NoMemory, &mut rt.stderr());
-            Ok(ExitCode::FAILURE)
-        }
-        answered => answered,
-    }
+    let answer = match read_given(&rt) {
+        Ok(Ok(given)) => run(&rt, &given),
+        Ok(Err(status)) => Ok(status),
+        Err(error) => Err(error),
+    };
+    end(&rt, answer)
 }
 
-fn answer(rt: &HostRuntime) -> io::Result<ExitCode> {
-    let words: Vec<String> = env::args(rt)?.collect(rt.alloc())?;
-    match options(rt.alloc(), words.as_slice()) {
-        Ok(options) => run(rt, &options),
-        Err(error) => {
-            let _ = error.print(rt);
-            Ok(ExitCode::from(u8::from(error.use_stderr())))
-        }
-    }
-}
-
-fn run(rt: &HostRuntime, options: &Options) -> io::Result<ExitCode> {
-    let Ok(config) = fs::read(rt, options.config.as_str()) else {
-        return unread(rt, options.config.as_str());
-    };
-    let state = match fs::read(rt, options.state.as_str()) {
-        Ok(state) => Some(state),
-        Err(error) if error.kind() == io::ErrorKind::NotFound => None,
-        Err(_) => return unread(rt, options.state.as_str()),
-    };
-    let state = state.as_ref().map(|state| state.as_slice());
+fn run(rt: &HostRuntime, given: &Given) -> io::Result<ExitCode> {
+    let state = given.state.as_ref().map(|state| state.as_slice());
     let mut providers: Vec<Box<dyn Provider + Sync>> = Vec::new(rt.alloc());
     providers.push(Box::new(rt.alloc(), Sim::new(rt.alloc())?)?)?;
     match plan_text(
         rt.alloc(),
-        config.as_slice(),
+        given.config.as_slice(),
         None,
         state,
         providers.as_slice(),
@@ -56,9 +37,4 @@ fn run(rt: &HostRuntime, options: &Options) -> io::Result<ExitCode> {
             Ok(ExitCode::FAILURE)
         }
     }
-}
-
-fn unread(rt: &HostRuntime, file: &str) -> io::Result<ExitCode> {
-    eprintln!(rt; "error: cannot read {file}")?;
-    Ok(ExitCode::FAILURE)
 }

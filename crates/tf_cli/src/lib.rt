@@ -6,6 +6,7 @@ mod applying;
 mod lines;
 mod planning;
 mod printing;
+pub mod program;
 pub mod saving;
 
 pub use applied::Applied;
@@ -17,6 +18,3 @@ pub use tf_options::{Options, options};
 pub use tf_plan::Refused;
 pub use tf_refusal::Refusal;
 pub use tf_walk::{Report, Walked};
-
-#[cfg(test)]
-mod tests;

@@ -1,0 +1,183 @@
+//! Plans and applies of whole texts, watched.
+
+use std::alloc::{AllocError, Global};
+use std::process::Abort;
+use std::sync::Arc;
+use std::sync::atomic::{AtomicUsize, Ordering};
+use std::test::Fail;
+use tf_cli::{Applied, Refused, Report, apply_text, plan_text, print_refused, show};
+use tf_provider::{Provider, Reply, Request, Schema};
+use tf_sim::Sim;
+
+/// The provider `sim`, which counts its calls and may be without memory at each.
+#[derive(Drop)]
+struct Watched {
+    sim: Sim,
+    calls: Arc<AtomicUsize>,
+    forgetful: bool,
+}
+
+impl Provider for Watched {
+    ghost use Rattle.tf_sim.specs.Table.{sim_meaning};
+
+    ghost meaning = { λ _. sim_meaning };
+
+    fn schema(&self, type_name: &str) -> Option<&Schema> {
+        self.sim.schema(type_name)
+    }
+
+    fn apply(&self, request: &Request) -> Reply {
+        self.calls.fetch_add(1, Ordering::SeqCst);
+        if self.forgetful {
+            Reply::NoMemory
+        } else {
+            self.sim.apply(request)
+        }
+    }
+}
+
+/// What an apply prints and answers.
+#[derive(Drop)]
+pub struct Seen {
+    pub output: String,
+    pub errors: String,
+    pub status: u8,
+    /// The text of the state after, where nothing is refused.
+    pub state: String,
+    pub changed: bool,
+    pub calls: usize,
+    /// How many calls are in the journal.
+    pub recorded: usize,
+}
+
+/// Applies a configuration.
+pub fn watch_apply(
+    alloc: Global,
+    config: &[u8],
+    state: Option<&[u8]>,
+    forgetful: bool,
+) -> Result<Seen, Fail> {
+    let calls = Arc::new(alloc, AtomicUsize::new(0))?;
+    let watched = Watched {
+        sim: Sim::new(alloc)?,
+        calls: Arc::try_clone(&calls)?,
+        forgetful,
+    };
+    let mut seen = apply_by(alloc, config, state, Box::new(alloc, watched)?)?;
+    seen.calls = calls.load(Ordering::SeqCst);
+    Ok(seen)
+}
+
+/// Applies a configuration by a provider whose calls aren't counted.
+pub fn apply_by(
+    alloc: Global,
+    config: &[u8],
+    state: Option<&[u8]>,
+    provider: Box<dyn Provider + Sync>,
+) -> Result<Seen, Fail> {
+    let mut providers: Vec<Box<dyn Provider + Sync>> = Vec::new(alloc);
+    providers.push(provider)?;
+    let answer = apply_text(alloc, config, None, state, "L", &providers);
+    let mut output = Vec::new(alloc);
+    let mut errors = Vec::new(alloc);
+    let status = show(&answer, &mut output, &mut errors);
+    let After {
+        state,
+        changed,
+        recorded,
+    } = state_after(alloc, answer);
+    Ok(Seen {
+        output: String::from_utf8(output)?,
+        errors: String::from_utf8(errors)?,
+        status,
+        state,
+        changed,
+        calls: 0,
+        recorded,
+    })
+}
+
+/// What an answer says of the state after.
+#[derive(Drop)]
+pub struct After {
+    /// The text of the state, where nothing is refused and there was memory for it.
+    state: String,
+    changed: bool,
+    /// How many calls are in the journal.
+    recorded: usize,
+}
+
+/// What an answer says of the state after. All else goes.
+pub fn state_after(alloc: Global, answer: Result<Applied, Refused>) -> After {
+    let Ok(applied) = answer else {
+        return After {
+            state: String::new(alloc),
+            changed: false,
+            recorded: 0,
+        };
+    };
+    let Applied {
+        plan: _,
+        walked,
+        state,
+        changed,
+    } = applied;
+    let Report {
+        state: _,
+        outcomes: _,
+        diagnostics: _,
+        journal,
+        excused: _,
+        good: _,
+    } = walked.into_report();
+    let recorded = journal.entries().len();
+    match state {
+        Ok(state) => After {
+            state,
+            changed,
+            recorded,
+        },
+        Err(AllocError) => After {
+            state: String::new(alloc),
+            changed: false,
+            recorded,
+        },
+    }
+}
+
+/// The plan's text, or the refusals.
+pub fn planned(alloc: Global, config: &[u8], state: Option<&[u8]>) -> Result<String, Fail> {
+    let mut providers: Vec<Box<dyn Provider + Sync>> = Vec::new(alloc);
+    providers.push(Box::new(alloc, Sim::new(alloc)?)?)?;
+    match plan_text(alloc, config, None, state, &providers) {
+        Ok(text) => Ok(text),
+        Err(refused) => {
+            let mut errors = Vec::new(alloc);
+            print_refused(&refused, &mut errors)?;
+            Ok(String::from_utf8(errors)?)
+        }
+    }
+}
+
+// Checks that a plan and an apply are refused with these lines, and that no provider was called.
+pub fn check_refused(
+    rt: &impl Abort,
+    alloc: Global,
+    config: &[u8],
+    state: Option<&[u8]>,
+    errors: &str,
+) -> Result<(), Fail> {
+    let said = planned(alloc, config, state)?;
+    assert_eq!(rt; said.as_str(), errors);
+    let seen = watch_apply(alloc, config, state, false)?;
+    assert_eq!(rt; seen.output.as_str(), "", "{errors}");
+    assert_eq!(rt; seen.errors.as_str(), errors);
+    assert_eq!(rt; seen.status, 1, "{errors}");
+    assert_eq!(rt; seen.calls, 0, "{errors}");
+    Ok(())
+}
+
+pub const NOTHING: &str =
+    "{\n  \"lineage\": \"L\",\n  \"outputs\": {},\n  \"resources\": [],\n  \"serial\": 0,\n  \"terraform_version\": \"1.0.0\",\n  \"version\": 4\n}\n";
+
+pub const CONFIG: &str = "{\"resource\": {\"sim_net\": {\"a\": {\"cidr\": \"x\"}}}}";

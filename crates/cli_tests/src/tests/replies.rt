@@ -1,0 +1,166 @@
+//! Each kind of reply, what is told of it, and what is saved.
+
+ghost use Rattle.std.specs.Prelude.{◌≡◌, IfOk, option_map};
+ghost use Rattle.tf_value.specs.Tree.{tree_of};
+
+use crate::tests::applying::{CONFIG, NOTHING, apply_by};
+use std::alloc::{AllocError, Global};
+use std::collections::BTreeMap;
+use std::test::Fail;
+use tf_provider::{Provider, Reply, Request, Schema};
+use tf_sim::Sim;
+use tf_value::{Value, copy};
+
+/// The provider `sim`, but for its answer, which is always the same: that the request failed, where there is a
+/// message, else an object, where there is one, else that there is none.
+#[derive(Drop)]
+struct Scripted {
+    sim: Sim,
+    message: Option<String>,
+    object: Option<Value>,
+}
+
+impl Provider for Scripted {
+    ghost use Rattle.std.specs.Option.{option_map_or};
+    ghost use Rattle.std.specs.Prelude.{option_map, string_bytes};
+    ghost use Rattle.tf_protocol.specs.Meaning.{failed, gone, object};
+    ghost use Rattle.tf_sim.specs.Table.{sim_meaning};
+    ghost use Rattle.tf_value.specs.Tree.{tree_of};
+
+    ghost meaning = { λ p. record {
+      answer = λ _. option_map_or (λ m. failed (string_bytes m) (option_map tree_of p.object))
+          p.message (option_map_or (λ v. object (tree_of v)) p.object gone);
+      schema_of = sim_meaning.schema_of;
+    } };
+
+    fn schema(&self, type_name: &str) -> Option<&Schema> {
+        self.sim.schema(type_name)
+    }
+
+    fn apply(&self, _request: &Request) -> Reply {
+        let Ok(object) = copied(&self.object) else {
+            return Reply::NoMemory;
+        };
+        match &self.message {
+            None => match object {
+                Some(value) => Reply::Object(value),
+                None => Reply::Gone,
+            },
+            Some(message) => match message.clone() {
+                Ok(message) => Reply::Failed { message, object },
+                Err(AllocError) => Reply::NoMemory,
+            },
+        }
+    }
+}
+
+fn copied(object: &Option<Value>) -> Result<Option<Value>, AllocError>
+    ensures { IfOk result (λ o. option_map tree_of o ≡ option_map tree_of object.now) }
+{
+    match object {
+        Some(value) => Ok(Some(copy(value)?)),
+        None => Ok(None),
+    }
+}
+
+/// What a provider answers to a create of the net with cidr `x`.
+#[derive(Clone, Copy, Debug)]
+enum Said {
+    Whole,
+    WithoutId,
+    NumberAsId,
+    AnotherCidr,
+    Gone,
+    FailedWith,
+    FailedWithHalf,
+    Failed,
+}
+
+/// A net with this cidr and id, and a tag that is null.
+fn net(alloc: Global, cidr: &str, id: Option<Value>) -> Result<Value, AllocError> {
+    let mut attributes = BTreeMap::new(alloc);
+    let cidr = Value::Text(String::from_str(alloc, cidr)?);
+    drop(attributes.insert(String::from_str(alloc, "cidr")?, cidr)?);
+    drop(attributes.insert(String::from_str(alloc, "tag")?, Value::Null)?);
+    if let Some(id) = id {
+        drop(attributes.insert(String::from_str(alloc, "id")?, id)?);
+    }
+    Ok(Value::Map(attributes))
+}
+
+/// The message and the object of an answer.
+fn script(alloc: Global, said: Said) -> Result<(Option<String>, Option<Value>), AllocError> {
+    let id = Value::Text(String::from_str(alloc, "i")?);
+    let message = Some(String::from_str(alloc, "m\tn\n")?);
+    Ok(match said {
+        Said::Whole => (None, Some(net(alloc, "x", Some(id))?)),
+        Said::WithoutId => (None, Some(net(alloc, "x", None)?)),
+        Said::NumberAsId => (None, Some(net(alloc, "x", Some(Value::Int(5)))?)),
+        Said::AnotherCidr => (None, Some(net(alloc, "y", Some(id))?)),
+        Said::Gone => (None, None),
+        Said::FailedWith => (message, Some(net(alloc, "x", Some(id))?)),
+        Said::FailedWithHalf => (message, Some(net(alloc, "x", None)?)),
+        Said::Failed => (message, None),
+    })
+}
+
+const MALFORMED: &str = "error 23 at sim_net.a create: malformed reply\n";
+
+const FAILED: &str = "error 21 at sim_net.a create: m n \n";
+
+// Each kind of answer, what is told, and the cidr, the id and the status of what is saved.
+static REPLIES: [(Said, &str, &str, &str, &str); 8] = [
+    (Said::Whole, "", "x", "\"i\"", ""),
+    (Said::WithoutId, MALFORMED, "x", "null", "tainted"),
+    (Said::NumberAsId, MALFORMED, "x", "null", "tainted"),
+    (
+        Said::AnotherCidr,
+        "error 22 at sim_net.a create: contradicts cidr\n",
+        "y",
+        "\"i\"",
+        "tainted",
+    ),
+    (Said::Gone, MALFORMED, "x", "null", "tainted"),
+    (Said::FailedWith, FAILED, "x", "\"i\"", "tainted"),
+    (Said::FailedWithHalf, FAILED, "", "", ""),
+    (Said::Failed, FAILED, "", "", ""),
+];
+
+// The text of a state with one net, or with nothing where there is no cidr.
+fn net_state(alloc: Global, cidr: &str, id: &str, status: &str) -> Result<String, AllocError> {
+    if cidr.is_empty() {
+        return String::from_str(alloc, NOTHING);
+    }
+    let status = if status.is_empty() {
+        String::new(alloc)
+    } else {
+        format!(in alloc; ",\n          \"status\": \"{status}\"")?
+    };
+    format!(in alloc;
+        "{{\n  \"lineage\": \"L\",\n  \"outputs\": {{}},\n  \"resources\": [\n    {{\n      \"instances\": [\n        {{\n          \"attributes\": {{\n            \"cidr\": \"{cidr}\",\n            \"id\": {id},\n            \"tag\": null\n          }},\n          \"schema_version\": 0{status}\n        }}\n      ],\n      \"mode\": \"managed\",\n      \"name\": \"a\",\n      \"provider\": \"provider[\\\"registry.terraform.io/hashicorp/sim\\\"]\",\n      \"type\": \"sim_net\"\n    }}\n  ],\n  \"serial\": 1,\n  \"terraform_version\": \"1.0.0\",\n  \"version\": 4\n}}\n"
+    )
+}
+
+#[test]
+fn answers_of_each_kind(rt: HostRuntime) -> Result<(), Fail> {
+    let alloc = rt.alloc();
+    for (said, errors, cidr, id, status) in &REPLIES {
+        let (message, object) = script(alloc, *said)?;
+        let scripted = Scripted {
+            sim: Sim::new(alloc)?,
+            message,
+            object,
+        };
+        let seen = apply_by(alloc, CONFIG.as_bytes(), None, Box::new(alloc, scripted)?)?;
+        let state = net_state(alloc, *cidr, *id, *status)?;
+        assert_eq!(rt; seen.errors.as_str(), *errors, "{said:?}");
+        assert_eq!(rt; seen.state.as_str(), state.as_str(), "{said:?}");
+        assert_eq!(rt; seen.changed, !cidr.is_empty(), "{said:?}");
+        assert_eq!(rt;
+            seen.status,
+            if errors.is_empty() { 0 } else { 2 },
+            "{said:?}"
+        );
+    }
+    Ok(())
+}
