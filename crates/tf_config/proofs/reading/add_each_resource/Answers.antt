@@ -1,28 +1,19 @@
-use Rattle.std.proofs.Common.{◌≡◌, [], ◌∷◌, ◌++◌, sym, ap, ◌∙◌, append_assoc}
 use Rattle.std.proofs.lemmas.Result.{err_from_is_err_and}
-use Rattle.serde_json.proofs.Views.{Entry}
 use Rattle.tf_config.proofs.ConfigurationLaws.{resource_met}
-use Rattle.tf_config.proofs.Members.{refused_at}
+use Rattle.tf_config.proofs.Members.{refused_next, read_next}
 use Rattle.tf_config.specs.Config.{blocks_of}
 use Rattle.tf_config.specs.Configuration.{AddsResource, resource_checks}
 use Rattle.tf_json_path.proofs.Places.{place_of-Member}
-use Rattle.tf_json_path.proofs.Walks.{builds_more}
 use Rattle.tf_json_path.specs.Place.{place_of}
 use Rattle.tf_config.proofs.reading.add_each_resource.Goals as goal
 
 pub returns-in_err-add_resource-clause-fault : goal.returns-in_err-add_resource-clause-fault
 returns-in_err-add_resource-clause-fault c =
-    let done = c.loop-key.invariant.0 in
-    let e : Entry = (c.in-Some.key.now, c.in-Some.member.now) in
     let p = err_from_is_err_and c.from_residual.result c.from_residual.ensures.1 in
-    let all : c.args.members.now.entries ≡ done ++ e ∷ c.next.new.self = c.loop-key.invariant.1 ∙ ap (λ es. done ++ es) c.in-Some.ensures.steps in
     let first = rw (place_of-Member, c.as_str-name.ensures.value) at c.in_err-add_resource.ensures.fault in
-    rw (p.1, p.2) (refused_at (AddsResource c.args.kind.now) resource_checks (resource_met c.args.kind.now) (place_of c.args.path.now) _ done e c.next.new.self (blocks_of c.args.config.now) _ _ all c.loop-key.invariant.2 first)
+    rw (p.1, p.2) (refused_next (AddsResource c.args.kind.now) resource_checks (resource_met c.args.kind.now) (place_of c.args.path.now) _ _ (c.in-Some.key.now, c.in-Some.member.now) c.next.new.self (blocks_of c.args.config.now) _ _ c.loop-key.invariant c.in-Some.ensures.steps first)
 
 pub loop-key-preserved : goal.loop-key-preserved
 loop-key-preserved c =
-    let done = c.loop-key.invariant.0 in
-    let e : Entry = (c.in-Some.key.now, c.in-Some.member.now) in
-    let all : c.args.members.now.entries ≡ done ++ e ∷ c.next.new.self = c.loop-key.invariant.1 ∙ ap (λ es. done ++ es) c.in-Some.ensures.steps in
     let adds = rw c.as_str-name.ensures.value at c.in_ok-add_resource.ensures.ok in
-    (done ++ e ∷ [], all ∙ sym (append_assoc done (e ∷ []) c.next.new.self), builds_more (AddsResource c.args.kind.now) done e (blocks_of c.args.config.now) _ _ c.loop-key.invariant.2 adds)
+    read_next (AddsResource c.args.kind.now) resource_checks (resource_met c.args.kind.now) _ _ (c.in-Some.key.now, c.in-Some.member.now) c.next.new.self (blocks_of c.args.config.now) _ _ c.loop-key.invariant c.in-Some.ensures.steps adds
