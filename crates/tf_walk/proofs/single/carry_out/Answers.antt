@@ -1,13 +1,15 @@
 use Rattle.std.proofs.Common.{◌≡◌, ℕ, ◌++◌, length, map, take, drop, None, option_map, replicate, sym, ap, ap₂, ◌∙◌, subst, arith}
-use Rattle.std.proofs.lemmas.List.{length-map, length-replicate}
+use Rattle.std.proofs.lemmas.List.{length-map}
 use Rattle.std.specs.List.{AllByRecursion}
 use Rattle.tf_state.specs.Valid.{IsValid}
+use Rattle.tf_state_data.specs.State.{empty_state, state_of}
 use Rattle.tf_graph.specs.Digraph.{Digraph, predecessors_of}
 use Rattle.tf_graph.specs.Order.{IsInOrder}
 use Rattle.tf_journal.specs.Entries.{Log, actions_of}
 use Rattle.tf_plan.specs.Plan.{action_of, plan_of}
 use Rattle.tf_walk.specs.Addition.{AreJudged, saved_in, told_in}
-use Rattle.tf_walk.specs.After.{is_any, raised, with_resources, saved_resources}
+use Rattle.tf_walk.specs.After.{is_any, raised, with_resources, saved_resources, state_after}
+use Rattle.tf_walk.specs.Diagnostics.{diagnostic_of, diagnostics}
 use Rattle.tf_walk.specs.Draft.{IsBlank}
 use Rattle.tf_walk.specs.Ended.{done_of, done_or_skipped, dones_of}
 use Rattle.tf_walk.specs.Ends.{done_in}
@@ -68,9 +70,13 @@ returns g c =
     let told = c.report_of.ensures in
     let solves = so_far-solves ms plan ends c.walk.new.journal.entries done c.walk.ensures.so_far c.walk.ensures.all lengths same in
     let heads : map room_head c.args.prepared.rooms.items ≡ map head_of plan.actions = c.requires.prepared.rooms in
-    let resources : saved_in ms (map room_head c.args.prepared.rooms.items) done ≡ saved_resources ms plan.actions done =
-    ap (λ hs. saved_in ms hs done) heads ∙ saved_in-actions ms plan.actions done in
-    let after = ap₂ (λ rs s. raised (is_any rs) (with_resources rs s)) resources c.requires.prepared.state in
+    let saved = saved_in ms (map room_head c.args.prepared.rooms.items) done in
+    let resources : saved ≡ saved_resources ms plan.actions done =
+    ◌∙◌ {b = saved_in ms (map head_of plan.actions) done} (ap (λ hs. saved_in ms hs done) heads) (saved_in-actions ms plan.actions done) in
+    let state : state_of report.state ≡ state_after ms plan.actions done (empty_state plan.lineage) =
+    ◌∙◌ {b = raised (is_any saved) (with_resources saved (state_of c.args.prepared.draft.state))} told.state (ap₂ (λ rs s. raised (is_any rs) (with_resources rs s)) resources c.requires.prepared.state) in
+    let diagnostics_told : map diagnostic_of report.diagnostics.items ≡ diagnostics plan.actions done =
+    ◌∙◌ {b = told_in (map room_head c.args.prepared.rooms.items) done} told.diagnostics (◌∙◌ {b = told_in (map head_of plan.actions) done} (ap (λ hs. told_in hs done) heads) (told_in-actions plan.actions done)) in
     let entries : report.journal.entries ≡ c.walk.new.journal.entries = ap (λ (l : Log). l.entries) told.journal in
     let allowed : IsInOrder (predecessors_of c.args.plan.now.order) (actions_of c.walk.new.journal.entries) =
     subst (λ (d : Digraph). IsInOrder (predecessors_of d) (actions_of c.walk.new.journal.entries)) c.walk.ensures.graph c.entries-entries.ensures.allowed in (
@@ -79,12 +85,12 @@ returns g c =
         solved = subst (λ es. AreOutcomes ms plan es done) (sym told.excused) solves;
         lawful = told.excused;
         outcomes = told.outcomes;
-        state = told.state ∙ after;
+        state = state;
         valid = λ may.
             let within = so_far-within ms plan ends c.walk.new.journal.entries done may c.walk.ensures.so_far same in
             let records = subst (AllByRecursion HasRecords) resources (told.records within) in
-            subst IsValid (sym (told.state ∙ after)) (after-valid ms plan.actions done plan.lineage may records);
-        diagnostics_told = told.diagnostics ∙ (ap (λ hs. told_in hs done) heads ∙ told_in-actions plan.actions done);
+            subst IsValid (sym state) (after-valid ms plan.actions done plan.lineage may records);
+        diagnostics_told = diagnostics_told;
         good = told.good;
       },
       record {
