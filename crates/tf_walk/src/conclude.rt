@@ -1,8 +1,8 @@
 //! What came of an action becomes a part of the report, without taking memory.
 
-ghost use Rattle.std.specs.Prelude.{◌≡◌, ◌++◌, [], true, false, None, Some, codes, map, option_map, option_and_then, string_bytes, string_capacity, IfSome};
 ghost use Rattle.std.specs.Bool.{OnTrue};
 ghost use Rattle.std.specs.Option.{option_map_or};
+ghost use Rattle.std.specs.Prelude.{◌≡◌, ◌++◌, [], true, false, None, Some, codes, map, option_map, option_and_then, string_bytes, string_capacity, IfSome};
 ghost use Rattle.tf_address.specs.Label.{label_text};
 ghost use Rattle.tf_protocol.specs.Meaning.{asked, answered};
 ghost use Rattle.tf_protocol.specs.Verdict.{verdict_on};
@@ -10,13 +10,13 @@ ghost use Rattle.tf_protocol.specs.declared.request.Op.TheVariants.{Create};
 ghost use Rattle.tf_state.specs.Valid.{IsAttributes};
 ghost use Rattle.tf_state_data.specs.Resource.{resource_of};
 ghost use Rattle.tf_value.specs.Tree.{tree_of};
+ghost use Rattle.tf_walk.specs.Addition.{IsAdditionOf, IsJudged, formed_reply, if_formed, listed};
 ghost use Rattle.tf_walk.specs.After.{resource_after, saved_by};
 ghost use Rattle.tf_walk.specs.Diagnostics.{diagnostic_of, diagnostics_of_verdict, name_at};
 ghost use Rattle.tf_walk.specs.Ended.{done_or_skipped};
 ghost use Rattle.tf_walk.specs.Room.{message_fits};
 ghost use Rattle.tf_walk.specs.RoomHead.{room_head};
 ghost use Rattle.tf_walk.specs.Savable.{HasRecords, has_attributes_within, has_stored_attributes};
-ghost use Rattle.tf_walk.specs.Addition.{IsAdditionOf, IsJudged, formed_reply, if_formed, listed};
 
 use crate::addition::Addition;
 use crate::asking::Asking;

@@ -1,7 +1,7 @@
 //! The report on all actions is put together, without taking memory.
 
-ghost use Rattle.std.specs.Prelude.{◌≡◌, ◌+◌, ◌++◌, ◌<◌, ◌≤◌, ◌^◌, [], length, map, count_by, vec_len, vec_capacity};
 ghost use Rattle.std.specs.List.{AllByRecursion};
+ghost use Rattle.std.specs.Prelude.{◌≡◌, ◌+◌, ◌++◌, ◌<◌, ◌≤◌, ◌^◌, [], length, map, count_by, vec_len, vec_capacity};
 ghost use Rattle.tf_state_data.specs.Resource.{resource_of};
 ghost use Rattle.tf_state_data.specs.State.{HasRoomForResources, state_of};
 ghost use Rattle.tf_walk.specs.Addition.{AreJudged, listed, saved_in, told_in};

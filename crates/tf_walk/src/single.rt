@@ -1,10 +1,10 @@
 //! Carrying out a plan by one thread.
 
-ghost use Rattle.std.specs.Prelude.{◌≡◌, List, map, count_by, IfOk, IfErr};
 ghost use Rattle.std.specs.List.{AllByRecursion};
-ghost use Rattle.tf_refusal.specs.Refusal.{no_memory, told};
+ghost use Rattle.std.specs.Prelude.{◌≡◌, List, map, count_by, IfOk, IfErr};
 ghost use Rattle.tf_plan.specs.Plan.{action_of, plan_of};
 ghost use Rattle.tf_plan.specs.Served.{AreServed};
+ghost use Rattle.tf_refusal.specs.Refusal.{no_memory, told};
 ghost use Rattle.tf_state_data.specs.State.{state_of};
 ghost use Rattle.tf_walk.specs.Addition.{saved_in, told_in};
 ghost use Rattle.tf_walk.specs.After.{is_any, raised, with_resources};
