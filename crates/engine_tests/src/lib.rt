@@ -2,6 +2,8 @@
 #![tactic(auto)]
 
 #[cfg(test)]
+mod journal;
+#[cfg(test)]
 mod options;
 #[cfg(test)]
 mod plan;

@@ -9,8 +9,8 @@ use std::test::Fail;
 use tf_claim::{Book, Finished, Permit, waive};
 use tf_graph::Graph;
 use tf_provider::{
-    Attribute, Called, Kind, Mode, Op, Parts, Provider, Reply, Request, Schema, SchemaFault,
-    Verdict, asks_fully, call, first_provider, judge, well_formed,
+    Attribute, Called, Kind, Mode, Op, Parts, Provider, Recorded, Reply, Request, Schema,
+    SchemaFault, Verdict, asks_fully, call, first_provider, judge, well_formed,
 };
 use tf_value::Value;
 
@@ -205,8 +205,8 @@ fn schemas_are_in_byte_order(rt: HostRuntime) -> Result<(), Fail> {
 
 /// A provider that has the net's schema for each type, and says of each object that it is gone.
 #[derive(Drop)]
-struct Mute {
-    schema: Schema,
+pub(crate) struct Mute {
+    pub(crate) schema: Schema,
 }
 
 impl Provider for Mute {
@@ -225,7 +225,7 @@ impl Provider for Mute {
 }
 
 /// Reports an action as done that was claimed from this book.
-fn finish(book: &mut Book, finished: Finished)
+pub(crate) fn finish(book: &mut Book, finished: Finished)
     requires { IsTrue (is_taken (stage_in book.old.stages finished)) }
 {
     match book.finish(finished) {
@@ -235,7 +235,7 @@ fn finish(book: &mut Book, finished: Finished)
 }
 
 /// Calls a provider where it may be asked; the permit comes back otherwise.
-fn try_call(
+pub(crate) fn try_call(
     provider: &Box<dyn Provider + Sync>,
     permit: Permit,
     request: Request,
@@ -248,17 +248,17 @@ fn try_call(
     }
 }
 
-/// Takes a call apart, reports its action as done, and gives what was judged.
-fn settle(book: &mut Book, called: Called) -> Verdict
-    requires { IsTrue (is_taken (stage_in book.old.stages called.action)) }
-    ensures { result ≡ called.verdict }
+/// Takes a recorded call apart, reports its action as done, and gives what was judged.
+pub(crate) fn settle(book: &mut Book, recorded: Recorded) -> Verdict
+    requires { IsTrue (is_taken (stage_in book.old.stages recorded.action)) }
+    ensures { result ≡ recorded.verdict }
 {
     let Parts {
         finished,
         request: _,
         reply: _,
         verdict,
-    } = called.into_recorded().into_parts();
+    } = recorded.into_parts();
     finish(book, finished);
     verdict
 }
@@ -278,7 +278,7 @@ fn a_call_spends_its_permit(rt: HostRuntime) -> Result<(), Fail> {
     };
     match try_call(&providers[0], permit, request) {
         Ok(called) => {
-            let verdict = settle(&mut book, called);
+            let verdict = settle(&mut book, called.into_recorded());
             assert_eq!(rt; verdict, Verdict::Good);
             Ok(())
         }

@@ -198,40 +198,51 @@ module _ (g : Digraph) (stage stage' count count' : ℕ → ℕ) (views : List V
     outside_from below m past =
         else_same m (λ is. omega arith) ∙ rule.outside m past
 
-    pub takes : n < g.nodes → stage n ≡ 0 → stage' n ≡ 1 → ((m : ℕ) → count' m ≡ count m)
-        → ((e : ℕ) → e < length g.edges → target g e ≡ n → 0 < times (source g e) v.seen)
-        → IsKept g stage' count' (set views k (took n v))
-    takes below was is counts ready =
-        let up = up_from (omega arith) in
-        let top = top_from (omega arith) in
-        let later = true_later v up top mine in
-        kept_acts (took n v)
+    -- what is right at this action is right at each
+    one_moves : (w : View) → stage n ≤ stage' n → stage' n ≤ 2 → n < g.nodes
+        → times n w.claimed + min 1 (stage n) ≡ times n v.claimed + min 1 (stage' n)
+        → times n w.finished + (stage n - 1) ≡ times n v.finished + (stage' n - 1)
+        → ((m : ℕ) → m ≢ n → times m w.claimed ≡ times m v.claimed)
+        → ((m : ℕ) → m ≢ n → times m w.finished ≡ times m v.finished)
+        → ((e : ℕ) → e < length g.edges → target g e ≡ n → stage (source g e) ≡ 2)
+        → IsTrueOf g stage' w → Moves g stage stage' v w
+    one_moves w up_here top_here below claimed finished claimed_else finished_else before says =
+        let up = up_from up_here in
+        let top = top_from top_here in
         record {
           up = up;
           stages = top;
           outside = outside_from below;
           claimed = λ m. elim (cases_eq m n) [
-            | inl here ↦
-                let P : ℕ → Type 0 = λ j. times j (n ∷ v.claimed) + min 1 (stage j) ≡ times j v.claimed + min 1 (stage' j) in
-                (let t = times-cons_same n v.claimed in subst P (sym here) (omega arith))
-            | inr other ↦ (let s = else_same m other in let t = times-cons_other m n v.claimed (λ h. other (sym h)) in rw (s, t) refl)
+            | inl here ↦ (let P : ℕ → Type 0 = λ j. times j w.claimed + min 1 (stage j) ≡ times j v.claimed + min 1 (stage' j) in subst P (sym here) claimed)
+            | inr other ↦ rw (else_same m other, claimed_else m other) refl
           ];
           finished = λ m. elim (cases_eq m n) [
-            | inl here ↦ rw (here, was, is) refl
-            | inr other ↦ (let s = else_same m other in rw s refl)
+            | inl here ↦ (let P : ℕ → Type 0 = λ j. times j w.finished + (stage j - 1) ≡ times j v.finished + (stage' j - 1) in subst P (sym here) finished)
+            | inr other ↦ rw (else_same m other, finished_else m other) refl
           ];
           before = λ e lt h. (let a = up (source g e) in let b = top (source g e) in elim (cases_eq (target g e) n) [
-            | inl into ↦ (let d : stage (source g e) ≡ 2 = mine.seen (source g e) (ready e lt into) in omega arith)
+            | inl into ↦ (let d : stage (source g e) ≡ 2 = before e lt into in omega arith)
             | inr other ↦ (let s = else_same (target g e) other in let d : stage (source g e) ≡ 2 = rule.before e lt (omega arith) in omega arith)
           ]);
-          says = record {
-            own = λ m. (let o = mine.own m in let t = times-cons_le m n v.claimed in omega arith);
-            seen = later.seen;
-            known = later.known;
-            let_go = later.let_go;
-            edges = later.edges;
-          };
+          says = says;
         }
+
+    pub takes : n < g.nodes → stage n ≡ 0 → stage' n ≡ 1 → ((m : ℕ) → count' m ≡ count m)
+        → ((e : ℕ) → e < length g.edges → target g e ≡ n → 0 < times (source g e) v.seen)
+        → IsKept g stage' count' (set views k (took n v))
+    takes below was is counts ready =
+        let later = true_later v (up_from (omega arith)) (top_from (omega arith)) mine in
+        let same = times-cons_same n v.claimed in
+        kept_acts (took n v)
+        (one_moves (took n v) (omega arith) (omega arith) below (omega arith) (rw (was, is) refl) (λ m other. times-cons_other m n v.claimed (λ h. other (sym h))) (λ m other. refl) (λ e lt into. mine.seen (source g e) (ready e lt into))
+        record {
+          own = λ m. (let o = mine.own m in let t = times-cons_le m n v.claimed in omega arith);
+          seen = later.seen;
+          known = later.known;
+          let_go = later.let_go;
+          edges = later.edges;
+        })
         refl counts
       where
         times-cons_le : (m x : ℕ) (xs : List ℕ) → times m xs ≤ times m (x ∷ xs)
@@ -250,44 +261,25 @@ module _ (g : Digraph) (stage stage' count count' : ℕ → ℕ) (views : List V
     ends owes is counts =
         let below = owes.0 in
         let was : stage n ≡ 1 = is_taken owes in
-        let up = up_from (omega arith) in
-        let top = top_from (omega arith) in
-        let later = true_later v up top mine in
+        let later = true_later v (up_from (omega arith)) (top_from (omega arith)) mine in
+        let same = times-cons_same n v.finished in
         kept_acts (ended n v)
+        (one_moves (ended n v) (omega arith) (omega arith) below (rw (was, is) refl) (omega arith) (λ m other. refl) (λ m other. times-cons_other m n v.finished (λ h. other (sym h))) (λ e lt into. rule.before e lt (rw into (omega arith)))
         record {
-          up = up;
-          stages = top;
-          outside = outside_from below;
-          claimed = λ m. elim (cases_eq m n) [
-            | inl here ↦ rw (here, was, is) refl
-            | inr other ↦ (let s = else_same m other in rw s refl)
-          ];
-          finished = λ m. elim (cases_eq m n) [
+          own = λ m. elim (cases_eq n m) [
             | inl here ↦
-                let P : ℕ → Type 0 = λ j. times j (n ∷ v.finished) + (stage j - 1) ≡ times j v.finished + (stage' j - 1) in
-                (let t = times-cons_same n v.finished in subst P (sym here) (omega arith))
-            | inr other ↦ (let s = else_same m other in let t = times-cons_other m n v.finished (λ h. other (sym h)) in rw (s, t) refl)
+                let P : ℕ → Type 0 = λ j. times j (n ∷ v.finished) ≤ times j v.claimed in
+                (let t = times-cons_same n v.finished in let a = owes.1 in let b = owes.2 in subst P here (omega arith))
+            | inr other ↦ (let t = times-cons_other m n v.finished other in rw t (mine.own m))
           ];
-          before = λ e lt h. (let a = up (source g e) in let b = top (source g e) in elim (cases_eq (target g e) n) [
-            | inl into ↦ (let d : stage (source g e) ≡ 2 = rule.before e lt (rw into (omega arith)) in omega arith)
-            | inr other ↦ (let s = else_same (target g e) other in let d : stage (source g e) ≡ 2 = rule.before e lt (omega arith) in omega arith)
-          ]);
-          says = record {
-            own = λ m. elim (cases_eq n m) [
-              | inl here ↦
-                  let P : ℕ → Type 0 = λ j. times j (n ∷ v.finished) ≤ times j v.claimed in
-                  (let t = times-cons_same n v.finished in let a = owes.1 in let b = owes.2 in subst P here (omega arith))
-              | inr other ↦ (let t = times-cons_other m n v.finished other in rw t (mine.own m))
-            ];
-            seen = λ m h. elim (cases_eq n m) [
-              | inl here ↦ rw (← here) is
-              | inr other ↦ (let t = times-cons_other m n v.seen other in later.seen m (omega arith))
-            ];
-            known = later.known;
-            let_go = λ e. (let o = mine.let_go e in omega arith);
-            edges = later.edges;
-          };
-        }
+          seen = λ m h. elim (cases_eq n m) [
+            | inl here ↦ rw (← here) is
+            | inr other ↦ (let t = times-cons_other m n v.seen other in later.seen m (omega arith))
+          ];
+          known = later.known;
+          let_go = λ e. (let o = mine.let_go e in omega arith);
+          edges = later.edges;
+        })
         refl counts
 
   -- an edge out of an action that the seat hasn't finished is still held

@@ -1,28 +1,17 @@
 -- What a book keeps when an action that was taken becomes done.
-use Rattle.std.proofs.Common.{◌≡◌, ◌≢◌, ℕ, ◌<◌, Bool, true, false, ◌&&◌, List, [], ◌∷◌, length, set, refl, sym, ap, ◌∙◌, inl, inr, get_or-set_other, get_or-set_same, length-set}
+use Rattle.std.proofs.Common.{◌≡◌, ◌≢◌, ℕ, ◌<◌, Bool, true, false, List, [], ◌∷◌, length, set, refl, sym, ap, ◌∙◌, inl, inr, get_or-set_other, get_or-set_same, length-set}
 use Rattle.std.specs.List.{list_all}
-use Rattle.std.proofs.lemmas.Bool.{cases_eq}
+use Rattle.std.proofs.lemmas.Bool.{and_parts, cases_eq}
 use Rattle.tf_graph.specs.Digraph.{predecessors_of}
 use Rattle.tf_claim.specs.declared.book.Stage.{Stage}
 use Rattle.tf_claim.specs.declared.book.Stage.TheVariants.{Free, Taken, Done}
 use Rattle.tf_claim.specs.Ledger.{Ledger, IsKept, stage_in, is_free, is_taken, is_done, moved}
 
-and_left : (x y : Bool) → (x && y) ≡ true → x ≡ true
-and_left true y h = refl
-and_left false y h = h
-
-and_right : (x y : Bool) → (x && y) ≡ true → y ≡ true
-and_right true y h = h
-and_right false y h = cc
-
-and_both : (x y : Bool) → x ≡ true → y ≡ true → (x && y) ≡ true
-and_both x y h k = rw (h, k) refl
-
 -- what all of some numbers pass they pass by a weaker test too
 all_weaker : (p q : ℕ → Bool) (xs : List ℕ) → ((x : ℕ) → p x ≡ true → q x ≡ true) → list_all p xs ≡ true → list_all q xs ≡ true
 all_weaker p q [] f h = refl
 all_weaker p q (x ∷ xs) f h =
-    and_both _ _ (f x (and_left _ _ h)) (all_weaker p q xs f (and_right _ _ h))
+    let both = and_parts (p x) (list_all p xs) h in rw (f x both.0, all_weaker p q xs f both.1) refl
 
 taken_not_free : (s : Stage) → is_taken s ≡ true → is_free s ≡ false
 taken_not_free Free h = cc

@@ -16,18 +16,15 @@ stage_in stages n = slice_index_or stages n Free
 
 abbrev pub is_free : Stage → Bool
 is_free Free = true
-is_free Taken = false
-is_free Done = false
+is_free _ = false
 
 abbrev pub is_taken : Stage → Bool
-is_taken Free = false
 is_taken Taken = true
-is_taken Done = false
+is_taken _ = false
 
 abbrev pub is_done : Stage → Bool
-is_done Free = false
-is_done Taken = false
 is_done Done = true
+is_done _ = false
 
 -- every action directly before this one is done
 abbrev pub is_ready : Ledger → ℕ → Bool

@@ -15,6 +15,3 @@ pub use book::{Book, Stage};
 pub use claims::Claims;
 pub use permit::{Finished, Permit, waive};
 pub use seat::Seat;
-
-#[cfg(test)]
-mod tests;

@@ -2,6 +2,7 @@
 
 ghost use Rattle.std.specs.Prelude.{ℕ, []};
 ghost use Rattle.tf_graph.specs.Digraph.{Digraph};
+ghost use Rattle.tf_claim.specs.Plays.{Looks, Counts, Takes, Ends, Releases, Rests};
 
 use crate::seat::View;
 use atomic_table::{Join, Play, Split, TableRule};
@@ -34,68 +35,44 @@ impl About for Brand {
 }
 
 /// A load of an action's word.
-pub struct Look<B> {
-    about: PhantomData<B>,
-}
+pub struct Look<B>(PhantomData<B>);
 
 impl<B: About> Play<(), View> for Look<B> {
-    ghost use Rattle.tf_claim.specs.Plays.{Looks};
-
     ghost then = { Looks B.graph B.number };
 }
 
 /// A load of an action's count.
-pub struct Count<B> {
-    about: PhantomData<B>,
-}
+pub struct Count<B>(PhantomData<B>);
 
 impl<B: About> Play<(), View> for Count<B> {
-    ghost use Rattle.tf_claim.specs.Plays.{Counts};
-
     ghost then = { Counts B.graph B.number };
 }
 
 /// One exchange of an action's word, from free to taken.
-pub struct Take<B> {
-    about: PhantomData<B>,
-}
+pub struct Take<B>(PhantomData<B>);
 
 impl<B: About> Play<(), View> for Take<B> {
-    ghost use Rattle.tf_claim.specs.Plays.{Takes};
-
     ghost then = { Takes B.graph B.number };
 }
 
 /// A store of done in an action's word.
-pub struct End<B> {
-    about: PhantomData<B>,
-}
+pub struct End<B>(PhantomData<B>);
 
 impl<B: About> Play<(), View> for End<B> {
-    ghost use Rattle.tf_claim.specs.Plays.{Ends};
-
     ghost then = { Ends B.graph B.number };
 }
 
 /// One taken from the count of the action that an edge leads into.
-pub struct Release<B> {
-    about: PhantomData<B>,
-}
+pub struct Release<B>(PhantomData<B>);
 
 impl<B: About> Play<(), View> for Release<B> {
-    ghost use Rattle.tf_claim.specs.Plays.{Releases};
-
     ghost then = { Releases B.graph B.number };
 }
 
 /// A load that tells no more than that the rule holds.
-pub struct Rest<B> {
-    about: PhantomData<B>,
-}
+pub struct Rest<B>(PhantomData<B>);
 
 impl<B: About> Play<(), View> for Rest<B> {
-    ghost use Rattle.tf_claim.specs.Plays.{Rests};
-
     ghost then = { Rests B.graph };
 }
 

@@ -6,8 +6,7 @@ use Rattle.tf_graph.specs.Order.{IsInOrder}
 use Rattle.tf_provider.specs.Call.{Call}
 use Rattle.tf_protocol.specs.declared.request.Op.{Op}
 use Rattle.tf_protocol.specs.declared.request.Op.TheVariants.{Create, Update, Destroy}
-use Rattle.tf_protocol.specs.declared.verdict.Verdict.{Verdict}
-use Rattle.tf_protocol.specs.declared.verdict.Verdict.TheVariants as verdict
+use Rattle.tf_protocol.specs.Verdict.{is_good_verdict}
 use Rattle.tf_journal.specs.declared.journal.Entry.{Entry}
 use Rattle.tf_journal.specs.declared.journal.RecordFault.{RecordFault}
 use Rattle.tf_journal.specs.declared.journal.RecordFault.TheVariants.{Early, Twice}
@@ -46,10 +45,6 @@ same_op Create Create = true
 same_op Update Update = true
 same_op Destroy Destroy = true
 same_op _ _ = false
-
-abbrev pub is_good_verdict : Verdict → Bool
-is_good_verdict verdict.Good = true
-is_good_verdict _ = false
 
 -- an entry says that this was done, and that it was good
 abbrev pub is_good : Op → Entry → Bool

@@ -1,8 +1,8 @@
 //! A journal with room for one entry an action, so that recording takes no memory.
 
-ghost use Rattle.std.specs.Prelude.{◌≡◌, ◌<◌, ◌^◌, ◌∷◌, ◌++◌, [], false, length, replicate, All, MatchResult, IfOk};
+ghost use Rattle.std.specs.Prelude.{◌≡◌, ◌<◌, ◌^◌, ◌∷◌, ◌++◌, [], false, length, replicate, All, MatchResult, IfOk, vec_capacity};
 ghost use Rattle.std.specs.List.{list_all};
-ghost use Rattle.tf_journal.specs.Entries.{IsAllowed, entry_of, fault_of, good_count, is_good, is_marked};
+ghost use Rattle.tf_journal.specs.Entries.{IsAllowed, IsKept, Log, entry_of, fault_of, good_count, is_good, is_marked};
 
 use std::alloc::{AllocError, Global};
 use std::marker::Model;
@@ -39,9 +39,6 @@ pub struct Journal {
 }
 
 impl Model for Journal {
-    ghost use Rattle.std.specs.Prelude.{vec_capacity};
-    ghost use Rattle.tf_journal.specs.Entries.{Log, IsKept};
-
     ghost Value = { Log };
 
     ghost view = { λ j. record { graph = j.graph; entries = j.entries.items } };

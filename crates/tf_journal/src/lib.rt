@@ -7,6 +7,3 @@
 pub mod journal;
 
 pub use journal::{Entry, Journal, RecordFault};
-
-#[cfg(test)]
-mod tests;

@@ -1,7 +1,7 @@
 -- Attributes put in byte order, one by one.
-use Rattle.std.proofs.Common.{◌≡◌, ℕ, ◌+◌, ◌≤◌, List, [], ◌∷◌, ◌++◌, length, insert, Bool, true, false, ◌&&◌, ◌||◌, not, refl, sym, ap, ◌∙◌, arith, add-one, zero-add, cond, map}
+use Rattle.std.proofs.Common.{◌≡◌, ℕ, ◌+◌, ◌≤◌, List, [], ◌∷◌, ◌++◌, length, insert, Bool, true, false, ◌&&◌, ◌||◌, not, refl, sym, ap, ◌∙◌, arith, add-one, cond, map}
 use Rattle.std.proofs.lemmas.List.{map-append, take-map, drop-map}
-use Rattle.std.specs.Prelude.{Option, Some, None, nat_lt, string_bytes}
+use Rattle.std.specs.Prelude.{Some, None, nat_lt, string_bytes}
 use Rattle.std.specs.List.{list_all, list_any}
 use Rattle.std.proofs.Common.{Ordering, Less, Equal, Greater}
 use Rattle.std.specs.Ordering.{nat_cmp, is_lt, is_eq, ordering_reverse}
@@ -11,7 +11,8 @@ use Rattle.std.proofs.lemmas.Bool.Decides.{nat_tests}
 use Rattle.std.proofs.lemmas.Map.Text.{is_eq-slice_cmp}
 use Rattle.tf_address.specs.Name.{is_name}
 use Rattle.tf_protocol.specs.declared.schema.Attribute.{Attribute}
-use Rattle.tf_protocol.specs.Schema.{attribute_of, AttributeView, SchemaView, IsSchema, placed, place_in, in_order, is_below, ascends, name_is_in, names_differ, is_reserved, fault_of}
+use Rattle.tf_protocol.specs.Schema.{attribute_of, AttributeView, IsSchema, placed, place_in, in_order, is_below, ascends, name_is_in, names_differ, is_reserved, fault_of}
+use Rattle.tf_value.proofs.Conjunction.{and-first, and-second, and-both}
 
 -- an attribute is inserted before the first whose name isn't below its own
 pub placed-insert : (xs : List AttributeView) (a : AttributeView) → placed xs a ≡ insert xs (place_in xs a.name) a
@@ -121,17 +122,6 @@ pub below-other : (a b : List ℕ) → is_below b a ≡ false → bytes_eq b a �
 below-other a b h k =
     ap is_lt (nat_list_cmp_total.antisymm a b) ∙ reversed_below (slice_cmp nat_cmp b a) h (is_eq-slice_cmp b a ∙ k)
 
-and_left : (x y : Bool) → (x && y) ≡ true → x ≡ true
-and_left true y h = refl
-and_left false y h = h
-
-and_right : (x y : Bool) → (x && y) ≡ true → y ≡ true
-and_right true y h = h
-and_right false y h = cc
-
-and_both : (x y : Bool) → x ≡ true → y ≡ true → (x && y) ≡ true
-and_both x y h k = rw (h, k) refl
-
 or_left : (x y : Bool) → (x || y) ≡ false → x ≡ false
 or_left true y h = h
 or_left false y h = refl
@@ -144,18 +134,18 @@ or_right false y h = h
 below_all : (a b : List ℕ) (xs : List AttributeView) → is_below a b ≡ true → list_all (λ c. is_below b c.name) xs ≡ true → list_all (λ c. is_below a c.name) xs ≡ true
 below_all a b [] h k = refl
 below_all a b (x ∷ xs) h k =
-    and_both _ _ (below-trans a b x.name h (and_left _ _ k)) (below_all a b xs h (and_right _ _ k))
+    and-both _ _ (below-trans a b x.name h (and-first _ _ k)) (below_all a b xs h (and-second _ _ k))
 
 pub ascends-placed : (xs : List AttributeView) (a : AttributeView) → ascends xs ≡ true → name_is_in xs a.name ≡ false → ascends (placed xs a) ≡ true
 ascends-placed [] a h k = refl
 ascends-placed (b ∷ bs) a h k =
     elim (is_below b.name a.name) as (λ t. is_below b.name a.name ≡ t → ascends (cond t (b ∷ placed bs a) (a ∷ b ∷ bs)) ≡ true) [
       | true ↦ λ e.
-          and_both _ _ (list_all-placed (λ c. is_below b.name c.name) bs a ∙ and_both _ _ e (and_left _ _ h))
-          (ascends-placed bs a (and_right _ _ h) (or_right _ _ k))
+          and-both _ _ (list_all-placed (λ c. is_below b.name c.name) bs a ∙ and-both _ _ e (and-first _ _ h))
+          (ascends-placed bs a (and-second _ _ h) (or_right _ _ k))
       | false ↦ λ e.
           let first : is_below a.name b.name ≡ true = below-other a.name b.name e (or_left _ _ k) in
-          and_both _ _ (and_both _ _ first (below_all a.name b.name bs first (and_left _ _ h))) h
+          and-both _ _ (and-both _ _ first (below_all a.name b.name bs first (and-first _ _ h))) h
     ] refl
 
 not_false : (b : Bool) → not b ≡ true → b ≡ false
@@ -165,8 +155,8 @@ not_false false h = refl
 pub ascends-in_order : (xs : List AttributeView) → names_differ xs ≡ true → ascends (in_order xs) ≡ true
 ascends-in_order [] h = refl
 ascends-in_order (x ∷ xs) h =
-    ascends-placed (in_order xs) x (ascends-in_order xs (and_right _ _ h))
-    (list_any-in_order (λ b. bytes_eq b.name x.name) xs ∙ not_false _ (and_left _ _ h))
+    ascends-placed (in_order xs) x (ascends-in_order xs (and-second _ _ h))
+    (list_any-in_order (λ b. bytes_eq b.name x.name) xs ∙ not_false _ (and-first _ _ h))
 
 -- what the tests of a schema's attributes say where no test finds a fault
 no_fault : (many named reserved differ : Bool) → {F : Type 0} (a b c d : F)

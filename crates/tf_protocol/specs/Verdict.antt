@@ -3,7 +3,7 @@ use Rattle.std.specs.Prelude.{◌≡◌, ℕ, Bool, true, false, ◌&&◌, ◌||
 use Rattle.std.specs.List.{list_all, position_from}
 use Rattle.std.specs.Option.{option_map_or}
 use Rattle.std.specs.Str.{bytes_eq}
-use Rattle.tf_value.specs.Tree.{Tree, null, boolean, whole, text, list, map, unknown, Entries, no_entries, entry, part_at, keys_of}
+use Rattle.tf_value.specs.Tree.{Tree, null, boolean, whole, text, map, part_at, keys_of}
 use Rattle.tf_value.specs.Known.{known}
 use Rattle.tf_value.specs.Measure.{weight, depth, max_weight, max_depth}
 use Rattle.tf_value.specs.Refinement.{refined}
@@ -66,6 +66,10 @@ well_formed s t = has_attributes s t && list_all (fits_in t) s.attributes
 
 abbrev pub IsWellFormed : SchemaView → Tree → Type 0
 IsWellFormed s t = well_formed s t ≡ true
+
+abbrev pub is_good_verdict : Verdict → Bool
+is_good_verdict verdict.Good = true
+is_good_verdict _ = false
 
 -- A value that was asked for contradicts the one that is there where it doesn't refine to it.
 abbrev pub contradicts : Option Tree → Option Tree → Bool

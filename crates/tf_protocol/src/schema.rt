@@ -1,10 +1,11 @@
 //! Schemas: which attributes the objects of a type have, and the rule of each.
 
-ghost use Rattle.std.specs.Prelude.{◌≡◌, map, find, MatchOption, MatchResult, IfOk, IfErr, OnOk, option_map};
 ghost use Rattle.std.specs.List.{list_all, list_any};
+ghost use Rattle.std.specs.Prelude.{◌≡◌, map, find, MatchOption, MatchResult, IfOk, IfErr, OnOk, option_map};
+ghost use Rattle.std.specs.Str.{bytes_eq};
 ghost use Rattle.tf_address.specs.Name.{is_name};
 ghost use Rattle.tf_protocol.specs.Schema.{AttributeView, SchemaView, IsSchema, attribute_of, attribute_named, fault_of, in_order, placed, is_reserved, names_differ, name_is_in, place_in};
-ghost use Rattle.std.specs.Str.{bytes_eq};
+ghost use Rattle.tf_protocol.specs.declared.schema.SchemaFault.TheVariants.{OutOfMemory};
 
 use std::alloc::{AllocError, AllocFailed, Global};
 use std::error::Error;
@@ -76,26 +77,20 @@ impl fmt::Display for SchemaFault {
     }
 }
 
-impl Error for SchemaFault {}
-
 impl From<AllocError> for SchemaFault {
-    ghost use Rattle.std.specs.Prelude.{◌≡◌};
-    ghost use Rattle.tf_protocol.specs.declared.schema.SchemaFault.TheVariants.{OutOfMemory};
-
     ghost from_gives = { λ _ fault. fault ≡ OutOfMemory };
 
-    fn from(_error: AllocError) -> SchemaFault {
+    fn from(_: AllocError) -> SchemaFault {
         SchemaFault::OutOfMemory
     }
 }
 
-impl<T: Drop> From<AllocFailed<T>> for SchemaFault {
-    ghost use Rattle.std.specs.Prelude.{◌≡◌};
-    ghost use Rattle.tf_protocol.specs.declared.schema.SchemaFault.TheVariants.{OutOfMemory};
+impl Error for SchemaFault {}
 
+impl<T: Drop> From<AllocFailed<T>> for SchemaFault {
     ghost from_gives = { λ _ fault. fault ≡ OutOfMemory };
 
-    fn from(_error: AllocFailed<T>) -> SchemaFault {
+    fn from(_: AllocFailed<T>) -> SchemaFault {
         SchemaFault::OutOfMemory
     }
 }

@@ -1,9 +1,11 @@
 //! One call of a provider, and what is known of it.
 
+ghost use Rattle.std.specs.Coded.{codes};
 ghost use Rattle.std.specs.Prelude.{◌≡◌, IfSome};
 ghost use Rattle.tf_provider.specs.Call.{Call, IsServed};
 ghost use Rattle.tf_protocol.specs.Meaning.{asked, answered};
 ghost use Rattle.tf_protocol.specs.Verdict.{verdict_on};
+ghost use Rattle.tf_value.specs.contracts.value.Value as value;
 
 use std::marker::Model;
 use tf_claim::{Finished, Permit, waive};
@@ -19,10 +21,6 @@ pub struct Called {
 }
 
 impl Model for Called {
-    ghost use Rattle.std.specs.Coded.{codes};
-    ghost use Rattle.tf_provider.specs.Call.{Call};
-    ghost use Rattle.tf_value.specs.contracts.value.Value as value;
-
     ghost Value = { Call };
 
     ghost coded = { Prim.hlevel (codes, value.the_row.coded) };
@@ -37,10 +35,6 @@ pub struct Recorded {
 }
 
 impl Model for Recorded {
-    ghost use Rattle.std.specs.Coded.{codes};
-    ghost use Rattle.tf_provider.specs.Call.{Call};
-    ghost use Rattle.tf_value.specs.contracts.value.Value as value;
-
     ghost Value = { Call };
 
     ghost coded = { Prim.hlevel (codes, value.the_row.coded) };

@@ -1,6 +1,6 @@
--- An object that is well formed has no unknown part.
+-- Each attribute of an object that is well formed may be stored, so that none has an unknown part.
 use Rattle.std.proofs.Common.{◌≡◌, ℕ, Bool, true, false, ◌&&◌, List, [], ◌∷◌, map as each, refl, sym, ap, ◌∙◌, Ordering, Less, Equal, Greater}
-use Rattle.std.specs.Prelude.{Option, Some, if◌then◌else◌}
+use Rattle.std.specs.Prelude.{nat_le, Option, Some, if◌then◌else◌}
 use Rattle.std.specs.List.{list_all}
 use Rattle.std.specs.Option.{option_map_or}
 use Rattle.std.specs.Ordering.{nat_cmp, is_lt, is_eq, ordering_reverse}
@@ -9,17 +9,22 @@ use Rattle.std.specs.Str.{bytes_eq}
 use Rattle.std.proofs.lemmas.Map.Text.{is_eq-slice_cmp}
 use Rattle.std.proofs.lemmas.Slice.Eq.{bytes_eq-Decides}
 use Rattle.tf_protocol.specs.Schema.{AttributeView, SchemaView, IsSchema, ascends, is_below}
-use Rattle.tf_value.specs.Tree.{keys_of, Tree, null, boolean, whole, text, list, map, unknown, Entries, no_entries, entry, get}
-use Rattle.tf_protocol.specs.Verdict.{same_names, fits, fits_in, well_formed}
+use Rattle.tf_value.specs.Tree.{keys_of, Tree, map, Entries, no_entries, entry, get}
+use Rattle.tf_protocol.specs.Verdict.{same_names, is_allowed, fits, fits_in, well_formed}
 use Rattle.tf_value.proofs.Conjunction.{and-first, and-second, and-both}
 use Rattle.tf_value.specs.Known.{known, known_entries}
+use Rattle.tf_value.specs.Measure.{weight, depth, max_weight, max_depth}
+use Rattle.tf_value.specs.Stored.{may_be_stored, each_may_be_stored}
+use Rattle.tf_walk.specs.Savable.{has_stored_attributes}
 
-first_of_four : (b c d e : Bool) → (b && c && d && e) ≡ true → b ≡ true
-first_of_four true c d e h = refl
-first_of_four false c d e h = h
+first_three : (b c d e : Bool) → (b && c && d && e) ≡ true → (b && (c && d)) ≡ true
+first_three true true true e h = refl
+first_three true true false e h = h
+first_three true false d e h = h
+first_three false c d e h = h
 
-fits-known : (a : AttributeView) (t : Tree) → fits a t ≡ true → known t ≡ true
-fits-known a t h = first_of_four (known t) _ _ _ h
+fits-stored : (a : AttributeView) (t : Tree) → fits a t ≡ true → may_be_stored t ≡ true
+fits-stored a t h = first_three (known t) (nat_le (weight t) max_weight) (nat_le (depth t) max_depth) (is_allowed a t) h
 
 greater : (o : Ordering) → is_lt (ordering_reverse o) ≡ true → is_eq o ≡ false
 greater Less h = cc
@@ -45,20 +50,26 @@ beyond k t es (b ∷ bs) h f =
     and-both _ _ (past (bytes_eq b.name k) b t (get b.name es) (different k b.name (and-first _ _ h)) (and-first _ _ f))
     (beyond k t es bs (and-second _ _ h) (and-second _ _ f))
 
-entries-known : (es : Entries) (xs : List AttributeView) → same_names (keys_of es) (each (λ a. a.name) xs) ≡ true → ascends xs ≡ true → list_all (fits_in (map es)) xs ≡ true → known_entries es ≡ true
-entries-known no_entries xs s a f = refl
-entries-known (entry k t es) [] s a f = absurd (cc)
-entries-known (entry k t es) (b ∷ bs) s a f =
+entries-stored : (es : Entries) (xs : List AttributeView) → same_names (keys_of es) (each (λ a. a.name) xs) ≡ true → ascends xs ≡ true → list_all (fits_in (map es)) xs ≡ true → each_may_be_stored es ≡ true
+entries-stored no_entries xs s a f = refl
+entries-stored (entry k t es) [] s a f = absurd (cc)
+entries-stored (entry k t es) (b ∷ bs) s a f =
     let same : k ≡ b.name = (bytes_eq-Decides k b.name).0 (and-first _ _ s) in
     let mine : fits b t ≡ true = here (bytes_eq b.name k) b t (get b.name es) ((bytes_eq-Decides b.name k).1 (sym same)) (and-first _ _ f) in
     let above : list_all (λ c. is_below k c.name) bs ≡ true = ap (λ n. list_all (λ c. is_below n c.name) bs) same ∙ and-first _ _ a in
-    and-both _ _ (fits-known b t mine) (entries-known es bs (and-second _ _ s) (and-second _ _ a) (beyond k t es bs above (and-second _ _ f)))
+    and-both _ _ (fits-stored b t mine) (entries-stored es bs (and-second _ _ s) (and-second _ _ a) (beyond k t es bs above (and-second _ _ f)))
+
+pub well_formed-stored : (s : SchemaView) (t : Tree) → IsSchema s → well_formed s t ≡ true → has_stored_attributes t ≡ true
+well_formed-stored s (map es) k h = entries-stored es s.attributes (and-first _ _ h) k.ascending (and-second _ _ h)
+well_formed-stored s _ k h = absurd (cc)
+
+entries-known : (es : Entries) → each_may_be_stored es ≡ true → known_entries es ≡ true
+entries-known no_entries h = refl
+entries-known (entry k t es) h = and-both _ _ (and-first _ _ (and-first _ _ h)) (entries-known es (and-second _ _ h))
+
+stored-known : (t : Tree) → has_stored_attributes t ≡ true → known t ≡ true
+stored-known (map es) h = entries-known es h
+stored-known _ h = absurd (cc)
 
 pub well_formed-known : (s : SchemaView) (t : Tree) → IsSchema s → well_formed s t ≡ true → known t ≡ true
-well_formed-known s null k h = refl
-well_formed-known s (boolean b) k h = refl
-well_formed-known s (whole z) k h = refl
-well_formed-known s (text b) k h = refl
-well_formed-known s (list ts) k h = absurd (cc)
-well_formed-known s (map es) k h = entries-known es s.attributes (and-first _ _ h) k.ascending (and-second _ _ h)
-well_formed-known s unknown k h = absurd (cc)
+well_formed-known s t k h = stored-known t (well_formed-stored s t k h)

@@ -1,11 +1,14 @@
 -- What one action more adds to a report.
 use Rattle.std.proofs.Common.{◌≡◌, ◌≤◌, suc, length, List, [], ◌∷◌, ◌++◌, map, Option, Some, None, option_map, refl, sym, ap, ◌∙◌, arith}
 use Rattle.std.proofs.lemmas.List.{length-append}
+use Rattle.std.specs.List.{AllByRecursion}
+use Rattle.std.specs.Prelude.{IfSome}
 use Rattle.tf_state_data.specs.Resource.{ResourceView, resource_of}
 use Rattle.tf_state_data.specs.declared.resource.Resource.{Resource}
 use Rattle.tf_walk.specs.Addition.{listed}
 use Rattle.tf_walk.specs.After.{saved_one}
 use Rattle.tf_walk.specs.Diagnostics.{DiagnosticView, diagnostic_of}
+use Rattle.tf_walk.specs.Savable.{HasRecords}
 use Rattle.tf_walk.specs.declared.report.Diagnostic.{Diagnostic}
 
 saved_listed : (r : Option Resource) (rest : List ResourceView) → map resource_of (listed r) ++ rest ≡ saved_one (option_map resource_of r) rest
@@ -15,6 +18,12 @@ saved_listed (Some r) rest = refl
 pub saved-more : (rs : List Resource) (r : Option Resource) (v : Option ResourceView) (rest : List ResourceView) → option_map resource_of r ≡ v → map resource_of (rs ++ listed r) ++ rest ≡ map resource_of rs ++ saved_one v rest
 saved-more [] r v rest e = saved_listed r rest ∙ ap (λ o. saved_one o rest) e
 saved-more (x ∷ rs) r v rest e = ap (λ ys. resource_of x ∷ ys) (saved-more rs r v rest e)
+
+-- the resource of one action more has records as the others
+pub records-more : (rs : List Resource) (r : Option Resource) → AllByRecursion HasRecords (map resource_of rs) → IfSome r (λ x. HasRecords (resource_of x)) → AllByRecursion HasRecords (map resource_of (rs ++ listed r))
+records-more [] None all one = tt
+records-more [] (Some r) all one = (one, tt)
+records-more (x ∷ rs) r all one = (all.0, records-more rs r all.1 one)
 
 told_listed : (t : Option Diagnostic) (rest : List DiagnosticView) → map diagnostic_of (listed t) ++ rest ≡ listed (option_map diagnostic_of t) ++ rest
 told_listed None rest = refl

@@ -1,6 +1,7 @@
 -- What was judged is what comes of the call of the provider that has the type.
-use Rattle.std.proofs.Common.{◌≡◌, ℕ, Bool, true, false, List, Option, Some, None, sym, ap, ◌∙◌, subst}
-use Rattle.std.specs.Prelude.{IsSomeAnd, MatchBool, slice_get, option_and_then}
+use Rattle.std.proofs.Common.{◌≡◌, ℕ, zero, suc, Bool, true, false, List, [], ◌∷◌, Option, Some, None, sym, ap, ◌∙◌, subst}
+use Rattle.std.specs.Prelude.{IfSome, IsSomeAnd, MatchBool, slice_get, option_and_then}
+use Rattle.std.specs.List.{AllByRecursion}
 use Rattle.std.specs.Option.{option_map_or}
 use Rattle.tf_plan.specs.Plan.{ActionView}
 use Rattle.tf_protocol.specs.Meaning.{Asked, Answer, Meaning, first_with, schema_in}
@@ -11,6 +12,13 @@ use Rattle.tf_walk.specs.Addition.{IsJudged}
 use Rattle.tf_walk.specs.After.{Saved, saved, saved_by}
 use Rattle.tf_walk.specs.Ends.{IsEnd, IsRun}
 use Rattle.tf_walk.specs.Outcome.{Done, skipped, excused, called, call_of, call_of_provider, call_at, all_good, request_of}
+use Rattle.tf_walk.specs.Savable.{AsksWithin, MayBeSaved, has_attributes_within}
+
+-- what holds of each holds of what is read, if anything is
+all_there : {A : Type 0} (P : A → Type 0) (xs : List A) (n : ℕ) → AllByRecursion P xs → IfSome (slice_get xs n) P
+all_there P [] n h = tt
+all_there P (x ∷ xs) zero h = h.0
+all_there P (x ∷ xs) (suc n) h = all_there P xs n h.1
 
 asked_by_schema : (m : Meaning) (r q : Asked) (a : Option Answer) (v : Verdict) (o : Option SchemaView)
     → option_map_or (λ s. called r (Some (m.answer r)) (verdict_on r (Some (m.answer r)) s)) o skipped ≡ called q a v → r ≡ q
@@ -38,6 +46,22 @@ pub ended-judged : (ms : List Meaning) (actions : List ActionView) (n : ℕ) (se
 ended-judged ms actions n seen skipped h = tt
 ended-judged ms actions n seen (excused m) h = tt
 ended-judged ms actions n seen (called q a v) h = judged_where ms actions n (all_good seen) q a v h
+
+asked_within : (ms : List Meaning) (o : Option ActionView) (q : Asked) (a : Option Answer) (v : Verdict) → IfSome o MayBeSaved → called q a v ≡ option_map_or (λ b. call_of ms (request_of b)) o skipped → AsksWithin (called q a v)
+asked_within ms None q a v h e = absurd (cc)
+asked_within ms (Some b) q a v h e =
+    subst (λ (r : Asked). option_map_or has_attributes_within r.object false ≡ true) (asked_by (first_with b.label.type_name ms) (request_of b) q a v (sym e)) h.attributes
+
+within_where : (ms : List Meaning) (actions : List ActionView) (n : ℕ) (b : Bool) (q : Asked) (a : Option Answer) (v : Verdict) → AllByRecursion MayBeSaved actions
+    → MatchBool b (IsRun (call_at ms actions n) (called q a v)) (called q a v ≡ skipped) → AsksWithin (called q a v)
+within_where ms actions n true q a v all h = asked_within ms (slice_get actions n) q a v (all_there MayBeSaved actions n all) h
+within_where ms actions n false q a v all h = absurd (cc)
+
+-- and it asked for an object within the limits, where those that are planned are
+pub ended-within : (ms : List Meaning) (actions : List ActionView) (n : ℕ) (seen : List (ℕ × Done)) (d : Done) → AllByRecursion MayBeSaved actions → IsEnd ms actions n seen d → AsksWithin d
+ended-within ms actions n seen skipped all h = tt
+ended-within ms actions n seen (excused m) all h = tt
+ended-within ms actions n seen (called q a v) all h = within_where ms actions n (all_good seen) q a v all h
 
 verdict_by_schema : (m : Meaning) (r : Asked) (a : Option Answer) (v : Verdict) (o : Option SchemaView)
     → called r a v ≡ option_map_or (λ s. called r (Some (m.answer r)) (verdict_on r (Some (m.answer r)) s)) o skipped → IsSomeAnd o (λ s. v ≡ verdict_on r a s)

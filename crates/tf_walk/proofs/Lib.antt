@@ -4,7 +4,7 @@ pub mod Judging
 pub mod Seen
 pub mod SoFar
 pub mod Stages
-pub mod Settling
+pub mod Fallback
 pub mod Lines
 pub mod Formed
 pub mod Named
@@ -13,5 +13,6 @@ pub mod Judged
 pub mod Excused
 pub mod Reported
 pub mod Putting
+pub mod Valid
 pub mod Gathered
 pub mod Carried

@@ -17,13 +17,14 @@ use Rattle.tf_walk.specs.After.{saved_one, saved_resource, saved_resources}
 use Rattle.tf_walk.specs.Diagnostics.{diagnostics, diagnostics_at}
 use Rattle.tf_walk.specs.Ended.{done_of, done_or_skipped, dones_of}
 use Rattle.tf_walk.specs.declared.ended.Ended.{Ended}
-use Rattle.tf_walk.specs.Ends.{IsRun, IsSoFar, IsStaged, AllHaveEnded, end_at, done_in, stage_of}
+use Rattle.tf_walk.specs.Ends.{IsEnd, IsRun, IsSoFar, IsStaged, AllHaveEnded, end_at, done_in, stage_of}
 use Rattle.tf_walk.specs.Excuse.{Moment}
 use Rattle.tf_walk.specs.Outcome.{Done, skipped, excused, called, is_good, all_good, call_at, or_excused, rule, done_at, AreOutcomes}
 use Rattle.tf_walk.specs.Report.{excuses_from, verdict_in, entered_verdict}
 use Rattle.tf_walk.specs.Room.{head_of}
+use Rattle.tf_walk.specs.Savable.{AsksWithin, MayBeSaved}
 use Rattle.tf_walk.proofs.Excused.{moment_of, excuses-are}
-use Rattle.tf_walk.proofs.Judged.{ended-judged}
+use Rattle.tf_walk.proofs.Judged.{ended-judged, ended-within}
 
 one_done : (o : Option Ended) → done_or_skipped o ≡ unwrap_or (option_map done_of o) skipped
 one_done None = refl
@@ -79,14 +80,22 @@ all_at_places : {A : Type 0} (P : A → Type 0) (other : A) (xs : List A) → ((
 all_at_places P other [] f = tt
 all_at_places P other (x ∷ xs) f = (f 0, all_at_places P other xs (λ n. f (suc n)))
 
-judged_one : (ms : List Meaning) (plan : PlanView) (ends : List (Option Done)) (entries : List Entry) (n : ℕ) (o : Option Done) → IsSoFar ms plan ends entries → end_at ends n ≡ o → IsJudged ms (unwrap_or o skipped)
-judged_one ms plan ends entries n None s e = tt
-judged_one ms plan ends entries n (Some d) s e = ended-judged ms plan.actions n (seen_by (done_in ends) (predecessors_of plan.order n)) d (s.ended n d e)
+-- what holds of each end holds of all that came of the actions
+so_far-each : (P : Done → Type 0) (ms : List Meaning) (plan : PlanView) (ends : List (Option Done)) (entries : List Entry) (done : List Done) → P skipped → ((n : ℕ) (seen : List (ℕ × Done)) (d : Done) → IsEnd ms plan.actions n seen d → P d)
+    → IsSoFar ms plan ends entries → ((n : ℕ) → done_at done n ≡ done_in ends n) → AllByRecursion P done
+so_far-each P ms plan ends entries done none each s same = all_at_places P skipped done (λ n. subst P (sym (same n)) (one n (end_at ends n) refl))
+  where
+    one : (n : ℕ) (o : Option Done) → end_at ends n ≡ o → P (unwrap_or o skipped)
+    one n None e = none
+    one n (Some d) e = each n (seen_by (done_in ends) (predecessors_of plan.order n)) d (s.ended n d e)
 
 pub so_far-judged : (ms : List Meaning) (plan : PlanView) (ends : List (Option Done)) (entries : List Entry) (done : List Done)
     → IsSoFar ms plan ends entries → ((n : ℕ) → done_at done n ≡ done_in ends n) → AreJudged ms done
-so_far-judged ms plan ends entries done s same =
-    all_at_places (IsJudged ms) skipped done (λ n. subst (IsJudged ms) (sym (same n)) (judged_one ms plan ends entries n (end_at ends n) s refl))
+so_far-judged ms plan ends entries done s same = so_far-each (IsJudged ms) ms plan ends entries done tt (ended-judged ms plan.actions) s same
+
+pub so_far-within : (ms : List Meaning) (plan : PlanView) (ends : List (Option Done)) (entries : List Entry) (done : List Done) → AllByRecursion MayBeSaved plan.actions
+    → IsSoFar ms plan ends entries → ((n : ℕ) → done_at done n ≡ done_in ends n) → AllByRecursion AsksWithin done
+so_far-within ms plan ends entries done all s same = so_far-each AsksWithin ms plan ends entries done tt (λ n seen d end. ended-within ms plan.actions n seen d all end) s same
 
 pub saved_in-actions : (ms : List Meaning) (actions : List ActionView) (done : List Done) → saved_in ms (map head_of actions) done ≡ saved_resources ms actions done
 saved_in-actions ms [] done = refl

@@ -13,11 +13,11 @@ use Rattle.tf_state_data.specs.Record.{record_of}
 use Rattle.tf_state_data.specs.Resource.{ResourceView}
 use Rattle.tf_state_data.specs.declared.object.Object.{Object}
 use Rattle.tf_state_data.specs.declared.record.Record.{Record}
+use Rattle.tf_value.specs.Nulls.{with_nulls}
 use Rattle.tf_value.specs.Tree as tree
 use Rattle.tf_value.specs.Tree.{tree_of}
 use Rattle.tf_walk.specs.After.{Saved, saved_reply, resource_after}
 use Rattle.tf_walk.specs.Room.{Head}
-use Rattle.tf_walk.specs.Settled.{settled}
 use Rattle.tf_walk.specs.Addition.{formed_reply}
 
 -- a verdict by which a reply is saved
@@ -48,9 +48,9 @@ pub contradicted-saved : (r : Asked) (a : Option Answer) (s : SchemaView) (b : B
 contradicted-saved r a s b place e = formed_saved r a s b (ap saves_reply (sym e))
 
 -- what is saved in place of a malformed reply
-pub settled-saved : (o : Option tree.Tree) (fallback : tree.Tree) (b : Bool) → option_map settled o ≡ Some fallback → option_map {U = Saved} (λ t. (settled t, b)) o ≡ option_map {U = Saved} (λ t. (t, b)) (Some fallback)
-settled-saved None fallback b e = absurd (cc)
-settled-saved (Some t) fallback b e = ap (option_map {U = Saved} (λ u. (u, b))) e
+pub fallback-saved : (o : Option tree.Tree) (fallback : tree.Tree) (b : Bool) → option_map with_nulls o ≡ Some fallback → option_map {U = Saved} (λ t. (with_nulls t, b)) o ≡ option_map {U = Saved} (λ t. (t, b)) (Some fallback)
+fallback-saved None fallback b e = absurd (cc)
+fallback-saved (Some t) fallback b e = ap (option_map {U = Saved} (λ u. (u, b))) e
 
 -- the resource of an object that is kept
 pub kept : (h : Head) (b : Bool) (o : Option Object) → option_map {U = ResourceView} (λ x. resource_after h (tree_of x.value, b)) o ≡ option_map (resource_after h) (option_map {U = Saved} (λ t. (t, b)) (option_map (λ x. tree_of x.value) o))

@@ -1,5 +1,5 @@
 -- What one action adds to the report.
-use Rattle.std.specs.Prelude.{◌≡◌, List, [], ◌∷◌, ◌++◌, Option, Some, None, option_map, if◌then◌else◌}
+use Rattle.std.specs.Prelude.{◌≡◌, List, [], ◌∷◌, ◌++◌, Option, Some, None, option_map, IfSome, if◌then◌else◌}
 use Rattle.std.specs.List.{AllByRecursion}
 use Rattle.tf_protocol.specs.Meaning.{Answer, Meaning, object}
 use Rattle.tf_protocol.specs.Schema.{SchemaView}
@@ -10,6 +10,7 @@ use Rattle.tf_walk.specs.After.{resource_after, saved, saved_one}
 use Rattle.tf_walk.specs.Diagnostics.{DiagnosticView, diagnostic_of, diagnostics_at}
 use Rattle.tf_walk.specs.Outcome.{Done, called, call_of}
 use Rattle.tf_walk.specs.Room.{Head}
+use Rattle.tf_walk.specs.Savable.{AsksWithin, HasRecords}
 use Rattle.tf_walk.specs.declared.addition.Addition.{Addition}
 
 -- an object, where it is well formed
@@ -25,9 +26,10 @@ abbrev pub listed : {A : Type 0} → Option A → List A
 listed None = []
 listed (Some a) = a ∷ []
 
--- what an action adds to the report is what came of it
+-- What an action adds to the report is what came of it; a resource has records that a text can hold.
 pub record IsAdditionOf (ms : List Meaning) (h : Head) (d : Done) (a : Addition) : Type 0 where
   pub resource : option_map resource_of a.resource ≡ option_map (resource_after h) (saved ms d)
+  pub records : AsksWithin d → IfSome a.resource (λ r. HasRecords (resource_of r))
   pub told : listed (option_map diagnostic_of a.diagnostic) ≡ diagnostics_at h d
 
 -- a call's answer is that of the provider that has the type

@@ -11,9 +11,9 @@ use Rattle.tf_address.specs.ObjectId.{single}
 use Rattle.tf_state_data.specs.Provider.{provider_text}
 use Rattle.tf_state_data.specs.Resource.{ResourceView}
 use Rattle.tf_state_data.specs.State.{StateView, with_resource}
+use Rattle.tf_value.specs.Nulls.{with_nulls}
 use Rattle.tf_value.specs.Tree as tree
 use Rattle.tf_walk.specs.Room.{Head, head_of}
-use Rattle.tf_walk.specs.Settled.{settled}
 use Rattle.tf_walk.specs.Outcome.{Done, called}
 
 -- an object that is saved, and whether it is tainted
@@ -35,7 +35,7 @@ saved_reply tainted _ = None
 abbrev pub saved_by : SchemaView → Asked → Option Answer → Verdict → Option Saved
 saved_by schema asked answer verdict.Good = saved_reply false answer
 saved_by schema asked answer (verdict.Contradicted place) = saved_reply true answer
-saved_by schema asked answer verdict.Malformed = option_map (λ t. (settled t, true)) asked.object
+saved_by schema asked answer verdict.Malformed = option_map (λ t. (with_nulls t, true)) asked.object
 saved_by schema asked answer verdict.Failed = saved_of_failure schema answer
 saved_by schema asked answer verdict.Excused = None
 

@@ -10,7 +10,7 @@ abbrev pub done_of : Ended → Done
 done_of ended.Skipped = skipped
 done_of ended.NotAsked = excused before_call
 done_of ended.NotServed = excused during_call
-done_of (ended.Called j) = called (asked j.request) (answered j.reply) j.verdict
+done_of (ended.Called j) = called (asked j.asking.request) (answered j.reply) j.verdict
 
 -- what came of an action, where that is known; else it counts as skipped
 abbrev pub done_or_skipped : Option Ended → Done

@@ -5,9 +5,10 @@ pub mod Draft
 pub mod Ended
 pub mod Ends
 pub mod Excuse
+pub mod Fallback
 pub mod Outcome
 pub mod Prepared
 pub mod Report
 pub mod Room
 pub mod RoomHead
-pub mod Settled
+pub mod Savable

@@ -1,5 +1,5 @@
 -- What becomes of each action of a plan.
-use Rattle.std.specs.Prelude.{◌≡◌, ℕ, Bool, true, false, if◌then◌else◌, List, length, Option, Some, None, slice_get, slice_index_or}
+use Rattle.std.specs.Prelude.{◌≡◌, ℕ, Bool, false, if◌then◌else◌, List, length, Option, Some, None, slice_get, slice_index_or}
 use Rattle.std.specs.List.{list_all}
 use Rattle.std.specs.Option.{option_map_or}
 use Rattle.tf_address.specs.Label.{label_text}
@@ -8,9 +8,9 @@ use Rattle.tf_graph.specs.Solutions.{Solves}
 use Rattle.tf_plan.specs.Plan.{ActionView, PlanView}
 use Rattle.tf_protocol.specs.Meaning.{Asked, Answer, Meaning, first_with}
 use Rattle.tf_protocol.specs.Verdict.{verdict_on}
+pub use Rattle.tf_protocol.specs.Verdict.{is_good_verdict}
 use Rattle.tf_protocol.specs.declared.request.Op.TheVariants.{Create}
 use Rattle.tf_protocol.specs.declared.verdict.Verdict.{Verdict}
-use Rattle.tf_protocol.specs.declared.verdict.Verdict.TheVariants as verdict
 use Rattle.tf_walk.specs.Excuse.{Moment, excuse_of}
 use Rattle.tf_walk.specs.declared.report.Excuse.{Excuse}
 
@@ -20,10 +20,6 @@ pub data Done : Type 0 where
   skipped : Done
   excused : Moment → Done
   called : Asked → Option Answer → Verdict → Done
-
-abbrev pub is_good_verdict : Verdict → Bool
-is_good_verdict verdict.Good = true
-is_good_verdict _ = false
 
 abbrev pub is_good : Done → Bool
 is_good (called asked answer v) = is_good_verdict v

@@ -8,11 +8,14 @@ use Rattle.tf_plan.specs.Plan.{PlanView}
 use Rattle.tf_protocol.specs.Meaning.{Meaning}
 use Rattle.tf_protocol.specs.declared.verdict.Verdict.{Verdict}
 use Rattle.tf_protocol.specs.declared.verdict.Verdict.TheVariants as verdict
+use Rattle.std.specs.List.{AllByRecursion}
+use Rattle.tf_state.specs.Valid.{IsValid}
 use Rattle.tf_state_data.specs.State.{empty_state, state_of}
 use Rattle.tf_walk.specs.After.{state_after}
 use Rattle.tf_walk.specs.Diagnostics.{diagnostic_of, diagnostics}
 use Rattle.tf_walk.specs.Excuse.{before_call, during_call}
 use Rattle.tf_walk.specs.Outcome.{Done, skipped, excused, called, is_good, done_at, AreOutcomes}
+use Rattle.tf_walk.specs.Savable.{MayBeSaved}
 use Rattle.tf_walk.specs.declared.report.Excuse.{Excuse}
 use Rattle.tf_walk.specs.declared.report.Excuse.TheVariants.{Before, During}
 use Rattle.tf_walk.specs.declared.report.Outcome.{Outcome}
@@ -43,12 +46,14 @@ abbrev pub good_totals : List Done → ℕ × ℕ × ℕ
 good_totals done = (count_by is_good done, 0, 0)
 
 -- A report tells what came of each action: its excuses are those of the excused actions; outcomes, state,
--- diagnostics and the numbers of good actions are those that the rules give.
+-- diagnostics and the numbers of good actions are those that the rules give. Where the objects of the plan may be
+-- saved, the state is valid, so that its text reads back as it.
 pub record IsReport (ms : List Meaning) (plan : PlanView) (done : List Done) (report : Report) : Type 0 where
   pub solved : AreOutcomes ms plan report.excused.items done
   pub lawful : report.excused.items ≡ excuses_from 0 done
   pub outcomes : report.outcomes.items ≡ map outcome_of done
   pub state : state_of report.state ≡ state_after ms plan.actions done (empty_state plan.lineage)
+  pub valid : AllByRecursion MayBeSaved plan.actions → IsValid (state_of report.state)
   pub diagnostics_told : map diagnostic_of report.diagnostics.items ≡ diagnostics plan.actions done
   pub good : report.good ≡ good_totals done
 

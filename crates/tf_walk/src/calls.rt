@@ -50,12 +50,15 @@ pub fn make_call(
             match verdict {
                 Verdict::Excused => (Ended::NotServed, finished),
                 verdict => {
-                    let judged = Judged {
+                    let asking = Asking {
                         request,
-                        reply,
-                        verdict,
                         message,
                         fallback,
+                    };
+                    let judged = Judged {
+                        asking,
+                        reply,
+                        verdict,
                     };
                     (Ended::Called(judged), finished)
                 }

@@ -1,20 +1,25 @@
 //! What came of an action becomes a part of the report, without taking memory.
 
-ghost use Rattle.std.specs.Prelude.{◌≡◌, ◌++◌, [], true, None, Some, codes, map, option_map, option_and_then, string_bytes, string_capacity};
+ghost use Rattle.std.specs.Bool.{OnTrue};
+ghost use Rattle.std.specs.Option.{option_map_or};
+ghost use Rattle.std.specs.Prelude.{◌≡◌, ◌++◌, [], true, false, None, Some, codes, map, option_map, option_and_then, string_bytes, string_capacity, IfSome};
 ghost use Rattle.tf_address.specs.Label.{label_text};
 ghost use Rattle.tf_protocol.specs.Meaning.{asked, answered};
 ghost use Rattle.tf_protocol.specs.Verdict.{verdict_on};
 ghost use Rattle.tf_protocol.specs.declared.request.Op.TheVariants.{Create};
+ghost use Rattle.tf_state.specs.Valid.{IsAttributes};
 ghost use Rattle.tf_state_data.specs.Resource.{resource_of};
 ghost use Rattle.tf_value.specs.Tree.{tree_of};
+ghost use Rattle.tf_walk.specs.Addition.{IsAdditionOf, IsJudged, formed_reply, if_formed, listed};
 ghost use Rattle.tf_walk.specs.After.{resource_after, saved_by};
 ghost use Rattle.tf_walk.specs.Diagnostics.{diagnostic_of, diagnostics_of_verdict, name_at};
 ghost use Rattle.tf_walk.specs.Ended.{done_or_skipped};
 ghost use Rattle.tf_walk.specs.Room.{message_fits};
 ghost use Rattle.tf_walk.specs.RoomHead.{room_head};
-ghost use Rattle.tf_walk.specs.Addition.{IsAdditionOf, IsJudged, formed_reply, if_formed, listed};
+ghost use Rattle.tf_walk.specs.Savable.{HasRecords, has_attributes_within, has_stored_attributes};
 
 use crate::addition::Addition;
+use crate::asking::Asking;
 use crate::ended::{Ended, Judged};
 use crate::one_line::one_line;
 use crate::report::Diagnostic;
@@ -23,7 +28,7 @@ use std::collections::BTreeSet;
 use tf_address::{InstanceKey, ObjectId};
 use tf_provider::{Op, Provider, Reply, Schema, Verdict, schema_for, well_formed};
 use tf_state_data::{Object, Record, Resource};
-use tf_value::Value;
+use tf_value::{Value, each_may_be_stored};
 
 /// What an action adds to the report.
 pub fn conclude(
@@ -40,7 +45,7 @@ pub fn conclude(
         Some(Ended::NotAsked) => want_of_memory(room),
         Some(Ended::NotServed) => want_of_memory(room),
         Some(Ended::Called(judged)) => {
-            match schema_for(providers, judged.request.type_name.as_str()) {
+            match schema_for(providers, judged.asking.request.type_name.as_str()) {
                 Some(schema) => conclude_call(room, judged, schema),
                 None => unreachable!(),
             }
@@ -84,19 +89,24 @@ fn want_of_memory(room: Room) -> Addition
 
 /// What a call adds to the report.
 fn conclude_call(room: Room, judged: Judged, schema: &Schema) -> Addition
-    requires { judged.verdict ≡ verdict_on (asked judged.request) (answered judged.reply) schema.now }
+    requires { judged.verdict ≡ verdict_on (asked judged.asking.request) (answered judged.reply) schema.now }
     ensures saves { option_map resource_of result.resource
-        ≡ option_map (resource_after (room_head room)) (saved_by schema.now (asked judged.request) (answered judged.reply) judged.verdict) }
+        ≡ option_map (resource_after (room_head room)) (saved_by schema.now (asked judged.asking.request) (answered judged.reply) judged.verdict) }
+    ensures records { option_map_or has_attributes_within (asked judged.asking.request).object false ≡ true
+        → IfSome result.resource (λ r. HasRecords (resource_of r)) }
     ensures tells { listed (option_map diagnostic_of result.diagnostic)
-        ≡ diagnostics_of_verdict (room_head room) (asked judged.request) (answered judged.reply) judged.verdict }
+        ≡ diagnostics_of_verdict (room_head room) (asked judged.asking.request) (answered judged.reply) judged.verdict }
 {
     let Judged {
-        request,
+        asking,
         reply,
         verdict,
+    } = judged;
+    let Asking {
+        request,
         mut message,
         fallback,
-    } = judged;
+    } = asking;
     match verdict {
         Verdict::Good => fill(room, object_in(reply, schema), false, None),
         Verdict::Contradicted(place) => {
@@ -120,7 +130,8 @@ fn conclude_call(room: Room, judged: Judged, schema: &Schema) -> Addition
 
 /// The object that a provider answered, where it did and it is well formed.
 fn object_in(reply: Reply, schema: &Schema) -> Option<Object>
-    ensures { option_map (λ o. tree_of o.value) result ≡ formed_reply schema.now (answered reply) }
+    ensures object { option_map (λ o. tree_of o.value) result ≡ formed_reply schema.now (answered reply) }
+    ensures stored { IfSome result (λ o. has_stored_attributes (tree_of o.value) ≡ true) }
 {
     match reply {
         Reply::Object(value) => formed_object(value, schema),
@@ -130,7 +141,8 @@ fn object_in(reply: Reply, schema: &Schema) -> Option<Object>
 
 /// The object that is there in spite of a failure, where there is one and it is well formed.
 fn object_there(object: Option<Value>, schema: &Schema) -> Option<Object>
-    ensures { option_map (λ o. tree_of o.value) result ≡ option_and_then (if_formed schema.now) (option_map tree_of object) }
+    ensures object { option_map (λ o. tree_of o.value) result ≡ option_and_then (if_formed schema.now) (option_map tree_of object) }
+    ensures stored { IfSome result (λ o. has_stored_attributes (tree_of o.value) ≡ true) }
 {
     match object {
         Some(value) => formed_object(value, schema),
@@ -140,7 +152,8 @@ fn object_there(object: Option<Value>, schema: &Schema) -> Option<Object>
 
 /// An object that a provider answered, where it is well formed.
 fn formed_object(value: Value, schema: &Schema) -> Option<Object>
-    ensures { option_map (λ o. tree_of o.value) result ≡ if_formed schema.now (tree_of value) }
+    ensures object { option_map (λ o. tree_of o.value) result ≡ if_formed schema.now (tree_of value) }
+    ensures stored { IfSome result (λ o. has_stored_attributes (tree_of o.value) ≡ true) }
 {
     let _attributes = schema.attributes();
     if well_formed(&value, schema) {
@@ -167,7 +180,19 @@ fn contradiction(mut message: String, object: &Option<Value>, place: usize) -> S
     message
 }
 
-/// What is saved and told, in the room that was made for it.
+/// Whether each attribute of an object may be stored.
+fn has_stored_attributes(object: &Value) -> bool
+    ensures exact { result ≡ has_stored_attributes (tree_of object.now) }
+    ensures stored { OnTrue result (IsAttributes (tree_of object.now)) }
+{
+    match object {
+        Value::Map(attributes) => each_may_be_stored(attributes),
+        _ => false,
+    }
+}
+
+/// What is saved and told, in the room that was made for it. The object is looked through once more, which tells
+/// that its numbers and keys are such as a text can hold.
 fn fill(
     room: Room,
     object: Option<Object>,
@@ -175,6 +200,7 @@ fn fill(
     telling: Option<(u8, String)>,
 ) -> Addition
     ensures saves { option_map resource_of result.resource ≡ option_map (λ o. resource_after (room_head room) (tree_of o.value, tainted)) object }
+    ensures records { IfSome object (λ o. has_stored_attributes (tree_of o.value) ≡ true) → IfSome result.resource (λ r. HasRecords (resource_of r)) }
     ensures tells { option_map diagnostic_of result.diagnostic
         ≡ option_map (λ t. record { code = t.0; place = label_text (room_head room).label; verb = Some Create; message = string_bytes t.1 }) telling }
 {
@@ -197,6 +223,7 @@ fn fill(
     };
     let resource = match object {
         Some(attributes) => {
+            let _stored = has_stored_attributes(&attributes.value);
             let record = Record {
                 id: ObjectId {
                     key: InstanceKey::Single,

@@ -1,5 +1,6 @@
 //! The report on all actions is put together, without taking memory.
 
+ghost use Rattle.std.specs.List.{AllByRecursion};
 ghost use Rattle.std.specs.Prelude.{◌≡◌, ◌+◌, ◌++◌, ◌<◌, ◌≤◌, ◌^◌, [], length, map, count_by, vec_len, vec_capacity};
 ghost use Rattle.tf_state_data.specs.Resource.{resource_of};
 ghost use Rattle.tf_state_data.specs.State.{HasRoomForResources, state_of};
@@ -10,6 +11,7 @@ ghost use Rattle.tf_walk.specs.Ended.{done_or_skipped, dones_of};
 ghost use Rattle.tf_walk.specs.Outcome.{is_good};
 ghost use Rattle.tf_walk.specs.Report.{excuses_at, excuses_from, outcome_of};
 ghost use Rattle.tf_walk.specs.RoomHead.{room_head};
+ghost use Rattle.tf_walk.specs.Savable.{AsksWithin, HasRecords};
 
 use crate::addition::Addition;
 use crate::calls::is_good;
@@ -94,6 +96,7 @@ pub fn conclude_all(
     requires room_for_diagnostics { length results.items ≤ vec_capacity diagnostics.old }
     ensures saves { map resource_of resources.new.items ≡ saved_in (map (λ b. meaning b) providers.now) (map room_head rooms.items) (dones_of results.items) }
     ensures tells { map diagnostic_of diagnostics.new.items ≡ told_in (map room_head rooms.items) (dones_of results.items) }
+    ensures records { AllByRecursion AsksWithin (dones_of results.items) → AllByRecursion HasRecords (map resource_of resources.new.items) }
     ensures few { length resources.new.items ≤ length results.items }
 {
     let mut ends = results.into_iter();
@@ -105,29 +108,20 @@ pub fn conclude_all(
             resource,
             diagnostic,
         } = conclude(providers, room, ended);
-        add_resource(resources, resource);
-        add_diagnostic(diagnostics, diagnostic);
+        add(resources, resource);
+        add(diagnostics, diagnostic);
     }
     ends.destroy_empty();
 }
 
-fn add_resource(resources: &mut Vec<Resource>, resource: Option<Resource>)
-    requires { length resources.old.items < vec_capacity resources.old }
-    ensures items { resources.new.items ≡ resources.old.items ++ listed resource }
-    ensures capacity { vec_capacity resources.old ≤ vec_capacity resources.new }
+/// Adds an item, where there is one, to a list that has room for it.
+fn add<T: Drop>(items: &mut Vec<T>, item: Option<T>)
+    requires { length items.old.items < vec_capacity items.old }
+    ensures items { items.new.items ≡ items.old.items ++ listed item }
+    ensures capacity { vec_capacity items.old ≤ vec_capacity items.new }
 {
-    if let Some(resource) = resource {
-        resources.push(resource).unwrap();
-    }
-}
-
-fn add_diagnostic(diagnostics: &mut Vec<Diagnostic>, diagnostic: Option<Diagnostic>)
-    requires { length diagnostics.old.items < vec_capacity diagnostics.old }
-    ensures items { diagnostics.new.items ≡ diagnostics.old.items ++ listed diagnostic }
-    ensures capacity { vec_capacity diagnostics.old ≤ vec_capacity diagnostics.new }
-{
-    if let Some(diagnostic) = diagnostic {
-        diagnostics.push(diagnostic).unwrap();
+    if let Some(item) = item {
+        items.push(item).unwrap();
     }
 }
 

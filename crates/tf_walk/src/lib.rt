@@ -16,7 +16,6 @@ mod prepared;
 pub mod report;
 mod requests;
 mod rooms;
-mod settle;
 mod single;
 mod steps;
 mod walk;

@@ -4,26 +4,25 @@ ghost use Rattle.std.specs.List.{list_all};
 ghost use Rattle.std.specs.Prelude.{◌≡◌, ◌≤◌, ◌+◌, ℕ, [], true, Some, nat_le, length, IfOk, string_bytes, string_capacity};
 ghost use Rattle.tf_plan.specs.Plan.{action_of};
 ghost use Rattle.tf_protocol.specs.Meaning.{asked};
+ghost use Rattle.tf_value.specs.Nulls.{with_nulls};
 ghost use Rattle.tf_value.specs.Tree.{keys_of, tree_of, entries_view};
 ghost use Rattle.tf_walk.specs.Outcome.{request_of};
 ghost use Rattle.tf_walk.specs.Room.{message_fits};
-ghost use Rattle.tf_walk.specs.Settled.{settled};
 
 use crate::asking::Asking;
-use crate::settle::settle;
 use std::alloc::{AllocError, Global};
 use std::collections::BTreeMap;
 use tf_plan::Action;
 use tf_provider::{Op, Request};
 use tf_state_data::Object;
-use tf_value::{Value, copy};
+use tf_value::{Value, copy, with_nulls};
 
 /// The request of an action. Refused only where there is no memory.
 pub fn ask(alloc: Global, action: &Action) -> Result<Asking, AllocError>
     ensures { IfOk result (λ asking. asked asking.request ≡ request_of (action_of action.now)) }
 {
     let message = message_room(alloc, &action.object)?;
-    let fallback = settled_object(alloc, &action.object)?;
+    let fallback = fallback_for(alloc, &action.object)?;
     let request = Request {
         op: Op::Create,
         address: action.label.to_string(alloc)?,
@@ -40,10 +39,10 @@ pub fn ask(alloc: Global, action: &Action) -> Result<Asking, AllocError>
 }
 
 /// What is saved of an object whose provider's reply can't be used.
-fn settled_object(alloc: Global, object: &Value) -> Result<Object, AllocError>
-    ensures { IfOk result (λ o. tree_of o.value ≡ settled (tree_of object.now)) }
+fn fallback_for(alloc: Global, object: &Value) -> Result<Object, AllocError>
+    ensures { IfOk result (λ o. tree_of o.value ≡ with_nulls (tree_of object.now)) }
 {
-    let value = settle(alloc, object)?;
+    let value = with_nulls(alloc, object)?;
     Ok(Object { value })
 }
 

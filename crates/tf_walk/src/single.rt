@@ -1,19 +1,20 @@
 //! Carrying out a plan by one thread.
 
-ghost use Rattle.std.specs.Prelude.{◌≡◌, ◌≤◌, List, length, map, count_by, IfOk, IfErr};
-ghost use Rattle.tf_refusal.specs.Refusal.{no_memory, told};
+ghost use Rattle.std.specs.List.{AllByRecursion};
+ghost use Rattle.std.specs.Prelude.{◌≡◌, List, map, count_by, IfOk, IfErr};
 ghost use Rattle.tf_plan.specs.Plan.{action_of, plan_of};
 ghost use Rattle.tf_plan.specs.Served.{AreServed};
+ghost use Rattle.tf_refusal.specs.Refusal.{no_memory, told};
 ghost use Rattle.tf_state_data.specs.State.{state_of};
-ghost use Rattle.tf_walk.specs.Addition.{AreJudged, saved_in, told_in};
+ghost use Rattle.tf_walk.specs.Addition.{saved_in, told_in};
 ghost use Rattle.tf_walk.specs.After.{is_any, raised, with_resources};
 ghost use Rattle.tf_walk.specs.Diagnostics.{diagnostic_of};
-ghost use Rattle.tf_walk.specs.Draft.{IsBlank};
 ghost use Rattle.tf_walk.specs.Ended.{dones_of};
 ghost use Rattle.tf_walk.specs.Outcome.{Done, is_good};
-ghost use Rattle.tf_walk.specs.Prepared.{IsPrepared};
+ghost use Rattle.tf_walk.specs.Prepared.{IsOver, IsPrepared};
 ghost use Rattle.tf_walk.specs.Report.{IsJournal, IsReport, IsWalked, excuses_from, outcome_of};
 ghost use Rattle.tf_walk.specs.RoomHead.{room_head};
+ghost use Rattle.tf_walk.specs.Savable.{AsksWithin, HasRecords};
 
 use crate::draft::Draft;
 use crate::ended::Ended;
@@ -87,13 +88,12 @@ fn report_of(
     results: Vec<Option<Ended>>,
     journal: Journal,
 ) -> Report
-    requires blank { IsBlank (length results.items) draft }
-    requires few { length results.items ≤ 8000 }
-    requires paired { length rooms.items ≡ length results.items }
-    requires judged { AreJudged (map (λ b. meaning b) providers.now) (dones_of results.items) }
+    requires { IsOver (map (λ b. meaning b) providers.now) draft rooms.items results.items }
     ensures state { state_of result.state
         ≡ raised (is_any (saved_in (map (λ b. meaning b) providers.now) (map room_head rooms.items) (dones_of results.items)))
         (with_resources (saved_in (map (λ b. meaning b) providers.now) (map room_head rooms.items) (dones_of results.items)) (state_of draft.state)) }
+    ensures records { AllByRecursion AsksWithin (dones_of results.items)
+        → AllByRecursion HasRecords (saved_in (map (λ b. meaning b) providers.now) (map room_head rooms.items) (dones_of results.items)) }
     ensures outcomes { result.outcomes.items ≡ map outcome_of (dones_of results.items) }
     ensures diagnostics { map diagnostic_of result.diagnostics.items ≡ told_in (map room_head rooms.items) (dones_of results.items) }
     ensures journal { result.journal ≡ journal }

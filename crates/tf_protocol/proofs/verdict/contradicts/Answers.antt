@@ -1,6 +1,5 @@
-use Rattle.std.proofs.Common.{◌≡◌, Some, not, ap, sym, ◌∙◌}
+use Rattle.std.proofs.Common.{◌≡◌, Some, not, ap}
 use Rattle.tf_value.specs.Tree.{tree_of, part_at}
-use Rattle.tf_protocol.specs.Schema.{attribute_of}
 use Rattle.tf_value.specs.Refinement.{refined}
 use Rattle.tf_value.proofs.Refining.{refined-answer}
 use Rattle.tf_protocol.proofs.verdict.contradicts.Goals as goal

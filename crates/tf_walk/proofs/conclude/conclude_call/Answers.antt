@@ -3,31 +3,34 @@ use Rattle.tf_protocol.specs.Meaning.{asked, answered}
 use Rattle.tf_value.specs.Tree.{tree_of}
 use Rattle.tf_walk.specs.After.{resource_after, saved_by, Saved}
 use Rattle.tf_walk.specs.RoomHead.{room_head}
-use Rattle.tf_walk.proofs.Saving.{good-saved, contradicted-saved, settled-saved, kept}
-use Rattle.tf_walk.proofs.Settling.{is_settled-is}
+use Rattle.tf_walk.proofs.Saving.{good-saved, contradicted-saved, fallback-saved, kept}
+use Rattle.tf_walk.proofs.Fallback.{fallback-is, fallback-stored}
 use Rattle.tf_walk.proofs.conclude.conclude_call.Goals as goal
 
 -- src/conclude.rt:34:1
 pub returns-in-Good-clause-saves : goal.returns-in-Good-clause-saves
 returns-in-Good-clause-saves c =
-    let formed = good-saved (asked c.args.judged.request) (answered c.args.judged.reply) c.args.schema.now false (sym c.in-Good.is ∙ c.requires) in
+    let formed = good-saved (asked c.args.judged.asking.request) (answered c.args.judged.reply) c.args.schema.now false (sym c.in-Good.is ∙ c.requires) in
     c.fill.ensures.saves ∙ kept (room_head c.args.room) false c.object_in.result
-    ∙ ap (λ x. option_map (resource_after (room_head c.args.room)) (option_map {U = Saved} (λ t. (t, false)) x)) c.object_in.ensures
+    ∙ ap (λ x. option_map (resource_after (room_head c.args.room)) (option_map {U = Saved} (λ t. (t, false)) x)) c.object_in.ensures.object
     ∙ ap (option_map (resource_after (room_head c.args.room))) (sym formed)
-    ∙ ap (λ v. option_map (resource_after (room_head c.args.room)) (saved_by c.args.schema.now (asked c.args.judged.request) (answered c.args.judged.reply) v)) (sym c.in-Good.is)
+    ∙ ap (λ v. option_map (resource_after (room_head c.args.room)) (saved_by c.args.schema.now (asked c.args.judged.asking.request) (answered c.args.judged.reply) v)) (sym c.in-Good.is)
 
 -- src/conclude.rt:34:1
 pub returns-in-Contradicted-clause-saves : goal.returns-in-Contradicted-clause-saves
 returns-in-Contradicted-clause-saves c =
-    let formed = contradicted-saved (asked c.args.judged.request) (answered c.args.judged.reply) c.args.schema.now true c.in-Contradicted.place (sym c.in-Contradicted.is ∙ c.requires) in
+    let formed = contradicted-saved (asked c.args.judged.asking.request) (answered c.args.judged.reply) c.args.schema.now true c.in-Contradicted.place (sym c.in-Contradicted.is ∙ c.requires) in
     c.fill-in-Contradicted.ensures.saves ∙ kept (room_head c.args.room) true c.object_in-in-Contradicted.result
-    ∙ ap (λ x. option_map (resource_after (room_head c.args.room)) (option_map {U = Saved} (λ t. (t, true)) x)) c.object_in-in-Contradicted.ensures
+    ∙ ap (λ x. option_map (resource_after (room_head c.args.room)) (option_map {U = Saved} (λ t. (t, true)) x)) c.object_in-in-Contradicted.ensures.object
     ∙ ap (option_map (resource_after (room_head c.args.room))) (sym formed)
-    ∙ ap (λ v. option_map (resource_after (room_head c.args.room)) (saved_by c.args.schema.now (asked c.args.judged.request) (answered c.args.judged.reply) v)) (sym c.in-Contradicted.is)
+    ∙ ap (λ v. option_map (resource_after (room_head c.args.room)) (saved_by c.args.schema.now (asked c.args.judged.asking.request) (answered c.args.judged.reply) v)) (sym c.in-Contradicted.is)
 
 -- src/conclude.rt:34:1
 pub returns-in-Malformed-clause-saves : goal.returns-in-Malformed-clause-saves
 returns-in-Malformed-clause-saves c =
-    let saved = settled-saved (option_map tree_of c.args.judged.request.object) (tree_of c.args.judged.fallback.value) true (is_settled-is _ _ c.args.judged.settled) in
+    let saved = fallback-saved (option_map tree_of c.args.judged.asking.request.object) (tree_of c.args.judged.asking.fallback.value) true (fallback-is _ _ c.args.judged.asking.stands_in) in
     c.fill-in-Malformed.ensures.saves ∙ ap (option_map (resource_after (room_head c.args.room))) (sym saved)
-    ∙ ap (λ v. option_map (resource_after (room_head c.args.room)) (saved_by c.args.schema.now (asked c.args.judged.request) (answered c.args.judged.reply) v)) (sym c.in-Malformed.is)
+    ∙ ap (λ v. option_map (resource_after (room_head c.args.room)) (saved_by c.args.schema.now (asked c.args.judged.asking.request) (answered c.args.judged.reply) v)) (sym c.in-Malformed.is)
+
+pub returns-in-Malformed-clause-records : goal.returns-in-Malformed-clause-records
+returns-in-Malformed-clause-records c = λ within. c.fill-in-Malformed.ensures.records (fallback-stored (option_map tree_of c.args.judged.asking.request.object) (tree_of c.args.judged.asking.fallback.value) c.args.judged.asking.stands_in within)

@@ -1,5 +1,6 @@
 -- what is saved and told so far, with what the actions that are left save and tell
 use Rattle.std.proofs.Common.{◌≡◌, ◌≤◌, ◌+◌, ◌++◌, length, map}
+use Rattle.std.specs.List.{AllByRecursion}
 use Rattle.std.specs.Prelude.{vec_capacity}
 use Rattle.std.specs.Vec.Iter.{into_iter_items}
 use Rattle.tf_state_data.specs.Resource.{resource_of}
@@ -7,6 +8,7 @@ use Rattle.tf_walk.specs.Addition.{AreJudged, saved_in, told_in}
 use Rattle.tf_walk.specs.Diagnostics.{diagnostic_of}
 use Rattle.tf_walk.specs.Ended.{dones_of}
 use Rattle.tf_walk.specs.RoomHead.{room_head}
+use Rattle.tf_walk.specs.Savable.{AsksWithin, HasRecords}
 use Rattle.tf_walk.proofs.gather.conclude_all.Given as goal
 
 abbrev pub invariant-loop-room : goal.invariant-loop-room
@@ -23,5 +25,7 @@ invariant-loop-room g l =
           ≡ told_in (map room_head l.fn.rooms.items) (dones_of l.fn.results.items);
       room_for_resources : length l.resources.items + length results ≤ vec_capacity l.resources;
       room_for_diagnostics : length l.diagnostics.items + length results ≤ vec_capacity l.diagnostics;
+      records : AllByRecursion AsksWithin (dones_of l.fn.results.items)
+          → AllByRecursion AsksWithin (dones_of results) × AllByRecursion HasRecords (map resource_of l.resources.items);
       few : length l.resources.items + length results ≤ length l.fn.results.items;
     }

@@ -3,7 +3,7 @@ use Rattle.tf_journal.specs.declared.journal.Entry.{Entry}
 use Rattle.std.specs.List.{list_all}
 use Rattle.std.proofs.lemmas.Grind.{common_steps}
 use Rattle.tf_graph.specs.Digraph.{predecessors_of}
-use Rattle.tf_journal.specs.Entries.{is_marked, IsKept}
+use Rattle.tf_journal.specs.Entries.{is_marked}
 use Rattle.tf_journal.proofs.Marks.{kept-more, room-for}
 use Rattle.tf_journal.proofs.journal.Journal.record.Goals as goal
 

@@ -1,4 +1,4 @@
-use Rattle.std.proofs.Common.{◌≡◌, map, None, sym, ◌∙◌, refl}
+use Rattle.std.proofs.Common.{◌≡◌, map, None}
 use Rattle.tf_protocol.specs.Schema.{attribute_of, fault_of}
 use Rattle.tf_protocol.proofs.Placed.{is_schema}
 use Rattle.tf_protocol.proofs.schema.Schema.new.Goals as goal

@@ -1,37 +1,14 @@
 //! Calls recorded in an order that is allowed, too early, and twice.
 
-ghost use Rattle.std.specs.Prelude.{◌≡◌, ◌<◌, IsTrue, MatchResult};
-ghost use Rattle.tf_claim.specs.Ledger.{is_taken, stage_in};
+ghost use Rattle.std.specs.Prelude.{◌≡◌, ◌<◌};
 
-use crate::{Entry, Journal, RecordFault};
+use crate::provider::{Mute, finish, settle, try_call};
 use std::alloc::{AllocError, Global};
 use std::test::Fail;
-use tf_claim::{Book, Permit, waive};
+use tf_claim::{Book, waive};
 use tf_graph::Graph;
-use tf_provider::{
-    Called, Op, Parts, Provider, Recorded, Reply, Request, Schema, Verdict, asks_fully, call,
-};
-
-/// A provider that has one schema for each type, and says of each object that it is gone.
-#[derive(Drop)]
-struct Mute {
-    schema: Schema,
-}
-
-impl Provider for Mute {
-    ghost use Rattle.std.specs.Prelude.{Some};
-    ghost use Rattle.tf_protocol.specs.Meaning.{gone};
-
-    ghost meaning = { λ mute. record { answer = λ _. gone; schema_of = λ _. Some mute.schema } };
-
-    fn schema(&self, _type_name: &str) -> Option<&Schema> {
-        Some(&self.schema)
-    }
-
-    fn apply(&self, _request: &Request) -> Reply {
-        Reply::Gone
-    }
-}
+use tf_journal::{Entry, Journal, RecordFault};
+use tf_provider::{Op, Provider, Request, Schema, Verdict};
 
 fn destroy(alloc: Global) -> Result<Request, AllocError> {
     Ok(Request {
@@ -42,36 +19,6 @@ fn destroy(alloc: Global) -> Result<Request, AllocError> {
         prior: None,
         object: None,
     })
-}
-
-/// Takes a recorded call apart, and reports its action as done.
-fn settle(book: &mut Book, recorded: Recorded)
-    requires { IsTrue (is_taken (stage_in book.old.stages recorded.action)) }
-{
-    let Parts {
-        finished,
-        request: _,
-        reply: _,
-        verdict: _,
-    } = recorded.into_parts();
-    match book.finish(finished) {
-        Ok(()) => {}
-        Err(_back) => unreachable!(),
-    }
-}
-
-/// Calls a provider where it may be asked; the permit comes back otherwise.
-fn try_call(
-    provider: &Box<dyn Provider + Sync>,
-    permit: Permit,
-    request: Request,
-) -> Result<Called, Permit>
-    ensures { MatchResult result (λ called. called.action ≡ permit) (λ back. back ≡ permit) }
-{
-    match provider.schema(request.type_name.as_str()) {
-        Some(schema) if asks_fully(&request, schema) => Ok(call(provider, permit, request)),
-        _ => Err(permit),
-    }
 }
 
 /// Claims action 0, calls a provider for it and records the call; gives why it isn't recorded.
@@ -100,10 +47,7 @@ fn record_first(
             }
         },
         Err(permit) => {
-            match book.finish(waive(permit)) {
-                Ok(()) => {}
-                Err(_back) => unreachable!(),
-            }
+            finish(book, waive(permit));
             Err(None)
         }
     }

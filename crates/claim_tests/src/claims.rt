@@ -2,11 +2,11 @@
 
 ghost use Rattle.std.specs.Prelude.{◌≡◌, ◌<◌, All, IfOk};
 
-use crate::{Claims, Seat, waive};
 use std::alloc::{AllocError, Global};
 use std::test::Fail;
 use std::thread;
 use std::thread::Threads;
+use tf_claim::{Claims, Seat, waive};
 use tf_graph::Graph;
 
 /// Claims an action, waives its permit, finishes it and lets go of the edges out of it.

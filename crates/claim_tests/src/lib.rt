@@ -1,0 +1,5 @@
+//! Tests over the shared claims, by threads.
+#![tactic(auto)]
+
+#[cfg(test)]
+mod claims;
