@@ -1,9 +1,9 @@
-use crate::{Object, Record, Resource, State, provider_address, write};
 use serde_json::Value as Json;
 use std::alloc::Global;
 use std::collections::BTreeSet;
 use std::test::Fail;
 use tf_address::{InstanceKey, Label, ObjectId};
+use tf_state::{Object, Record, Resource, State, provider_address, write};
 use tf_value::{from_json, is_known};
 
 // Puts a net of this name, with the cidr `x`, into a state.
