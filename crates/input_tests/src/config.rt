@@ -1,4 +1,5 @@
 use std::alloc::{AllocError, Global};
+use std::process::Abort;
 use std::test::Fail;
 use tf_config::{
     Detail, EvalFault, Refusal, blocks_are_in_order, faultless_trees_stand, known_names_are_none,
@@ -19,6 +20,18 @@ fn answer(alloc: Global, bytes: &[u8]) -> Result<String, AllocError> {
 // The configuration whose one block has this body.
 fn with_body(alloc: Global, body: &str) -> Result<String, AllocError> {
     format!(in alloc; "{{\"resource\":{{\"sim_net\":{{\"a\":{body}}}}}}}")
+}
+
+fn answers(rt: &impl Abort, alloc: Global, text: &str, want: &str) -> Result<(), Fail> {
+    assert_eq!(rt; answer(alloc, text.as_bytes())?.as_str(), want, "{text}");
+    Ok(())
+}
+
+fn bodies_answer(rt: &impl Abort, alloc: Global, rows: &[(&str, &str)]) -> Result<(), Fail> {
+    for (body, want) in rows {
+        answers(rt, alloc, &with_body(alloc, body)?, want)?;
+    }
+    Ok(())
 }
 
 static SHAPES: [(&str, &str); 23] = [
@@ -83,8 +96,7 @@ static SHAPES: [(&str, &str); 23] = [
 #[test]
 fn refuses_shapes(rt: HostRuntime) -> Result<(), Fail> {
     for (text, want) in &SHAPES {
-        let said = answer(rt.alloc(), text.as_bytes())?;
-        assert_eq!(rt; said.as_str(), *want, "{text}");
+        answers(&rt, rt.alloc(), text, want)?;
     }
     let said = answer(rt.alloc(), b"{\"//\": \"\xff\"}")?;
     assert_eq!(rt; said.as_str(), "error 1 at configuration: NotJson");
@@ -201,21 +213,14 @@ static TEMPLATES: [(&str, &str); 16] = [
 
 #[test]
 fn refuses_bodies(rt: HostRuntime) -> Result<(), Fail> {
-    for (body, want) in &BODIES {
-        let text = with_body(rt.alloc(), body)?;
-        let said = answer(rt.alloc(), text.as_str().as_bytes())?;
-        assert_eq!(rt; said.as_str(), *want, "{body}");
-    }
-    Ok(())
+    bodies_answer(&rt, rt.alloc(), &BODIES)
 }
 
 #[test]
 fn refuses_templates(rt: HostRuntime) -> Result<(), Fail> {
     for (template, want) in &TEMPLATES {
         let body = format!(in rt.alloc(); "{{\"x\": \"{template}\"}}")?;
-        let text = with_body(rt.alloc(), body.as_str())?;
-        let said = answer(rt.alloc(), text.as_str().as_bytes())?;
-        assert_eq!(rt; said.as_str(), *want, "{template}");
+        answers(&rt, rt.alloc(), &with_body(rt.alloc(), &body)?, want)?;
     }
     Ok(())
 }
@@ -224,9 +229,7 @@ fn refuses_templates(rt: HostRuntime) -> Result<(), Fail> {
 fn knows_each_function(rt: HostRuntime) -> Result<(), Fail> {
     for name in ["length", "keys", "values", "merge", "concat", "join"] {
         let body = format!(in rt.alloc(); "{{\"x\": [\"${{{name}()}}\"]}}")?;
-        let text = with_body(rt.alloc(), body.as_str())?;
-        let said = answer(rt.alloc(), text.as_str().as_bytes())?;
-        assert_eq!(rt; said.as_str(), "1 blocks", "{name}");
+        answers(&rt, rt.alloc(), &with_body(rt.alloc(), &body)?, "1 blocks")?;
     }
     Ok(())
 }
@@ -271,43 +274,37 @@ static NAMING: &str =
 
 #[test]
 fn tells_the_first_fault(rt: HostRuntime) -> Result<(), Fail> {
-    for (body, want) in &FIRSTS {
-        let text = with_body(rt.alloc(), body)?;
-        let said = answer(rt.alloc(), text.as_str().as_bytes())?;
-        assert_eq!(rt; said.as_str(), *want, "{body}");
+    bodies_answer(&rt, rt.alloc(), &FIRSTS)?;
+    answers(
+        &rt,
+        rt.alloc(),
+        NAMING,
+        "error 4 at resource.t.a-1.z: UnknownName",
+    )
+}
+
+fn push_each(text: &mut String, count: usize, char: char) -> Result<(), AllocError> {
+    for _ in 0..count {
+        text.push(char)?;
     }
-    assert_eq!(rt;
-        answer(rt.alloc(), NAMING.as_bytes())?.as_str(),
-        "error 4 at resource.t.a-1.z: UnknownName"
-    );
     Ok(())
 }
 
 // A text in a list, in which a number stands in this many parentheses.
 fn grouped(alloc: Global, count: usize) -> Result<String, AllocError> {
     let mut text = String::from_str(alloc, "{\"x\": [\"\", \"${")?;
-    for _ in 0..count {
-        text.push('(')?;
-    }
+    push_each(&mut text, count, '(')?;
     text.push('1')?;
-    for _ in 0..count {
-        text.push(')')?;
-    }
+    push_each(&mut text, count, ')')?;
     text.push_str("}\"]}")?;
     with_body(alloc, text.as_str())
 }
 
 #[test]
 fn refuses_deep_templates(rt: HostRuntime) -> Result<(), Fail> {
-    for (count, want) in [
-        (62, "1 blocks"),
-        (63, "error 14 at resource.sim_net.a.x.1: Limit"),
-    ] {
-        let text = grouped(rt.alloc(), count)?;
-        let said = answer(rt.alloc(), text.as_str().as_bytes())?;
-        assert_eq!(rt; said.as_str(), want);
-    }
-    Ok(())
+    let limit = "error 14 at resource.sim_net.a.x.1: Limit";
+    answers(&rt, rt.alloc(), &grouped(rt.alloc(), 62)?, "1 blocks")?;
+    answers(&rt, rt.alloc(), &grouped(rt.alloc(), 63)?, limit)
 }
 
 static ARGUMENTS: &str =
@@ -348,18 +345,15 @@ fn many(alloc: Global, count: usize, body: &str) -> Result<String, AllocError> {
 // An argument below as many arrays that the text nests this deep.
 fn deep(alloc: Global, depth: usize) -> Result<String, AllocError> {
     let mut text = String::from_str(alloc, "{\"resource\": {\"t\": {\"a\": {\"x\": ")?;
-    for _ in 4..depth {
-        text.push('[')?;
-    }
-    for _ in 4..depth {
-        text.push(']')?;
-    }
+    let arrays = depth.saturating_sub(4);
+    push_each(&mut text, arrays, '[')?;
+    push_each(&mut text, arrays, ']')?;
     text.push_str("}}}}")?;
     Ok(text)
 }
 
 #[test]
-fn keeps_limits(rt: HostRuntime) -> Result<(), Fail> {
+fn keeps_the_limit_of_blocks(rt: HostRuntime) -> Result<(), Fail> {
     let named = "{\"x\": \"${var.x}\"}";
     let misshapen = "{\"x\": \"${\"}";
     for (count, body, want) in [
@@ -373,31 +367,34 @@ fn keeps_limits(rt: HostRuntime) -> Result<(), Fail> {
             "error 3 at resource.t.a.x: BadTemplate(2)",
         ),
     ] {
-        let text = many(rt.alloc(), count, body)?;
-        let said = answer(rt.alloc(), text.as_str().as_bytes())?;
-        assert_eq!(rt; said.as_str(), want);
-    }
-    for (size, want) in [
-        (4_194_304, "0 blocks"),
-        (4_194_305, "error 14 at configuration: Limit"),
-    ] {
-        let mut text = vec![in rt.alloc(); b' '; size]?;
-        if text.len() > 2 {
-            text[0] = b'{';
-            text[1] = b'}';
-        }
-        let said = answer(rt.alloc(), text.as_slice())?;
-        assert_eq!(rt; said.as_str(), want);
-    }
-    for (depth, want) in [
-        (127, "1 blocks"),
-        (128, "error 1 at configuration: NotJson"),
-    ] {
-        let text = deep(rt.alloc(), depth)?;
-        let said = answer(rt.alloc(), text.as_str().as_bytes())?;
-        assert_eq!(rt; said.as_str(), want);
+        answers(&rt, rt.alloc(), &many(rt.alloc(), count, body)?, want)?;
     }
     Ok(())
+}
+
+// What is answered to a configuration without blocks, of this many bytes.
+fn wide(alloc: Global, size: usize) -> Result<String, AllocError> {
+    let mut text = vec![in alloc; b' '; size]?;
+    if text.len() > 2 {
+        text[0] = b'{';
+        text[1] = b'}';
+    }
+    answer(alloc, text.as_slice())
+}
+
+#[test]
+fn keeps_the_limit_of_bytes(rt: HostRuntime) -> Result<(), Fail> {
+    let limit = "error 14 at configuration: Limit";
+    assert_eq!(rt; wide(rt.alloc(), 4_194_304)?.as_str(), "0 blocks");
+    assert_eq!(rt; wide(rt.alloc(), 4_194_305)?.as_str(), limit);
+    Ok(())
+}
+
+#[test]
+fn keeps_the_limit_of_depth(rt: HostRuntime) -> Result<(), Fail> {
+    let limit = "error 1 at configuration: NotJson";
+    answers(&rt, rt.alloc(), &deep(rt.alloc(), 127)?, "1 blocks")?;
+    answers(&rt, rt.alloc(), &deep(rt.alloc(), 128)?, limit)
 }
 
 #[test]
@@ -436,6 +433,37 @@ fn prints_refusals(rt: HostRuntime) -> Result<(), Fail> {
     Ok(())
 }
 
+// A text is refused with this code at this place, with the detail that is given, or there was no memory.
+fn refused_at(
+    rt: &impl Abort,
+    alloc: Global,
+    text: &[u8],
+    code: u8,
+    place: &str,
+) -> Option<Detail> {
+    match read(alloc, text) {
+        Ok(_) => {
+            assert!(rt; false, "read");
+            None
+        }
+        Err(
+            Refusal::Fault {
+                code: told,
+                place: at,
+                detail,
+            },
+        ) => {
+            assert_eq!(rt; told, code);
+            assert_eq!(rt; at.as_str(), place);
+            Some(detail)
+        }
+        Err(refusal) => {
+            assert!(rt; matches!(refusal, Refusal::OutOfMemory));
+            None
+        }
+    }
+}
+
 // Nothing is read or told in place of a refused growth: run with each allocation failing in turn.
 #[test]
 fn says_when_memory_ran_out(rt: HostRuntime) {
@@ -450,45 +478,20 @@ fn says_when_memory_ran_out(rt: HostRuntime) {
         }
         Err(refusal) => assert!(rt; matches!(refusal, Refusal::OutOfMemory)),
     }
-    match read(
-        rt.alloc(),
-        b"{\"resource\": {\"t\": {\"a\": {\"x\": [\"${\"]}}}}",
-    ) {
-        Ok(_) => assert!(rt; false, "read"),
-        Err(
-            Refusal::Fault {
-                code,
-                place,
-                detail,
-            },
-        ) => {
-            assert_eq!(rt; code, 3);
-            assert_eq!(rt; place.as_str(), "resource.t.a.x.0");
-            assert!(rt; matches!(detail, Detail::At(2)));
-        }
-        Err(refusal) => assert!(rt; matches!(refusal, Refusal::OutOfMemory)),
-    }
+}
+
+// Nor while a template is read.
+#[test]
+fn says_when_memory_ran_out_in_a_template(rt: HostRuntime) {
+    let text = b"{\"resource\": {\"t\": {\"a\": {\"x\": [\"${\"]}}}}";
+    let detail = refused_at(&rt, rt.alloc(), text, 3, "resource.t.a.x.0");
+    assert!(rt; matches!(detail, None | Some(Detail::At(2))));
 }
 
 // Nor while names are looked for.
 #[test]
 fn says_when_memory_ran_out_among_names(rt: HostRuntime) {
-    match read(
-        rt.alloc(),
-        b"{\"resource\": {\"t\": {\"a\": {\"x\": [1, \"${f(var.x)}\"]}}}}",
-    ) {
-        Ok(_) => assert!(rt; false, "read"),
-        Err(
-            Refusal::Fault {
-                code,
-                place,
-                detail,
-            },
-        ) => {
-            assert_eq!(rt; code, 4);
-            assert_eq!(rt; place.as_str(), "resource.t.a.x.1");
-            assert!(rt; matches!(detail, Detail::Bare));
-        }
-        Err(refusal) => assert!(rt; matches!(refusal, Refusal::OutOfMemory)),
-    }
+    let text = b"{\"resource\": {\"t\": {\"a\": {\"x\": [1, \"${f(var.x)}\"]}}}}";
+    let detail = refused_at(&rt, rt.alloc(), text, 4, "resource.t.a.x.1");
+    assert!(rt; matches!(detail, None | Some(Detail::Bare)));
 }

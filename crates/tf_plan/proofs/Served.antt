@@ -35,13 +35,9 @@ no_fault : (faults : List NamedFault) → first_of_faults faults ≡ None → fa
 no_fault [] h = refl
 no_fault (f ∷ faults) h = let some = fold_some (Some f) faults refl in let none : is_some (fold sooner (Some f) faults) ≡ false = ap is_some h in absurd (cc)
 
-front_empty : (xs ys : List NamedFault) → xs ++ ys ≡ [] → xs ≡ []
-front_empty [] ys h = refl
-front_empty (x ∷ xs) ys h = absurd (cc)
-
-back_empty : (xs ys : List NamedFault) → xs ++ ys ≡ [] → ys ≡ []
-back_empty [] ys h = h
-back_empty (x ∷ xs) ys h = absurd (cc)
+both_empty : (xs ys : List NamedFault) → xs ++ ys ≡ [] → (xs ≡ []) × (ys ≡ [])
+both_empty [] ys h = (refl, h)
+both_empty (x ∷ xs) ys h = absurd (cc)
 
 same_name : (name : List ℕ) → bytes_eq name name ≡ true
 same_name name = (bytes_eq-Decides name name).1 refl
@@ -56,13 +52,13 @@ all_named : (attributes : List AttributeView) (arguments : expr.Entries) → att
 all_named [] arguments h = refl
 all_named (a ∷ others) arguments h =
     let planned = attribute_value a (expr.get a.name arguments) in
-    named_first a planned (planned_entries others arguments) (each (λ b. b.name) others) (front_empty (fault_at a.name planned) (attribute_faults others arguments) h)
-    (all_named others arguments (back_empty (fault_at a.name planned) (attribute_faults others arguments) h))
+    named_first a planned (planned_entries others arguments) (each (λ b. b.name) others) (both_empty (fault_at a.name planned) (attribute_faults others arguments) h).0
+    (all_named others arguments (both_empty (fault_at a.name planned) (attribute_faults others arguments) h).1)
 
 -- the object of a block without a fault has the attributes of its schema
 object_named : (schema : SchemaView) (arguments : expr.Entries) → first_fault schema arguments ≡ None → has_attributes schema (tree.map (planned_entries schema.attributes arguments)) ≡ true
 object_named schema arguments h =
-    all_named schema.attributes arguments (front_empty (attribute_faults schema.attributes arguments) (stray_faults schema arguments) (no_fault (attribute_faults schema.attributes arguments ++ stray_faults schema arguments) h))
+    all_named schema.attributes arguments (both_empty (attribute_faults schema.attributes arguments) (stray_faults schema arguments) (no_fault (attribute_faults schema.attributes arguments ++ stray_faults schema arguments) h)).0
 
 none_mapped : {A B : Type 0} (f : A → B) (o : Option A) → is_some (option_map f o) ≡ false → o ≡ None
 none_mapped f None h = refl

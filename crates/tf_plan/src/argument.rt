@@ -1,10 +1,11 @@
 //! What an argument gives the attribute that it names.
 
-ghost use Rattle.std.specs.Prelude.{option_map};
+ghost use Rattle.std.specs.Prelude.{◌≡◌, option_map};
 ghost use Rattle.tf_expr.specs.Tree.{tree_of as expr_of};
 ghost use Rattle.tf_value.specs.Tree.{tree_of};
 ghost use Rattle.tf_plan.specs.Argument.{argument_value, unset_value, set_value, given_value, attribute_value, converted, or_bad_argument};
 ghost use Rattle.tf_protocol.specs.declared.schema.Kind.TheVariants as kinds;
+ghost use Rattle.tf_plan.specs.declared.argument.ValueFault.TheVariants.{OutOfMemory};
 ghost use Rattle.tf_plan.specs.Gives.{Gives};
 ghost use Rattle.tf_protocol.specs.Schema.{attribute_of};
 
@@ -32,9 +33,6 @@ pub enum ValueFault {
 }
 
 impl From<AllocError> for ValueFault {
-    ghost use Rattle.std.specs.Prelude.{◌≡◌};
-    ghost use Rattle.tf_plan.specs.declared.argument.ValueFault.TheVariants.{OutOfMemory};
-
     ghost from_gives = { λ _ e. e ≡ OutOfMemory };
 
     fn from(_error: AllocError) -> ValueFault {

@@ -1,6 +1,9 @@
 //! Why nothing is planned, and so nothing is called.
 
-use std::alloc::{AllocError, AllocFailed};
+ghost use Rattle.std.specs.Prelude.{◌≡◌};
+ghost use Rattle.tf_plan.specs.declared.refused.Refused.TheVariants.{NoMemory};
+
+use std::alloc::AllocError;
 use tf_refusal::Refusal;
 
 /// Why nothing is planned.
@@ -13,23 +16,9 @@ pub enum Refused {
 }
 
 impl From<AllocError> for Refused {
-    ghost use Rattle.std.specs.Prelude.{◌≡◌};
-    ghost use Rattle.tf_plan.specs.declared.refused.Refused.TheVariants.{NoMemory};
-
     ghost from_gives = { λ _ refused. refused ≡ NoMemory };
 
     fn from(_error: AllocError) -> Refused {
-        Refused::NoMemory
-    }
-}
-
-impl<T: Drop> From<AllocFailed<T>> for Refused {
-    ghost use Rattle.std.specs.Prelude.{◌≡◌};
-    ghost use Rattle.tf_plan.specs.declared.refused.Refused.TheVariants.{NoMemory};
-
-    ghost from_gives = { λ _ refused. refused ≡ NoMemory };
-
-    fn from(_error: AllocFailed<T>) -> Refused {
         Refused::NoMemory
     }
 }

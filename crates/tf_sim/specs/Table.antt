@@ -6,7 +6,7 @@ use Rattle.tf_value.specs.Tree.{Tree, text, whole, map, part_at, put}
 use Rattle.tf_protocol.specs.Schema.{AttributeView, SchemaView}
 use Rattle.tf_protocol.specs.Meaning.{Asked, Answer, Meaning, object, gone, failed}
 use Rattle.tf_protocol.specs.declared.request.Op.{Op}
-use Rattle.tf_protocol.specs.declared.request.Op.TheVariants.{Create, Update, Destroy}
+use Rattle.tf_protocol.specs.declared.request.Op.TheVariants.{Create, Destroy}
 use Rattle.tf_protocol.specs.declared.schema.Kind.{Kind}
 use Rattle.tf_protocol.specs.declared.schema.Kind.TheVariants as kind
 use Rattle.tf_protocol.specs.declared.schema.Mode.{Mode}
@@ -15,29 +15,20 @@ use Rattle.tf_protocol.specs.declared.schema.Mode.TheVariants.{Required, Optiona
 abbrev pub attribute : List ℕ → Kind → Mode → Bool → AttributeView
 attribute name kind mode force_new = record { name = name; kind = kind; mode = mode; force_new = force_new }
 
+-- both types have an id, which `sim` makes
+abbrev pub id_attribute : AttributeView
+id_attribute = attribute (codes "id") kind.String Computed false
+
 -- the schema of `sim_net`
 abbrev pub net_schema : SchemaView
-net_schema =
-    record {
-      version = 0;
-      attributes =
-          attribute (codes "cidr") kind.String Required true
-          ∷ attribute (codes "id") kind.String Computed false
-          ∷ attribute (codes "tag") kind.String Optional false
-          ∷ [];
-    }
+net_schema = record { version = 0; attributes = attribute (codes "cidr") kind.String Required true ∷ id_attribute ∷ attribute (codes "tag") kind.String Optional false ∷ [] }
 
 -- the schema of `sim_host`
 abbrev pub host_schema : SchemaView
 host_schema =
     record {
       version = 0;
-      attributes =
-          attribute (codes "id") kind.String Computed false
-          ∷ attribute (codes "name") kind.String Required true
-          ∷ attribute (codes "net") kind.String Optional false
-          ∷ attribute (codes "size") kind.Number Optional false
-          ∷ [];
+      attributes = id_attribute ∷ attribute (codes "name") kind.String Required true ∷ attribute (codes "net") kind.String Optional false ∷ attribute (codes "size") kind.Number Optional false ∷ [];
     }
 
 -- the text at a key, if a text stands there
@@ -61,13 +52,11 @@ with_text key value t = t
 
 abbrev pub is_create : Op → Bool
 is_create Create = true
-is_create Update = false
-is_create Destroy = false
+is_create _ = false
 
 abbrev pub is_destroy : Op → Bool
-is_destroy Create = false
-is_destroy Update = false
 is_destroy Destroy = true
+is_destroy _ = false
 
 -- the tag `lie` is answered as `truth`
 abbrev pub with_truth : Tree → Tree

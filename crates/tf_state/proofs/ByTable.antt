@@ -2,12 +2,12 @@
 use Rattle.std.proofs.Common.{◌≡◌, ℕ, ◌^◌, Bool, true, ◌&&◌, cond, List, Option, Some, None, option_map, codes, refl, ap, sym, ◌∙◌, []}
 use Rattle.std.specs.Prelude.{option_and_then}
 use Rattle.std.proofs.lemmas.Bool.{and_parts}
-use Rattle.serde_json.specs.Data.{Data, Items, no_items, item, array}
+use Rattle.serde_json.specs.Data.{Data, array}
 use Rattle.serde_json.specs.Find.{get}
 use Rattle.tf_value.specs.Tree.{Tree, Entries}
 use Rattle.tf_address.specs.ObjectId.{InstanceKeyView, ObjectIdView}
 use Rattle.tf_state.specs.Arrangement.{record_cmp, resource_cmp, with_records}
-use Rattle.tf_state.specs.Reading.{text_in, below, name_in, text_or, below_or_zero, key_in, deposed_in, attributes_in, tainted_in, flag_in, dependencies_in, is_unsensitive, is_unchecked, is_managed, is_version, outputs_in, instances_in, all_resources_in, put_new, records_in, resources_in, is_record, is_state, record_in, resource_in, state_in}
+use Rattle.tf_state.specs.Reading.{text_in, below, name_in, text_or, below_or_zero, key_in, deposed_in, attributes_in, tainted_in, flag_in, dependencies_in, is_unsensitive, is_unchecked, is_managed, is_version, outputs_in, instances_in, all_resources_in, resources_in, is_record, is_state, record_in, resource_in, state_in}
 use Rattle.tf_state_data.specs.Record.{RecordView}
 use Rattle.tf_state_data.specs.Resource.{ResourceView}
 use Rattle.tf_state_data.specs.State.{StateView}
@@ -16,7 +16,7 @@ use Rattle.tf_state.specs.Words.{is_shaped}
 use Rattle.tf_state.specs.declared.shape.Shape.TheVariants as shapes
 use Rattle.tf_state.proofs.Properties.{mapped, text_says, text_said, number_says, number_said, name_says, name_said, text_or_says, text_or_said, version_says, version_said, key_says, key_said, deposed_says, deposed_said, status_says, status_said, flag_says, flag_said, sensitive_says, sensitive_said, checks_say, checks_said, managed_says, managed_said, format_says, format_said}
 use Rattle.tf_state.proofs.Contents.{attributes_say, attributes_said, dependencies_say, dependencies_said, outputs_say, outputs_said}
-use Rattle.tf_state.proofs.Gathered.{gather, gathered-said, gathered-says}
+use Rattle.tf_state.proofs.Gathered.{gathered-said, gathered-says}
 use Rattle.tf_state.proofs.Orders.{record_total, resource_total}
 
 same : {A : Type 0} (a b : A) → Some a ≡ Some b → a ≡ b
@@ -83,17 +83,12 @@ record_said d r h =
     rw (h.only, sensitive_said (get (codes "sensitive_attributes") d) h.sensitive_attributes, key_said (get (codes "index_key") d) r.id.key h.index_key, deposed_said (get (codes "deposed") d) r.id.deposed h.deposed, attributes_said (get (codes "attributes") d) r.attributes h.attributes, version_said (2 ^ 32) (get (codes "schema_version") d) r.schema_version h.schema_version, status_said (get (codes "status") d) r.tainted h.status, dependencies_said (get (codes "dependencies") d) r.dependencies h.dependencies, flag_said (get (codes "create_before_destroy") d) r.create_before_destroy h.create_before_destroy)
     refl
 
-records-gathered : (ds : Items) (found : List RecordView) → records_in ds found ≡ gather record_in record_cmp ds found
-records-gathered no_items found = refl
-records-gathered (item d ds) found =
-    λ i. option_and_then (λ r. option_and_then (λ later. records-gathered ds later i) (put_new record_cmp r found)) (record_in d)
-
 instances_say : (o : Option Data) (rs : List RecordView) → instances_in o ≡ Some rs → SaysInstances o rs
-instances_say (Some (array ds)) rs e = gathered-says record_in SaysRecord record_cmp record_total record_says ds rs (sym (records-gathered ds []) ∙ e)
+instances_say (Some (array ds)) rs e = gathered-says record_in SaysRecord record_cmp record_total record_says ds rs e
 instances_say _ rs e = absurd (cc)
 
 pub instances_said : (o : Option Data) (rs : List RecordView) → SaysInstances o rs → instances_in o ≡ Some rs
-instances_said (Some (array ds)) rs h = records-gathered ds [] ∙ gathered-said record_in SaysRecord record_cmp record_total record_said ds h.0 rs h.1 h.2
+instances_said (Some (array ds)) rs h = gathered-said record_in SaysRecord record_cmp record_total record_said ds h.0 rs h.1 h.2
 instances_said _ rs h = absurd (assumption)
 
 -- ---- resources
@@ -143,22 +138,17 @@ resource_said d r h =
     rw (h.only, managed_said (get (codes "mode") d) h.mode, name_said (get (codes "type") d) r.label.type_name h.type_name, name_said (get (codes "name") d) r.label.name h.name, text_said (get (codes "provider") d) r.provider h.provider, instances_said (get (codes "instances") d) r.records h.instances)
     refl
 
-resources-gathered : (ds : Items) (found : List ResourceView) → resources_in ds found ≡ gather resource_in resource_cmp ds found
-resources-gathered no_items found = refl
-resources-gathered (item d ds) found =
-    λ i. option_and_then (λ r. option_and_then (λ later. resources-gathered ds later i) (put_new resource_cmp r found)) (resource_in d)
-
 resources_say : (o : Option Data) (rs : List ResourceView) → all_resources_in o ≡ Some rs → SaysResources o rs
 resources_say None rs e = cc
 resources_say (Some (array ds)) rs e =
     let m = mapped with_records (resources_in ds []) rs e in
-    let all = gathered-says resource_in SaysResource resource_cmp resource_total resource_says ds m.0 (sym (resources-gathered ds []) ∙ m.1) in (all.0, m.0, all.1, all.2, sym m.2)
+    let all = gathered-says resource_in SaysResource resource_cmp resource_total resource_says ds m.0 m.1 in (all.0, m.0, all.1, all.2, sym m.2)
 resources_say (Some _) rs e = absurd (cc)
 
 pub resources_said : (o : Option Data) (rs : List ResourceView) → SaysResources o rs → all_resources_in o ≡ Some rs
 resources_said None rs h = ap Some (sym h)
 resources_said (Some (array ds)) rs h =
-    ap (option_map with_records) (resources-gathered ds [] ∙ gathered-said resource_in SaysResource resource_cmp resource_total resource_said ds h.0 h.1 h.2 h.3) ∙ ap Some (sym h.4)
+    ap (option_map with_records) (gathered-said resource_in SaysResource resource_cmp resource_total resource_said ds h.0 h.1 h.2 h.3) ∙ ap Some (sym h.4)
 resources_said (Some _) rs h = absurd (assumption)
 
 -- ---- states

@@ -7,7 +7,7 @@ use Rattle.std.specs.Prelude.{option_and_then}
 use Rattle.std.proofs.lemmas.Cmp.{nat_list_cmp_total}
 use Rattle.std.proofs.lemmas.List.Sorted.{Contains-permutation, IsPermutation-refl, IsPermutation-sym}
 use Rattle.serde_json.specs.Data.{Data, Items, no_items, item, string}
-use Rattle.tf_state.specs.Reading.{put_new, put_text, address_in, addresses_in}
+use Rattle.tf_state.specs.Reading.{gather, put_new, put_text, address_in, addresses_in}
 use Rattle.tf_state.specs.Table.{EachSays, HoldTheSame, IsArranged, SaysAddress}
 use Rattle.tf_state.specs.Words.{is_address}
 use Rattle.tf_state.proofs.Orders.{put_new-sorted, nothing_ordered}
@@ -18,11 +18,6 @@ same : {A : Type 0} (a b : A) → Some a ≡ Some b → a ≡ b
 same a b e = cc
 
 -- ---- items that are put in order, none twice
-
--- what items are read as, added to what was found
-abbrev pub gather : {A : Type 0} → (Data → Option A) → (A → A → Ordering) → Items → List A → Option (List A)
-gather read_one cmp no_items found = Some found
-gather read_one cmp (item d ds) found = option_and_then (λ x. option_and_then (gather read_one cmp ds) (put_new cmp x found)) (read_one d)
 
 abbrev Onto : {A : Type 0} → (Data → A → Type 0) → (A → A → Ordering) → Items → List A → List A → Type 0
 Onto {A} Says cmp ds found xs = (said : List A) × EachSays Says ds said × IsPermutation (said ++ found) xs × IsStrictlySortedBy cmp xs

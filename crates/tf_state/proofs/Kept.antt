@@ -1,6 +1,8 @@
 -- Puts and removes keep valid states valid.
-use Rattle.std.proofs.Common.{◌≡◌, ◌<◌, ◌^◌, arith, true, List, [], ◌∷◌, ◌++◌, Ordering, refl}
+use Rattle.std.proofs.Common.{◌≡◌, ◌<◌, ◌^◌, arith, true, List, [], ◌∷◌, ◌++◌, Ordering, map, refl}
+use Rattle.std.specs.Cmp.{IsTotalOrder}
 use Rattle.std.specs.List.{AllByRecursion}
+use Rattle.std.specs.List.Sorted.{IsStrictlySortedBy}
 use Rattle.std.specs.Ordering.{is_lt, is_gt}
 use Rattle.tf_address.specs.Label.{label_cmp}
 use Rattle.tf_state_data.specs.Order.{before, after, with_one, without_one}
@@ -12,7 +14,7 @@ use Rattle.tf_address.proofs.Totals.{object_id_total, label_total}
 use Rattle.tf_value.proofs.Tables.{no_table}
 use Rattle.tf_state.specs.Laws.{EmptyIsValid, OutputsKeepState, SerialKeepsState, PutKeepsState, PutKeepsResource, RemoveKeepsState, RemoveKeepsResource}
 use Rattle.tf_state.specs.Arrangement.{is_some_record}
-use Rattle.tf_state.specs.Valid.{AreRecords, AreResources, IsPresent, IsRecord, IsResource}
+use Rattle.tf_state.specs.Valid.{IsPresent, IsRecord, IsResource}
 use Rattle.tf_state.proofs.Orders.{all-filter, nothing_ordered}
 
 -- ---- a property of each
@@ -31,11 +33,17 @@ without_one-all key cmp P k xs h =
 
 -- ---- records and resources
 
-put_keeps_records : (new : RecordView) (rs : List RecordView) → IsRecord new → AreRecords rs → AreRecords (with_one (λ r. r.id) object_id_cmp new rs)
-put_keeps_records new rs p h = (with_one-all (λ r. r.id) object_id_cmp IsRecord new rs p h.0, with-sorted (λ r. r.id) object_id_cmp object_id_total new rs h.1)
+module _ {A K : Type 0} (key : A → K) (cmp : K → K → Ordering) (total : IsTotalOrder cmp) (P : A → Type 0) where
+  -- elements with a property stand in the order of their keys
+  abbrev AreWhole : List A → Type 0
+  AreWhole xs = AllByRecursion P xs × IsStrictlySortedBy cmp (map key xs)
 
-put_keeps_resources : (new : ResourceView) (rs : List ResourceView) → IsPresent new → AreResources rs → AreResources (with_one (λ r. r.label) label_cmp new rs)
-put_keeps_resources new rs p h = (with_one-all (λ r. r.label) label_cmp IsPresent new rs p h.0, with-sorted (λ r. r.label) label_cmp label_total new rs h.1)
+  -- so they do with one more, and with one less
+  with_one-whole : (new : A) (xs : List A) → P new → AreWhole xs → AreWhole (with_one key cmp new xs)
+  with_one-whole new xs p h = (with_one-all key cmp P new xs p h.0, with-sorted key cmp total new xs h.1)
+
+  without_one-whole : (k : K) (xs : List A) → AreWhole xs → AreWhole (without_one key cmp k xs)
+  without_one-whole k xs h = (without_one-all key cmp P k xs h.0, without-sorted key cmp total k xs h.1)
 
 some_among : (rs : List RecordView) (r : RecordView) (qs : List RecordView) → is_some_record (rs ++ r ∷ qs) ≡ true
 some_among [] r qs = refl
@@ -44,28 +52,20 @@ some_among (q ∷ rs) r qs = refl
 -- ---- the laws
 
 pub put_keeps_state : PutKeepsState
-put_keeps_state new s p h = record { serial = h.serial; outputs = h.outputs; resources = put_keeps_resources new s.resources p h.resources }
+put_keeps_state new s p h = record { serial = h.serial; outputs = h.outputs; resources = with_one-whole (λ (r : ResourceView). r.label) label_cmp label_total IsPresent new s.resources p h.resources }
 
 pub put_keeps_resource : PutKeepsResource
 put_keeps_resource new r p h =
-    let whole : IsResource (with_record new r) = record { type_name = h.type_name; name = h.name; records = put_keeps_records new r.records p h.records } in
+    let whole : IsResource (with_record new r) = record { type_name = h.type_name; name = h.name; records = with_one-whole (λ (q : RecordView). q.id) object_id_cmp object_id_total IsRecord new r.records p h.records } in
     (whole, some_among (before (λ q. q.id) object_id_cmp new.id r.records) new (after (λ q. q.id) object_id_cmp new.id r.records))
 
 pub remove_keeps_state : RemoveKeepsState
 remove_keeps_state label s h =
-    record {
-      serial = h.serial;
-      outputs = h.outputs;
-      resources = (without_one-all (λ r. r.label) label_cmp IsPresent label s.resources h.resources.0, without-sorted (λ r. r.label) label_cmp label_total label s.resources h.resources.1);
-    }
+    record { serial = h.serial; outputs = h.outputs; resources = without_one-whole (λ (r : ResourceView). r.label) label_cmp label_total IsPresent label s.resources h.resources }
 
 pub remove_keeps_resource : RemoveKeepsResource
 remove_keeps_resource id r h =
-    record {
-      type_name = h.type_name;
-      name = h.name;
-      records = (without_one-all (λ q. q.id) object_id_cmp IsRecord id r.records h.records.0, without-sorted (λ q. q.id) object_id_cmp object_id_total id r.records h.records.1);
-    }
+    record { type_name = h.type_name; name = h.name; records = without_one-whole (λ (q : RecordView). q.id) object_id_cmp object_id_total IsRecord id r.records h.records }
 
 pub empty_valid : EmptyIsValid
 empty_valid lineage =

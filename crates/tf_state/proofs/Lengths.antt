@@ -1,5 +1,5 @@
 -- As many items and members are sent as a list or a map has.
-use Rattle.std.proofs.Common.{◌≡◌, suc, List, [], ◌∷◌, String, Global, length, map, refl, ap, ◌∙◌}
+use Rattle.std.proofs.Common.{◌≡◌, suc, List, [], ◌∷◌, String, Global, length, map, refl, ap}
 use Rattle.serde_json.specs.Data.{Data}
 use Rattle.serde_json.specs.Events.{items_len, members_len}
 use Rattle.serde_json.specs.View.{items_of as json_items_of}

@@ -1,21 +1,21 @@
 -- What is read is valid.
-use Rattle.std.proofs.Common.{◌≡◌, ℕ, ◌^◌, ◌<◌, ℤ, pos, negsuc, Bool, true, false, ◌&&◌, cond, List, [], ◌∷◌, Option, Some, None, Ordering, Less, Equal, Greater, nat_cmp, codes, refl, sym, ap, ◌∙◌, subst, arith, rules}
+use Rattle.std.proofs.Common.{◌≡◌, ℕ, ◌^◌, ◌<◌, Bool, true, false, ◌&&◌, cond, List, [], ◌∷◌, map as each, Option, Some, None, Ordering, Less, Equal, Greater, nat_cmp, codes, refl, sym, ap, ◌∙◌, subst, arith}
+use Rattle.std.specs.Cmp.{IsTotalOrder}
 use Rattle.std.specs.Cmp.Lexicographic.{slice_cmp}
-use Rattle.std.specs.Int.{w64}
 use Rattle.std.specs.List.{AllByRecursion}
+use Rattle.std.specs.List.Sorted.{IsStrictlySortedBy}
 use Rattle.std.specs.Ordering.{match_ordering, ordering_reverse}
-use Rattle.std.specs.Prelude.{FitsSigned, option_and_then}
+use Rattle.std.specs.Prelude.{option_and_then}
 use Rattle.std.proofs.lemmas.Bool.{and_parts}
 use Rattle.std.proofs.lemmas.Cmp.{nat_list_cmp_total}
-use Rattle.std.proofs.lemmas.Int.{ints}
 use Rattle.serde_json.specs.Data as json
-use Rattle.serde_json.specs.Find.{get, of_integer}
+use Rattle.serde_json.specs.Find.{get}
 use Rattle.tf_json_text.specs.Plain.{IsPlain, ArePlain, ArePlainMembers, IsSorted, AreSorted, AreSortedMembers}
 use Rattle.tf_json_text.proofs.Puts.{plain-put}
 use Rattle.tf_json_text.proofs.Sorted.{read_is_sorted, sorted-get}
 use Rattle.tf_value.specs.Json.{IsJson, IsArray, IsObject, value_data, entries_data, tree_from}
 use Rattle.tf_value.specs.Known.{known}
-use Rattle.tf_value.specs.Tree.{Tree, null, boolean, whole, text, list, map, unknown, Items, no_items, item, Entries, no_entries, entry, put, IsHeld, AreHeld, AreHeldEntries}
+use Rattle.tf_value.specs.Tree.{Tree, null, boolean, whole, text, list, map, Items, no_items, item, Entries, no_entries, entry, put}
 use Rattle.tf_value.proofs.Forms.{form_of, form-held, form-tree_from, IsJson-one_form}
 use Rattle.tf_value.specs.Stored.{IsTable}
 use Rattle.tf_state.specs.Laws.{ReadIsValid}
@@ -26,8 +26,8 @@ use Rattle.tf_state_data.specs.Record.{RecordView}
 use Rattle.tf_state_data.specs.Resource.{ResourceView}
 use Rattle.tf_state_data.specs.State.{StateView}
 use Rattle.tf_address.proofs.Totals.{object_id_total, label_total}
-use Rattle.tf_state.specs.Arrangement.{record_cmp, resource_cmp, is_some_record, with_records}
-use Rattle.tf_state.specs.Reading.{put_text, put_new, is_within, value_in, values_in, attributes_in, address_in, addresses_in, dependencies_in, record_in, records_in, instances_in, resource_in, resources_in, all_resources_in, outputs_in, output_in, required_value, state_in}
+use Rattle.tf_state.specs.Arrangement.{is_some_record, with_records}
+use Rattle.tf_state.specs.Reading.{gather, put_text, put_new, is_within, value_in, values_in, attributes_in, address_in, addresses_in, dependencies_in, record_in, instances_in, resource_in, resources_in, all_resources_in, outputs_in, output_in, required_value, state_in}
 use Rattle.tf_state.specs.Table.{SaysKey, SaysDeposed, SaysNumberOrZero}
 use Rattle.tf_state.specs.Valid.{IsAttributes, IsKey, IsDeposed, AreAddresses, IsRecord, AreRecords, IsResource, IsPresent, AreResources, IsValid}
 use Rattle.tf_state.specs.Words.{is_address, is_shaped}
@@ -116,6 +116,20 @@ output-fine : (d : json.Data) (t : Tree) → IsSorted d → output_in d ≡ Some
 output-fine d t s e =
     let g = guarded (is_shaped shapes.Output d) (required_value (get (codes "value") d)) t e in required-fine (get (codes "value") d) t (λ f is. sorted-get (codes "value") d f s is) g.1
 
+-- ---- items that are put in order
+
+-- sorted items that are read as something with a property, put to others with it, leave all with it and in order
+gathered : {A K : Type 0} (read_one : json.Data → Option A) (key : A → K) (cmp : K → K → Ordering) → IsTotalOrder cmp → (P : A → Type 0) → ((d : json.Data) (x : A) → IsSorted d → read_one d ≡ Some x → P x)
+    → (ds : json.Items) (found xs : List A) → AreSorted ds → AllByRecursion P found × IsStrictlySortedBy cmp (each key found) → gather read_one (λ a b. cmp (key a) (key b)) ds found ≡ Some xs
+    → AllByRecursion P xs × IsStrictlySortedBy cmp (each key xs)
+gathered read_one key cmp total P valid json.no_items found xs s h e = subst (λ ys. AllByRecursion P ys × IsStrictlySortedBy cmp (each key ys)) (same found xs e) h
+gathered {A} read_one key cmp total P valid (json.item d ds) found xs s h e =
+    let by = λ (a b : A). cmp (key a) (key b) in
+    let i = inverted (λ x. option_and_then (gather read_one by ds) (put_new by x found)) (read_one d) xs e in
+    let j = inverted (gather read_one by ds) (put_new by i.0 found) xs i.2 in
+    let all = put_new-all by P i.0 found j.0 (valid d i.0 s.0 i.1) h.0 j.1 in
+    gathered read_one key cmp total P valid ds j.0 xs s.1 (all, put_new-order key cmp total i.0 found j.0 h.1 j.1) j.2
+
 -- ---- records
 
 key-valid : (o : Option json.Data) (k : InstanceKeyView) → SaysKey o k → IsKey k
@@ -188,18 +202,11 @@ record-valid d r s e =
       dependencies = dependencies-valid (get (codes "dependencies") d) r.dependencies (dependencies_said (get (codes "dependencies") d) r.dependencies says.dependencies);
     }
 
-records-read : (ds : json.Items) (found rs : List RecordView) → AreSorted ds → AreRecords found → records_in ds found ≡ Some rs → AreRecords rs
-records-read json.no_items found rs s h e = subst AreRecords (same found rs e) h
-records-read (json.item d ds) found rs s h e =
-    let i = inverted (λ r. option_and_then (records_in ds) (put_new record_cmp r found)) (record_in d) rs e in
-    let j = inverted (records_in ds) (put_new record_cmp i.0 found) rs i.2 in
-    let each = put_new-all record_cmp IsRecord i.0 found j.0 (record-valid d i.0 s.0 i.1) h.0 j.1 in
-    records-read ds j.0 rs s.1 (each, put_new-order (λ r. r.id) object_id_cmp object_id_total i.0 found j.0 h.1 j.1) j.2
-
 -- ---- resources
 
 instances-valid : (o : Option json.Data) (rs : List RecordView) → ((e : json.Data) → o ≡ Some e → IsSorted e) → instances_in o ≡ Some rs → AreRecords rs
-instances-valid (Some (json.array ds)) rs s e = records-read ds [] rs (s (json.array ds) refl) (tt, nothing_ordered object_id_cmp) e
+instances-valid (Some (json.array ds)) rs s e =
+    gathered record_in (λ (r : RecordView). r.id) object_id_cmp object_id_total IsRecord record-valid ds [] rs (s (json.array ds) refl) (tt, nothing_ordered object_id_cmp) e
 instances-valid _ rs s e = absurd (cc)
 
 resource-valid : (d : json.Data) (r : ResourceView) → IsSorted d → resource_in d ≡ Some r → IsResource r
@@ -214,14 +221,6 @@ resource-valid d r s e =
 -- resources, each of which may be one without records
 abbrev AreParts : List ResourceView → Type 0
 AreParts rs = AllByRecursion IsResource rs × AreByAddress rs
-
-resources-read : (ds : json.Items) (found rs : List ResourceView) → AreSorted ds → AreParts found → resources_in ds found ≡ Some rs → AreParts rs
-resources-read json.no_items found rs s h e = subst AreParts (same found rs e) h
-resources-read (json.item d ds) found rs s h e =
-    let i = inverted (λ r. option_and_then (resources_in ds) (put_new resource_cmp r found)) (resource_in d) rs e in
-    let j = inverted (resources_in ds) (put_new resource_cmp i.0 found) rs i.2 in
-    let each = put_new-all resource_cmp IsResource i.0 found j.0 (resource-valid d i.0 s.0 i.1) h.0 j.1 in
-    resources-read ds j.0 rs s.1 (each, put_new-order (λ r. r.label) label_cmp label_total i.0 found j.0 h.1 j.1) j.2
 
 present_at : (b : Bool) (r : ResourceView) (rest : List ResourceView) → is_some_record r.records ≡ b → IsResource r → AllByRecursion IsPresent rest → AllByRecursion IsPresent (cond b (r ∷ rest) rest)
 present_at true r rest some p more = ((p, some), more)
@@ -238,7 +237,7 @@ resources-valid : (o : Option json.Data) (rs : List ResourceView) → ((e : json
 resources-valid None rs s e = subst AreResources (same [] rs e) (tt, nothing_ordered label_cmp)
 resources-valid (Some (json.array ds)) rs s e =
     let m = mapped with_records (resources_in ds []) rs e in
-    subst AreResources m.2 (with_records-valid m.0 (resources-read ds [] m.0 (s (json.array ds) refl) (tt, nothing_ordered label_cmp) m.1))
+    subst AreResources m.2 (with_records-valid m.0 (gathered resource_in (λ (r : ResourceView). r.label) label_cmp label_total IsResource resource-valid ds [] m.0 (s (json.array ds) refl) (tt, nothing_ordered label_cmp) m.1))
 resources-valid (Some _) rs s e = absurd (cc)
 
 outputs-valid : (o : Option json.Data) (es : Entries) → ((e : json.Data) → o ≡ Some e → IsSorted e) → outputs_in o ≡ Some es → IsTable es

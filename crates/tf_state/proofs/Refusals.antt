@@ -6,7 +6,7 @@ use Rattle.serde_json.specs.Read.{read}
 use Rattle.tf_state_data.specs.State.{StateView}
 use Rattle.tf_address.specs.ObjectId.{ObjectIdView}
 use Rattle.tf_state.specs.Reading.{IsNoJson, IsRefused, is_record, id_in, record_at, record_in, state_in}
-use Rattle.tf_state.specs.Table.{IsBeyond, IsUnread, Reads, SaysState}
+use Rattle.tf_state.specs.Table.{IsBeyond, IsUnread, Reads}
 use Rattle.tf_state.specs.declared.fault.StateFault.{StateFault}
 use Rattle.tf_state.specs.declared.fault.StateFault.TheVariants.{BadState, Limit, OutOfMemory}
 use Rattle.tf_state.proofs.ByTable.{state_said, state_says}

@@ -1,5 +1,5 @@
 -- What is sent member by member is sent whole.
-use Rattle.std.proofs.Common.{◌≡◌, ◌+◌, ℕ, Bool, true, false, cond, List, [], ◌∷◌, Option, Some, None, option_map, map as each, codes, refl, sym, ap, ◌∙◌, subst, arith}
+use Rattle.std.proofs.Common.{◌≡◌, ◌+◌, ℕ, Bool, true, false, cond, List, ◌∷◌, Option, Some, None, option_map, map as each, codes, refl, sym, ap, ◌∙◌, subst, arith}
 use Rattle.std.specs.Cmp.Lexicographic.{slice_cmp}
 use Rattle.std.specs.Ordering.{nat_cmp, match_ordering}
 use Rattle.std.specs.declared.cmp.Ordering.TheVariants.{Less, Greater}
@@ -117,21 +117,21 @@ attributes_first a v f dd dp kk st =
     let k = codes "attributes" in
     some_above k (codes "create_before_destroy") f _ refl (some_above k (codes "dependencies") dd _ refl (some_above k (codes "deposed") dp _ refl (some_above k (codes "index_key") kk _ refl (refl, status_above k st refl))))
 
+-- all members stand in order
+all_in_order : (a v : Data) (f dd dp kk st : Option Data)
+    → object (put (codes "attributes") a (put (codes "schema_version") v (put_some (codes "create_before_destroy") f (put_some (codes "dependencies") dd (put_some (codes "deposed") dp (put_some (codes "index_key") kk (put_some (codes "status") st no_members)))))))
+    ≡ object (in_order a v f dd dp kk st)
+all_in_order a v f dd dp kk st =
+    ap (λ ms. object (put (codes "attributes") a ms)) (ap (put (codes "schema_version") v) (optional_in_order f dd dp kk st) ∙ version_in_order v f dd dp kk st)
+    ∙ ap object (put_first (codes "attributes") a _ (attributes_first a v f dd dp kk st))
+
 abbrev record_members : RecordView → Members
 record_members r =
     in_order (value_data r.attributes) (json_number (unsigned r.schema_version)) (flag_data r.create_before_destroy) (dependencies_data r.dependencies) (option_map string r.id.deposed) (key_data r.id.key) (status_data r.tainted)
 
 record_in_order : (r : RecordView) → record_data r ≡ object (record_members r)
 record_in_order r =
-    let a = value_data r.attributes in
-    let v = json_number (unsigned r.schema_version) in
-    let f = flag_data r.create_before_destroy in
-    let dd = dependencies_data r.dependencies in
-    let dp = option_map string r.id.deposed in
-    let kk = key_data r.id.key in
-    let st = status_data r.tainted in
-    ap (λ ms. object (put (codes "attributes") a ms)) (ap (put (codes "schema_version") v) (optional_in_order f dd dp kk st) ∙ version_in_order v f dd dp kk st)
-    ∙ ap object (put_first (codes "attributes") a _ (attributes_first a v f dd dp kk st))
+    all_in_order (value_data r.attributes) (json_number (unsigned r.schema_version)) (flag_data r.create_before_destroy) (dependencies_data r.dependencies) (option_map string r.id.deposed) (key_data r.id.key) (status_data r.tainted)
 
 counted : (a v : Data) (f dd dp kk st : Option Data) → members_len (in_order a v f dd dp kk st) ≡ 2 + one_if_some f + one_if_some dd + one_if_some dp + one_if_some kk + one_if_some st
 counted a v f dd dp kk st =

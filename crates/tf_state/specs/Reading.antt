@@ -1,7 +1,7 @@
 -- The table of the format as functions: each answers what a part is read as, and none where the format refuses it. They
 -- say what the table says (`Table`), and what the functions that read are shown to answer. Private to this crate: nothing above
 -- it speaks of them.
-use Rattle.std.specs.Prelude.{◌≡◌, ℕ, ◌^◌, ◌<◌, ◌≤◌, ◌⊎◌, Bool, true, false, ◌&&◌, ◌==◌, nat_lt, nat_le, if◌then◌else◌, List, [], ◌∷◌, length, filter, Option, Some, None, option_map, option_and_then, codes, IsUtf8}
+use Rattle.std.specs.Prelude.{◌≡◌, ℕ, ◌^◌, Bool, true, false, ◌&&◌, ◌==◌, nat_lt, nat_le, if◌then◌else◌, List, [], ◌∷◌, Option, Some, None, option_map, option_and_then, codes, IsUtf8}
 use Rattle.std.specs.Cmp.Lexicographic.{slice_cmp}
 use Rattle.std.specs.Ordering.{nat_cmp, match_ordering}
 use Rattle.std.specs.Str.{bytes_eq}
@@ -9,13 +9,12 @@ use Rattle.std.specs.declared.cmp.Ordering.{Ordering}
 use Rattle.serde_json.specs.Data.{Data, null, boolean, number as json_number, unsigned, string, array, object, Items, no_items, item, Members, no_members, member}
 use Rattle.serde_json.specs.Find.{get}
 use Rattle.serde_json.specs.Read.{read}
-use Rattle.tf_address.specs.Label.{label_cmp}
 use Rattle.tf_address.specs.Name.{is_name}
 use Rattle.tf_value.specs.Json.{tree_from}
 use Rattle.tf_value.specs.Known.{known}
 use Rattle.tf_value.specs.Measure.{weight, depth, max_weight, max_depth}
 use Rattle.tf_value.specs.Tree.{Tree, map, Entries, no_entries, put}
-use Rattle.tf_address.specs.ObjectId.{InstanceKeyView, single, number, name, ObjectIdView, object_id_cmp}
+use Rattle.tf_address.specs.ObjectId.{InstanceKeyView, single, number, name, ObjectIdView}
 use Rattle.tf_state_data.specs.Record.{RecordView}
 use Rattle.tf_state_data.specs.Resource.{ResourceView}
 use Rattle.tf_state_data.specs.State.{StateView}
@@ -31,6 +30,11 @@ use Rattle.tf_state.specs.declared.shape.Shape.TheVariants as shapes
 abbrev pub put_new : {A : Type 0} → (A → A → Ordering) → A → List A → Option (List A)
 put_new cmp a [] = Some (a ∷ [])
 put_new cmp a (b ∷ bs) = match_ordering (cmp a b) (Some (a ∷ b ∷ bs)) None (option_map (λ cs. b ∷ cs) (put_new cmp a bs))
+
+-- what items are read as, added to what was found, none twice; none where an item is no such thing
+abbrev pub gather : {A : Type 0} → (Data → Option A) → (A → A → Ordering) → Items → List A → Option (List A)
+gather read_one cmp no_items found = Some found
+gather read_one cmp (item d ds) found = option_and_then (λ x. option_and_then (gather read_one cmp ds) (put_new cmp x found)) (read_one d)
 
 -- the texts with one more, in byte order, each once
 abbrev pub put_text : List ℕ → List (List ℕ) → List (List ℕ)
@@ -137,8 +141,7 @@ record_in d = if is_record d then option_and_then (λ id. record_at id d) (id_in
 
 -- the records that items are, added to those that were found, none twice
 abbrev pub records_in : Items → List RecordView → Option (List RecordView)
-records_in no_items found = Some found
-records_in (item d ds) found = option_and_then (λ r. option_and_then (records_in ds) (put_new record_cmp r found)) (record_in d)
+records_in = gather record_in record_cmp
 
 -- the records of a resource are an array
 abbrev pub instances_in : Option Data → Option (List RecordView)
@@ -174,8 +177,7 @@ resource_in d =
 
 -- the resources that items are, added to those that were found, none twice
 abbrev pub resources_in : Items → List ResourceView → Option (List ResourceView)
-resources_in no_items found = Some found
-resources_in (item d ds) found = option_and_then (λ r. option_and_then (resources_in ds) (put_new resource_cmp r found)) (resource_in d)
+resources_in = gather resource_in resource_cmp
 
 -- resources are absent, or an array
 abbrev pub all_resources_in : Option Data → Option (List ResourceView)

@@ -1,3 +1,7 @@
+ghost use Rattle.std.specs.Prelude.{◌≡◌, Some};
+ghost use Rattle.tf_state.specs.Fault.{fault_text};
+ghost use Rattle.tf_state.specs.declared.fault.StateFault.TheVariants.{OutOfMemory};
+
 use std::alloc::{AllocError, AllocFailed};
 use std::error::Error;
 use std::fmt;
@@ -13,10 +17,15 @@ pub enum StateFault {
     OutOfMemory,
 }
 
-impl fmt::Display for StateFault {
-    ghost use Rattle.std.specs.Prelude.{Some};
-    ghost use Rattle.tf_state.specs.Fault.{fault_text};
+impl From<AllocError> for StateFault {
+    ghost from_gives = { λ _ e. e ≡ OutOfMemory };
 
+    fn from(_error: AllocError) -> StateFault {
+        StateFault::OutOfMemory
+    }
+}
+
+impl fmt::Display for StateFault {
     ghost output = { λ fault. Some (fault_text fault) };
 
     fn fmt<W: fmt::Write>(&self, f: &mut fmt::Formatter<W>) -> fmt::Result {
@@ -30,21 +39,7 @@ impl fmt::Display for StateFault {
 
 impl Error for StateFault {}
 
-impl From<AllocError> for StateFault {
-    ghost use Rattle.std.specs.Prelude.{◌≡◌};
-    ghost use Rattle.tf_state.specs.declared.fault.StateFault.TheVariants.{OutOfMemory};
-
-    ghost from_gives = { λ _ e. e ≡ OutOfMemory };
-
-    fn from(_error: AllocError) -> StateFault {
-        StateFault::OutOfMemory
-    }
-}
-
 impl<T: Drop> From<AllocFailed<T>> for StateFault {
-    ghost use Rattle.std.specs.Prelude.{◌≡◌};
-    ghost use Rattle.tf_state.specs.declared.fault.StateFault.TheVariants.{OutOfMemory};
-
     ghost from_gives = { λ _ e. e ≡ OutOfMemory };
 
     fn from(_error: AllocFailed<T>) -> StateFault {

@@ -21,6 +21,7 @@ pub fn read_states_are_valid()
 
 /// A valid state stays valid where a valid resource is put into it, be there one at its address or not, and where
 /// one is taken out; so does a valid resource with a record.
+#[tactic(auto, using(crate::proofs::Kept::put_keeps_state, crate::proofs::Kept::put_keeps_resource, crate::proofs::Kept::remove_keeps_state, crate::proofs::Kept::remove_keeps_resource))]
 pub fn puts_and_removes_keep_states_valid()
     ensures resources { PutKeepsState }
     ensures records { PutKeepsResource }
@@ -31,6 +32,7 @@ pub fn puts_and_removes_keep_states_valid()
 /// The state before anything exists is valid, and a valid state stays so with another serial and with other outputs,
 /// each of which may be stored. So a state that is made of the empty one or of one that was read, by serials, outputs,
 /// puts and removes, has a text that reads as it.
+#[tactic(auto, using(crate::proofs::Kept::serial_keeps_state, crate::proofs::Kept::outputs_keep_state))]
 pub fn new_states_are_valid()
     ensures empty { EmptyIsValid }
     ensures serials { SerialKeepsState }

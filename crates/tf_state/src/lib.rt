@@ -1,22 +1,14 @@
 //! The text of a state in Terraform's state file format, version 4: reading it, writing it, and the laws of both.
 #![tactic(auto)]
 
-#[cfg(test)]
-mod accepted;
 mod body;
 mod fault;
 mod laws;
-#[cfg(test)]
-mod memory;
 mod reading;
 mod record_reading;
 mod record_writing;
-#[cfg(test)]
-mod refused;
 mod resource_reading;
 mod shape;
-#[cfg(test)]
-mod tests;
 mod types;
 mod value_reading;
 mod writing;

@@ -78,14 +78,14 @@ module _ {A K : Type 0} (key : A → K) (cmp : K → K → Ordering) (total : Is
   others_put k new xs Equal e n = absurd (cc)
 
   -- at other keys a put changes nothing
-  pub put-others : (k : K) (new : A) (xs : List A) → is_eq (cmp k (key new)) ≡ false → at_key key cmp k (with_one key cmp new xs) ≡ at_key key cmp k xs
+  put-others : (k : K) (new : A) (xs : List A) → is_eq (cmp k (key new)) ≡ false → at_key key cmp k (with_one key cmp new xs) ≡ at_key key cmp k xs
   put-others k new xs n = others_put k new xs (cmp k (key new)) refl n
 
   one_here : (new : A) (xs : List A) → cmp (key new) (key new) ≡ Equal → at_key key cmp (key new) (new ∷ xs) ≡ Some new
   one_here new xs e = let is : is_eq (cmp (key new) (key new)) ≡ true = ap is_eq e in rw is refl
 
   -- what was put is there
-  pub put-there : (new : A) (xs : List A) → at_key key cmp (key new) (with_one key cmp new xs) ≡ Some new
+  put-there : (new : A) (xs : List A) → at_key key cmp (key new) (with_one key cmp new xs) ≡ Some new
   put-there new xs =
       let j = key new in
       let same : cmp j j ≡ Equal = tied_itself total j in
@@ -93,7 +93,7 @@ module _ {A K : Type 0} (key : A → K) (cmp : K → K → Ordering) (total : Is
       ∙ one_here new (after key cmp j xs) same
 
   -- what was taken out is gone
-  pub removed-gone : (j : K) (xs : List A) → at_key key cmp j (without_one key cmp j xs) ≡ None
+  removed-gone : (j : K) (xs : List A) → at_key key cmp j (without_one key cmp j xs) ≡ None
   removed-gone j xs =
       let q : A → Bool = λ x. is_eq (cmp (key x) j) in
       let same : cmp j j ≡ Equal = tied_itself total j in
@@ -112,5 +112,12 @@ module _ {A K : Type 0} (key : A → K) (cmp : K → K → Ordering) (total : Is
   others_left k j xs Equal e n = absurd (cc)
 
   -- at other keys a remove changes nothing
-  pub removed-others : (k j : K) (xs : List A) → is_eq (cmp k j) ≡ false → at_key key cmp k (without_one key cmp j xs) ≡ at_key key cmp k xs
+  removed-others : (k j : K) (xs : List A) → is_eq (cmp k j) ≡ false → at_key key cmp k (without_one key cmp j xs) ≡ at_key key cmp k xs
   removed-others k j xs n = others_left k j xs (cmp k j) refl n
+
+  -- both of a put, and both of a remove
+  pub put_changes_one : (new : A) (xs : List A) → (at_key key cmp (key new) (with_one key cmp new xs) ≡ Some new) × ((k : K) → is_eq (cmp k (key new)) ≡ false → at_key key cmp k (with_one key cmp new xs) ≡ at_key key cmp k xs)
+  put_changes_one new xs = (put-there new xs, λ k n. put-others k new xs n)
+
+  pub remove_changes_one : (j : K) (xs : List A) → (at_key key cmp j (without_one key cmp j xs) ≡ None) × ((k : K) → is_eq (cmp k j) ≡ false → at_key key cmp k (without_one key cmp j xs) ≡ at_key key cmp k xs)
+  remove_changes_one j xs = (removed-gone j xs, λ k n. removed-others k j xs n)

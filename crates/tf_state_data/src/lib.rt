@@ -11,8 +11,6 @@ mod provider;
 mod record;
 mod resource;
 mod state;
-#[cfg(test)]
-mod tests;
 
 pub use copies::copy;
 pub use laws::{puts_and_removes_change_one_record, puts_and_removes_change_one_resource};

@@ -1,5 +1,4 @@
-use Rattle.std.proofs.Common.{◌≡◌, true, sym, ◌∙◌, rules}
-use Rattle.std.proofs.lemmas.Result.{err_from_is_err_and}
+use Rattle.std.proofs.Common.{◌≡◌, true, rules}
 use Rattle.serde_json.specs.View.{view}
 use Rattle.tf_address.specs.ObjectId.{object_id_of}
 use Rattle.tf_state.specs.Reading.{is_record}

@@ -1,5 +1,4 @@
 -- whatever ends it well from here ends it well from the start
-use Rattle.std.proofs.Common.{drop}
 use Rattle.serde.specs.Event.{Log}
 use Rattle.serde_json.specs.Events.{SendsMembers}
 use Rattle.tf_state_data.specs.State.{outputs_of}

@@ -1,4 +1,4 @@
-use Rattle.std.proofs.Common.{◌≡◌, codes, refl, rules}
+use Rattle.std.proofs.Common.{refl, rules}
 use Rattle.std.proofs.lemmas.Result.{on_ok_weaker}
 use Rattle.tf_state_data.specs.Resource.{resource_of}
 use Rattle.tf_state.proofs.Sent.{resource_sent, text_sent}

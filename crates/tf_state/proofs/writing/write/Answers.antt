@@ -1,4 +1,3 @@
-use Rattle.std.proofs.lemmas.Result.{IfOk-weaker}
 use Rattle.tf_state_data.specs.State.{state_of}
 use Rattle.tf_state.specs.Text.{state_data}
 use Rattle.tf_state.proofs.Floats.{state_data-whole}

@@ -8,7 +8,7 @@ use Rattle.tf_state_data.specs.Record.{RecordView, record_of}
 use Rattle.tf_address.proofs.EqualIds.{object_ids_equal}
 use Rattle.tf_state_data.proofs.Equal.{passed, failed, dependencies_equal}
 use Rattle.tf_state_data.proofs.record.RecordPartialEq.eq.Goals as goal
-use Rattle.tf_state_data.proofs.record.RecordPartialEq.eq.Goals.{then-eq, else-eq, then-eq-2, else-eq-2, then-self-other, else-self-other, then-self-other-2, else-self-other-2}
+use Rattle.tf_state_data.proofs.record.RecordPartialEq.eq.Goals.{then-eq, else-eq, then-eq-2, else-eq-2, then-self-other, else-self-other, then-self-other-2, else-self-other-2, Joined-self-other-2}
 use Rattle.tf_value.specs.Tree.{same}
 use mathlib.Core.Bool.{beq}
 
@@ -25,9 +25,9 @@ four r s = three r s && beq r.tainted s.tainted
 abbrev five : RecordView → RecordView → Bool
 five r s = four r s && pointwise bytes_eq r.dependencies s.dependencies
 
--- where the first five parts are the same, the sixth decides
-pub returns-then-eq-3-clause-value : goal.returns-then-eq-3-clause-value
-returns-then-eq-3-clause-value c =
+-- whether the first five parts are the same, part by part
+same_five : (c : Joined-self-other-2) → c.if-self-other-2.value ≡ five (record_of c.args.self.now) (record_of c.args.other.now)
+same_five c =
     let r = record_of c.args.self.now in
     let s = record_of c.args.other.now in
     let there = c.eq.ensures ∙ object_ids_equal c.args.self.now.id c.args.other.now.id in
@@ -37,34 +37,21 @@ returns-then-eq-3-clause-value c =
     elim c.if-eq-2.branch [ then-eq-2 w ↦ passed known w.if-eq-2.true w.value-is | else-eq-2 w ↦ failed _ known w.if-eq-2.false w.value-is ] in
     let tainted : c.if-self-other.value ≡ four r s =
     elim c.if-self-other.branch [ then-self-other w ↦ passed followed w.if-self-other.true w.value-is | else-self-other w ↦ failed _ followed w.if-self-other.false w.value-is ] in
-    let dependent : c.if-self-other-2.value ≡ five r s =
     elim c.if-self-other-2.branch [
       | then-self-other-2 w ↦ passed tainted w.if-self-other-2.true (w.value-is ∙ (w.eq-then-self-other-2.ensures ∙ dependencies_equal c.args.self.now.dependencies.keys c.args.other.now.dependencies.keys))
       | else-self-other-2 w ↦ failed _ tainted w.if-self-other-2.false w.value-is
-    ] in
-    passed dependent c.if-eq-3.true refl
+    ]
+
+-- where they are, the sixth decides
+pub returns-then-eq-3-clause-value : goal.returns-then-eq-3-clause-value
+returns-then-eq-3-clause-value c = passed (same_five (goal.at.returns-then-eq-3-clause-value c).Joined-self-other-2) c.if-eq-3.true refl
 
 pub returns-then-eq-3-clause-exact : goal.returns-then-eq-3-clause-exact
 returns-then-eq-3-clause-exact c = Decides-at _ _ (returns-then-eq-3-clause-value c) (record_Decides (record_of c.args.self.now) (record_of c.args.other.now))
 
--- where one of the first five differs, the records do
+-- where one of them differs, the records do
 pub returns-else-eq-3-clause-value : goal.returns-else-eq-3-clause-value
-returns-else-eq-3-clause-value c =
-    let r = record_of c.args.self.now in
-    let s = record_of c.args.other.now in
-    let there = c.eq.ensures ∙ object_ids_equal c.args.self.now.id c.args.other.now.id in
-    let known : c.if-eq.value ≡ two r s =
-    elim c.if-eq.branch [ then-eq w ↦ passed there w.if-eq.true (w.value-is ∙ w.eq-then-eq.ensures.value) | else-eq w ↦ failed _ there w.if-eq.false w.value-is ] in
-    let followed : c.if-eq-2.value ≡ three r s =
-    elim c.if-eq-2.branch [ then-eq-2 w ↦ passed known w.if-eq-2.true w.value-is | else-eq-2 w ↦ failed _ known w.if-eq-2.false w.value-is ] in
-    let tainted : c.if-self-other.value ≡ four r s =
-    elim c.if-self-other.branch [ then-self-other w ↦ passed followed w.if-self-other.true w.value-is | else-self-other w ↦ failed _ followed w.if-self-other.false w.value-is ] in
-    let dependent : c.if-self-other-2.value ≡ five r s =
-    elim c.if-self-other-2.branch [
-      | then-self-other-2 w ↦ passed tainted w.if-self-other-2.true (w.value-is ∙ (w.eq-then-self-other-2.ensures ∙ dependencies_equal c.args.self.now.dependencies.keys c.args.other.now.dependencies.keys))
-      | else-self-other-2 w ↦ failed _ tainted w.if-self-other-2.false w.value-is
-    ] in
-    failed _ dependent c.if-eq-3.false refl
+returns-else-eq-3-clause-value c = failed _ (same_five (goal.at.returns-else-eq-3-clause-value c).Joined-self-other-2) c.if-eq-3.false refl
 
 pub returns-else-eq-3-clause-exact : goal.returns-else-eq-3-clause-exact
 returns-else-eq-3-clause-exact c = Decides-at _ _ (returns-else-eq-3-clause-value c) (record_Decides (record_of c.args.self.now) (record_of c.args.other.now))

@@ -1,25 +1,26 @@
-use crate::{StateFault, copy, read, write};
-use std::alloc::Global;
+use std::alloc::{AllocError, Global};
+use tf_state::{StateFault, copy, read, write};
 
 // A state with all that a record may have, as it is written.
-const TEXT: &str =
+static TEXT: &str =
     "{\n  \"lineage\": \"L\",\n  \"outputs\": {\n    \"o\": {\n      \"type\": [\n        \"tuple\",\n        [\n          \"number\",\n          \"string\"\n        ]\n      ],\n      \"value\": [\n        1,\n        \"x\"\n      ]\n    }\n  },\n  \"resources\": [\n    {\n      \"instances\": [\n        {\n          \"attributes\": {\n            \"id\": \"b\"\n          },\n          \"create_before_destroy\": true,\n          \"dependencies\": [\n            \"t.a\",\n            \"t.c\"\n          ],\n          \"index_key\": 2,\n          \"schema_version\": 0\n        },\n        {\n          \"attributes\": {\n            \"id\": null\n          },\n          \"deposed\": \"00000001\",\n          \"index_key\": \"k\",\n          \"schema_version\": 1,\n          \"status\": \"tainted\"\n        }\n      ],\n      \"mode\": \"managed\",\n      \"name\": \"b\",\n      \"provider\": \"p\",\n      \"type\": \"t\"\n    }\n  ],\n  \"serial\": 7,\n  \"terraform_version\": \"1.9.5\",\n  \"version\": 4\n}\n";
+
+// The text is written whole, or there was no memory.
+fn is_whole(written: Result<String, AllocError>) -> bool {
+    match written {
+        Ok(text) => text.as_str() == TEXT,
+        Err(_) => true,
+    }
+}
 
 fn is_read_whole(alloc: Global) -> bool {
     match read(alloc, TEXT.as_bytes()) {
         Ok(state) => {
-            let is_written = match write(alloc, &state) {
-                Ok(text) => text.as_str() == TEXT,
-                Err(_) => true,
-            };
             let is_copied = match copy(&state) {
-                Ok(other) => match write(alloc, &other) {
-                    Ok(text) => text.as_str() == TEXT,
-                    Err(_) => true,
-                },
+                Ok(other) => is_whole(write(alloc, &other)),
                 Err(_) => true,
             };
-            is_written && is_copied
+            is_whole(write(alloc, &state)) && is_copied
         }
         Err(fault) => matches!(fault, StateFault::OutOfMemory),
     }

@@ -1,11 +1,12 @@
 //! Texts that are no state's, one for each rule.
 
-use crate::{StateFault, read};
 use std::alloc::Global;
+use std::process::Abort;
 use std::test::Fail;
+use tf_state::{StateFault, read};
 
 // Whole texts.
-const WHOLE: [&str; 28] = [
+static WHOLE: [&str; 28] = [
     "",
     " ",
     "[]",
@@ -37,7 +38,7 @@ const WHOLE: [&str; 28] = [
 ];
 
 // Further properties of a state that has what is required.
-const PROPERTIES: [&str; 22] = [
+static PROPERTIES: [&str; 22] = [
     "\"terraform_version\":1",
     "\"terraform_version\":null",
     "\"outputs\":null",
@@ -63,7 +64,7 @@ const PROPERTIES: [&str; 22] = [
 ];
 
 // Items of `resources`.
-const RESOURCES: [&str; 25] = [
+static RESOURCES: [&str; 25] = [
     "1",
     "null",
     "[]",
@@ -92,7 +93,7 @@ const RESOURCES: [&str; 25] = [
 ];
 
 // Items of `instances` of a resource.
-const RECORDS: [&str; 55] = [
+static RECORDS: [&str; 55] = [
     "1",
     "null",
     "{}",
@@ -150,78 +151,95 @@ const RECORDS: [&str; 55] = [
     "{\"attributes\":{}},{\"attributes\":{},\"deposed\":\"00000001\"},{\"attributes\":{}}",
 ];
 
-fn is_bad(alloc: Global, text: &str) -> bool {
-    matches!(read(alloc, text.as_bytes()), Err(StateFault::BadState))
+// What stands before an item of `resources`, and behind it.
+static BEFORE_RESOURCE: &str = "{\"version\":4,\"serial\":0,\"lineage\":\"L\",\"resources\":[";
+
+static BEHIND_RESOURCE: &str = "]}";
+
+// What stands before an item of `instances`, and behind it.
+static BEFORE_RECORD: &str =
+    "{\"version\":4,\"serial\":0,\"lineage\":\"L\",\"resources\":[{\"mode\":\"managed\",\"type\":\"sim_net\",\"name\":\"a\",\"provider\":\"p\",\"instances\":[";
+
+static BEHIND_RECORD: &str = "]}]}";
+
+fn is_bad(alloc: Global, bytes: &[u8]) -> bool {
+    matches!(read(alloc, bytes), Err(StateFault::BadState))
+}
+
+// None of these is read, between what stands before each and behind it.
+fn refuses_each(
+    rt: &impl Abort,
+    alloc: Global,
+    before: &str,
+    items: &[&str],
+    behind: &str,
+) -> Result<(), Fail> {
+    for item in items {
+        let mut text = String::from_str(alloc, before)?;
+        text.push_str(item)?;
+        text.push_str(behind)?;
+        assert!(rt; is_bad(alloc, text.as_bytes()), "{text}");
+    }
+    Ok(())
 }
 
 #[test]
-fn refuses_whole_texts(rt: HostRuntime) {
-    for text in WHOLE {
-        assert!(rt; is_bad(rt.alloc(), text), "{text}");
-    }
+fn refuses_whole_texts(rt: HostRuntime) -> Result<(), Fail> {
+    refuses_each(&rt, rt.alloc(), "", &WHOLE, "")
 }
 
 #[test]
 fn refuses_properties(rt: HostRuntime) -> Result<(), Fail> {
-    for property in PROPERTIES {
-        let text = format!(in rt.alloc();
-            "{{\"version\":4,\"serial\":0,\"lineage\":\"L\",{property}}}"
-        )?;
-        assert!(rt; is_bad(rt.alloc(), &text), "{text}");
-    }
-    Ok(())
+    let before = "{\"version\":4,\"serial\":0,\"lineage\":\"L\",";
+    refuses_each(&rt, rt.alloc(), before, &PROPERTIES, "}")
 }
 
 #[test]
 fn refuses_resources(rt: HostRuntime) -> Result<(), Fail> {
-    for resource in RESOURCES {
-        let text = format!(in rt.alloc();
-            "{{\"version\":4,\"serial\":0,\"lineage\":\"L\",\"resources\":[{resource}]}}"
-        )?;
-        assert!(rt; is_bad(rt.alloc(), &text), "{text}");
-    }
-    Ok(())
+    refuses_each(
+        &rt,
+        rt.alloc(),
+        BEFORE_RESOURCE,
+        &RESOURCES,
+        BEHIND_RESOURCE,
+    )
 }
 
 #[test]
 fn refuses_records(rt: HostRuntime) -> Result<(), Fail> {
-    for record in RECORDS {
-        let text = format!(in rt.alloc();
-            "{{\"version\":4,\"serial\":0,\"lineage\":\"L\",\"resources\":[{{\"mode\":\"managed\",\"type\":\"sim_net\",\"name\":\"a\",\"provider\":\"p\",\"instances\":[{record}]}}]}}"
-        )?;
-        assert!(rt; is_bad(rt.alloc(), &text), "{text}");
-    }
-    Ok(())
+    refuses_each(&rt, rt.alloc(), BEFORE_RECORD, &RECORDS, BEHIND_RECORD)
 }
 
 // No byte alone is a state.
 #[test]
 fn refuses_single_bytes(rt: HostRuntime) {
     for byte in 0..=255u8 {
-        assert!(rt;
-            matches!(read(rt.alloc(), &[byte]), Err(StateFault::BadState)),
-            "{byte}"
-        );
+        assert!(rt; is_bad(rt.alloc(), &[byte]), "{byte}");
     }
 }
 
 #[test]
 fn refuses_bytes_that_are_no_text(rt: HostRuntime) {
     let text = b"{\"version\":4,\"serial\":0,\"lineage\":\"\xff\"}";
-    assert!(rt; matches!(read(rt.alloc(), text), Err(StateFault::BadState)));
+    assert!(rt; is_bad(rt.alloc(), text));
+}
+
+// A state with an output whose type nests this deep, and doesn't end.
+fn deep(alloc: Global, depth: usize) -> Result<String, Fail> {
+    let mut text = String::from_str(
+        alloc,
+        "{\"version\":4,\"serial\":0,\"lineage\":\"L\",\"outputs\":{\"o\":{\"value\":0,\"type\":",
+    )?;
+    for _ in 0..depth {
+        text.push('[')?;
+    }
+    Ok(text)
 }
 
 #[test]
 fn refuses_deep_texts(rt: HostRuntime) -> Result<(), Fail> {
     for depth in [128usize, 1000, 100_000] {
-        let mut text = String::from_str(
-            rt.alloc(),
-            "{\"version\":4,\"serial\":0,\"lineage\":\"L\",\"outputs\":{\"o\":{\"value\":0,\"type\":",
-        )?;
-        for _ in 0..depth {
-            text.push('[')?;
-        }
-        assert!(rt; is_bad(rt.alloc(), &text));
+        assert!(rt; is_bad(rt.alloc(), deep(rt.alloc(), depth)?.as_bytes()));
     }
     Ok(())
 }

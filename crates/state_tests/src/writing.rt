@@ -1,18 +1,24 @@
-use crate::{Object, Record, Resource, State, provider_address, write};
 use serde_json::Value as Json;
 use std::alloc::Global;
 use std::collections::BTreeSet;
 use std::test::Fail;
 use tf_address::{InstanceKey, Label, ObjectId};
+use tf_state::{Object, Record, Resource, State, provider_address, write};
 use tf_value::{from_json, is_known};
 
-// Puts a net of this name, with the cidr `x`, into a state.
-fn put_net(alloc: Global, state: &mut State, name: &str, tainted: bool) -> Result<(), Fail> {
+// A net with the cidr `x`.
+fn net(alloc: Global) -> Result<Object, Fail> {
     let json = Json::from_str(alloc, "{\"cidr\": \"x\", \"id\": \"net-x\", \"tag\": null}")?;
     let value = from_json(alloc, &json)?;
     if !is_known(&value) {
         return Err("an unknown part".into());
     }
+    Ok(Object { value })
+}
+
+// Puts a net of this name into a state.
+fn put_net(alloc: Global, state: &mut State, name: &str, tainted: bool) -> Result<(), Fail> {
+    let attributes = net(alloc)?;
     let label = Label {
         type_name: String::from_str(alloc, "sim_net")?,
         name: String::from_str(alloc, name)?,
@@ -24,7 +30,7 @@ fn put_net(alloc: Global, state: &mut State, name: &str, tainted: bool) -> Resul
             key: InstanceKey::Single,
             deposed: None,
         },
-        attributes: Object { value },
+        attributes,
         schema_version: 0,
         tainted,
         dependencies: BTreeSet::new(alloc),

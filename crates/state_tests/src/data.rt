@@ -1,8 +1,9 @@
-use crate::{Object, Record, Resource, State, copy, provider_address};
 use std::alloc::Global;
 use std::collections::{BTreeMap, BTreeSet};
+use std::process::Abort;
 use std::test::Fail;
 use tf_address::{InstanceKey, Label, ObjectId};
+use tf_state_data::{Object, Record, Resource, State, copy, provider_address};
 use tf_value::Value;
 
 fn id(alloc: Global, key: InstanceKey, deposed: &str) -> Result<ObjectId, Fail> {
@@ -26,6 +27,11 @@ fn record(alloc: Global, id: ObjectId, schema_version: u32) -> Record {
         dependencies: BTreeSet::new(alloc),
         create_before_destroy: false,
     }
+}
+
+// The version of the schema that a record follows, where there is one.
+fn version(record: Option<&Record>) -> Option<u32> {
+    record.map(|record| record.schema_version)
 }
 
 fn label(alloc: Global, type_name: &str, name: &str) -> Result<Label, Fail> {
@@ -93,15 +99,14 @@ fn replaces_and_removes_records(rt: HostRuntime) -> Result<(), Fail> {
     let current = id(alloc, InstanceKey::Single, "")?;
     resource.reserve(1)?;
     let before = resource.put(record(alloc, current.clone()?, 2));
-    assert_eq!(rt; before.map(|record| record.schema_version), Some(1));
+    assert_eq!(rt; version(before.as_ref()), Some(1));
     let deposed = id(alloc, InstanceKey::Single, "00000002")?;
     resource.reserve(1)?;
     assert!(rt; resource.put(record(alloc, deposed.clone()?, 3)).is_none());
     let taken = resource.remove(&current);
-    assert_eq!(rt; taken.map(|record| record.schema_version), Some(2));
+    assert_eq!(rt; version(taken.as_ref()), Some(2));
     assert!(rt; resource.remove(&current).is_none());
-    let left = resource.record(&deposed);
-    assert_eq!(rt; left.map(|record| record.schema_version), Some(3));
+    assert_eq!(rt; version(resource.record(&deposed)), Some(3));
     assert_eq!(rt; resource.records().len(), 1);
     Ok(())
 }
@@ -120,8 +125,7 @@ fn finds_each_of_many_resources(rt: HostRuntime) -> Result<(), Fail> {
         let name = format!(in alloc; "n{number}")?;
         let label = label(alloc, "sim_net", &name)?;
         let current = id(alloc, InstanceKey::Single, "")?;
-        let found = state.record(&label, &current);
-        assert_eq!(rt; found.map(|record| record.schema_version), Some(number));
+        assert_eq!(rt; version(state.record(&label, &current)), Some(number));
     }
     let absent = label(alloc, "sim_net", "n")?;
     assert!(rt; state.resource(&absent).is_none());
@@ -172,20 +176,8 @@ fn record_but(alloc: Global, other: &str) -> Result<Record, Fail> {
     })
 }
 
-// A state of which one part, if any, is another than usual.
-#[tactic(auto, using(crate::proofs::Sorted::none_sorted))]
-fn state_but(alloc: Global, other: &str) -> Result<State, Fail> {
-    let name = either(alloc, other == "output's name", "id")?;
-    let value = Value::Bool(other == "output");
-    let mut outputs = BTreeMap::new(alloc);
-    drop(outputs.insert(name, Object { value })?);
-    let mut state = State::new(
-        if other == "serial" { 8 } else { 7 },
-        either(alloc, other == "lineage", "L")?,
-        either(alloc, other == "version", "1.0.0")?,
-        outputs,
-        Vec::new(alloc),
-    );
+// A resource of which one part, if any, is another than usual.
+fn resource_but(alloc: Global, other: &str) -> Result<Resource, Fail> {
     let type_name = either(alloc, other == "type", "sim_net")?;
     let name = either(alloc, other == "name", "a")?;
     let provider = either(alloc, other == "provider", "P")?;
@@ -194,10 +186,62 @@ fn state_but(alloc: Global, other: &str) -> Result<State, Fail> {
         resource.reserve(1)?;
         drop(resource.put(record_but(alloc, other)?));
     }
+    Ok(resource)
+}
+
+// A state without resources of which one part, if any, is another than usual.
+#[tactic(auto, using(tf_state_data::proofs::Sorted::none_sorted))]
+fn bare_state_but(alloc: Global, other: &str) -> Result<State, Fail> {
+    let name = either(alloc, other == "output's name", "id")?;
+    let value = Value::Bool(other == "output");
+    let mut outputs = BTreeMap::new(alloc);
+    drop(outputs.insert(name, Object { value })?);
+    Ok(State::new(
+        if other == "serial" { 8 } else { 7 },
+        either(alloc, other == "lineage", "L")?,
+        either(alloc, other == "version", "1.0.0")?,
+        outputs,
+        Vec::new(alloc),
+    ))
+}
+
+// A state of which one part, if any, is another than usual.
+fn state_but(alloc: Global, other: &str) -> Result<State, Fail> {
+    let mut state = bare_state_but(alloc, other)?;
     if other != "no resource" {
-        put(&mut state, resource)?;
+        put(&mut state, resource_but(alloc, other)?)?;
     }
     Ok(state)
+}
+
+// The parts of a state, each of which can be another.
+static PARTS: [&str; 17] = [
+    "serial",
+    "lineage",
+    "version",
+    "output's name",
+    "output",
+    "no resource",
+    "type",
+    "name",
+    "provider",
+    "no record",
+    "instance",
+    "deposed",
+    "attributes",
+    "schema version",
+    "tainted",
+    "dependency",
+    "create before destroy",
+];
+
+// A state with this part another is told apart from the usual one, and its copy isn't.
+fn is_told_apart(rt: &impl Abort, alloc: Global, usual: &State, part: &str) -> Result<(), Fail> {
+    let other = state_but(alloc, part)?;
+    assert!(rt; *usual != other, "{part}");
+    assert!(rt; other != *usual, "{part}");
+    assert!(rt; other == copy(&other)?, "{part}");
+    Ok(())
 }
 
 // States are equal where no part differs, and one part that differs is enough.
@@ -205,49 +249,27 @@ fn state_but(alloc: Global, other: &str) -> Result<State, Fail> {
 fn tells_states_apart(rt: HostRuntime) -> Result<(), Fail> {
     let alloc = rt.alloc();
     let usual = state_but(alloc, "")?;
-    let same = state_but(alloc, "")?;
-    assert!(rt; usual == same);
-    for part in [
-        "serial",
-        "lineage",
-        "version",
-        "output's name",
-        "output",
-        "no resource",
-        "type",
-        "name",
-        "provider",
-        "no record",
-        "instance",
-        "deposed",
-        "attributes",
-        "schema version",
-        "tainted",
-        "dependency",
-        "create before destroy",
-    ] {
-        let other = state_but(alloc, part)?;
-        assert!(rt; usual != other, "{part}");
-        assert!(rt; other != usual, "{part}");
-        let same = copy(&other)?;
-        assert!(rt; other == same, "{part}");
+    assert!(rt; usual == state_but(alloc, "")?);
+    for part in &PARTS {
+        is_told_apart(&rt, alloc, &usual, part)?;
     }
     Ok(())
 }
 
+static PROVIDERS: [(&str, &str); 4] = [
+    (
+        "sim_net",
+        "provider[\"registry.terraform.io/hashicorp/sim\"]",
+    ),
+    ("a_b_c", "provider[\"registry.terraform.io/hashicorp/a\"]"),
+    ("null", "provider[\"registry.terraform.io/hashicorp/null\"]"),
+    ("_x", "provider[\"registry.terraform.io/hashicorp/\"]"),
+];
+
 #[test]
 fn names_providers(rt: HostRuntime) -> Result<(), Fail> {
-    for (type_name, name) in [
-        ("sim_net", "sim"),
-        ("a_b_c", "a"),
-        ("null", "null"),
-        ("_x", ""),
-    ] {
-        let want = format!(in rt.alloc(); "provider[\"registry.terraform.io/hashicorp/{name}\"]")?;
-        assert_eq!(rt;
-            provider_address(rt.alloc(), type_name)?.as_str(),
-            want.as_str()
-        );
+    for (type_name, want) in &PROVIDERS {
+        assert_eq!(rt; provider_address(rt.alloc(), type_name)?.as_str(), *want);
     }
     Ok(())
 }

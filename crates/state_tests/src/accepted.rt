@@ -1,11 +1,12 @@
 //! Texts that are read, and what is written for them.
 
-use crate::{State, StateFault, read, write};
 use std::alloc::Global;
+use std::process::Abort;
 use std::test::Fail;
+use tf_state::{StateFault, read, write};
 
 // The texts of states, as they are written.
-const WRITTEN: [&str; 4] = [
+static WRITTEN: [&str; 4] = [
     "{\n  \"lineage\": \"L\",\n  \"outputs\": {},\n  \"resources\": [],\n  \"serial\": 0,\n  \"terraform_version\": \"1.0.0\",\n  \"version\": 4\n}\n",
     "{\n  \"lineage\": \"L\",\n  \"outputs\": {},\n  \"resources\": [\n    {\n      \"instances\": [\n        {\n          \"attributes\": {\n            \"cidr\": \"x\",\n            \"id\": \"net-x\",\n            \"tag\": null\n          },\n          \"schema_version\": 0\n        }\n      ],\n      \"mode\": \"managed\",\n      \"name\": \"a\",\n      \"provider\": \"provider[\\\"registry.terraform.io/hashicorp/sim\\\"]\",\n      \"type\": \"sim_net\"\n    }\n  ],\n  \"serial\": 1,\n  \"terraform_version\": \"1.0.0\",\n  \"version\": 4\n}\n",
     "{\n  \"lineage\": \"L\",\n  \"outputs\": {},\n  \"resources\": [\n    {\n      \"instances\": [\n        {\n          \"attributes\": {\n            \"cidr\": \"y\",\n            \"id\": \"net-y\",\n            \"tag\": null\n          },\n          \"create_before_destroy\": true,\n          \"schema_version\": 0\n        },\n        {\n          \"attributes\": {\n            \"cidr\": \"x\",\n            \"id\": \"net-x\",\n            \"tag\": \"stuck\"\n          },\n          \"deposed\": \"00000002\",\n          \"schema_version\": 0\n        }\n      ],\n      \"mode\": \"managed\",\n      \"name\": \"a\",\n      \"provider\": \"provider[\\\"registry.terraform.io/hashicorp/sim\\\"]\",\n      \"type\": \"sim_net\"\n    }\n  ],\n  \"serial\": 2,\n  \"terraform_version\": \"1.0.0\",\n  \"version\": 4\n}\n",
@@ -13,7 +14,7 @@ const WRITTEN: [&str; 4] = [
 ];
 
 // Texts that aren't the written one, with what is written for them.
-const ACCEPTED: [(&str, &str); 20] = [
+static ACCEPTED: [(&str, &str); 20] = [
     (
         "{\"version\":4,\"serial\":0,\"lineage\":\"L\"}",
         "{\n  \"lineage\": \"L\",\n  \"outputs\": {},\n  \"resources\": [],\n  \"serial\": 0,\n  \"terraform_version\": \"1.0.0\",\n  \"version\": 4\n}\n",
@@ -96,39 +97,43 @@ const ACCEPTED: [(&str, &str); 20] = [
     ),
 ];
 
-fn rewritten(alloc: Global, text: &str) -> Result<String, Fail> {
+fn is_rewritten(rt: &impl Abort, alloc: Global, text: &str, written: &str) -> Result<(), Fail> {
     let state = read(alloc, text.as_bytes())?;
-    Ok(write(alloc, &state)?)
+    assert_eq!(rt; write(alloc, &state)?.as_str(), written);
+    Ok(())
 }
 
 #[test]
 fn reads_what_is_written(rt: HostRuntime) -> Result<(), Fail> {
-    for text in WRITTEN {
-        assert_eq!(rt; rewritten(rt.alloc(), text)?.as_str(), text);
+    for text in &WRITTEN {
+        is_rewritten(&rt, rt.alloc(), text, text)?;
     }
     Ok(())
 }
 
 #[test]
 fn reads_other_texts(rt: HostRuntime) -> Result<(), Fail> {
-    for (text, written) in ACCEPTED {
-        assert_eq!(rt; rewritten(rt.alloc(), text)?.as_str(), written);
+    for (text, written) in &ACCEPTED {
+        is_rewritten(&rt, rt.alloc(), text, written)?;
     }
     Ok(())
 }
 
 // The last byte is the newline, without which the text is accepted; each shorter beginning is refused.
+fn only_the_newline_may_go(rt: &impl Abort, alloc: Global, bytes: &[u8]) {
+    if let [front @ .., _newline] = bytes {
+        for (length, _) in front.iter().enumerate() {
+            let begun = read(alloc, &bytes[..length]);
+            assert!(rt; matches!(begun, Err(StateFault::BadState)), "{length}");
+        }
+        assert!(rt; read(alloc, front).is_ok());
+    }
+}
+
 #[test]
 fn refuses_beginnings(rt: HostRuntime) {
-    for text in WRITTEN {
-        let bytes = text.as_bytes();
-        if let [front @ .., _newline] = bytes {
-            for (length, _) in front.iter().enumerate() {
-                let begun = read(rt.alloc(), &bytes[..length]);
-                assert!(rt; matches!(begun, Err(StateFault::BadState)), "{length}");
-            }
-            assert!(rt; read(rt.alloc(), front).is_ok());
-        }
+    for text in &WRITTEN {
+        only_the_newline_may_go(&rt, rt.alloc(), text.as_bytes());
     }
 }
 
@@ -140,26 +145,27 @@ fn refuses_the_last_serial(rt: HostRuntime) {
     assert!(rt; matches!(read(rt.alloc(), text), Err(StateFault::BadState)));
 }
 
-// A state with this many resources that have records, and one that has none.
-fn read_many(alloc: Global, count: u32) -> Result<Result<State, StateFault>, Fail> {
+// The text of a state with this many resources that have records, and one that has none.
+fn many(alloc: Global, count: u32) -> Result<String, Fail> {
     let mut text = String::from_str(
         alloc,
         "{\"version\":4,\"serial\":0,\"lineage\":\"L\",\"resources\":[{\"mode\":\"managed\",\"type\":\"t\",\"name\":\"none\",\"provider\":\"p\",\"instances\":[]}",
     )?;
     for number in 0..count {
-        let resource = format!(in alloc;
-            ",{{\"mode\":\"managed\",\"type\":\"t\",\"name\":\"n{number}\",\"provider\":\"p\",\"instances\":[{{\"attributes\":{{}}}}]}}"
-        )?;
-        text.push_str(&resource)?;
+        text.push_str(",{\"mode\":\"managed\",\"type\":\"t\",\"name\":\"n")?;
+        text.push_str(&number.to_string(alloc)?)?;
+        text.push_str("\",\"provider\":\"p\",\"instances\":[{\"attributes\":{}}]}")?;
     }
     text.push_str("]}")?;
-    Ok(read(alloc, text.as_bytes()))
+    Ok(text)
 }
 
 #[test]
 fn counts_resources_with_records(rt: HostRuntime) -> Result<(), Fail> {
-    assert!(rt; read_many(rt.alloc(), 4000)?.is_ok());
-    assert!(rt; matches!(read_many(rt.alloc(), 4001)?, Err(StateFault::Limit)));
+    let most = many(rt.alloc(), 4000)?;
+    assert!(rt; read(rt.alloc(), most.as_bytes()).is_ok());
+    let more = many(rt.alloc(), 4001)?;
+    assert!(rt; matches!(read(rt.alloc(), more.as_bytes()), Err(StateFault::Limit)));
     Ok(())
 }
 
