@@ -7,66 +7,16 @@ use Rattle.tf_template.specs.Token.{token_kind, token_word, after_token}
 use Rattle.tf_syntax.specs.TemplateTree.{Tree, number, truth, null, quoted, reference, call, group, listed, attribute, index, unary, binary, conditional, Trees, no_trees, tree, Parts, no_parts, part, Woven, level, level_of}
 use Rattle.tf_template.specs.Word.{keyword}
 use Rattle.tf_template.specs.declared.token.Kind.{Kind}
-use Rattle.tf_template.specs.declared.token.Kind.TheVariants.{Name, Number, Quote, Bang, Binary, Question, Colon, OpenParen, CloseParen, OpenBracket, CloseBracket, CloseBrace, Comma, Dot, Wrong}
+use Rattle.tf_template.specs.declared.token.Kind.TheVariants.{Quote, Colon, OpenParen, CloseParen, OpenBracket, CloseBracket, CloseBrace, Comma, Dot}
 use Rattle.tf_syntax.specs.declared.tree.Prefix.{Prefix}
 use Rattle.tf_syntax.specs.declared.tree.Prefix.TheVariants.{Not, Negate}
 use Rattle.tf_template.specs.declared.word.Keyword.TheVariants.{Null, Free}
-use Rattle.tf_template.proofs.Begun.{at_binary, at_question, at_bracket, stops_at}
-use Rattle.tf_template.proofs.Growing.{Grows, done, again, spine, holds_where, turns_needs, last_step, level_some, spells_begins}
+use Rattle.tf_template.proofs.Begun.{at_binary, at_question, at_bracket, sort_of, sort_is, stops_at}
+use Rattle.tf_template.proofs.Growing.{Grows, done, again, spine, holds_where, turns_kind, turns_needs, last_step, level_some, spells_begins}
+use Rattle.tf_template.proofs.Rowing.{Tail}
 use Rattle.tf_template.proofs.Pieces.{Literal-same, at_closes, at_opens}
 
--- the sort of token that an operand begins with
-abbrev kind_sort : Kind → ℕ
-kind_sort Name = 2
-kind_sort Number = 1
-kind_sort Quote = 3
-kind_sort Bang = 5
-kind_sort (Binary op) = 5
-kind_sort Question = 0
-kind_sort Colon = 0
-kind_sort OpenParen = 4
-kind_sort CloseParen = 0
-kind_sort OpenBracket = 6
-kind_sort CloseBracket = 0
-kind_sort CloseBrace = 0
-kind_sort Comma = 0
-kind_sort Dot = 0
-kind_sort Wrong = 0
-
-abbrev sort_of : Tree → ℕ
-sort_of (number n) = 1
-sort_of (truth b) = 2
-sort_of null = 2
-sort_of (quoted ps last) = 3
-sort_of (reference a b) = 2
-sort_of (call f ts) = 2
-sort_of (group t) = 4
-sort_of (listed ts) = 6
-sort_of (attribute t name) = 0
-sort_of (index t i) = 0
-sort_of (unary op t) = 5
-sort_of (binary op a b) = 0
-sort_of (conditional c a b) = 0
-
-prefix_sort : (op : Prefix) → kind_sort (prefix_token op) ≡ 5
-prefix_sort Not = refl
-prefix_sort Negate = refl
-
-sort_is : (t : Tree) (s m : List ℕ) → IsOperand t → Spells t s m → kind_sort (token_kind s) ≡ sort_of t
-sort_is (number n) s m o h = ap kind_sort h.0.kind_is
-sort_is (truth b) s m o h = ap kind_sort h.0.kind_is
-sort_is null s m o h = ap kind_sort h.0.kind_is
-sort_is (quoted ps last) s m o h = ap kind_sort h.1.kind_is
-sort_is (reference a b) s m o h = ap kind_sort h.1.2.kind_is
-sort_is (call f ts) s m o h = ap kind_sort h.1.2.kind_is
-sort_is (group t) s m o h = ap kind_sort h.2.kind_is
-sort_is (listed ts) s m o h = ap kind_sort h.1.kind_is
-sort_is (attribute t name) s m o h = absurd o
-sort_is (index t i) s m o h = absurd o
-sort_is (unary op t) s m o h = ap kind_sort h.1.kind_is ∙ prefix_sort op
-sort_is (binary op a b) s m o h = absurd o
-sort_is (conditional c a b) s m o h = absurd o
-
+-- two operands at one place begin with one sort of token
 same_sort : (t b : Tree) (s m p : List ℕ) → IsOperand t → Spells t s m → IsOperand b → Spells b s p → sort_of t ≡ sort_of b
 same_sort t b s m p o h q k = sym (sort_is t s m o h) ∙ sort_is b s p q k
 
@@ -251,23 +201,8 @@ record Named (l : Tree) (x : Tree) (s q : List ℕ) : Type 0 where
   spelled : TakesName name (after_token s) q
 
 at_dot : (l : Tree) (s : List ℕ) (x : Tree) (q : List ℕ) → Turns l s x q → token_kind s ≡ Dot → Named l x s q
-at_dot l s (number n) q h e = absurd h
-at_dot l s (truth b) q h e = absurd h
-at_dot l s null q h e = absurd h
-at_dot l s (quoted ps last) q h e = absurd h
-at_dot l s (reference a b) q h e = absurd h
-at_dot l s (call f ts) q h e = absurd h
-at_dot l s (group t) q h e = absurd h
-at_dot l s (listed ts) q h e = absurd h
 at_dot l s (attribute t name) q h e = record { name = name; is = ap (λ z. attribute z name) h.0; spelled = subst (λ z. TakesName name z q) (sym h.1.1.after_is) h.1.2 }
-at_dot l s (index t i) q h e = let f : OpenBracket ≡ Dot = sym h.1.2.kind_is ∙ e in absurd (cc)
-at_dot l s (unary u t) q h e = absurd h
-at_dot l s (binary o a b) q h e = let f : Binary o ≡ Dot = sym h.1.1.kind_is ∙ e in absurd (cc)
-at_dot l s (conditional c a b) q h e = let f : Question ≡ Dot = sym h.1.3.kind_is ∙ e in absurd (cc)
-
--- the tail of a list
-abbrev Tail : Kind → Trees → List ℕ → List ℕ → Type 0
-Tail close vs p r = (IsEmpty vs × Takes close p r) ⊎ ((q : List ℕ) × Takes Comma p q × SpellsList close vs q r)
+at_dot l s t q h e = let f = sym (turns_kind l s t q h) ∙ e in absurd (cc)
 
 tail_stops : (close : Kind) → binding close ≡ 0 → (vs : Trees) (p r : List ℕ) → Tail close vs p r → Stops 1 p
 tail_stops close z vs p r h = elim h [
