@@ -3,7 +3,7 @@ use Rattle.std.proofs.Common.{◌≡◌, true, false, ℕ, ◌<◌, List, Result
 use Rattle.tf_template.specs.Reads.{Answers, Fails, Makes, Turns, IsOperand, Stops, begins, binding, closing}
 use Rattle.tf_template.specs.Spelling.{Spells, SpellsParts, Takes}
 use Rattle.tf_template.specs.Token.{token_kind, token_word, after_token}
-use Rattle.tf_syntax.specs.TemplateTree.{Tree, number, truth, null, quoted, reference, call, group, listed, attribute, index, unary, binary, conditional, Parts, level, level_of, tree_depth}
+use Rattle.tf_syntax.specs.TemplateTree.{Tree, number, truth, null, quoted, reference, call, group, listed, attribute, index, unary, binary, conditional, Parts, level, level_of, parts_depth, tree_depth}
 use Rattle.tf_template.specs.Word.{decimal}
 use Rattle.tf_template.proofs.Growing.{turns_kind}
 use Rattle.tf_template.specs.declared.fault.Fault.{Fault}
@@ -69,9 +69,10 @@ pub record Quotes (t : Tree) (s rest : List ℕ) : Type 0 where
   pub last : List ℕ
   pub is : t ≡ quoted parts last
   pub spelled : SpellsParts true parts last (after_token s) rest
+  pub deeper : parts_depth parts < tree_depth t
 
 pub at_quote : (t : Tree) (s rest : List ℕ) → IsOperand t → Spells t s rest → token_kind s ≡ Quote → Quotes t s rest
-at_quote (quoted ps last) s rest o h e = record { parts = ps; last = last; is = refl; spelled = subst (λ x. SpellsParts true ps last x rest) (sym h.1.after_is) h.2 }
+at_quote (quoted ps last) s rest o h e = record { parts = ps; last = last; is = refl; spelled = subst (λ x. SpellsParts true ps last x rest) (sym h.1.after_is) h.2; deeper = omega arith }
 at_quote t s rest o h e = absurd (omega (arith, sort_is t s rest o h, ap kind_sort e))
 
 -- an expression in parentheses
@@ -81,9 +82,10 @@ pub record Groups (t : Tree) (s rest : List ℕ) : Type 0 where
   pub is : t ≡ group u
   pub spelled : Spells u (after_token s) q
   pub close : Takes CloseParen q rest
+  pub deeper : tree_depth u < tree_depth t
 
 pub at_group : (t : Tree) (s rest : List ℕ) → IsOperand t → Spells t s rest → token_kind s ≡ OpenParen → Groups t s rest
-at_group (group t) s rest o h e = record { u = t; q = h.1; is = refl; spelled = subst (λ x. Spells t x h.1) (sym h.2.after_is) h.3; close = h.4 }
+at_group (group t) s rest o h e = record { u = t; q = h.1; is = refl; spelled = subst (λ x. Spells t x h.1) (sym h.2.after_is) h.3; close = h.4; deeper = omega arith }
 at_group t s rest o h e = absurd (omega (arith, sort_is t s rest o h, ap kind_sort e))
 
 -- a binary operator
@@ -92,6 +94,7 @@ pub record Joins (op : Operator) (l : Tree) (t : Tree) (s rest : List ℕ) : Typ
   pub is : t ≡ binary op l r
   pub spelled : Spells r (after_token s) rest
   pub tighter : level_of op < level r
+  pub deeper : tree_depth r < tree_depth t
 
 pub at_binary : (op : Operator) (l : Tree) (s : List ℕ) (t : Tree) (rest : List ℕ) → Turns l s t rest → token_kind s ≡ Binary op → Joins op l t s rest
 at_binary op l s (binary o a b) rest h e =
@@ -102,6 +105,7 @@ at_binary op l s (binary o a b) rest h e =
       is = ap (λ x. binary x a b) g ∙ ap (λ x. binary op x b) h.0;
       spelled = subst (λ x. Spells b x rest) (sym h.1.1.after_is) h.1.2;
       tighter = subst (λ x. level_of x < level b) g h.1.4;
+      deeper = omega arith;
     }
 at_binary op l s t rest h e = let f = sym (turns_kind l s t rest h) ∙ e in absurd (cc)
 
@@ -115,6 +119,8 @@ pub record Chooses (l : Tree) (t : Tree) (s rest : List ℕ) : Type 0 where
   pub yes : Spells a (after_token s) q
   pub colon : Takes Colon q u
   pub no : Spells b u rest
+  pub deeper_yes : tree_depth a < tree_depth t
+  pub deeper_no : tree_depth b < tree_depth t
 
 pub at_question : (l : Tree) (s : List ℕ) (t : Tree) (rest : List ℕ) → Turns l s t rest → token_kind s ≡ Question → Chooses l t s rest
 at_question l s (conditional c a b) rest h e = record {
@@ -126,6 +132,8 @@ at_question l s (conditional c a b) rest h e = record {
   yes = subst (λ x. Spells a x h.1.1) (sym h.1.3.after_is) h.1.4;
   colon = h.1.5;
   no = h.1.6;
+  deeper_yes = omega arith;
+  deeper_no = omega arith;
 }
 at_question l s t rest h e = let f = sym (turns_kind l s t rest h) ∙ e in absurd (cc)
 
@@ -136,6 +144,7 @@ pub record Points (l : Tree) (t : Tree) (s rest : List ℕ) : Type 0 where
   pub is : t ≡ index l i
   pub spelled : Spells i (after_token s) q
   pub close : Takes CloseBracket q rest
+  pub deeper : tree_depth i < tree_depth t
 
 pub at_bracket : (l : Tree) (s : List ℕ) (t : Tree) (rest : List ℕ) → Turns l s t rest → token_kind s ≡ OpenBracket → Points l t s rest
 at_bracket l s (index t i) rest h e = record {
@@ -144,6 +153,7 @@ at_bracket l s (index t i) rest h e = record {
   is = ap (λ x. index x i) h.0;
   spelled = subst (λ x. Spells i x h.1.1) (sym h.1.2.after_is) h.1.3;
   close = h.1.4;
+  deeper = omega arith;
 }
 at_bracket l s t rest h e = let f = sym (turns_kind l s t rest h) ∙ e in absurd (cc)
 

@@ -1,5 +1,5 @@
 -- Operators one after another, each behind the tree so far.
-use Rattle.std.proofs.Common.{◌≡◌, ◌⊎◌, true, ℕ, ◌<◌, ◌≤◌, List, length, inl, inr, refl, sym, ap, ◌∙◌, subst, arith}
+use Rattle.std.proofs.Common.{◌≡◌, ◌⊎◌, true, ℕ, ◌-◌, ◌<◌, ◌≤◌, List, length, inl, inr, refl, sym, ap, ◌∙◌, subst, arith}
 use Rattle.tf_template.specs.Reads.{Turns, IsOperand, Holds, Stops, Fails, begins, binding, needs}
 use Rattle.tf_template.specs.Spelling.{Spells, prefix_token}
 use Rattle.tf_template.specs.Token.{token_kind}
@@ -136,6 +136,12 @@ pub Fails-more : (f : Fault) {D E : Type 0} → (D → E) → Fails f D → Fail
 Fails-more (At left) g h = h
 Fails-more TooDeep g h = g h
 Fails-more OutOfMemory g h = h
+
+-- why a part isn't read on the next level is why the whole isn't on this one
+pub Fails-below : (f : Fault) (budget part whole : ℕ) → part < whole → Fails f (budget - 1 < part) → Fails f (budget < whole)
+Fails-below (At left) budget part whole deeper h = h
+Fails-below TooDeep budget part whole deeper h = omega arith
+Fails-below OutOfMemory budget part whole deeper h = h
 
 module _ (least budget : ℕ) (text : List ℕ) where
   -- why no operand is read is why no expression is
