@@ -1,6 +1,6 @@
 //! Expressions, read from JSON texts.
 
-use crate::texts::{Reader, all_are, names_of, read};
+use crate::texts::{names_of, read};
 use serde_json::Value;
 use std::alloc::Global;
 use std::test::Fail;
@@ -8,7 +8,8 @@ use tf_expr::laws::{faultless_trees_are_expressions, faulty_trees_are_none};
 use tf_expr::{Expr, copy_expr, read_expr, read_expr_at};
 use tf_json_path::Path;
 
-static TREES: [(&str, &str); 10] = [
+/// The trees of expressions, and what is told where there is none.
+pub(crate) static TREES: [(&str, &str); 40] = [
     ("null", "Null"),
     ("true", "Bool(true)"),
     ("false", "Bool(false)"),
@@ -28,14 +29,7 @@ static TREES: [(&str, &str); 10] = [
         "{\"b\": true, \"a\": {\"\": 1}}",
         "Map({\"a\": Map({\"\": Int(1)}), \"b\": Bool(true)})",
     ),
-];
-
-#[test]
-fn reads_each_form(rt: HostRuntime) -> Result<(), Fail> {
-    all_are(&rt, rt.alloc(), Reader::Expression, &TREES)
-}
-
-static NUMBERS: [(&str, &str); 12] = [
+    // Whole numbers of 64 signed bits alone.
     ("0", "Int(0)"),
     ("-1", "Int(-1)"),
     ("9223372036854775807", "Int(9223372036854775807)"),
@@ -48,14 +42,7 @@ static NUMBERS: [(&str, &str); 12] = [
     ("0.5", "BadShape at "),
     ("1e3", "BadShape at "),
     ("-0", "BadShape at "),
-];
-
-#[test]
-fn reads_whole_numbers_alone(rt: HostRuntime) -> Result<(), Fail> {
-    all_are(&rt, rt.alloc(), Reader::Expression, &NUMBERS)
-}
-
-static FIRST_FAULTS: [(&str, &str); 11] = [
+    // The first fault, with its place.
     ("\"%{if}\"", "At(0) at "),
     ("[1, \"${1 / 2}\"]", "At(4) at 1"),
     ("{\"a\": [\"x\", {\"b\": \"é${\"}]}", "At(4) at a.1.b"),
@@ -70,14 +57,7 @@ static FIRST_FAULTS: [(&str, &str); 11] = [
     ("{\"a\": {\"z\": 1.5}, \"a${\": 1}", "BadShape at a.z"),
     ("{\"a\": {\"z\": 15}, \"a${\": 1}", "BadShape at a${"),
     ("{\"a\":{\"a\":{\"a\":0.5}}}", "BadShape at a.a.a"),
-];
-
-#[test]
-fn tells_the_first_fault_with_its_place(rt: HostRuntime) -> Result<(), Fail> {
-    all_are(&rt, rt.alloc(), Reader::Expression, &FIRST_FAULTS)
-}
-
-static NAMES_FIRST: [(&str, &str); 7] = [
+    // Names are tested before what stands there.
     ("{\"%{\": \"${\"}", "BadShape at %{"),
     ("{\"${\": {\"a\": \"${\"}}", "BadShape at ${"),
     ("{\"a\": {\"é${b}\": 1}}", "BadShape at a.é${b}"),
@@ -87,12 +67,8 @@ static NAMES_FIRST: [(&str, &str); 7] = [
     ("{\"a.b\": [0.5]}", "BadShape at a.b.0"),
 ];
 
-#[test]
-fn tests_names_before_what_stands_there(rt: HostRuntime) -> Result<(), Fail> {
-    all_are(&rt, rt.alloc(), Reader::Expression, &NAMES_FIRST)
-}
-
-static VALUES: [(&str, &str); 11] = [
+/// The values of expressions, and their first faults.
+pub(crate) static VALUES: [(&str, &str); 11] = [
     ("null", "Null"),
     ("true", "Bool(true)"),
     ("-5", "Int(-5)"),
@@ -111,11 +87,6 @@ static VALUES: [(&str, &str); 11] = [
     ("{\"b\": \"${1 + null}\", \"a\": \"${[1][1]}\"}", "Missing"),
     ("\"${var.n}\"", "Missing"),
 ];
-
-#[test]
-fn gives_values_and_first_faults(rt: HostRuntime) -> Result<(), Fail> {
-    all_are(&rt, rt.alloc(), Reader::ExpressionValue, &VALUES)
-}
 
 #[test]
 fn writes_places_from_the_top(rt: HostRuntime) -> Result<(), Fail> {

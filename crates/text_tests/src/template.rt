@@ -1,12 +1,12 @@
 //! Templates, read from texts.
 
-use crate::texts::{Reader, all_are, fault_of, names_of, shown};
+use crate::texts::{Reader, fault_of, names_of, shown};
 use std::alloc::Global;
 use std::test::Fail;
 use tf_expr::{ReadFault, functions, read_template, references};
 
-// The trees of texts.
-static TREES: [(&str, &str); 18] = [
+/// The trees of templates.
+pub(crate) static TREES: [(&str, &str); 18] = [
     ("", "Template { parts: [], last: \"\" }"),
     ("a}", "Template { parts: [], last: \"a}\" }"),
     ("%%{if}", "Template { parts: [], last: \"%{if}\" }"),
@@ -59,11 +59,6 @@ static TREES: [(&str, &str); 18] = [
         "Template { parts: [(\"\", Quoted(Template { parts: [], last: \"${%{\" }))], last: \"\" }",
     ),
 ];
-
-#[test]
-fn reads_each_form(rt: HostRuntime) -> Result<(), Fail> {
-    all_are(&rt, rt.alloc(), Reader::Template, &TREES)
-}
 
 // Texts, and the same with what binds tighter in parentheses.
 static GROUPS: [(&str, &str); 8] = [

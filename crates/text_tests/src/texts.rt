@@ -1,5 +1,6 @@
 //! Tables of texts, and what is said of each.
 
+use crate::{expression, template, value};
 use serde_json::Value;
 use std::alloc::Global;
 use std::process::Abort;
@@ -25,15 +26,15 @@ pub(crate) enum Reader {
 /// What is said of a text.
 pub(crate) fn shown(alloc: Global, reader: Reader, text: &str) -> Result<String, Fail> {
     match reader {
-        Reader::Template => template(alloc, text),
+        Reader::Template => template_tree(alloc, text),
         Reader::TemplateValue => template_value(alloc, text),
-        Reader::Expression => expression(alloc, text),
+        Reader::Expression => expression_tree(alloc, text),
         Reader::ExpressionValue => expression_value(alloc, text),
     }
 }
 
-/// Of each text is said what stands beside it.
-pub(crate) fn all_are(
+// Of each text is said what stands beside it.
+fn all_are(
     rt: &impl Abort,
     alloc: Global,
     reader: Reader,
@@ -45,7 +46,20 @@ pub(crate) fn all_are(
     Ok(())
 }
 
-fn template(alloc: Global, text: &str) -> Result<String, Fail> {
+#[test]
+fn reads_and_evaluates(rt: HostRuntime) -> Result<(), Fail> {
+    all_are(&rt, rt.alloc(), Reader::Template, &template::TREES)?;
+    all_are(&rt, rt.alloc(), Reader::TemplateValue, &value::VALUES)?;
+    all_are(&rt, rt.alloc(), Reader::Expression, &expression::TREES)?;
+    all_are(
+        &rt,
+        rt.alloc(),
+        Reader::ExpressionValue,
+        &expression::VALUES,
+    )
+}
+
+fn template_tree(alloc: Global, text: &str) -> Result<String, Fail> {
     match read_template(alloc, text) {
         Ok(template) => Ok(format!(in alloc; "{template:?}")?),
         Err(fault) => Ok(format!(in alloc; "{fault:?}")?),
@@ -63,7 +77,7 @@ fn template_value(alloc: Global, text: &str) -> Result<String, Fail> {
     }
 }
 
-fn expression(alloc: Global, text: &str) -> Result<String, Fail> {
+fn expression_tree(alloc: Global, text: &str) -> Result<String, Fail> {
     let json = Value::from_str(alloc, text)?;
     match read_expr(alloc, &json) {
         Ok(expr) => Ok(format!(in alloc; "{expr:?}")?),

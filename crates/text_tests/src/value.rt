@@ -1,10 +1,11 @@
 //! Templates, evaluated where `var.m` is `{"b": 1, "a": 2}`, `var.n` is `{"a": 5}` and `a.unknown` isn't known.
 
-use crate::texts::{Reader, all_are, shown};
+use crate::texts::{Reader, shown};
 use std::alloc::Global;
 use std::test::Fail;
 
-static VALUES: [(&str, &str); 25] = [
+/// Their values, and the first faults.
+pub(crate) static VALUES: [(&str, &str); 49] = [
     ("", "Text(\"\")"),
     ("${2 + 3 * 4}", "Int(14)"),
     ("${-9223372036854775807 - 1}", "Int(-9223372036854775808)"),
@@ -33,14 +34,7 @@ static VALUES: [(&str, &str); 25] = [
     ("${var.m.a + var.m[\"b\"]}", "Int(3)"),
     ("${[1, 2][1]}", "Int(2)"),
     ("${(1 + 2) * 3}", "Int(9)"),
-];
-
-#[test]
-fn gives_values(rt: HostRuntime) -> Result<(), Fail> {
-    all_are(&rt, rt.alloc(), Reader::TemplateValue, &VALUES)
-}
-
-static FIRST_FAULTS: [(&str, &str); 12] = [
+    // The first fault.
     ("${false && length(1) == 0}", "WrongKind"),
     ("${[1, 2][2]}", "Missing"),
     ("a${null}", "WrongKind"),
@@ -53,14 +47,7 @@ static FIRST_FAULTS: [(&str, &str); 12] = [
     ("${a.unknown + var.m.c}", "Missing"),
     ("x${[1]}${var.m.c}", "Missing"),
     ("${1 ? 2 : 3}", "WrongKind"),
-];
-
-#[test]
-fn gives_the_first_fault(rt: HostRuntime) -> Result<(), Fail> {
-    all_are(&rt, rt.alloc(), Reader::TemplateValue, &FIRST_FAULTS)
-}
-
-static UNKNOWN: [(&str, &str); 12] = [
+    // What is unknown is carried on.
     ("${a.unknown}", "Unknown"),
     ("a${a.unknown}", "Unknown"),
     ("a${a.unknown}${null}", "Unknown"),
@@ -74,11 +61,6 @@ static UNKNOWN: [(&str, &str); 12] = [
     ("${[1, a.unknown]}", "List([Int(1), Unknown])"),
     ("${join(\"-\", [[a.unknown]])}", "Unknown"),
 ];
-
-#[test]
-fn carries_what_is_unknown(rt: HostRuntime) -> Result<(), Fail> {
-    all_are(&rt, rt.alloc(), Reader::TemplateValue, &UNKNOWN)
-}
 
 // The value of the template that these pieces make up.
 fn value_of(alloc: Global, pieces: &[&str]) -> Result<String, Fail> {
