@@ -7,7 +7,7 @@ use Rattle.tf_template.specs.Token.{token_kind, token_word, after_token}
 use Rattle.tf_syntax.specs.TemplateTree.{Tree, number, truth, null, quoted, reference, call, group, listed, attribute, index, unary, binary, conditional, Trees, no_trees, tree, Parts, no_parts, part, Woven, level, level_of}
 use Rattle.tf_template.specs.Word.{keyword}
 use Rattle.tf_template.specs.declared.token.Kind.{Kind}
-use Rattle.tf_template.specs.declared.token.Kind.TheVariants.{Quote, Colon, OpenParen, CloseParen, OpenBracket, CloseBracket, CloseBrace, Comma, Dot}
+use Rattle.tf_template.specs.declared.token.Kind.TheVariants.{Name, Quote, Colon, OpenParen, CloseParen, OpenBracket, CloseBracket, CloseBrace, Comma, Dot}
 use Rattle.tf_syntax.specs.declared.tree.Prefix.{Prefix}
 use Rattle.tf_syntax.specs.declared.tree.Prefix.TheVariants.{Not, Negate}
 use Rattle.tf_template.specs.declared.word.Keyword.TheVariants.{Null, Free}
@@ -64,7 +64,7 @@ module _ (l : Tree) (p : List ℕ) (t : Tree) (m : List ℕ) (turn : Turns l p t
 -- what is spelled by its token, where no part is a tree
 same_number : (n : ℕ) (b : Tree) (s m p : List ℕ) → Spells (number n) s m → IsOperand b → Spells b s p → (number n ≡ b) × (m ≡ p)
 same_number n (number k) s m p h o j = (ap number (sym h.1 ∙ j.1), sym h.0.after_is ∙ j.0.after_is)
-same_number n b s m p h o j = let e = same_sort (number n) b s m p tt h o j in absurd (omega (arith, e))
+same_number n b s m p h o j = let e = same_sort (number n) b s m p tt h o j in absurd (cc)
 
 truth_known : (v : Bool) → truth_word v ≡ Free → ⊥
 truth_known true e = cc
@@ -88,14 +88,27 @@ same_truth v (truth w) s m p h o j = (ap truth (truth_same v w (sym h.1 ∙ j.1)
 same_truth v null s m p h o j = absurd (truth_other v (sym h.1 ∙ j.1))
 same_truth v (reference a b) s m p h o j = absurd (truth_known v (sym h.1 ∙ free_name a s j.1.0 j.1.2 j.0))
 same_truth v (call f ts) s m p h o j = absurd (truth_known v (sym h.1 ∙ free_name f s j.1.0 j.1.2 j.0))
-same_truth v b s m p h o j = let e = same_sort (truth v) b s m p tt h o j in absurd (omega (arith, e))
+same_truth v b s m p h o j = let e = same_sort (truth v) b s m p tt h o j in absurd (cc)
 
 same_null : (b : Tree) (s m p : List ℕ) → Spells null s m → IsOperand b → Spells b s p → (null ≡ b) × (m ≡ p)
 same_null null s m p h o j = (refl, sym h.0.after_is ∙ j.0.after_is)
 same_null (truth w) s m p h o j = absurd (truth_other w (sym j.1 ∙ h.1))
 same_null (reference a b) s m p h o j = let e : Null ≡ Free = sym h.1 ∙ free_name a s j.1.0 j.1.2 j.0 in absurd (cc)
 same_null (call f ts) s m p h o j = let e : Null ≡ Free = sym h.1 ∙ free_name f s j.1.0 j.1.2 j.0 in absurd (cc)
-same_null b s m p h o j = let e = same_sort null b s m p tt h o j in absurd (omega (arith, e))
+same_null b s m p h o j = let e = same_sort null b s m p tt h o j in absurd (cc)
+
+-- what a free name begins is a reference or a call
+abbrev IsNamed : Tree → Type 0
+IsNamed (reference a b) = Unit {0}
+IsNamed (call f ts) = Unit {0}
+IsNamed _ = ⊥
+
+free_named : (a s q : List ℕ) → keyword a ≡ Free → TakesName a s q → (b : Tree) (p : List ℕ) → Spells b s p → Name ≡ sort_of b → IsNamed b
+free_named a s q free h (truth w) p j e = absurd (truth_known w (sym j.1 ∙ free_name a s q h free))
+free_named a s q free h null p j e = let f : Null ≡ Free = sym j.1 ∙ free_name a s q h free in absurd (cc)
+free_named a s q free h (reference x y) p j e = tt
+free_named a s q free h (call f ts) p j e = tt
+free_named a s q free h b p j e = absurd (cc)
 
 same_name : (a b s p q : List ℕ) → TakesName a s p → TakesName b s q → (a ≡ b) × (p ≡ q)
 same_name a b s p q h j = (sym h.word_is ∙ j.word_is, sym h.after_is ∙ j.after_is)
@@ -112,13 +125,11 @@ same_reference a c (reference x y) s m p h o j =
     let dot = same_after Dot Dot h.1.0 h.1.1 j.1.1 h.1.3 (subst (λ z. Takes Dot z j.1.1) (sym first.1) j.1.3) in
     let last = same_name c y h.1.1 m p h.1.4 (subst (λ z. TakesName y z p) (sym dot) j.1.4) in
     (ap (λ z. reference z c) first.0 ∙ ap (λ z. reference x z) last.0, last.1)
-same_reference a c (truth w) s m p h o j = absurd (truth_known w (sym j.1 ∙ free_name a s h.1.0 h.1.2 h.0))
-same_reference a c null s m p h o j = let e : Null ≡ Free = sym j.1 ∙ free_name a s h.1.0 h.1.2 h.0 in absurd (cc)
 same_reference a c (call f ts) s m p h o j =
     let first = same_name a f s h.1.0 j.1.0 h.1.2 j.1.2 in
     let e = same_kind Dot OpenParen h.1.0 h.1.1 j.1.1 h.1.3 (subst (λ z. Takes OpenParen z j.1.1) (sym first.1) j.1.3) in
     absurd (cc)
-same_reference a c b s m p h o j = let e = same_sort (reference a c) b s m p tt h o j in absurd (omega (arith, e))
+same_reference a c b s m p h o j = absurd (free_named a s h.1.0 h.0 h.1.2 b p j (same_sort (reference a c) b s m p tt h o j))
 
 -- a call, and where its arguments begin
 record Calls (f : List ℕ) (after : List ℕ) (b : Tree) (p : List ℕ) : Type 0 where
@@ -131,13 +142,11 @@ at_call f ts (call g us) s m p h o j =
     let first = same_name f g s h.1.0 j.1.0 h.1.2 j.1.2 in
     let open_ = same_after OpenParen OpenParen h.1.0 h.1.1 j.1.1 h.1.3 (subst (λ z. Takes OpenParen z j.1.1) (sym first.1) j.1.3) in
     record { us = us; is = ap (λ z. call z us) (sym first.0); spelled = subst (λ z. SpellsList CloseParen us z p) (sym open_) j.1.4 }
-at_call f ts (truth w) s m p h o j = absurd (truth_known w (sym j.1 ∙ free_name f s h.1.0 h.1.2 h.0))
-at_call f ts null s m p h o j = let e : Null ≡ Free = sym j.1 ∙ free_name f s h.1.0 h.1.2 h.0 in absurd (cc)
 at_call f ts (reference x y) s m p h o j =
     let first = same_name f x s h.1.0 j.1.0 h.1.2 j.1.2 in
     let e = same_kind OpenParen Dot h.1.0 h.1.1 j.1.1 h.1.3 (subst (λ z. Takes Dot z j.1.1) (sym first.1) j.1.3) in
     absurd (cc)
-at_call f ts b s m p h o j = let e = same_sort (call f ts) b s m p tt h o j in absurd (omega (arith, e))
+at_call f ts b s m p h o j = absurd (free_named f s h.1.0 h.0 h.1.2 b p j (same_sort (call f ts) b s m p tt h o j))
 
 record Quoted (after : List ℕ) (b : Tree) (p : List ℕ) : Type 0 where
   qs : Parts
@@ -148,7 +157,7 @@ record Quoted (after : List ℕ) (b : Tree) (p : List ℕ) : Type 0 where
 at_quoted : (ps : Parts) (last : List ℕ) (b : Tree) (s m p : List ℕ) (h : Spells (quoted ps last) s m) → IsOperand b → Spells b s p → Quoted h.0 b p
 at_quoted ps last (quoted qs end) s m p h o j =
     record { qs = qs; last = end; is = refl; spelled = subst (λ z. SpellsParts true qs end z p) (sym (same_after Quote Quote s h.0 j.0 h.1 j.1)) j.2 }
-at_quoted ps last b s m p h o j = let e = same_sort (quoted ps last) b s m p tt h o j in absurd (omega (arith, e))
+at_quoted ps last b s m p h o j = let e = same_sort (quoted ps last) b s m p tt h o j in absurd (cc)
 
 record Listed (after : List ℕ) (b : Tree) (p : List ℕ) : Type 0 where
   us : Trees
@@ -158,7 +167,7 @@ record Listed (after : List ℕ) (b : Tree) (p : List ℕ) : Type 0 where
 at_listed : (ts : Trees) (b : Tree) (s m p : List ℕ) (h : Spells (listed ts) s m) → IsOperand b → Spells b s p → Listed h.0 b p
 at_listed ts (listed us) s m p h o j =
     record { us = us; is = refl; spelled = subst (λ z. SpellsList CloseBracket us z p) (sym (same_after OpenBracket OpenBracket s h.0 j.0 h.1 j.1)) j.2 }
-at_listed ts b s m p h o j = let e = same_sort (listed ts) b s m p tt h o j in absurd (omega (arith, e))
+at_listed ts b s m p h o j = let e = same_sort (listed ts) b s m p tt h o j in absurd (cc)
 
 record Grouped (after : List ℕ) (b : Tree) (p : List ℕ) : Type 0 where
   u : Tree
@@ -170,7 +179,7 @@ record Grouped (after : List ℕ) (b : Tree) (p : List ℕ) : Type 0 where
 at_grouped : (t : Tree) (b : Tree) (s m p : List ℕ) (h : Spells (group t) s m) → IsOperand b → Spells b s p → Grouped h.0 b p
 at_grouped t (group u) s m p h o j =
     record { u = u; q = j.1; is = refl; spelled = subst (λ z. Spells u z j.1) (sym (same_after OpenParen OpenParen s h.0 j.0 h.2 j.2)) j.3; close = j.4 }
-at_grouped t b s m p h o j = let e = same_sort (group t) b s m p tt h o j in absurd (omega (arith, e))
+at_grouped t b s m p h o j = let e = same_sort (group t) b s m p tt h o j in absurd (cc)
 
 prefix_same : (a b : Prefix) → prefix_token a ≡ prefix_token b → a ≡ b
 prefix_same Not Not e = refl
@@ -192,7 +201,7 @@ at_signed op t (unary o u) s m p h w j =
       spelled = subst (λ z. Spells u z p) (sym (same_after (prefix_token op) (prefix_token o) s h.0 j.0 h.1 j.1)) j.2;
       high = j.3;
     }
-at_signed op t b s m p h o j = let e = same_sort (unary op t) b s m p tt h o j in absurd (omega (arith, e))
+at_signed op t b s m p h o j = let e = same_sort (unary op t) b s m p tt h o j in absurd (cc)
 
 -- an attribute
 record Named (l : Tree) (x : Tree) (s q : List ℕ) : Type 0 where

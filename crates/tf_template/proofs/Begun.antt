@@ -11,7 +11,7 @@ use Rattle.tf_template.specs.declared.make.Found.{Found}
 use Rattle.tf_template.specs.declared.token.Bracket.{Bracket}
 use Rattle.tf_template.specs.declared.token.Bracket.TheVariants.{Round, Square}
 use Rattle.tf_template.specs.declared.token.Kind.{Kind}
-use Rattle.tf_template.specs.declared.token.Kind.TheVariants.{Name, Number, Quote, Bang, Binary, Question, Colon, OpenParen, CloseParen, OpenBracket, CloseBracket, Comma}
+use Rattle.tf_template.specs.declared.token.Kind.TheVariants.{Name, Number, Quote, Bang, Binary, Question, Colon, OpenParen, CloseParen, OpenBracket, CloseBracket, Comma, Wrong}
 use Rattle.tf_syntax.specs.declared.operator.Operator.{Operator}
 use Rattle.tf_syntax.specs.declared.tree.Prefix.TheVariants.{Not, Negate}
 
@@ -27,28 +27,22 @@ pub closing_other : (b : Bracket) → closing b ≡ Comma → ⊥
 closing_other Round e = cc
 closing_other Square e = cc
 
--- the sort of token that an operand begins with
-abbrev pub kind_sort : Kind → ℕ
-kind_sort Number = 1
-kind_sort Name = 2
-kind_sort Quote = 3
-kind_sort OpenParen = 4
-kind_sort Bang = 5
-kind_sort (Binary op) = 5
-kind_sort OpenBracket = 6
-kind_sort _ = 0
+-- the sort of token that an operand begins with: a sign before it is a sign, whichever
+abbrev pub kind_sort : Kind → Kind
+kind_sort (Binary op) = Bang
+kind_sort k = k
 
-abbrev pub sort_of : Tree → ℕ
-sort_of (number n) = 1
-sort_of (truth b) = 2
-sort_of null = 2
-sort_of (reference a b) = 2
-sort_of (call f ts) = 2
-sort_of (quoted ps last) = 3
-sort_of (group t) = 4
-sort_of (unary op t) = 5
-sort_of (listed ts) = 6
-sort_of _ = 0
+abbrev pub sort_of : Tree → Kind
+sort_of (number n) = Number
+sort_of (quoted ps last) = Quote
+sort_of (group t) = OpenParen
+sort_of (unary op t) = Bang
+sort_of (listed ts) = OpenBracket
+sort_of (attribute t name) = Wrong
+sort_of (index t i) = Wrong
+sort_of (binary op a b) = Wrong
+sort_of (conditional c a b) = Wrong
+sort_of _ = Name
 
 pub sort_is : (t : Tree) (s m : List ℕ) → IsOperand t → Spells t s m → kind_sort (token_kind s) ≡ sort_of t
 sort_is (reference a b) s m o h = ap kind_sort h.1.2.kind_is
@@ -73,7 +67,7 @@ pub record Quotes (t : Tree) (s rest : List ℕ) : Type 0 where
 
 pub at_quote : (t : Tree) (s rest : List ℕ) → IsOperand t → Spells t s rest → token_kind s ≡ Quote → Quotes t s rest
 at_quote (quoted ps last) s rest o h e = record { parts = ps; last = last; is = refl; spelled = subst (λ x. SpellsParts true ps last x rest) (sym h.1.after_is) h.2; deeper = omega arith }
-at_quote t s rest o h e = absurd (omega (arith, sort_is t s rest o h, ap kind_sort e))
+at_quote t s rest o h e = absurd (cc (sort_is t s rest o h, ap kind_sort e))
 
 -- an expression in parentheses
 pub record Groups (t : Tree) (s rest : List ℕ) : Type 0 where
@@ -86,7 +80,7 @@ pub record Groups (t : Tree) (s rest : List ℕ) : Type 0 where
 
 pub at_group : (t : Tree) (s rest : List ℕ) → IsOperand t → Spells t s rest → token_kind s ≡ OpenParen → Groups t s rest
 at_group (group t) s rest o h e = record { u = t; q = h.1; is = refl; spelled = subst (λ x. Spells t x h.1) (sym h.2.after_is) h.3; close = h.4; deeper = omega arith }
-at_group t s rest o h e = absurd (omega (arith, sort_is t s rest o h, ap kind_sort e))
+at_group t s rest o h e = absurd (cc (sort_is t s rest o h, ap kind_sort e))
 
 -- a binary operator
 pub record Joins (op : Operator) (l : Tree) (t : Tree) (s rest : List ℕ) : Type 0 where
@@ -174,7 +168,7 @@ number_fits (attribute t name) s rest h e = number_fits t s h.0 h.1 e
 number_fits (index t i) s rest h e = number_fits t s h.0 h.1 e
 number_fits (binary op a b) s rest h e = number_fits a s h.0 h.1 e
 number_fits (conditional c a b) s rest h e = number_fits c s h.0 h.1 e
-number_fits t s rest h e = absurd (omega (arith, sort_is t s rest tt h, ap kind_sort e))
+number_fits t s rest h e = absurd (cc (sort_is t s rest tt h, ap kind_sort e))
 
 -- what is spelled is deeper than no level
 pub deep_some : (t : Tree) → 0 < tree_depth t

@@ -1,4 +1,4 @@
-use Rattle.std.proofs.Common.{◌^◌, true, ◌≡◌, ℕ, ◌+◌, ◌-◌, ◌<◌, ◌≤◌, List, length, string_bytes, refl, sym, ap, ◌∙◌, subst, arith}
+use Rattle.std.proofs.Common.{◌^◌, true, ◌≡◌, ℕ, ◌+◌, ◌<◌, ◌≤◌, List, length, string_bytes, refl, sym, ap, ◌∙◌, subst, arith}
 use Rattle.std.proofs.lemmas.Result.{err_from_is_err_and}
 use Rattle.tf_template.specs.Reads.{Fails, Holds, begins, binding, closing}
 use Rattle.tf_template.specs.Spelling.{Spells, SpellsParts}
