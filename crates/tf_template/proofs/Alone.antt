@@ -13,7 +13,7 @@ use Rattle.tf_syntax.specs.declared.tree.Prefix.TheVariants.{Not, Negate}
 use Rattle.tf_template.specs.declared.word.Keyword.TheVariants.{Null, Free}
 use Rattle.tf_template.proofs.Begun.{at_binary, at_question, at_bracket, sort_of, sort_is, stops_at}
 use Rattle.tf_template.proofs.Growing.{Grows, done, again, spine, holds_where, turns_kind, turns_needs, last_step, level_some, spells_begins}
-use Rattle.tf_template.proofs.Rowing.{Tail}
+use Rattle.tf_template.proofs.Rowing.{Tail, tail_stops}
 use Rattle.tf_template.proofs.Pieces.{Literal-same, at_closes, at_opens}
 
 -- two operands at one place begin with one sort of token
@@ -212,12 +212,6 @@ record Named (l : Tree) (x : Tree) (s q : List ℕ) : Type 0 where
 at_dot : (l : Tree) (s : List ℕ) (x : Tree) (q : List ℕ) → Turns l s x q → token_kind s ≡ Dot → Named l x s q
 at_dot l s (attribute t name) q h e = record { name = name; is = ap (λ z. attribute z name) h.0; spelled = subst (λ z. TakesName name z q) (sym h.1.1.after_is) h.1.2 }
 at_dot l s t q h e = let f = sym (turns_kind l s t q h) ∙ e in absurd (cc)
-
-tail_stops : (close : Kind) → binding close ≡ 0 → (vs : Trees) (p r : List ℕ) → Tail close vs p r → Stops 1 p
-tail_stops close z vs p r h = elim h [
-  | inl last ↦ omega (arith, z, ap binding last.1.kind_is)
-  | inr next ↦ omega (arith, ap binding next.1.kind_is)
-]
 
 empty_is : (ts : Trees) → IsEmpty ts → ts ≡ no_trees
 empty_is no_trees h = refl
