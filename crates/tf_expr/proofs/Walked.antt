@@ -65,8 +65,9 @@ members_more (first ∷ done) e left no_entries t sorted h plain more = absurd h
 members_more (first ∷ done) e left (entry l u es) t sorted h plain more =
     rw (← h.0, is_above first done e left sorted) (refl, h.1, h.2, members_more done e left es t sorted.1 h.3 plain more)
 
--- the first member that has a fault
-pub members_refused : (place : List (List ℕ)) (done : List Entry) (e : Entry) (left : List Entry) (es : Entries) (t : Told) → HoldExprs (members_view done) es
-    → Refuses (one_member place (string_bytes e.0) (view e.1)) t → Refuses (member_checks place (members_view (done ++ e ∷ left))) t
-members_refused place done e left es t read first =
-    rw member_checks-each (Refuses-at (one_member place) done e left t (subst AreMet (member_checks-each place (members_view done)) (members_met place (members_view done) es read)) first)
+-- the first member that has a fault, where the walk has come to it
+pub members_refused : (place : List (List ℕ)) (members done left : List Entry) (e : Entry) (more : List Entry) (es : Entries) (t : Told) → members ≡ done ++ left → left ≡ e ∷ more
+    → HoldExprs (members_view done) es → Refuses (one_member place (string_bytes e.0) (view e.1)) t → Refuses (member_checks place (members_view members)) t
+members_refused place members done left e more es t all next read first =
+    rw (all, next, member_checks-each)
+    (Refuses-at (one_member place) done e more t (subst AreMet (member_checks-each place (members_view done)) (members_met place (members_view done) es read)) first)

@@ -1,6 +1,9 @@
 //! Why a JSON tree is no expression.
 
-ghost use Rattle.std.specs.Prelude.{Some};
+ghost use Rattle.std.specs.Prelude.{◌≡◌, Some};
+ghost use Rattle.tf_expr.specs.Fault.{told};
+ghost use Rattle.tf_expr.specs.FaultText.{cause_text, fault_text};
+ghost use Rattle.tf_expr.specs.declared.fault.ExprFault.TheVariants.{OutOfMemory};
 
 use std::alloc::{AllocError, AllocFailed};
 use std::error::Error;
@@ -20,6 +23,14 @@ pub enum ExprFault {
     },
 }
 
+impl From<AllocError> for ExprFault {
+    ghost from_gives = { λ _ fault. fault ≡ OutOfMemory };
+
+    fn from(_error: AllocError) -> ExprFault {
+        ExprFault::OutOfMemory
+    }
+}
+
 /// What is wrong at a place of a JSON tree.
 #[derive(Clone, Copy, Debug, PartialEq, Eq, Drop)]
 pub enum Cause {
@@ -33,9 +44,6 @@ pub enum Cause {
 
 /// What is wrong and where, on one line, with no newline.
 impl fmt::Display for ExprFault {
-    ghost use Rattle.tf_expr.specs.Fault.{told};
-    ghost use Rattle.tf_expr.specs.FaultText.{fault_text};
-
     ghost output = { λ fault. Some (fault_text (told fault)) };
 
     fn fmt<W: fmt::Write>(&self, f: &mut fmt::Formatter<W>) -> fmt::Result {
@@ -48,8 +56,6 @@ impl fmt::Display for ExprFault {
 
 /// What is wrong, on one line, with no newline.
 impl fmt::Display for Cause {
-    ghost use Rattle.tf_expr.specs.FaultText.{cause_text};
-
     ghost output = { λ cause. Some (cause_text cause) };
 
     fn fmt<W: fmt::Write>(&self, f: &mut fmt::Formatter<W>) -> fmt::Result {
@@ -63,21 +69,7 @@ impl fmt::Display for Cause {
 
 impl Error for ExprFault {}
 
-impl From<AllocError> for ExprFault {
-    ghost use Rattle.std.specs.Prelude.{◌≡◌};
-    ghost use Rattle.tf_expr.specs.declared.fault.ExprFault.TheVariants.{OutOfMemory};
-
-    ghost from_gives = { λ _ fault. fault ≡ OutOfMemory };
-
-    fn from(_error: AllocError) -> ExprFault {
-        ExprFault::OutOfMemory
-    }
-}
-
 impl<T: Drop> From<AllocFailed<T>> for ExprFault {
-    ghost use Rattle.std.specs.Prelude.{◌≡◌};
-    ghost use Rattle.tf_expr.specs.declared.fault.ExprFault.TheVariants.{OutOfMemory};
-
     ghost from_gives = { λ _ fault. fault ≡ OutOfMemory };
 
     fn from(_error: AllocFailed<T>) -> ExprFault {

@@ -3,6 +3,7 @@
 ghost use Rattle.tf_expr.specs.Laws.{ExpressionIsFaultless, ExpressionIsOne, FaultlessIsExpression, FaultyIsNone, FirstPlaceIsOne};
 
 /// A JSON tree is an expression exactly where all checks of it are met, and one expression at most.
+#[tactic(auto, using(crate::proofs::Faultless::expr_met, crate::proofs::Faultless::expr_from_met, crate::proofs::Faultless::expr_one))]
 pub fn faultless_trees_are_expressions()
     ensures faultless { ExpressionIsFaultless }
     ensures stands { FaultlessIsExpression }

@@ -21,8 +21,3 @@ pub use tf_syntax::{
     Expr, Operator, Prefix, Reference, Template, Term, copy, copy_expr, find, functions, references,
 };
 pub use tf_template::{MAX_DEPTH, ReadFault, read_template};
-
-#[cfg(test)]
-mod eval_tests;
-#[cfg(test)]
-mod tests;

@@ -1,12 +1,12 @@
--- What a put leaves: what is found, the order of keys, plainness, depth.
+-- What a put leaves: what is found, the order of keys and the kind of numbers, depth.
 use Rattle.std.proofs.Common.{◌≡◌, ℕ, ◌≤◌, false, List, Option, Some, None, Ordering, Less, Equal, Greater, nat_cmp, is_eq, refl, sym, ap, ◌∙◌, subst, arith}
 use Rattle.std.specs.Cmp.Lexicographic.{slice_cmp}
 use Rattle.std.specs.Ordering.{match_ordering}
 use Rattle.std.proofs.lemmas.Cmp.{nat_list_cmp_total, tied_itself}
 use Rattle.std.proofs.lemmas.Map.Lookups.{exact_bytes}
-use Rattle.serde_json.specs.Data.{Data, Members, no_members, member, put, depth, members_depth}
+use Rattle.serde_json.specs.Data.{Data, Num, Members, no_members, member, put, depth, members_depth}
 use Rattle.serde_json.specs.Find.{get_member}
-use Rattle.tf_json_text.specs.Plain.{IsPlain, ArePlainMembers, AreAbove}
+use Rattle.tf_json_text.specs.Plain.{IsOrderly, AreOrderlyMembers, IsWhole, IsPlain, ArePlainMembers, AreAbove}
 
 abbrev pub cmp : List ℕ → List ℕ → Ordering
 cmp = slice_cmp nat_cmp
@@ -58,17 +58,20 @@ pub above-put : (l k : List ℕ) (d : Data) (ms : Members) → cmp l k ≡ Less 
 above-put l k d no_members below h = (below, tt)
 above-put l k d (member m e ms) below h = above_at (cmp k m) l k m d e ms below h (above-put l k d ms below h.1)
 
-plain_at : (o : Ordering) (k m : List ℕ) (d e : Data) (ms : Members) → cmp k m ≡ o → IsPlain d → ArePlainMembers (member m e ms) → ArePlainMembers (put k d ms)
-    → ArePlainMembers (match_ordering o (member k d (member m e ms)) (member m d ms) (member m e (put k d ms)))
-plain_at Less k m d e ms is p h more = ((is, above_later k m ms is h.0), p, h)
-plain_at Equal k m d e ms is p h more = (h.0, p, h.2)
-plain_at Greater k m d e ms is p h more =
+orderly_at : (P : Num → Type 0) (o : Ordering) (k m : List ℕ) (d e : Data) (ms : Members) → cmp k m ≡ o → IsOrderly P d → AreOrderlyMembers P (member m e ms)
+    → AreOrderlyMembers P (put k d ms) → AreOrderlyMembers P (match_ordering o (member k d (member m e ms)) (member m d ms) (member m e (put k d ms)))
+orderly_at P Less k m d e ms is p h more = ((is, above_later k m ms is h.0), p, h)
+orderly_at P Equal k m d e ms is p h more = (h.0, p, h.2)
+orderly_at P Greater k m d e ms is p h more =
     let below : cmp m k ≡ Less = nat_list_cmp_total.antisymm m k ∙ rw is refl in (above-put m k d ms below h.0, h.1, more)
 
--- a put of a plain tree leaves plain members
+-- a put of an orderly tree leaves orderly members
+pub orderly-put : (P : Num → Type 0) (k : List ℕ) (d : Data) (ms : Members) → IsOrderly P d → AreOrderlyMembers P ms → AreOrderlyMembers P (put k d ms)
+orderly-put P k d no_members p h = (tt, p, tt)
+orderly-put P k d (member m e ms) p h = orderly_at P (cmp k m) k m d e ms refl p h (orderly-put P k d ms p h.2)
+
 pub plain-put : (k : List ℕ) (d : Data) (ms : Members) → IsPlain d → ArePlainMembers ms → ArePlainMembers (put k d ms)
-plain-put k d no_members p h = (tt, p, tt)
-plain-put k d (member m e ms) p h = plain_at (cmp k m) k m d e ms refl p h (plain-put k d ms p h.2)
+plain-put k d ms p h = orderly-put IsWhole k d ms p h
 
 -- ---- depth
 

@@ -1,26 +1,14 @@
 -- What a text is read as is sorted.
-use Rattle.std.proofs.Common.{◌≡◌, ℕ, List, Option, Some, None, Ordering, Less, Equal, Greater, refl, ◌∙◌, subst}
+use Rattle.std.proofs.Common.{◌≡◌, ℕ, List, Option, Some, None, Ordering, Less, Equal, Greater, subst}
 use Rattle.std.specs.Prelude.{option_map, option_and_then, ⊤}
 use Rattle.std.specs.Ordering.{match_ordering}
-use Rattle.std.proofs.lemmas.Cmp.{nat_list_cmp_total}
 use Rattle.json.specs.Json as json
 use Rattle.json.specs.Lex.{tokens}
 use Rattle.serde_json.specs.Data.{Data, number, array, object, item, Members, no_members, member, put}
 use Rattle.serde_json.specs.Find.{get, get_member}
 use Rattle.serde_json.specs.Read.{number_of, of_json, of_items, of_members, max_depth}
-use Rattle.tf_json_text.specs.Plain.{IsSorted, AreSorted, AreSortedMembers, ReadIsSorted}
-use Rattle.tf_json_text.proofs.Puts.{cmp, above_later, above-put}
-
-sorted_at : (o : Ordering) (k m : List ℕ) (d e : Data) (ms : Members) → cmp k m ≡ o → IsSorted d → AreSortedMembers (member m e ms) → AreSortedMembers (put k d ms)
-    → AreSortedMembers (match_ordering o (member k d (member m e ms)) (member m d ms) (member m e (put k d ms)))
-sorted_at Less k m d e ms is p h more = ((is, above_later k m ms is h.0), p, h)
-sorted_at Equal k m d e ms is p h more = (h.0, p, h.2)
-sorted_at Greater k m d e ms is p h more =
-    let below : cmp m k ≡ Less = nat_list_cmp_total.antisymm m k ∙ rw is refl in (above-put m k d ms below h.0, h.1, more)
-
-sorted-put : (k : List ℕ) (d : Data) (ms : Members) → IsSorted d → AreSortedMembers ms → AreSortedMembers (put k d ms)
-sorted-put k d no_members p h = (tt, p, tt)
-sorted-put k d (member m e ms) p h = sorted_at (cmp k m) k m d e ms refl p h (sorted-put k d ms p h.2)
+use Rattle.tf_json_text.specs.Plain.{IsAny, IsSorted, AreSorted, AreSortedMembers, ReadIsSorted}
+use Rattle.tf_json_text.proofs.Puts.{cmp, orderly-put}
 
 -- what is there has a property
 abbrev OfSome : {A : Type 0} → (A → Type 0) → Option A → Type 0
@@ -56,7 +44,7 @@ mutual
   sorted-of_members : (ms : json.Members) (found : Members) → AreSortedMembers found → OfSome AreSortedMembers (of_members ms found)
   sorted-of_members json.no_members found h = h
   sorted-of_members (json.member k j ms) found h =
-      of_then IsSorted AreSortedMembers (λ d. of_members ms (put k d found)) (λ d p. sorted-of_members ms (put k d found) (sorted-put k d found p h)) (of_json j) (sorted-of_json j)
+      of_then IsSorted AreSortedMembers (λ d. of_members ms (put k d found)) (λ d p. sorted-of_members ms (put k d found) (orderly-put IsAny k d found p h)) (of_json j) (sorted-of_json j)
 
 pub read_is_sorted : ReadIsSorted
 read_is_sorted text d e =

@@ -3,7 +3,7 @@ use Rattle.std.specs.Prelude.{◌≡◌, ℕ, ◌^◌, ◌<◌, ◌≤◌, pos, 
 use Rattle.std.specs.Cmp.Lexicographic.{slice_cmp}
 use Rattle.std.specs.Ordering.{nat_cmp}
 use Rattle.std.specs.declared.cmp.Ordering.TheVariants.{Less}
-use Rattle.serde_json.specs.Data.{Data, null, boolean, number, unsigned, negative, float, string, array, object, Items, no_items, item, Members, no_members, member, depth}
+use Rattle.serde_json.specs.Data.{Data, Num, number, unsigned, negative, float, array, object, Items, no_items, item, Members, no_members, member, depth}
 use Rattle.serde_json.specs.Read.{read, max_depth}
 use Rattle.tf_json_text.specs.Text.{text_of}
 
@@ -12,42 +12,51 @@ abbrev pub AreAbove : List ℕ → Members → Type 0
 AreAbove k no_members = ⊤
 AreAbove k (member l d ms) = (slice_cmp nat_cmp k l ≡ Less) × AreAbove k ms
 
--- A tree is plain where its numbers are whole numbers of 64 bits, and the keys of each object stand strictly in
--- byte order.
+-- A tree is orderly where its numbers are of this kind, and the keys of each object stand strictly in byte order.
 abbrev mutual
-  pub IsPlain : Data → Type 0
-  IsPlain null = ⊤
-  IsPlain (boolean b) = ⊤
-  IsPlain (number (unsigned n)) = n < 2 ^ 64
-  IsPlain (number (negative (pos n))) = ⊥
-  IsPlain (number (negative (negsuc n))) = n < 2 ^ 63
-  IsPlain (number (float x)) = ⊥
-  IsPlain (string s) = ⊤
-  IsPlain (array ds) = ArePlain ds
-  IsPlain (object ms) = ArePlainMembers ms
+  pub IsOrderly : (Num → Type 0) → Data → Type 0
+  IsOrderly P (number n) = P n
+  IsOrderly P (array ds) = AreOrderly P ds
+  IsOrderly P (object ms) = AreOrderlyMembers P ms
+  IsOrderly P _ = ⊤
 
-  pub ArePlain : Items → Type 0
-  ArePlain no_items = ⊤
-  ArePlain (item d ds) = IsPlain d × ArePlain ds
+  pub AreOrderly : (Num → Type 0) → Items → Type 0
+  AreOrderly P no_items = ⊤
+  AreOrderly P (item d ds) = IsOrderly P d × AreOrderly P ds
 
-  pub ArePlainMembers : Members → Type 0
-  ArePlainMembers no_members = ⊤
-  ArePlainMembers (member k d ms) = AreAbove k ms × IsPlain d × ArePlainMembers ms
+  pub AreOrderlyMembers : (Num → Type 0) → Members → Type 0
+  AreOrderlyMembers P no_members = ⊤
+  AreOrderlyMembers P (member k d ms) = AreAbove k ms × IsOrderly P d × AreOrderlyMembers P ms
 
--- A tree is sorted where the keys of each object stand strictly in byte order.
-abbrev mutual
-  pub IsSorted : Data → Type 0
-  IsSorted (array ds) = AreSorted ds
-  IsSorted (object ms) = AreSortedMembers ms
-  IsSorted _ = ⊤
+-- a whole number of 64 bits
+abbrev pub IsWhole : Num → Type 0
+IsWhole (unsigned n) = n < 2 ^ 64
+IsWhole (negative (pos n)) = ⊥
+IsWhole (negative (negsuc n)) = n < 2 ^ 63
+IsWhole (float x) = ⊥
 
-  pub AreSorted : Items → Type 0
-  AreSorted no_items = ⊤
-  AreSorted (item d ds) = IsSorted d × AreSorted ds
+-- A tree is plain where it is orderly and its numbers are whole numbers of 64 bits.
+abbrev pub IsPlain : Data → Type 0
+IsPlain d = IsOrderly IsWhole d
 
-  pub AreSortedMembers : Members → Type 0
-  AreSortedMembers no_members = ⊤
-  AreSortedMembers (member k d ms) = AreAbove k ms × IsSorted d × AreSortedMembers ms
+abbrev pub ArePlain : Items → Type 0
+ArePlain ds = AreOrderly IsWhole ds
+
+abbrev pub ArePlainMembers : Members → Type 0
+ArePlainMembers ms = AreOrderlyMembers IsWhole ms
+
+abbrev pub IsAny : Num → Type 0
+IsAny n = ⊤
+
+-- A tree is sorted where it is orderly, whatever its numbers.
+abbrev pub IsSorted : Data → Type 0
+IsSorted d = IsOrderly IsAny d
+
+abbrev pub AreSorted : Items → Type 0
+AreSorted ds = AreOrderly IsAny ds
+
+abbrev pub AreSortedMembers : Members → Type 0
+AreSortedMembers ms = AreOrderlyMembers IsAny ms
 
 -- The text of a plain tree that nests no deeper than a reader goes is read as that tree.
 abbrev pub TextReadsBack : Type 0

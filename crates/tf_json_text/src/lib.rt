@@ -39,6 +39,3 @@ pub fn texts_read_back()
 pub fn read_trees_are_sorted()
     ensures { ReadIsSorted }
 {}
-
-#[cfg(test)]
-mod tests;

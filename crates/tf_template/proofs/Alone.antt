@@ -7,66 +7,16 @@ use Rattle.tf_template.specs.Token.{token_kind, token_word, after_token}
 use Rattle.tf_syntax.specs.TemplateTree.{Tree, number, truth, null, quoted, reference, call, group, listed, attribute, index, unary, binary, conditional, Trees, no_trees, tree, Parts, no_parts, part, Woven, level, level_of}
 use Rattle.tf_template.specs.Word.{keyword}
 use Rattle.tf_template.specs.declared.token.Kind.{Kind}
-use Rattle.tf_template.specs.declared.token.Kind.TheVariants.{Name, Number, Quote, Bang, Binary, Question, Colon, OpenParen, CloseParen, OpenBracket, CloseBracket, CloseBrace, Comma, Dot, Wrong}
+use Rattle.tf_template.specs.declared.token.Kind.TheVariants.{Name, Quote, Colon, OpenParen, CloseParen, OpenBracket, CloseBracket, CloseBrace, Comma, Dot}
 use Rattle.tf_syntax.specs.declared.tree.Prefix.{Prefix}
 use Rattle.tf_syntax.specs.declared.tree.Prefix.TheVariants.{Not, Negate}
 use Rattle.tf_template.specs.declared.word.Keyword.TheVariants.{Null, Free}
-use Rattle.tf_template.proofs.Begun.{at_binary, at_question, at_bracket, stops_at}
-use Rattle.tf_template.proofs.Growing.{Grows, done, again, spine, holds_where, turns_needs, last_step, level_some, spells_begins}
+use Rattle.tf_template.proofs.Begun.{at_binary, at_question, at_bracket, sort_of, sort_is, stops_at}
+use Rattle.tf_template.proofs.Growing.{Grows, done, again, spine, holds_where, turns_kind, turns_needs, last_step, level_some, spells_begins}
+use Rattle.tf_template.proofs.Rowing.{Tail, tail_stops}
 use Rattle.tf_template.proofs.Pieces.{Literal-same, at_closes, at_opens}
 
--- the sort of token that an operand begins with
-abbrev kind_sort : Kind → ℕ
-kind_sort Name = 2
-kind_sort Number = 1
-kind_sort Quote = 3
-kind_sort Bang = 5
-kind_sort (Binary op) = 5
-kind_sort Question = 0
-kind_sort Colon = 0
-kind_sort OpenParen = 4
-kind_sort CloseParen = 0
-kind_sort OpenBracket = 6
-kind_sort CloseBracket = 0
-kind_sort CloseBrace = 0
-kind_sort Comma = 0
-kind_sort Dot = 0
-kind_sort Wrong = 0
-
-abbrev sort_of : Tree → ℕ
-sort_of (number n) = 1
-sort_of (truth b) = 2
-sort_of null = 2
-sort_of (quoted ps last) = 3
-sort_of (reference a b) = 2
-sort_of (call f ts) = 2
-sort_of (group t) = 4
-sort_of (listed ts) = 6
-sort_of (attribute t name) = 0
-sort_of (index t i) = 0
-sort_of (unary op t) = 5
-sort_of (binary op a b) = 0
-sort_of (conditional c a b) = 0
-
-prefix_sort : (op : Prefix) → kind_sort (prefix_token op) ≡ 5
-prefix_sort Not = refl
-prefix_sort Negate = refl
-
-sort_is : (t : Tree) (s m : List ℕ) → IsOperand t → Spells t s m → kind_sort (token_kind s) ≡ sort_of t
-sort_is (number n) s m o h = ap kind_sort h.0.kind_is
-sort_is (truth b) s m o h = ap kind_sort h.0.kind_is
-sort_is null s m o h = ap kind_sort h.0.kind_is
-sort_is (quoted ps last) s m o h = ap kind_sort h.1.kind_is
-sort_is (reference a b) s m o h = ap kind_sort h.1.2.kind_is
-sort_is (call f ts) s m o h = ap kind_sort h.1.2.kind_is
-sort_is (group t) s m o h = ap kind_sort h.2.kind_is
-sort_is (listed ts) s m o h = ap kind_sort h.1.kind_is
-sort_is (attribute t name) s m o h = absurd o
-sort_is (index t i) s m o h = absurd o
-sort_is (unary op t) s m o h = ap kind_sort h.1.kind_is ∙ prefix_sort op
-sort_is (binary op a b) s m o h = absurd o
-sort_is (conditional c a b) s m o h = absurd o
-
+-- two operands at one place begin with one sort of token
 same_sort : (t b : Tree) (s m p : List ℕ) → IsOperand t → Spells t s m → IsOperand b → Spells b s p → sort_of t ≡ sort_of b
 same_sort t b s m p o h q k = sym (sort_is t s m o h) ∙ sort_is b s p q k
 
@@ -114,7 +64,7 @@ module _ (l : Tree) (p : List ℕ) (t : Tree) (m : List ℕ) (turn : Turns l p t
 -- what is spelled by its token, where no part is a tree
 same_number : (n : ℕ) (b : Tree) (s m p : List ℕ) → Spells (number n) s m → IsOperand b → Spells b s p → (number n ≡ b) × (m ≡ p)
 same_number n (number k) s m p h o j = (ap number (sym h.1 ∙ j.1), sym h.0.after_is ∙ j.0.after_is)
-same_number n b s m p h o j = let e = same_sort (number n) b s m p tt h o j in absurd (omega (arith, e))
+same_number n b s m p h o j = let e = same_sort (number n) b s m p tt h o j in absurd (cc)
 
 truth_known : (v : Bool) → truth_word v ≡ Free → ⊥
 truth_known true e = cc
@@ -138,14 +88,27 @@ same_truth v (truth w) s m p h o j = (ap truth (truth_same v w (sym h.1 ∙ j.1)
 same_truth v null s m p h o j = absurd (truth_other v (sym h.1 ∙ j.1))
 same_truth v (reference a b) s m p h o j = absurd (truth_known v (sym h.1 ∙ free_name a s j.1.0 j.1.2 j.0))
 same_truth v (call f ts) s m p h o j = absurd (truth_known v (sym h.1 ∙ free_name f s j.1.0 j.1.2 j.0))
-same_truth v b s m p h o j = let e = same_sort (truth v) b s m p tt h o j in absurd (omega (arith, e))
+same_truth v b s m p h o j = let e = same_sort (truth v) b s m p tt h o j in absurd (cc)
 
 same_null : (b : Tree) (s m p : List ℕ) → Spells null s m → IsOperand b → Spells b s p → (null ≡ b) × (m ≡ p)
 same_null null s m p h o j = (refl, sym h.0.after_is ∙ j.0.after_is)
 same_null (truth w) s m p h o j = absurd (truth_other w (sym j.1 ∙ h.1))
 same_null (reference a b) s m p h o j = let e : Null ≡ Free = sym h.1 ∙ free_name a s j.1.0 j.1.2 j.0 in absurd (cc)
 same_null (call f ts) s m p h o j = let e : Null ≡ Free = sym h.1 ∙ free_name f s j.1.0 j.1.2 j.0 in absurd (cc)
-same_null b s m p h o j = let e = same_sort null b s m p tt h o j in absurd (omega (arith, e))
+same_null b s m p h o j = let e = same_sort null b s m p tt h o j in absurd (cc)
+
+-- what a free name begins is a reference or a call
+abbrev IsNamed : Tree → Type 0
+IsNamed (reference a b) = Unit {0}
+IsNamed (call f ts) = Unit {0}
+IsNamed _ = ⊥
+
+free_named : (a s q : List ℕ) → keyword a ≡ Free → TakesName a s q → (b : Tree) (p : List ℕ) → Spells b s p → Name ≡ sort_of b → IsNamed b
+free_named a s q free h (truth w) p j e = absurd (truth_known w (sym j.1 ∙ free_name a s q h free))
+free_named a s q free h null p j e = let f : Null ≡ Free = sym j.1 ∙ free_name a s q h free in absurd (cc)
+free_named a s q free h (reference x y) p j e = tt
+free_named a s q free h (call f ts) p j e = tt
+free_named a s q free h b p j e = absurd (cc)
 
 same_name : (a b s p q : List ℕ) → TakesName a s p → TakesName b s q → (a ≡ b) × (p ≡ q)
 same_name a b s p q h j = (sym h.word_is ∙ j.word_is, sym h.after_is ∙ j.after_is)
@@ -162,13 +125,11 @@ same_reference a c (reference x y) s m p h o j =
     let dot = same_after Dot Dot h.1.0 h.1.1 j.1.1 h.1.3 (subst (λ z. Takes Dot z j.1.1) (sym first.1) j.1.3) in
     let last = same_name c y h.1.1 m p h.1.4 (subst (λ z. TakesName y z p) (sym dot) j.1.4) in
     (ap (λ z. reference z c) first.0 ∙ ap (λ z. reference x z) last.0, last.1)
-same_reference a c (truth w) s m p h o j = absurd (truth_known w (sym j.1 ∙ free_name a s h.1.0 h.1.2 h.0))
-same_reference a c null s m p h o j = let e : Null ≡ Free = sym j.1 ∙ free_name a s h.1.0 h.1.2 h.0 in absurd (cc)
 same_reference a c (call f ts) s m p h o j =
     let first = same_name a f s h.1.0 j.1.0 h.1.2 j.1.2 in
     let e = same_kind Dot OpenParen h.1.0 h.1.1 j.1.1 h.1.3 (subst (λ z. Takes OpenParen z j.1.1) (sym first.1) j.1.3) in
     absurd (cc)
-same_reference a c b s m p h o j = let e = same_sort (reference a c) b s m p tt h o j in absurd (omega (arith, e))
+same_reference a c b s m p h o j = absurd (free_named a s h.1.0 h.0 h.1.2 b p j (same_sort (reference a c) b s m p tt h o j))
 
 -- a call, and where its arguments begin
 record Calls (f : List ℕ) (after : List ℕ) (b : Tree) (p : List ℕ) : Type 0 where
@@ -181,13 +142,11 @@ at_call f ts (call g us) s m p h o j =
     let first = same_name f g s h.1.0 j.1.0 h.1.2 j.1.2 in
     let open_ = same_after OpenParen OpenParen h.1.0 h.1.1 j.1.1 h.1.3 (subst (λ z. Takes OpenParen z j.1.1) (sym first.1) j.1.3) in
     record { us = us; is = ap (λ z. call z us) (sym first.0); spelled = subst (λ z. SpellsList CloseParen us z p) (sym open_) j.1.4 }
-at_call f ts (truth w) s m p h o j = absurd (truth_known w (sym j.1 ∙ free_name f s h.1.0 h.1.2 h.0))
-at_call f ts null s m p h o j = let e : Null ≡ Free = sym j.1 ∙ free_name f s h.1.0 h.1.2 h.0 in absurd (cc)
 at_call f ts (reference x y) s m p h o j =
     let first = same_name f x s h.1.0 j.1.0 h.1.2 j.1.2 in
     let e = same_kind OpenParen Dot h.1.0 h.1.1 j.1.1 h.1.3 (subst (λ z. Takes Dot z j.1.1) (sym first.1) j.1.3) in
     absurd (cc)
-at_call f ts b s m p h o j = let e = same_sort (call f ts) b s m p tt h o j in absurd (omega (arith, e))
+at_call f ts b s m p h o j = absurd (free_named f s h.1.0 h.0 h.1.2 b p j (same_sort (call f ts) b s m p tt h o j))
 
 record Quoted (after : List ℕ) (b : Tree) (p : List ℕ) : Type 0 where
   qs : Parts
@@ -198,7 +157,7 @@ record Quoted (after : List ℕ) (b : Tree) (p : List ℕ) : Type 0 where
 at_quoted : (ps : Parts) (last : List ℕ) (b : Tree) (s m p : List ℕ) (h : Spells (quoted ps last) s m) → IsOperand b → Spells b s p → Quoted h.0 b p
 at_quoted ps last (quoted qs end) s m p h o j =
     record { qs = qs; last = end; is = refl; spelled = subst (λ z. SpellsParts true qs end z p) (sym (same_after Quote Quote s h.0 j.0 h.1 j.1)) j.2 }
-at_quoted ps last b s m p h o j = let e = same_sort (quoted ps last) b s m p tt h o j in absurd (omega (arith, e))
+at_quoted ps last b s m p h o j = let e = same_sort (quoted ps last) b s m p tt h o j in absurd (cc)
 
 record Listed (after : List ℕ) (b : Tree) (p : List ℕ) : Type 0 where
   us : Trees
@@ -208,7 +167,7 @@ record Listed (after : List ℕ) (b : Tree) (p : List ℕ) : Type 0 where
 at_listed : (ts : Trees) (b : Tree) (s m p : List ℕ) (h : Spells (listed ts) s m) → IsOperand b → Spells b s p → Listed h.0 b p
 at_listed ts (listed us) s m p h o j =
     record { us = us; is = refl; spelled = subst (λ z. SpellsList CloseBracket us z p) (sym (same_after OpenBracket OpenBracket s h.0 j.0 h.1 j.1)) j.2 }
-at_listed ts b s m p h o j = let e = same_sort (listed ts) b s m p tt h o j in absurd (omega (arith, e))
+at_listed ts b s m p h o j = let e = same_sort (listed ts) b s m p tt h o j in absurd (cc)
 
 record Grouped (after : List ℕ) (b : Tree) (p : List ℕ) : Type 0 where
   u : Tree
@@ -220,7 +179,7 @@ record Grouped (after : List ℕ) (b : Tree) (p : List ℕ) : Type 0 where
 at_grouped : (t : Tree) (b : Tree) (s m p : List ℕ) (h : Spells (group t) s m) → IsOperand b → Spells b s p → Grouped h.0 b p
 at_grouped t (group u) s m p h o j =
     record { u = u; q = j.1; is = refl; spelled = subst (λ z. Spells u z j.1) (sym (same_after OpenParen OpenParen s h.0 j.0 h.2 j.2)) j.3; close = j.4 }
-at_grouped t b s m p h o j = let e = same_sort (group t) b s m p tt h o j in absurd (omega (arith, e))
+at_grouped t b s m p h o j = let e = same_sort (group t) b s m p tt h o j in absurd (cc)
 
 prefix_same : (a b : Prefix) → prefix_token a ≡ prefix_token b → a ≡ b
 prefix_same Not Not e = refl
@@ -242,7 +201,7 @@ at_signed op t (unary o u) s m p h w j =
       spelled = subst (λ z. Spells u z p) (sym (same_after (prefix_token op) (prefix_token o) s h.0 j.0 h.1 j.1)) j.2;
       high = j.3;
     }
-at_signed op t b s m p h o j = let e = same_sort (unary op t) b s m p tt h o j in absurd (omega (arith, e))
+at_signed op t b s m p h o j = let e = same_sort (unary op t) b s m p tt h o j in absurd (cc)
 
 -- an attribute
 record Named (l : Tree) (x : Tree) (s q : List ℕ) : Type 0 where
@@ -251,29 +210,8 @@ record Named (l : Tree) (x : Tree) (s q : List ℕ) : Type 0 where
   spelled : TakesName name (after_token s) q
 
 at_dot : (l : Tree) (s : List ℕ) (x : Tree) (q : List ℕ) → Turns l s x q → token_kind s ≡ Dot → Named l x s q
-at_dot l s (number n) q h e = absurd h
-at_dot l s (truth b) q h e = absurd h
-at_dot l s null q h e = absurd h
-at_dot l s (quoted ps last) q h e = absurd h
-at_dot l s (reference a b) q h e = absurd h
-at_dot l s (call f ts) q h e = absurd h
-at_dot l s (group t) q h e = absurd h
-at_dot l s (listed ts) q h e = absurd h
 at_dot l s (attribute t name) q h e = record { name = name; is = ap (λ z. attribute z name) h.0; spelled = subst (λ z. TakesName name z q) (sym h.1.1.after_is) h.1.2 }
-at_dot l s (index t i) q h e = let f : OpenBracket ≡ Dot = sym h.1.2.kind_is ∙ e in absurd (cc)
-at_dot l s (unary u t) q h e = absurd h
-at_dot l s (binary o a b) q h e = let f : Binary o ≡ Dot = sym h.1.1.kind_is ∙ e in absurd (cc)
-at_dot l s (conditional c a b) q h e = let f : Question ≡ Dot = sym h.1.3.kind_is ∙ e in absurd (cc)
-
--- the tail of a list
-abbrev Tail : Kind → Trees → List ℕ → List ℕ → Type 0
-Tail close vs p r = (IsEmpty vs × Takes close p r) ⊎ ((q : List ℕ) × Takes Comma p q × SpellsList close vs q r)
-
-tail_stops : (close : Kind) → binding close ≡ 0 → (vs : Trees) (p r : List ℕ) → Tail close vs p r → Stops 1 p
-tail_stops close z vs p r h = elim h [
-  | inl last ↦ omega (arith, z, ap binding last.1.kind_is)
-  | inr next ↦ omega (arith, ap binding next.1.kind_is)
-]
+at_dot l s t q h e = let f = sym (turns_kind l s t q h) ∙ e in absurd (cc)
 
 empty_is : (ts : Trees) → IsEmpty ts → ts ≡ no_trees
 empty_is no_trees h = refl

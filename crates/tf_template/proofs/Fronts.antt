@@ -18,7 +18,7 @@ use Rattle.tf_template.specs.Word.{decimal, decimal_from, keyword}
 use Rattle.tf_template.specs.declared.token.Kind.{Kind}
 use Rattle.tf_template.specs.declared.token.Kind.TheVariants.{Name, Number, Quote, Bang, Binary, Question, Colon, OpenParen, CloseParen, OpenBracket, CloseBracket, CloseBrace, Comma, Dot, Wrong}
 use Rattle.tf_syntax.specs.declared.operator.Operator.{Operator}
-use Rattle.tf_syntax.specs.declared.operator.Operator.TheVariants.{Or, And, Equal, NotEqual, Greater, GreaterOrEqual, Less, LessOrEqual, Add, Subtract, Multiply}
+use Rattle.tf_syntax.specs.declared.operator.Operator.TheVariants.{Or, Equal, NotEqual, Subtract}
 use Rattle.tf_template.specs.declared.word.Keyword.TheVariants.{Null}
 
 pub both_true : (x y : Bool) → (x && y) ≡ true → (x ≡ true) × (y ≡ true)
@@ -160,56 +160,45 @@ takes_number n rest h e =
     let f = fronts_digits (digits n) rest (digits_decimal own n h) (decimal_nonempty n h) (no_digit (get_or rest 0 0) e) in
     record { takes = record { kind_is = f.kind_is; after_is = f.after_is }; value_is = ap decimal f.word_is ∙ digits_value-decimal own n h }
 
--- signs
-pub takes_quote : (s : List ℕ) → Takes Quote (34 ∷ s) s
-unfolding token_kind after_token front sign trimmed
-takes_quote s = record { kind_is = refl; after_is = refl }
+-- the byte of a sign of one byte, whatever follows it
+abbrev pub sign_byte : Kind → ℕ
+sign_byte Quote = 34
+sign_byte OpenParen = 40
+sign_byte CloseParen = 41
+sign_byte Comma = 44
+sign_byte (Binary Subtract) = 45
+sign_byte Dot = 46
+sign_byte Colon = 58
+sign_byte Question = 63
+sign_byte OpenBracket = 91
+sign_byte CloseBracket = 93
+sign_byte CloseBrace = 125
+sign_byte _ = 0
 
-pub takes_open_paren : (s : List ℕ) → Takes OpenParen (40 ∷ s) s
-unfolding token_kind after_token front sign trimmed
-takes_open_paren s = record { kind_is = refl; after_is = refl }
+abbrev pub IsOneByte : Kind → Type 0
+IsOneByte (Binary Subtract) = Unit {0}
+IsOneByte (Binary op) = ⊥
+IsOneByte Name = ⊥
+IsOneByte Number = ⊥
+IsOneByte Bang = ⊥
+IsOneByte Wrong = ⊥
+IsOneByte _ = Unit {0}
 
-pub takes_close_paren : (s : List ℕ) → Takes CloseParen (41 ∷ s) s
+pub takes_byte : (k : Kind) (s : List ℕ) → IsOneByte k → Takes k (sign_byte k ∷ s) s
 unfolding token_kind after_token front sign trimmed
-takes_close_paren s = record { kind_is = refl; after_is = refl }
-
-pub takes_open_bracket : (s : List ℕ) → Takes OpenBracket (91 ∷ s) s
-unfolding token_kind after_token front sign trimmed
-takes_open_bracket s = record { kind_is = refl; after_is = refl }
-
-pub takes_close_bracket : (s : List ℕ) → Takes CloseBracket (93 ∷ s) s
-unfolding token_kind after_token front sign trimmed
-takes_close_bracket s = record { kind_is = refl; after_is = refl }
-
-pub takes_close_brace : (s : List ℕ) → Takes CloseBrace (125 ∷ s) s
-unfolding token_kind after_token front sign trimmed
-takes_close_brace s = record { kind_is = refl; after_is = refl }
-
-pub takes_comma : (s : List ℕ) → Takes Comma (44 ∷ s) s
-unfolding token_kind after_token front sign trimmed
-takes_comma s = record { kind_is = refl; after_is = refl }
-
-pub takes_dot : (s : List ℕ) → Takes Dot (46 ∷ s) s
-unfolding token_kind after_token front sign trimmed
-takes_dot s = record { kind_is = refl; after_is = refl }
-
-pub takes_minus : (s : List ℕ) → Takes (Binary Subtract) (45 ∷ s) s
-unfolding token_kind after_token front sign trimmed
-takes_minus s = record { kind_is = refl; after_is = refl }
-
-question : (s : List ℕ) → Takes Question (63 ∷ s) s
-unfolding token_kind after_token front sign trimmed
-question s = record { kind_is = refl; after_is = refl }
-
-colon : (s : List ℕ) → Takes Colon (58 ∷ s) s
-unfolding token_kind after_token front sign trimmed
-colon s = record { kind_is = refl; after_is = refl }
+takes_byte (Binary Subtract) s h = record { kind_is = refl; after_is = refl }
+takes_byte (Binary op) s h = absurd h
+takes_byte Name s h = absurd h
+takes_byte Number s h = absurd h
+takes_byte Bang s h = absurd h
+takes_byte Wrong s h = absurd h
+takes_byte k s h = record { kind_is = refl; after_is = refl }
 
 pub takes_question : (s : List ℕ) → Takes Question (32 ∷ 63 ∷ s) s
-takes_question s = takes_spaced Question (63 ∷ s) s (question s)
+takes_question s = takes_spaced Question (63 ∷ s) s (takes_byte Question s tt)
 
 pub takes_colon : (s : List ℕ) → Takes Colon (32 ∷ 58 ∷ s) s
-takes_colon s = takes_spaced Colon (58 ∷ s) s (colon s)
+takes_colon s = takes_spaced Colon (58 ∷ s) s (takes_byte Colon s tt)
 
 -- an operator between spaces, without the first of them
 abbrev behind : Operator → List ℕ → List ℕ
@@ -218,29 +207,11 @@ behind op s = drop 1 (sign_text op ++ s)
 sign_behind : (op : Operator) (s : List ℕ) → Takes (Binary op) (behind op s) (32 ∷ s)
 unfolding token_kind after_token front sign trimmed
 sign_behind Or s = record { kind_is = refl; after_is = refl }
-sign_behind And s = record { kind_is = refl; after_is = refl }
-sign_behind Equal s = record { kind_is = refl; after_is = refl }
-sign_behind NotEqual s = record { kind_is = refl; after_is = refl }
-sign_behind Greater s = record { kind_is = refl; after_is = refl }
-sign_behind GreaterOrEqual s = record { kind_is = refl; after_is = refl }
-sign_behind Less s = record { kind_is = refl; after_is = refl }
-sign_behind LessOrEqual s = record { kind_is = refl; after_is = refl }
-sign_behind Add s = record { kind_is = refl; after_is = refl }
-sign_behind Subtract s = record { kind_is = refl; after_is = refl }
-sign_behind Multiply s = record { kind_is = refl; after_is = refl }
+sign_behind op s = record { kind_is = refl; after_is = refl }
 
 starts_spaced : (op : Operator) (s : List ℕ) → sign_text op ++ s ≡ 32 ∷ behind op s
 starts_spaced Or s = refl
-starts_spaced And s = refl
-starts_spaced Equal s = refl
-starts_spaced NotEqual s = refl
-starts_spaced Greater s = refl
-starts_spaced GreaterOrEqual s = refl
-starts_spaced Less s = refl
-starts_spaced LessOrEqual s = refl
-starts_spaced Add s = refl
-starts_spaced Subtract s = refl
-starts_spaced Multiply s = refl
+starts_spaced op s = refl
 
 pub sign_first : (op : Operator) (s : List ℕ) → get_or (sign_text op ++ s) 0 0 ≡ 32
 sign_first op s = ap (λ x. get_or x 0 0) (starts_spaced op s)

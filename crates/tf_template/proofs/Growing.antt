@@ -1,5 +1,5 @@
 -- Operators one after another, each behind the tree so far.
-use Rattle.std.proofs.Common.{◌≡◌, ◌⊎◌, true, ℕ, ◌<◌, ◌≤◌, List, length, inl, inr, refl, sym, ap, ◌∙◌, subst, arith}
+use Rattle.std.proofs.Common.{◌≡◌, ◌⊎◌, true, ℕ, ◌-◌, ◌<◌, ◌≤◌, List, length, inl, inr, refl, sym, ap, ◌∙◌, subst, arith}
 use Rattle.tf_template.specs.Reads.{Turns, IsOperand, Holds, Stops, Fails, begins, binding, needs}
 use Rattle.tf_template.specs.Spelling.{Spells, prefix_token}
 use Rattle.tf_template.specs.Token.{token_kind}
@@ -8,11 +8,11 @@ use Rattle.tf_template.specs.declared.fault.Fault.{Fault}
 use Rattle.tf_template.specs.declared.fault.Fault.TheVariants.{At, TooDeep, OutOfMemory}
 use Rattle.tf_template.specs.declared.make.Found.{Found}
 use Rattle.tf_template.specs.declared.token.Kind.{Kind}
-use Rattle.tf_template.specs.declared.token.Kind.TheVariants.{Name, Number, Quote, Bang, Binary, Question, Colon, OpenParen, CloseParen, OpenBracket, CloseBracket, CloseBrace, Comma, Dot, Wrong}
+use Rattle.tf_template.specs.declared.token.Kind.TheVariants.{Binary, Question, OpenBracket, Dot, Wrong}
 use Rattle.tf_syntax.specs.declared.tree.Prefix.{Prefix}
 use Rattle.tf_syntax.specs.declared.tree.Prefix.TheVariants.{Not, Negate}
 use Rattle.tf_syntax.specs.declared.operator.Operator.{Operator}
-use Rattle.tf_syntax.specs.declared.operator.Operator.TheVariants.{Or, And, Equal, NotEqual, Greater, GreaterOrEqual, Less, LessOrEqual, Add, Subtract, Multiply}
+use Rattle.tf_syntax.specs.declared.operator.Operator.TheVariants.{Or}
 
 prefix_begins : (op : Prefix) → begins (prefix_token op) ≡ true
 prefix_begins Not = refl
@@ -35,92 +35,58 @@ pub record Climbed (least budget : ℕ) (text : List ℕ) (left : Found) : Type 
 -- the operand that a tree begins with, and the operators behind it
 pub spine : (t : Tree) (s m : List ℕ) (u : Tree) (rest : List ℕ) → Spells t s m → Grows t m u rest
     → (b : Tree) × ((p : List ℕ) × IsOperand b × Spells b s p × Grows b p u rest)
-spine (number n) s m u rest h g = (number n, (m, tt, h, g))
-spine (truth b) s m u rest h g = (truth b, (m, tt, h, g))
-spine null s m u rest h g = (null, (m, tt, h, g))
-spine (quoted ps last) s m u rest h g = (quoted ps last, (m, tt, h, g))
-spine (reference a b) s m u rest h g = (reference a b, (m, tt, h, g))
-spine (call f ts) s m u rest h g = (call f ts, (m, tt, h, g))
-spine (group t) s m u rest h g = (group t, (m, tt, h, g))
-spine (listed ts) s m u rest h g = (listed ts, (m, tt, h, g))
 spine (attribute t name) s m u rest h g = spine t s h.0 u rest h.1 (again {l = t} {m = attribute t name} {t = u} {s = h.0} {p = m} {rest = rest} (refl, h.2) g)
 spine (index t i) s m u rest h g = spine t s h.0 u rest h.1 (again {l = t} {m = index t i} {t = u} {s = h.0} {p = m} {rest = rest} (refl, h.2) g)
-spine (unary op t) s m u rest h g = (unary op t, (m, tt, h, g))
 spine (binary op a b) s m u rest h g = spine a s h.0 u rest h.1 (again {l = a} {m = binary op a b} {t = u} {s = h.0} {p = m} {rest = rest} (refl, h.2) g)
 spine (conditional c a b) s m u rest h g = spine c s h.0 u rest h.1 (again {l = c} {m = conditional c a b} {t = u} {s = h.0} {p = m} {rest = rest} (refl, h.2) g)
+spine t s m u rest h g = (t, (m, tt, h, g))
+
+-- the token behind a tree of which an operator makes this one
+abbrev pub turner : Tree → Kind
+turner (attribute t name) = Dot
+turner (index t i) = OpenBracket
+turner (binary op a b) = Binary op
+turner (conditional c a b) = Question
+turner _ = Wrong
+
+pub turns_kind : (l : Tree) (s : List ℕ) (m : Tree) (p : List ℕ) → Turns l s m p → token_kind s ≡ turner m
+turns_kind l s (attribute t name) p h = h.1.1.kind_is
+turns_kind l s (index t i) p h = h.1.2.kind_is
+turns_kind l s (binary op a b) p h = h.1.1.kind_is
+turns_kind l s (conditional c a b) p h = h.1.3.kind_is
+turns_kind l s m p h = absurd h
 
 turns_binding : (l : Tree) (s : List ℕ) (m : Tree) (p : List ℕ) → Turns l s m p → level m ≡ binding (token_kind s)
-turns_binding l s (number n) p h = absurd h
-turns_binding l s (truth b) p h = absurd h
-turns_binding l s null p h = absurd h
-turns_binding l s (quoted ps last) p h = absurd h
-turns_binding l s (reference a b) p h = absurd h
-turns_binding l s (call f ts) p h = absurd h
-turns_binding l s (group t) p h = absurd h
-turns_binding l s (listed ts) p h = absurd h
 turns_binding l s (attribute t name) p h = sym (ap binding h.1.1.kind_is)
 turns_binding l s (index t i) p h = sym (ap binding h.1.2.kind_is)
-turns_binding l s (unary op t) p h = absurd h
 turns_binding l s (binary op a b) p h = sym (ap binding h.1.1.kind_is)
 turns_binding l s (conditional c a b) p h = sym (ap binding h.1.3.kind_is)
+turns_binding l s m p h = absurd h
 
 pub turns_needs : (l : Tree) (s : List ℕ) (m : Tree) (p : List ℕ) → Turns l s m p → needs (token_kind s) ≤ level l
-turns_needs l s (number n) p h = absurd h
-turns_needs l s (truth b) p h = absurd h
-turns_needs l s null p h = absurd h
-turns_needs l s (quoted ps last) p h = absurd h
-turns_needs l s (reference a b) p h = absurd h
-turns_needs l s (call f ts) p h = absurd h
-turns_needs l s (group t) p h = absurd h
-turns_needs l s (listed ts) p h = absurd h
 turns_needs l s (attribute t name) p h = omega (arith, ap needs h.1.1.kind_is, ap level h.0, h.1.3)
 turns_needs l s (index t i) p h = omega (arith, ap needs h.1.2.kind_is, ap level h.0, h.1.5)
-turns_needs l s (unary op t) p h = absurd h
 turns_needs l s (binary op a b) p h = omega (arith, ap needs h.1.1.kind_is, ap level h.0, h.1.3)
 turns_needs l s (conditional c a b) p h = omega (arith, ap needs h.1.3.kind_is, ap level h.0, h.1.7)
+turns_needs l s m p h = absurd h
 
 turns_depth : (l : Tree) (s : List ℕ) (m : Tree) (p : List ℕ) → Turns l s m p → tree_depth l < tree_depth m
-turns_depth l s (number n) p h = absurd h
-turns_depth l s (truth b) p h = absurd h
-turns_depth l s null p h = absurd h
-turns_depth l s (quoted ps last) p h = absurd h
-turns_depth l s (reference a b) p h = absurd h
-turns_depth l s (call f ts) p h = absurd h
-turns_depth l s (group t) p h = absurd h
-turns_depth l s (listed ts) p h = absurd h
 turns_depth l s (attribute t name) p h = omega (arith, ap tree_depth h.0)
 turns_depth l s (index t i) p h = omega (arith, ap tree_depth h.0)
-turns_depth l s (unary op t) p h = absurd h
 turns_depth l s (binary op a b) p h = omega (arith, ap tree_depth h.0)
 turns_depth l s (conditional c a b) p h = omega (arith, ap tree_depth h.0)
+turns_depth l s m p h = absurd h
 
 turns_spells : (l : Tree) (text s : List ℕ) (m : Tree) (p : List ℕ) → Spells l text s → Turns l s m p → Spells m text p
-turns_spells l text s (number n) p k h = absurd h
-turns_spells l text s (truth b) p k h = absurd h
-turns_spells l text s null p k h = absurd h
-turns_spells l text s (quoted ps last) p k h = absurd h
-turns_spells l text s (reference a b) p k h = absurd h
-turns_spells l text s (call f ts) p k h = absurd h
-turns_spells l text s (group t) p k h = absurd h
-turns_spells l text s (listed ts) p k h = absurd h
 turns_spells l text s (attribute t name) p k h = (s, subst (λ x. Spells x text s) (sym h.0) k, h.1)
 turns_spells l text s (index t i) p k h = (s, subst (λ x. Spells x text s) (sym h.0) k, h.1)
-turns_spells l text s (unary op t) p k h = absurd h
 turns_spells l text s (binary op a b) p k h = (s, subst (λ x. Spells x text s) (sym h.0) k, h.1)
 turns_spells l text s (conditional c a b) p k h = (s, subst (λ x. Spells x text s) (sym h.0) k, h.1)
+turns_spells l text s m p k h = absurd h
 
 level_bounds : (op : Operator) → (2 ≤ level_of op) × (level_of op ≤ 7)
 level_bounds Or = (omega arith, omega arith)
-level_bounds And = (omega arith, omega arith)
-level_bounds Equal = (omega arith, omega arith)
-level_bounds NotEqual = (omega arith, omega arith)
-level_bounds Greater = (omega arith, omega arith)
-level_bounds GreaterOrEqual = (omega arith, omega arith)
-level_bounds Less = (omega arith, omega arith)
-level_bounds LessOrEqual = (omega arith, omega arith)
-level_bounds Add = (omega arith, omega arith)
-level_bounds Subtract = (omega arith, omega arith)
-level_bounds Multiply = (omega arith, omega arith)
+level_bounds op = (omega arith, omega arith)
 
 -- what a token makes is of no tighter level than it needs; at 8 and 1 there is no token
 record Bounds (k : Kind) : Type 0 where
@@ -129,22 +95,9 @@ record Bounds (k : Kind) : Type 0 where
   at_1 : needs k ≤ 1 → binding k < 1
 
 bounds : (k : Kind) → Bounds k
-bounds Name = record { below = omega arith; at_8 = λ h. omega arith; at_1 = λ h. omega arith }
-bounds Number = record { below = omega arith; at_8 = λ h. omega arith; at_1 = λ h. omega arith }
-bounds Quote = record { below = omega arith; at_8 = λ h. omega arith; at_1 = λ h. omega arith }
-bounds Bang = record { below = omega arith; at_8 = λ h. omega arith; at_1 = λ h. omega arith }
 bounds (Binary op) =
     let b = level_bounds op in record { below = omega arith; at_8 = λ h. omega (arith, b.1); at_1 = λ h. omega (arith, b.0, h) }
-bounds Question = record { below = omega arith; at_8 = λ h. omega arith; at_1 = λ h. omega (arith, h) }
-bounds Colon = record { below = omega arith; at_8 = λ h. omega arith; at_1 = λ h. omega arith }
-bounds OpenParen = record { below = omega arith; at_8 = λ h. omega arith; at_1 = λ h. omega arith }
-bounds CloseParen = record { below = omega arith; at_8 = λ h. omega arith; at_1 = λ h. omega arith }
-bounds OpenBracket = record { below = omega arith; at_8 = λ h. omega (arith, h); at_1 = λ h. omega (arith, h) }
-bounds CloseBracket = record { below = omega arith; at_8 = λ h. omega arith; at_1 = λ h. omega arith }
-bounds CloseBrace = record { below = omega arith; at_8 = λ h. omega arith; at_1 = λ h. omega arith }
-bounds Comma = record { below = omega arith; at_8 = λ h. omega arith; at_1 = λ h. omega arith }
-bounds Dot = record { below = omega arith; at_8 = λ h. omega (arith, h); at_1 = λ h. omega (arith, h) }
-bounds Wrong = record { below = omega arith; at_8 = λ h. omega arith; at_1 = λ h. omega arith }
+bounds k = record { below = omega arith; at_8 = λ h. omega (arith, h); at_1 = λ h. omega (arith, h) }
 
 turns_level : (l : Tree) (s : List ℕ) (m : Tree) (p : List ℕ) → Turns l s m p → level m ≤ level l
 turns_level l s m p h = omega (arith, turns_binding l s m p h, turns_needs l s m p h, (bounds (token_kind s)).below)
@@ -158,19 +111,10 @@ grows_depth _ _ t _ done = omega arith
 grows_depth l s t rest (again {m} {p} h g) = omega (arith, turns_depth l s m p h, grows_depth m p t rest g)
 
 pub holds_where : (m : Tree) (p : List ℕ) → (binding (token_kind p) < level m) ⊎ (needs (token_kind p) ≤ level m) → Holds m p
-holds_where (number n) p h = tt
-holds_where (truth b) p h = tt
-holds_where null p h = tt
-holds_where (quoted ps last) p h = tt
-holds_where (reference a b) p h = tt
-holds_where (call f ts) p h = tt
-holds_where (group t) p h = tt
-holds_where (listed ts) p h = tt
-holds_where (attribute t name) p h = tt
-holds_where (index t i) p h = tt
 holds_where (unary op t) p h = elim h [ inl b ↦ b | inr n ↦ (bounds (token_kind p)).at_8 n ]
 holds_where (binary op a b) p h = elim h [ inl b ↦ omega arith | inr n ↦ omega (arith, n, (bounds (token_kind p)).below) ]
 holds_where (conditional c a b) p h = elim h [ inl b ↦ b | inr n ↦ (bounds (token_kind p)).at_1 n ]
+holds_where m p h = tt
 
 -- a tree on the way to one that ends at rest ends where it does
 pub holds : (least : ℕ) (m : Tree) (p : List ℕ) (t : Tree) (rest : List ℕ) → Grows m p t rest → least ≤ level t → Stops least rest → Holds m p
@@ -192,6 +136,12 @@ pub Fails-more : (f : Fault) {D E : Type 0} → (D → E) → Fails f D → Fail
 Fails-more (At left) g h = h
 Fails-more TooDeep g h = g h
 Fails-more OutOfMemory g h = h
+
+-- why a part isn't read on the next level is why the whole isn't on this one
+pub Fails-below : (f : Fault) (budget part whole : ℕ) → part < whole → Fails f (budget - 1 < part) → Fails f (budget < whole)
+Fails-below (At left) budget part whole deeper h = h
+Fails-below TooDeep budget part whole deeper h = omega arith
+Fails-below OutOfMemory budget part whole deeper h = h
 
 module _ (least budget : ℕ) (text : List ℕ) where
   -- why no operand is read is why no expression is
@@ -259,17 +209,7 @@ spells_begins (unary op t) s rest h = ap begins h.1.kind_is ∙ prefix_begins op
 spells_begins (binary op a b) s rest h = spells_begins a s h.0 h.1
 spells_begins (conditional c a b) s rest h = spells_begins c s h.0 h.1
 
+-- an expression has a level
 pub level_some : (t : Tree) → 1 ≤ level t
-level_some (number n) = omega arith
-level_some (truth b) = omega arith
-level_some null = omega arith
-level_some (quoted ps last) = omega arith
-level_some (reference a b) = omega arith
-level_some (call f ts) = omega arith
-level_some (group t) = omega arith
-level_some (listed ts) = omega arith
-level_some (attribute t name) = omega arith
-level_some (index t i) = omega arith
-level_some (unary op t) = omega arith
 level_some (binary op a b) = omega (arith, (level_bounds op).0)
-level_some (conditional c a b) = omega arith
+level_some t = omega arith

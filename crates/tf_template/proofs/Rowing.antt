@@ -48,7 +48,7 @@ takes : (k : Kind) (s after : List ℕ) → token_kind s ≡ k → after_token s
 takes k s after e f = record { kind_is = e; after_is = f }
 
 -- at a tree with a token that is no end: what stops an expression there
-tail_stops : (close : Kind) → binding close ≡ 0 → (vs : Trees) (p r : List ℕ) → Tail close vs p r → Stops 1 p
+pub tail_stops : (close : Kind) → binding close ≡ 0 → (vs : Trees) (p r : List ℕ) → Tail close vs p r → Stops 1 p
 tail_stops close z vs p r h = elim h [
   | inl last ↦ omega (arith, z, ap binding last.1.kind_is)
   | inr next ↦ omega (arith, ap binding next.1.kind_is)

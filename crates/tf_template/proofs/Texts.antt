@@ -10,11 +10,12 @@ use Rattle.tf_template.specs.Token.{token_kind}
 use Rattle.tf_syntax.specs.TemplateTree.{Tree, number, truth, null, quoted, reference, call, group, listed, attribute, index, unary, binary, conditional, Trees, no_trees, tree, Parts, no_parts, part, Woven}
 use Rattle.tf_template.specs.Word.{decimal, keyword}
 use Rattle.tf_template.specs.declared.token.Kind.{Kind}
-use Rattle.tf_template.specs.declared.token.Kind.TheVariants.{Name, Number, Quote, OpenParen, CloseParen, OpenBracket, CloseBracket}
+use Rattle.tf_template.specs.declared.token.Kind.TheVariants.{Name, Number, Quote, Binary, OpenParen, CloseParen, OpenBracket, CloseBracket, CloseBrace, Comma, Dot}
 use Rattle.tf_syntax.specs.declared.operator.Operator.{Operator}
+use Rattle.tf_syntax.specs.declared.operator.Operator.TheVariants.{Subtract}
 use Rattle.tf_syntax.specs.declared.tree.Prefix.{Prefix}
 use Rattle.tf_syntax.specs.declared.tree.Prefix.TheVariants.{Not, Negate}
-use Rattle.tf_template.proofs.Fronts.{takes_spaced, takes_name_spaced, word_spaced, takes_name, takes_keyword, truth_name, truth_keyword, null_keyword, takes_number, takes_quote, takes_open_paren, takes_close_paren, takes_open_bracket, takes_close_bracket, takes_close_brace, takes_comma, takes_dot, takes_minus, takes_question, takes_colon, takes_sign, takes_bang, sign_first}
+use Rattle.tf_template.proofs.Fronts.{takes_spaced, takes_name_spaced, word_spaced, takes_name, takes_keyword, truth_name, truth_keyword, null_keyword, takes_number, takes_byte, takes_question, takes_colon, takes_sign, takes_bang, sign_first}
 use Rattle.tf_template.proofs.Growing.{spells_begins}
 use Rattle.tf_template.proofs.Literals.{literal_reads}
 
@@ -47,7 +48,7 @@ ends_sign op s = ap continues_name (sign_first op s)
 
 takes_prefix : (op : Prefix) (s : List ℕ) → begins (token_kind s) ≡ true → Takes (prefix_token op) (prefix_text op ++ s) s
 takes_prefix Not s h = takes_bang s h
-takes_prefix Negate s h = takes_minus s
+takes_prefix Negate s h = takes_byte (Binary Subtract) s tt
 
 -- what ends a template, and begins with nothing that text before it could go on with
 record Closing (within : Bool) (s rest : List ℕ) : Type 0 where
@@ -76,21 +77,21 @@ mutual
   tree_spelled (truth b) rest w e = let f = takes_keyword (truth_text b) rest (truth_name b) e in (f.takes, f.word_is ∙ truth_keyword b)
   tree_spelled null rest w e = let f = takes_keyword (codes "null") rest refl e in (f.takes, f.word_is ∙ null_keyword)
   tree_spelled (quoted ps last) rest w e =
-      (parts_text true ps last (34 ∷ rest), takes_quote (parts_text true ps last (34 ∷ rest)), parts_spelled ps true last (34 ∷ rest) rest w (closing_quote rest))
+      (parts_text true ps last (34 ∷ rest), takes_byte Quote (parts_text true ps last (34 ∷ rest)) tt, parts_spelled ps true last (34 ∷ rest) rest w (closing_quote rest))
   tree_spelled (reference a b) rest w e =
-      (w.0.1, (46 ∷ (b ++ rest), b ++ rest, takes_name a (46 ∷ (b ++ rest)) w.0.0 refl, takes_dot (b ++ rest), takes_name b rest w.1 e))
+      (w.0.1, (46 ∷ (b ++ rest), b ++ rest, takes_name a (46 ∷ (b ++ rest)) w.0.0 refl, takes_byte Dot (b ++ rest) tt, takes_name b rest w.1 e))
   tree_spelled (call f ts) rest w e =
       let inner = trees_text ts (41 ∷ rest) in
-      (w.0.1, (40 ∷ inner, inner, takes_name f (40 ∷ inner) w.0.0 refl, takes_open_paren inner, list_spelled ts CloseParen (41 ∷ rest) rest w.1 refl (takes_close_paren rest)))
+      (w.0.1, (40 ∷ inner, inner, takes_name f (40 ∷ inner) w.0.0 refl, takes_byte OpenParen inner tt, list_spelled ts CloseParen (41 ∷ rest) rest w.1 refl (takes_byte CloseParen rest tt)))
   tree_spelled (group t) rest w e =
-      (tree_text t (41 ∷ rest), 41 ∷ rest, takes_open_paren (tree_text t (41 ∷ rest)), tree_spelled t (41 ∷ rest) w refl, takes_close_paren rest)
+      (tree_text t (41 ∷ rest), 41 ∷ rest, takes_byte OpenParen (tree_text t (41 ∷ rest)) tt, tree_spelled t (41 ∷ rest) w refl, takes_byte CloseParen rest tt)
   tree_spelled (listed ts) rest w e =
-      (trees_text ts (93 ∷ rest), takes_open_bracket (trees_text ts (93 ∷ rest)), list_spelled ts CloseBracket (93 ∷ rest) rest w refl (takes_close_bracket rest))
+      (trees_text ts (93 ∷ rest), takes_byte OpenBracket (trees_text ts (93 ∷ rest)) tt, list_spelled ts CloseBracket (93 ∷ rest) rest w refl (takes_byte CloseBracket rest tt))
   tree_spelled (attribute t name) rest w e =
-      (46 ∷ (name ++ rest), tree_spelled t (46 ∷ (name ++ rest)) w.0 refl, (name ++ rest, takes_dot (name ++ rest), takes_name name rest w.1 e, w.2))
+      (46 ∷ (name ++ rest), tree_spelled t (46 ∷ (name ++ rest)) w.0 refl, (name ++ rest, takes_byte Dot (name ++ rest) tt, takes_name name rest w.1 e, w.2))
   tree_spelled (index t i) rest w e =
       let inner = tree_text i (93 ∷ rest) in
-      (91 ∷ inner, tree_spelled t (91 ∷ inner) w.0 refl, (inner, 93 ∷ rest, takes_open_bracket inner, tree_spelled i (93 ∷ rest) w.1 refl, takes_close_bracket rest, w.2))
+      (91 ∷ inner, tree_spelled t (91 ∷ inner) w.0 refl, (inner, 93 ∷ rest, takes_byte OpenBracket inner tt, tree_spelled i (93 ∷ rest) w.1 refl, takes_byte CloseBracket rest tt, w.2))
   tree_spelled (unary op t) rest w e =
       let h = tree_spelled t rest w.0 e in
       (tree_text t rest, takes_prefix op (tree_text t rest) (spells_begins t (tree_text t rest) rest h), h, w.1)
@@ -124,7 +125,7 @@ mutual
       let more = trees_text (tree u us) s in (
         44 ∷ 32 ∷ more,
         tree_spelled t (44 ∷ 32 ∷ more) w.0 refl,
-        inr (32 ∷ more, takes_comma (32 ∷ more), list_spaced close (tree u us) more rest (list_spelled (tree u us) close s rest w.1 e h)),
+        inr (32 ∷ more, takes_byte Comma (32 ∷ more) tt, list_spaced close (tree u us) more rest (list_spelled (tree u us) close s rest w.1 e h)),
       )
 
   parts_spelled : (ps : Parts) (within : Bool) (last s rest : List ℕ) → ArePartsWritable ps → Closing within s rest → SpellsParts within ps last (parts_text within ps last s) rest
@@ -139,7 +140,7 @@ mutual
         literal_opens within text inner w.0,
         opening within inner,
         tree_spelled t (125 ∷ others) w.1 refl,
-        takes_close_brace others,
+        takes_byte CloseBrace others tt,
         parts_spelled ps within last s rest w.2 c,
       )
 

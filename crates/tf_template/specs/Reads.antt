@@ -3,7 +3,7 @@ use Rattle.std.specs.Prelude.{◌≡◌, ◌<◌, ◌≤◌, ℕ, suc, Bool, tru
 use Rattle.std.specs.Borrow.{Bor}
 use Rattle.tf_template.specs.Spelling.{Spells, SpellsList, SpellsParts, Takes, TakesName}
 use Rattle.tf_template.specs.Token.{token_kind, after_token}
-use Rattle.tf_syntax.specs.TemplateTree.{Tree, number, truth, null, quoted, reference, call, group, listed, attribute, index, unary, binary, conditional, Trees, Woven, tree_depth, trees_depth, parts_depth, level, level_of, view, terms_view, template_view}
+use Rattle.tf_syntax.specs.TemplateTree.{Tree, truth, null, attribute, index, unary, binary, conditional, Trees, Woven, tree_depth, trees_depth, parts_depth, level, level_of, view, terms_view, template_view}
 use Rattle.tf_template.specs.declared.fault.Fault.{Fault}
 use Rattle.tf_template.specs.declared.fault.Fault.TheVariants.{At, TooDeep, OutOfMemory}
 use Rattle.tf_template.specs.declared.make.Found.{Found}
@@ -12,46 +12,23 @@ use Rattle.tf_template.specs.declared.make.Read.{Read}
 use Rattle.tf_template.specs.declared.token.Bracket.{Bracket}
 use Rattle.tf_template.specs.declared.token.Bracket.TheVariants.{Round, Square}
 use Rattle.tf_template.specs.declared.token.Kind.{Kind}
-use Rattle.tf_template.specs.declared.token.Kind.TheVariants.{Name, Number, Quote, Bang, Binary, Question, Colon, OpenParen, CloseParen, OpenBracket, CloseBracket, CloseBrace, Comma, Dot, Wrong}
-use Rattle.tf_syntax.specs.declared.operator.Operator.TheVariants.{Or, And, Equal, NotEqual, Greater, GreaterOrEqual, Less, LessOrEqual, Add, Subtract, Multiply}
+use Rattle.tf_template.specs.declared.token.Kind.TheVariants.{Name, Number, Quote, Bang, Binary, Question, Colon, OpenParen, CloseParen, OpenBracket, CloseBracket, Dot}
+use Rattle.tf_syntax.specs.declared.operator.Operator.TheVariants.{Subtract}
 use Rattle.tf_template.specs.declared.word.Keyword.{Keyword}
 use Rattle.tf_template.specs.declared.word.Keyword.TheVariants.{True, False, Null, Free}
 
 -- the level of the tree that a token makes of the one before it, and 0 where it makes none
 abbrev pub binding : Kind → ℕ
-binding Name = 0
-binding Number = 0
-binding Quote = 0
-binding Bang = 0
 binding (Binary op) = level_of op
 binding Question = 1
-binding Colon = 0
-binding OpenParen = 0
-binding CloseParen = 0
 binding OpenBracket = 10
-binding CloseBracket = 0
-binding CloseBrace = 0
-binding Comma = 0
 binding Dot = 10
-binding Wrong = 0
+binding _ = 0
 
 -- the least level of the tree before such a token
 abbrev pub needs : Kind → ℕ
-needs Name = 0
-needs Number = 0
-needs Quote = 0
-needs Bang = 0
-needs (Binary op) = level_of op
 needs Question = 2
-needs Colon = 0
-needs OpenParen = 0
-needs CloseParen = 0
-needs OpenBracket = 10
-needs CloseBracket = 0
-needs CloseBrace = 0
-needs Comma = 0
-needs Dot = 10
-needs Wrong = 0
+needs k = binding k
 
 -- whether an expression may begin with a token
 abbrev pub begins : Kind → Bool
@@ -59,27 +36,10 @@ begins Name = true
 begins Number = true
 begins Quote = true
 begins Bang = true
-begins (Binary Or) = false
-begins (Binary And) = false
-begins (Binary Equal) = false
-begins (Binary NotEqual) = false
-begins (Binary Greater) = false
-begins (Binary GreaterOrEqual) = false
-begins (Binary Less) = false
-begins (Binary LessOrEqual) = false
-begins (Binary Add) = false
 begins (Binary Subtract) = true
-begins (Binary Multiply) = false
-begins Question = false
-begins Colon = false
 begins OpenParen = true
-begins CloseParen = false
 begins OpenBracket = true
-begins CloseBracket = false
-begins CloseBrace = false
-begins Comma = false
-begins Dot = false
-begins Wrong = false
+begins _ = false
 
 abbrev pub closing : Bracket → Kind
 closing Round = CloseParen
@@ -91,53 +51,28 @@ Stops least rest = binding (token_kind rest) < least
 
 -- a tree that no operator between or behind trees has made
 abbrev pub IsOperand : Tree → Type 0
-IsOperand (number n) = Unit {0}
-IsOperand (truth b) = Unit {0}
-IsOperand null = Unit {0}
-IsOperand (quoted ps last) = Unit {0}
-IsOperand (reference a b) = Unit {0}
-IsOperand (call f ts) = Unit {0}
-IsOperand (group t) = Unit {0}
-IsOperand (listed ts) = Unit {0}
 IsOperand (attribute t name) = ⊥
 IsOperand (index t i) = ⊥
-IsOperand (unary op t) = Unit {0}
 IsOperand (binary op a b) = ⊥
 IsOperand (conditional c a b) = ⊥
+IsOperand _ = Unit {0}
 
 -- what follows a tree doesn't go on with its last part
 abbrev pub Holds : Tree → List ℕ → Type 0
-Holds (number n) rest = Unit {0}
-Holds (truth b) rest = Unit {0}
-Holds null rest = Unit {0}
-Holds (quoted ps last) rest = Unit {0}
-Holds (reference a b) rest = Unit {0}
-Holds (call f ts) rest = Unit {0}
-Holds (group t) rest = Unit {0}
-Holds (listed ts) rest = Unit {0}
-Holds (attribute t name) rest = Unit {0}
-Holds (index t i) rest = Unit {0}
 Holds (unary op t) rest = Stops 8 rest
 Holds (binary op a b) rest = Stops (suc (level_of op)) rest
 Holds (conditional c a b) rest = Stops 1 rest
+Holds _ rest = Unit {0}
 
 -- the tree l, and what stands behind it up to rest, is the tree t
 abbrev pub Turns : Tree → List ℕ → Tree → List ℕ → Type 0
-Turns l s (number n) rest = ⊥
-Turns l s (truth b) rest = ⊥
-Turns l s null rest = ⊥
-Turns l s (quoted ps last) rest = ⊥
-Turns l s (reference a b) rest = ⊥
-Turns l s (call f ts) rest = ⊥
-Turns l s (group t) rest = ⊥
-Turns l s (listed ts) rest = ⊥
 Turns l s (attribute t name) rest = (t ≡ l) × ((q : List ℕ) × Takes Dot s q × TakesName name q rest × (10 ≤ level t))
 Turns l s (index t i) rest = (t ≡ l) × ((q r : List ℕ) × Takes OpenBracket s q × Spells i q r × Takes CloseBracket r rest × (10 ≤ level t))
-Turns l s (unary op t) rest = ⊥
 Turns l s (binary op a b) rest = (a ≡ l)
     × ((q : List ℕ) × Takes (Binary op) s q × Spells b q rest × (level_of op ≤ level a) × (level_of op < level b))
 Turns l s (conditional c a b) rest = (c ≡ l)
     × ((q r u : List ℕ) × Takes Question s q × Spells a q r × Takes Colon r u × Spells b u rest × (2 ≤ level c))
+Turns l s _ rest = ⊥
 
 abbrev pub IsRefusal : Fault → Type 0
 IsRefusal (At left) = Unit {0}

@@ -3,7 +3,7 @@
 ghost use Rattle.std.specs.Prelude.{◌≡◌, ◌<◌, ◌^◌, true, length, IfOk};
 ghost use Rattle.tf_template.specs.Reads.{IsRefusal, Passes, begins};
 ghost use Rattle.tf_template.specs.Word.{decimal};
-ghost use Rattle.tf_template.specs.declared.fault.Fault.TheVariants.{TooDeep};
+ghost use Rattle.tf_template.specs.declared.fault.Fault.TheVariants.{OutOfMemory, TooDeep};
 ghost use Rattle.tf_template.specs.declared.token.Kind.TheVariants.{CloseBrace, Colon, Number};
 
 use crate::token::{Kind, Token, next_token};
@@ -22,23 +22,9 @@ pub(crate) enum Fault {
 }
 
 impl From<AllocError> for Fault {
-    ghost use Rattle.std.specs.Prelude.{◌≡◌};
-    ghost use Rattle.tf_template.specs.declared.fault.Fault.TheVariants.{OutOfMemory};
-
     ghost from_gives = { λ _ fault. fault ≡ OutOfMemory };
 
     fn from(_error: AllocError) -> Fault {
-        Fault::OutOfMemory
-    }
-}
-
-impl<T: Drop> From<AllocFailed<T>> for Fault {
-    ghost use Rattle.std.specs.Prelude.{◌≡◌};
-    ghost use Rattle.tf_template.specs.declared.fault.Fault.TheVariants.{OutOfMemory};
-
-    ghost from_gives = { λ _ fault. fault ≡ OutOfMemory };
-
-    fn from(_error: AllocFailed<T>) -> Fault {
         Fault::OutOfMemory
     }
 }
@@ -95,4 +81,12 @@ pub(crate) fn pass_brace(text: &str) -> Result<&str, Fault>
         return Err(refusal_behind(token));
     };
     Ok(token.rest)
+}
+
+impl<T: Drop> From<AllocFailed<T>> for Fault {
+    ghost from_gives = { λ _ fault. fault ≡ OutOfMemory };
+
+    fn from(_error: AllocFailed<T>) -> Fault {
+        Fault::OutOfMemory
+    }
 }

@@ -19,6 +19,3 @@ mod token;
 mod word;
 
 pub use template::{MAX_DEPTH, ReadFault, read_template};
-
-#[cfg(test)]
-mod tests;

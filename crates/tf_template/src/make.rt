@@ -21,6 +21,22 @@ pub(crate) struct Found<'a> {
     pub(crate) rest: &'a str,
 }
 
+impl<'a> Found<'a> {
+    /// A tree whose deepest part is so deep, and what follows it.
+    fn above(depth: usize, term: Term, rest: &'a str) -> Found<'a>
+        requires { depth < 64 }
+        ensures term { view result.term ≡ view term }
+        ensures depth { result.depth ≡ suc depth }
+        ensures rest { result.rest.now ≡ rest.now }
+    {
+        Found {
+            term,
+            depth: depth + 1,
+            rest,
+        }
+    }
+}
+
 /// Expressions in a row, the depth of the deepest, and what follows them.
 #[derive(Debug, Drop)]
 pub(crate) struct Items<'a> {
@@ -44,11 +60,7 @@ pub(crate) fn number(token: Token<'_>) -> Result<Found<'_>, Fault>
     let Some(value) = number_of(token.word) else {
         return Err(refusal(token));
     };
-    Ok(Found {
-        term: Term::Number(value),
-        depth: 1,
-        rest: token.rest,
-    })
+    Ok(Found::above(0, Term::Number(value), token.rest))
 }
 
 /// The value that a name which isn't free stands for.
@@ -62,11 +74,7 @@ pub(crate) fn constant<'a>(keyword: Keyword, rest: &'a str) -> Found<'a>
         Keyword::False => Term::Truth(false),
         Keyword::Null | Keyword::Free => Term::Null,
     };
-    Found {
-        term,
-        depth: 1,
-        rest,
-    }
+    Found::above(0, term, rest)
 }
 
 /// The reference that goes on with a name.
@@ -81,11 +89,7 @@ pub(crate) fn reference<'a>(alloc: Global, first: &str, text: &'a str) -> Result
     let first = String::from_str(alloc, first)?;
     let name = String::from_str(alloc, token.word)?;
     let term = Term::Reference(Reference { first, name });
-    Ok(Found {
-        term,
-        depth: 1,
-        rest: token.rest,
-    })
+    Ok(Found::above(0, term, token.rest))
 }
 
 /// A call of this function.
@@ -98,11 +102,7 @@ pub(crate) fn call<'a>(
     ensures { Makes (Unit {0}) (call function.now (terms_view arguments.entry.terms.items)) arguments.entry.rest.now (suc arguments.entry.depth) result }
 {
     let term = Term::Call(String::from_str(alloc, function)?, arguments.terms);
-    Ok(Found {
-        term,
-        depth: arguments.depth + 1,
-        rest: arguments.rest,
-    })
+    Ok(Found::above(arguments.depth, term, arguments.rest))
 }
 
 /// The list of what was read.
@@ -112,11 +112,7 @@ pub(crate) fn listed<'a>(parts: Items<'a>) -> Found<'a>
     ensures depth { result.depth ≡ suc parts.entry.depth }
     ensures rest { result.rest.now ≡ parts.entry.rest.now }
 {
-    Found {
-        term: Term::List(parts.terms),
-        depth: parts.depth + 1,
-        rest: parts.rest,
-    }
+    Found::above(parts.depth, Term::List(parts.terms), parts.rest)
 }
 
 /// A template between quotes.
@@ -126,11 +122,7 @@ pub(crate) fn quoted<'a>(read: Read<'a>) -> Found<'a>
     ensures depth { result.depth ≡ suc read.entry.depth }
     ensures rest { result.rest.now ≡ read.entry.rest.now }
 {
-    Found {
-        term: Term::Quoted(read.template),
-        depth: read.depth + 1,
-        rest: read.rest,
-    }
+    Found::above(read.depth, Term::Quoted(read.template), read.rest)
 }
 
 /// An expression in parentheses, of which the last is still to be read.
@@ -144,11 +136,7 @@ pub(crate) fn group<'a>(alloc: Global, inner: Found<'a>) -> Result<Found<'a>, Fa
         return Err(refusal_behind(token));
     };
     let term = Term::Group(Box::new(alloc, inner.term)?);
-    Ok(Found {
-        term,
-        depth: inner.depth + 1,
-        rest: token.rest,
-    })
+    Ok(Found::above(inner.depth, term, token.rest))
 }
 
 /// An attribute of a value, by the name that comes next.
@@ -169,11 +157,7 @@ pub(crate) fn attribute<'a>(
         Box::new(alloc, value.term)?,
         String::from_str(alloc, token.word)?,
     );
-    Ok(Found {
-        term,
-        depth: value.depth + 1,
-        rest: token.rest,
-    })
+    Ok(Found::above(value.depth, term, token.rest))
 }
 
 /// An element of a value, by an index whose closing bracket is still to be read.
@@ -191,13 +175,9 @@ pub(crate) fn index<'a>(
     let Kind::CloseBracket = token.kind else {
         return Err(refusal_behind(token));
     };
-    let depth = value.depth.max(place.depth) + 1;
+    let depth = value.depth.max(place.depth);
     let term = Term::Index(Box::new(alloc, value.term)?, Box::new(alloc, place.term)?);
-    Ok(Found {
-        term,
-        depth,
-        rest: token.rest,
-    })
+    Ok(Found::above(depth, term, token.rest))
 }
 
 /// An operator before its operand.
@@ -210,11 +190,7 @@ pub(crate) fn unary<'a>(
     ensures { Makes (Unit {0}) (unary operator (view operand.entry.term)) operand.entry.rest.now (suc operand.entry.depth) result }
 {
     let term = Term::Unary(operator, Box::new(alloc, operand.term)?);
-    Ok(Found {
-        term,
-        depth: operand.depth + 1,
-        rest: operand.rest,
-    })
+    Ok(Found::above(operand.depth, term, operand.rest))
 }
 
 /// An operator between its sides.
@@ -228,17 +204,13 @@ pub(crate) fn binary<'a>(
     requires small_right { right.depth < 64 }
     ensures { Makes (Unit {0}) (binary operator (view left.entry.term) (view right.entry.term)) right.entry.rest.now (suc (max left.entry.depth right.entry.depth)) result }
 {
-    let depth = left.depth.max(right.depth) + 1;
+    let depth = left.depth.max(right.depth);
     let term = Term::Binary(
         operator,
         Box::new(alloc, left.term)?,
         Box::new(alloc, right.term)?,
     );
-    Ok(Found {
-        term,
-        depth,
-        rest: right.rest,
-    })
+    Ok(Found::above(depth, term, right.rest))
 }
 
 /// A choice by a condition.
@@ -253,16 +225,12 @@ pub(crate) fn conditional<'a>(
     requires small_no { no.depth < 64 }
     ensures { Makes (Unit {0}) (conditional (view condition.entry.term) (view yes.entry.term) (view no.entry.term)) no.entry.rest.now (suc (max condition.entry.depth (max yes.entry.depth no.entry.depth))) result }
 {
-    let depth = condition.depth.max(yes.depth.max(no.depth)) + 1;
+    let depth = condition.depth.max(yes.depth.max(no.depth));
     let condition = Box::new(alloc, condition.term)?;
     let term = Term::Conditional(
         condition,
         Box::new(alloc, yes.term)?,
         Box::new(alloc, no.term)?,
     );
-    Ok(Found {
-        term,
-        depth,
-        rest: no.rest,
-    })
+    Ok(Found::above(depth, term, no.rest))
 }

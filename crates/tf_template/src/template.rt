@@ -1,7 +1,7 @@
 //! Templates, read from texts.
 
-ghost use Rattle.std.specs.Prelude.{◌≡◌, ◌<◌, ◌≤◌, IfOk, MatchResult};
-ghost use Rattle.tf_template.specs.Refusal.{Refuses};
+ghost use Rattle.std.specs.Prelude.{◌≡◌, ◌<◌, ◌≤◌, Some, IfOk, MatchResult};
+ghost use Rattle.tf_template.specs.Refusal.{Refuses, fault_text};
 ghost use Rattle.tf_template.specs.Spelling.{SpellsTemplate};
 ghost use Rattle.tf_syntax.specs.TemplateTree.{Woven, template_depth, template_view};
 
@@ -27,9 +27,6 @@ pub enum ReadFault {
 }
 
 impl fmt::Display for ReadFault {
-    ghost use Rattle.std.specs.Prelude.{Some};
-    ghost use Rattle.tf_template.specs.Refusal.{fault_text};
-
     ghost output = { λ fault. Some (fault_text fault) };
 
     fn fmt<W: fmt::Write>(&self, f: &mut fmt::Formatter<W>) -> fmt::Result {

@@ -33,39 +33,35 @@ pub read_members-returns-in_err-demand_plain_name-clause-fault :
     goal.read_members-returns-in_err-demand_plain_name-clause-fault
 read_members-returns-in_err-demand_plain_name-clause-fault t c =
     let place = place_of c.args.path.now in
-    let done = c.loop-key.invariant.0 in
     let e : Entry = (c.in-Some.key.now, c.in-Some.member.now) in
     let p = err_from_is_err_and c.from_residual.result c.from_residual.ensures.1 in
-    let all : c.args.members.now.entries ≡ done ++ e ∷ c.next.new.self = c.loop-key.invariant.1 ∙ ap (λ es. done ++ es) c.in-Some.ensures.steps in
     let first = rw (place_of-Member, c.as_str.ensures.value, c.as_str-in-loop-key.ensures.value) at c.in_err-demand_plain_name.ensures.fault in
-    rw (p.1, p.2, all) (members_refused place done e c.next.new.self (entries_view c.loop-key.exprs.entries) _ c.loop-key.invariant.2
+    rw (p.1, p.2) (members_refused place c.args.members.now.entries c.loop-key.invariant.0 c.loop-key.key-iterator e c.next.new.self (entries_view c.loop-key.exprs.entries) _
+    c.loop-key.invariant.1 c.in-Some.ensures.steps c.loop-key.invariant.2
     (Refuses-left (demanded (string_bytes e.0 ∷ place) (a_plain_name (string_bytes e.0))) (expr_checks (string_bytes e.0 ∷ place) (view e.1)) _ first))
 
 pub read_members-returns-in_err-expr-clause-fault :
     goal.read_members-returns-in_err-expr-clause-fault
 read_members-returns-in_err-expr-clause-fault t c =
     let place = place_of c.args.path.now in
-    let done = c.loop-key.invariant.0 in
     let e : Entry = (c.in-Some.key.now, c.in-Some.member.now) in
-    let p = err_from_is_err_and c.from_residual-in_err-expr.result c.from_residual-in_err-expr.ensures.1 in
-    let all : c.args.members.now.entries ≡ done ++ e ∷ c.next.new.self = c.loop-key.invariant.1 ∙ ap (λ es. done ++ es) c.in-Some.ensures.steps in
     let plain = rw c.as_str-in-loop-key.ensures.value at c.in_ok-demand_plain_name.ensures.ok in
     let first = rw (place_of-Member, c.as_str.ensures.value) at c.in_err-expr.ensures.fault in
-    rw (p.1, p.2, all) (members_refused place done e c.next.new.self (entries_view c.loop-key.exprs.entries) _ c.loop-key.invariant.2
+    let p = err_from_is_err_and c.from_residual-in_err-expr.result c.from_residual-in_err-expr.ensures.1 in
+    rw (p.1, p.2) (members_refused place c.args.members.now.entries c.loop-key.invariant.0 c.loop-key.key-iterator e c.next.new.self (entries_view c.loop-key.exprs.entries) _
+    c.loop-key.invariant.1 c.in-Some.ensures.steps c.loop-key.invariant.2
     (Refuses-right (demanded (string_bytes e.0 ∷ place) (a_plain_name (string_bytes e.0))) (expr_checks (string_bytes e.0 ∷ place) (view e.1)) _ (plain, tt) first))
 
 pub read_members-loop-key-preserved : goal.read_members-loop-key-preserved
 read_members-loop-key-preserved t c =
-    let l = c.loop-key in
-    let done = l.invariant.0 in
+    let done = c.loop-key.invariant.0 in
     let e : Entry = (c.in-Some.key.now, c.in-Some.member.now) in
-    let left = c.next.new.self in
-    let all : c.args.members.now.entries ≡ done ++ e ∷ left = l.invariant.1 ∙ ap (λ es. done ++ es) c.in-Some.ensures.steps in
+    let all : c.args.members.now.entries ≡ done ++ e ∷ c.next.new.self = c.loop-key.invariant.1 ∙ ap (λ es. done ++ es) c.in-Some.ensures.steps in
     let sorted = subst (λ es. IsStrictlySortedBy string_cmp (keys_of es)) all c.iter-key-items.ensures.ordered in
     let plain = rw c.as_str-in-loop-key.ensures.value at c.in_ok-demand_plain_name.ensures.ok in
     let named : string_bytes c.in_ok-name.name ≡ string_bytes e.0 = c.in_ok-name.ensures.cases in
-    let put_in = ap entries_view c.in_ok-insert.ensures.entries ∙ entries_view-insert_entry l.exprs.entries c.in_ok-name.name c.in_ok-expr.expr in (
+    let put_in = ap entries_view c.in_ok-insert.ensures.entries ∙ entries_view-insert_entry c.loop-key.exprs.entries c.in_ok-name.name c.in_ok-expr.expr in (
       done ++ e ∷ [],
-      all ∙ sym (append_assoc done (e ∷ []) left),
-      rw (put_in, named) (members_more done e left (entries_view l.exprs.entries) (tree_of c.in_ok-expr.expr) sorted l.invariant.2 plain c.in_ok-expr.ensures.ok),
+      all ∙ sym (append_assoc done (e ∷ []) c.next.new.self),
+      rw (put_in, named) (members_more done e c.next.new.self (entries_view c.loop-key.exprs.entries) (tree_of c.in_ok-expr.expr) sorted c.loop-key.invariant.2 plain c.in_ok-expr.ensures.ok),
     )

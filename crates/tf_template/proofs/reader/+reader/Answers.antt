@@ -1,15 +1,14 @@
-use Rattle.std.proofs.Common.{◌^◌, true, ◌≡◌, ℕ, ◌+◌, ◌-◌, ◌<◌, ◌≤◌, List, length, string_bytes, refl, sym, ap, ◌∙◌, subst, arith}
+use Rattle.std.proofs.Common.{◌^◌, true, ◌≡◌, ℕ, ◌+◌, ◌<◌, ◌≤◌, List, length, string_bytes, refl, sym, ap, ◌∙◌, subst, arith}
 use Rattle.std.proofs.lemmas.Result.{err_from_is_err_and}
 use Rattle.tf_template.specs.Reads.{Fails, Holds, begins, binding, closing}
 use Rattle.tf_template.specs.Spelling.{Spells, SpellsParts}
 use Rattle.tf_template.specs.Token.{token_kind, after_token}
 use Rattle.tf_template.specs.Steps.{EndsWithin, end_of}
-use Rattle.tf_template.specs.declared.literal.End.TheVariants.{Opens, Closes, Wrong}
 use Rattle.tf_template.specs.declared.token.Kind.TheVariants.{CloseParen, CloseBracket, Colon}
 use Rattle.tf_syntax.specs.TemplateTree.{Parts, Woven, quoted, conditional, level_of, parts_depth, tree_depth, view}
 use Rattle.tf_template.specs.Word.{decimal}
 use Rattle.tf_template.proofs.Begun.{closing_plain, closing_last, closing_other, at_quote, at_group, at_binary, at_question, at_bracket, stops_at, made_answers, number_fits, deep_some}
-use Rattle.tf_template.proofs.Growing.{Fails-more, spells_begins, level_some, first_fails, first_grows, next_fails, climbs, climbed}
+use Rattle.tf_template.proofs.Growing.{Fails-below, spells_begins, level_some, first_fails, first_grows, next_fails, climbs, climbed}
 use Rattle.tf_template.proofs.Rowing.{row_closed, row_closed_only, row_fails, part_closed, part_closed_only, part_refused, part_more, deepest_is}
 use Rattle.tf_template.proofs.Weaving.{weave_closed, weave_closed_only, weave_wrong, weave_fails, brace_missing, weave_more, template_made}
 use Rattle.tf_template.proofs.reader.+reader.Goals as goal
@@ -37,18 +36,18 @@ expression-returns-in_err-left-2-clause-complete t c =
     λ tree rest h k z.
     let e = err_from_is_err_and c.from_residual-in_err-left-2.result c.from_residual-in_err-left-2.ensures.1 in
     let bound : c.binding.result ≡ binding (token_kind c.loop-alloc.left.rest.now) = c.binding.ensures ∙ ap binding c.next_token.ensures.kind in
-    rw (e.1, e.2) (next_fails c.args.least c.args.budget c.args.text.now c.loop-alloc.left c.loop-alloc.invariant (omega (arith, bound, c.loop-alloc-test.true)) c.in_err-left-2.field-0.0 c.in_err-left-2.ensures.complete tree rest h k z)
+    rw (e.1, e.2) (next_fails c.args.least c.args.budget c.args.text.now c.loop-alloc.left c.loop-alloc.invariant (rw bound at c.loop-alloc-test.true) c.in_err-left-2.field-0.0 c.in_err-left-2.ensures.complete tree rest h k z)
 
 pub expression-loop-alloc-preserved : goal.expression-loop-alloc-preserved
 expression-loop-alloc-preserved t c =
     let bound : c.binding.result ≡ binding (token_kind c.loop-alloc.left.rest.now) = c.binding.ensures ∙ ap binding c.next_token.ensures.kind in
-    climbs c.args.least c.args.budget c.args.text.now c.loop-alloc.left c.loop-alloc.invariant (omega (arith, bound, c.loop-alloc-test.true)) c.in_ok-left-2.left
+    climbs c.args.least c.args.budget c.args.text.now c.loop-alloc.left c.loop-alloc.invariant (rw bound at c.loop-alloc-test.true) c.in_ok-left-2.left
     c.in_ok-left-2.ensures.sound c.in_ok-left-2.ensures.shorter c.in_ok-left-2.ensures.complete
 
 pub expression-returns-clause-complete : goal.expression-returns-clause-complete
 expression-returns-clause-complete t c =
     let bound : c.binding.result ≡ binding (token_kind c.loop-alloc.left.rest.now) = c.binding.ensures ∙ ap binding c.next_token.ensures.kind in
-    climbed c.args.least c.args.budget c.args.text.now c.loop-alloc.left c.loop-alloc.invariant (omega (arith, bound, c.loop-alloc-test.false))
+    climbed c.args.least c.args.budget c.args.text.now c.loop-alloc.left c.loop-alloc.invariant (rw bound at c.loop-alloc-test.false)
 
 pub list-returns-then-closes-clause-sound : goal.list-returns-then-closes-clause-sound
 list-returns-then-closes-clause-sound t c =
@@ -141,18 +140,16 @@ operand-returns-in_err-read-in-Quote-clause-complete t c =
     λ tree rest o h z.
     let q = at_quote tree c.args.text.now rest o h (sym c.next_token-token.ensures.kind ∙ c.in-Quote.is) in
     let e = err_from_is_err_and c.from_residual.result c.from_residual.ensures.1 in
-    let deep = ap tree_depth q.is in
     let spelled = subst (λ x. SpellsParts true q.parts q.last x rest) (sym c.next_token-token.ensures.rest) q.spelled in
-    rw (e.1, e.2) (Fails-more c.in_err-read-in-Quote.field-0.0 (λ (d : c.args.budget - 1 < parts_depth q.parts). omega (arith, d, deep)) (c.in_err-read-in-Quote.ensures.complete (q.parts, q.last) rest spelled))
+    rw (e.1, e.2) (Fails-below c.in_err-read-in-Quote.field-0.0 c.args.budget (parts_depth q.parts) (tree_depth tree) q.deeper (c.in_err-read-in-Quote.ensures.complete (q.parts, q.last) rest spelled))
 
 pub operand-returns-in_err-inner-in-OpenParen-clause-complete : goal.operand-returns-in_err-inner-in-OpenParen-clause-complete
 operand-returns-in_err-inner-in-OpenParen-clause-complete t c =
     λ tree rest o h z.
     let g = at_group tree c.args.text.now rest o h (sym c.next_token-token.ensures.kind ∙ c.in-OpenParen.is) in
     let e = err_from_is_err_and c.from_residual-in_err-inner-in-OpenParen.result c.from_residual-in_err-inner-in-OpenParen.ensures.1 in
-    let deep = ap tree_depth g.is in
     let spelled = subst (λ x. Spells g.u x g.q) (sym c.next_token-token.ensures.rest) g.spelled in
-    rw (e.1, e.2) (Fails-more c.in_err-inner-in-OpenParen.field-0.0 (λ (d : c.args.budget - 1 < tree_depth g.u). omega (arith, d, deep)) (c.in_err-inner-in-OpenParen.ensures.complete g.u g.q spelled (level_some g.u) (stops_at CloseParen g.q rest refl g.close)))
+    rw (e.1, e.2) (Fails-below c.in_err-inner-in-OpenParen.field-0.0 c.args.budget (tree_depth g.u) (tree_depth tree) g.deeper (c.in_err-inner-in-OpenParen.ensures.complete g.u g.q spelled (level_some g.u) (stops_at CloseParen g.q rest refl g.close)))
 
 pub operand-returns-in_ok-read-in-Quote-clause-complete : goal.operand-returns-in_ok-read-in-Quote-clause-complete
 operand-returns-in_ok-read-in-Quote-clause-complete t c =
@@ -169,21 +166,17 @@ operator-returns-in_err-right-in-Binary-clause-complete t c =
     let l = view c.args.left.term in
     let j = at_binary op l c.args.left.rest.now tree rest h (sym c.next_token-token.ensures.kind ∙ c.in-Binary.is) in
     let e = err_from_is_err_and c.from_residual.result c.from_residual.ensures.1 in
-    let deep = ap tree_depth j.is in
     let stops : binding (token_kind rest) < level_of op + 1 = let k = subst (λ x. Holds x rest) j.is z in omega (arith, k) in
     let spelled = subst (λ x. Spells j.r x rest) (sym c.next_token-token.ensures.rest) j.spelled in
-    rw (e.1, e.2) (Fails-more c.in_err-right-in-Binary.field-0.0 (λ (d : c.args.budget - 1 < tree_depth j.r). omega (arith, d, deep))
-    (c.in_err-right-in-Binary.ensures.complete j.r rest spelled (omega (arith, j.tighter, c.level-in-Binary.ensures)) (omega (arith, stops, c.level-in-Binary.ensures))))
+    rw (e.1, e.2) (Fails-below c.in_err-right-in-Binary.field-0.0 c.args.budget (tree_depth j.r) (tree_depth tree) j.deeper (c.in_err-right-in-Binary.ensures.complete j.r rest spelled (omega (arith, j.tighter, c.level-in-Binary.ensures)) (omega (arith, stops, c.level-in-Binary.ensures))))
 
 pub operator-returns-in_err-yes-in-Question-clause-complete : goal.operator-returns-in_err-yes-in-Question-clause-complete
 operator-returns-in_err-yes-in-Question-clause-complete t c =
     λ tree rest h z.
     let x = at_question (view c.args.left.term) c.args.left.rest.now tree rest h (sym c.next_token-token.ensures.kind ∙ c.in-Question.is) in
     let e = err_from_is_err_and c.from_residual-in_err-yes-in-Question.result c.from_residual-in_err-yes-in-Question.ensures.1 in
-    let deep = ap tree_depth x.is in
     let spelled = subst (λ y. Spells x.a y x.q) (sym c.next_token-token.ensures.rest) x.yes in
-    rw (e.1, e.2) (Fails-more c.in_err-yes-in-Question.field-0.0 (λ (d : c.args.budget - 1 < tree_depth x.a). omega (arith, d, deep))
-    (c.in_err-yes-in-Question.ensures.complete x.a x.q spelled (level_some x.a) (stops_at Colon x.q x.u refl x.colon)))
+    rw (e.1, e.2) (Fails-below c.in_err-yes-in-Question.field-0.0 c.args.budget (tree_depth x.a) (tree_depth tree) x.deeper_yes (c.in_err-yes-in-Question.ensures.complete x.a x.q spelled (level_some x.a) (stops_at Colon x.q x.u refl x.colon)))
 
 pub operator-returns-in_err-pass_colon-in-Question-clause-complete : goal.operator-returns-in_err-pass_colon-in-Question-clause-complete
 operator-returns-in_err-pass_colon-in-Question-clause-complete t c =
@@ -198,14 +191,12 @@ operator-returns-in_err-no-in-Question-clause-complete t c =
     λ tree rest h z.
     let x = at_question (view c.args.left.term) c.args.left.rest.now tree rest h (sym c.next_token-token.ensures.kind ∙ c.in-Question.is) in
     let e = err_from_is_err_and c.from_residual-in_err-no-in-Question.result c.from_residual-in_err-no-in-Question.ensures.1 in
-    let deep = ap tree_depth x.is in
     let spelled = subst (λ y. Spells x.a y x.q) (sym c.next_token-token.ensures.rest) x.yes in
     let f = c.in_ok-yes-in-Question.ensures.complete x.a x.q spelled (level_some x.a) (stops_at Colon x.q x.u refl x.colon) in
     let place : x.u ≡ c.in_ok-pass_colon-in-Question.field-0.now = sym x.colon.after_is ∙ ap after_token (sym f.1) ∙ sym c.in_ok-pass_colon-in-Question.ensures.value.1 in
     let other = subst (λ y. Spells x.b y rest) place x.no in
     let stops = subst (λ y. Holds y rest) x.is z in
-    rw (e.1, e.2) (Fails-more c.in_err-no-in-Question.field-0.0 (λ (d : c.args.budget - 1 < tree_depth x.b). omega (arith, d, deep))
-    (c.in_err-no-in-Question.ensures.complete x.b rest other (level_some x.b) stops))
+    rw (e.1, e.2) (Fails-below c.in_err-no-in-Question.field-0.0 c.args.budget (tree_depth x.b) (tree_depth tree) x.deeper_no (c.in_err-no-in-Question.ensures.complete x.b rest other (level_some x.b) stops))
 
 pub operator-returns-in-Question-clause-complete : goal.operator-returns-in-Question-clause-complete
 operator-returns-in-Question-clause-complete t c =
@@ -226,63 +217,55 @@ operator-returns-in_err-place-in-OpenBracket-clause-complete t c =
     λ tree rest h z.
     let x = at_bracket (view c.args.left.term) c.args.left.rest.now tree rest h (sym c.next_token-token.ensures.kind ∙ c.in-OpenBracket.is) in
     let e = err_from_is_err_and c.from_residual-in_err-place-in-OpenBracket.result c.from_residual-in_err-place-in-OpenBracket.ensures.1 in
-    let deep = ap tree_depth x.is in
     let spelled = subst (λ y. Spells x.i y x.q) (sym c.next_token-token.ensures.rest) x.spelled in
-    rw (e.1, e.2) (Fails-more c.in_err-place-in-OpenBracket.field-0.0 (λ (d : c.args.budget - 1 < tree_depth x.i). omega (arith, d, deep))
-    (c.in_err-place-in-OpenBracket.ensures.complete x.i x.q spelled (level_some x.i) (stops_at CloseBracket x.q rest refl x.close)))
+    rw (e.1, e.2) (Fails-below c.in_err-place-in-OpenBracket.field-0.0 c.args.budget (tree_depth x.i) (tree_depth tree) x.deeper (c.in_err-place-in-OpenBracket.ensures.complete x.i x.q spelled (level_some x.i) (stops_at CloseBracket x.q rest refl x.close)))
 
 pub template-returns-in-Closes-clause-sound : goal.template-returns-in-Closes-clause-sound
 template-returns-in-Closes-clause-sound t c =
     let inv = c.loop-parts.invariant in
     let x = c.in_ok-text.ensures.spelled in
-    let is : c.in_ok-text.field-0.end ≡ Closes c.in-Closes.rest = cc in
     let whole = weave_closed c.args.within c.args.budget c.args.text.now c.loop-parts.parts.items c.loop-parts.depth c.loop-parts.rest.text.now inv
-    (string_bytes c.in_ok-text.field-0.text) x.0 x.1 c.in-Closes.rest.now (x.2 ∙ ap end_of is) in
+    (string_bytes c.in_ok-text.field-0.text) x.0 x.1 c.in-Closes.rest.now (x.2 ∙ ap end_of c.in-Closes.is) in
     subst (λ (w : Woven). SpellsParts c.args.within w.0 w.1 c.args.text.now c.in-Closes.rest.now × (c.loop-parts.depth ≡ parts_depth w.0) × (c.loop-parts.depth ≤ c.args.budget))
     (sym (template_made c.loop-parts.parts c.in_ok-text.field-0.text)) (whole, inv.depth_is, inv.room)
 
 pub template-returns-in-Closes-clause-shorter : goal.template-returns-in-Closes-clause-shorter
 template-returns-in-Closes-clause-shorter t c =
-    let is : c.in_ok-text.field-0.end ≡ Closes c.in-Closes.rest = cc in
-    let k = subst (EndsWithin (length c.loop-parts.rest.text.now)) is c.in_ok-text.ensures.shorter in
+    let k = subst (EndsWithin (length c.loop-parts.rest.text.now)) c.in-Closes.is c.in_ok-text.ensures.shorter in
     omega (arith, k, c.loop-parts.invariant.shorter)
 
 pub template-returns-in-Closes-clause-complete : goal.template-returns-in-Closes-clause-complete
 template-returns-in-Closes-clause-complete t c =
     let inv = c.loop-parts.invariant in
     let x = c.in_ok-text.ensures.spelled in
-    let is : c.in_ok-text.field-0.end ≡ Closes c.in-Closes.rest = cc in
     let bytes = string_bytes c.in_ok-text.field-0.text in
     let pair : Parts → List ℕ → Woven = λ a b. (a, b) in
     λ w rest h.
     let only = weave_closed_only c.args.within c.args.budget c.args.text.now c.loop-parts.parts.items c.loop-parts.depth c.loop-parts.rest.text.now inv
-    bytes x.0 x.1 c.in-Closes.rest.now (x.2 ∙ ap end_of is) w.0 w.1 rest h in
+    bytes x.0 x.1 c.in-Closes.rest.now (x.2 ∙ ap end_of c.in-Closes.is) w.0 w.1 rest h in
     (template_made c.loop-parts.parts c.in_ok-text.field-0.text ∙ ap (λ a. pair a bytes) only.0 ∙ ap (λ b. pair w.0 b) only.1, only.2)
 
 pub template-returns-in-Wrong-clause-complete : goal.template-returns-in-Wrong-clause-complete
 template-returns-in-Wrong-clause-complete t c =
     let x = c.in_ok-text.ensures.spelled in
-    let is : c.in_ok-text.field-0.end ≡ Wrong = cc in
     λ w rest h.
     weave_wrong c.args.within c.args.budget c.args.text.now c.loop-parts.parts.items c.loop-parts.depth c.loop-parts.rest.text.now c.loop-parts.invariant
-    (string_bytes c.in_ok-text.field-0.text) x.0 x.1 (x.2 ∙ ap end_of is) w.0 w.1 rest h
+    (string_bytes c.in_ok-text.field-0.text) x.0 x.1 (x.2 ∙ ap end_of c.in-Wrong.is) w.0 w.1 rest h
 
 pub template-returns-in_err-found-in-Opens-clause-complete : goal.template-returns-in_err-found-in-Opens-clause-complete
 template-returns-in_err-found-in-Opens-clause-complete t c =
     let x = c.in_ok-text.ensures.spelled in
-    let is : c.in_ok-text.field-0.end ≡ Opens c.in-Opens.inside = cc in
     let e = err_from_is_err_and c.from_residual-in_err-found-in-Opens.result c.from_residual-in_err-found-in-Opens.ensures.1 in
     λ w rest h.
     rw (e.1, e.2) (weave_fails c.args.within c.args.budget c.args.text.now c.loop-parts.parts.items c.loop-parts.depth c.loop-parts.rest.text.now c.loop-parts.invariant
-    (string_bytes c.in_ok-text.field-0.text) x.0 x.1 c.in-Opens.inside.now (x.2 ∙ ap end_of is) c.in_err-found-in-Opens.field-0.0 c.in_err-found-in-Opens.ensures.complete w.0 w.1 rest h)
+    (string_bytes c.in_ok-text.field-0.text) x.0 x.1 c.in-Opens.inside.now (x.2 ∙ ap end_of c.in-Opens.is) c.in_err-found-in-Opens.field-0.0 c.in_err-found-in-Opens.ensures.complete w.0 w.1 rest h)
 
 pub template-returns-in_err-after-in-Opens-clause-complete : goal.template-returns-in_err-after-in-Opens-clause-complete
 template-returns-in_err-after-in-Opens-clause-complete t c =
     let x = c.in_ok-text.ensures.spelled in
-    let is : c.in_ok-text.field-0.end ≡ Opens c.in-Opens.inside = cc in
     λ w rest h.
     absurd (brace_missing c.args.within c.args.budget c.args.text.now c.loop-parts.parts.items c.loop-parts.depth c.loop-parts.rest.text.now c.loop-parts.invariant
-    (string_bytes c.in_ok-text.field-0.text) x.0 x.1 c.in-Opens.inside.now (x.2 ∙ ap end_of is) c.in_ok-found-in-Opens.found c.in_ok-found-in-Opens.ensures.sound.0.0 c.in_ok-found-in-Opens.ensures.complete
+    (string_bytes c.in_ok-text.field-0.text) x.0 x.1 c.in-Opens.inside.now (x.2 ∙ ap end_of c.in-Opens.is) c.in_ok-found-in-Opens.found c.in_ok-found-in-Opens.ensures.sound.0.0 c.in_ok-found-in-Opens.ensures.complete
     c.in_err-after-in-Opens.ensures.value w.0 w.1 rest h)
 
 pub template-loop-parts-preserved : goal.template-loop-parts-preserved
@@ -290,10 +273,9 @@ template-loop-parts-preserved t c =
     let x = c.in_ok-text.ensures.spelled in
     let f = c.in_ok-found-in-Opens.found in
     let s = c.in_ok-found-in-Opens.ensures.sound in
-    let is : c.in_ok-text.field-0.end ≡ Opens c.in-Opens.inside = cc in
-    let k = subst (EndsWithin (length c.loop-parts.rest.text.now)) is c.in_ok-text.ensures.shorter in
+    let k = subst (EndsWithin (length c.loop-parts.rest.text.now)) c.in-Opens.is c.in_ok-text.ensures.shorter in
     weave_more c.args.within c.args.budget c.args.text.now c.loop-parts.parts.items c.loop-parts.depth c.loop-parts.rest.text.now c.loop-parts.invariant
-    (string_bytes c.in_ok-text.field-0.text) x.0 x.1 c.in-Opens.inside.now (x.2 ∙ ap end_of is) f s.0.0 c.in_ok-found-in-Opens.ensures.complete
+    (string_bytes c.in_ok-text.field-0.text) x.0 x.1 c.in-Opens.inside.now (x.2 ∙ ap end_of c.in-Opens.is) f s.0.0 c.in_ok-found-in-Opens.ensures.complete
     c.in_ok-text.field-0.text c.push.new.self.items c.in_ok-after-in-Opens.after.now c.max-depth.result refl c.in_ok-push-in-Opens.ensures.items
     c.in_ok-after-in-Opens.ensures.value.0 c.in_ok-after-in-Opens.ensures.value.1 s.0.1 s.0.2 c.max-depth.ensures
     (omega (arith, k, c.loop-parts.invariant.shorter, c.in_ok-found-in-Opens.ensures.shorter, c.in_ok-after-in-Opens.ensures.shorter))

@@ -4,10 +4,10 @@ ghost use Rattle.serde_json.specs.Data.{member, no_members, number, object, stri
 ghost use Rattle.serde_json.specs.Events.{SendsValue};
 ghost use Rattle.std.specs.Prelude.{codes, string_bytes};
 
-use crate::text;
 use serde::{Described, Serialize, Serializer};
 use serde_json::json;
 use std::test::Fail;
+use tf_json_text::text;
 
 #[test]
 fn lays_out(rt: HostRuntime) -> Result<(), Fail> {
