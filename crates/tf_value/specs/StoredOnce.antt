@@ -8,17 +8,14 @@ use mathlib.Core.HLevel.{×_prop, Unit-prop}
 use Rattle.tf_value.specs.Known.{known}
 use Rattle.tf_value.specs.Measure.{IsWithinLimits}
 use Rattle.tf_value.specs.Stored.{MayBeStored, EachMayBeStored, IsTable}
-use Rattle.tf_value.specs.Tree.{Tree, null, boolean, whole, text, list, map, unknown, Items, no_items, item, Entries, no_entries, entry, IsHeld, AreHeld, AreHeldEntries, IsSorted, AreSorted, AreSortedEntries, keys_of}
+use Rattle.tf_value.specs.Tree.{Tree, whole, list, map, Items, no_items, item, Entries, no_entries, entry, IsHeld, AreHeld, AreHeldEntries, IsSorted, AreSorted, AreSortedEntries, keys_of}
 
 mutual
   IsHeld-prop : (t : Tree) → IsProp (IsHeld t)
-  IsHeld-prop null = Unit-prop
-  IsHeld-prop (boolean b) = Unit-prop
   IsHeld-prop (whole z) = hlevel props
-  IsHeld-prop (text s) = Unit-prop
   IsHeld-prop (list ts) = AreHeld-prop ts
   IsHeld-prop (map es) = AreHeldEntries-prop es
-  IsHeld-prop unknown = Unit-prop
+  IsHeld-prop _ = Unit-prop
 
   AreHeld-prop : (ts : Items) → IsProp (AreHeld ts)
   AreHeld-prop no_items = Unit-prop
@@ -30,13 +27,9 @@ mutual
 
 mutual
   IsSorted-prop : (t : Tree) → IsProp (IsSorted t)
-  IsSorted-prop null = Unit-prop
-  IsSorted-prop (boolean b) = Unit-prop
-  IsSorted-prop (whole z) = Unit-prop
-  IsSorted-prop (text s) = Unit-prop
   IsSorted-prop (list ts) = AreSorted-prop ts
   IsSorted-prop (map es) = ×_prop (IsStrictlySortedBy-prop (slice_cmp nat_cmp) (keys_of es)) (AreSortedEntries-prop es)
-  IsSorted-prop unknown = Unit-prop
+  IsSorted-prop _ = Unit-prop
 
   AreSorted-prop : (ts : Items) → IsProp (AreSorted ts)
   AreSorted-prop no_items = Unit-prop
