@@ -61,10 +61,11 @@ put_last (first ∷ done) e more h =
 abbrev pub ViewedBefore : List Entry → List Entry → Entries → Type 0
 ViewedBefore es left so_far = (done : List Entry) × (es ≡ done ++ left) × (so_far ≡ entries_view done)
 
--- one entry more of a map that is gone through
-pub viewed_more : (es rest left : List Entry) (e : Entry) (so_far now : Entries) (name : List ℕ) (t : Tree)
-    → IsStrictlySortedBy string_cmp (keys_of es) → rest ≡ e ∷ left → now ≡ put name t so_far → name ≡ string_bytes e.0 → t ≡ tree_of e.1 → ViewedBefore es rest so_far → ViewedBefore es left now
-viewed_more es rest left e so_far now name t sorted step is named same before =
+-- one entry more of a map that is gone through, put into another
+pub viewed_more : (es rest left : List Entry) (e : Entry) (so_far now : List Entry) (k : String Global) (copy : Expr)
+    → IsStrictlySortedBy string_cmp (keys_of es) → rest ≡ e ∷ left → now ≡ insert_entry string_cmp so_far k copy → string_bytes k ≡ string_bytes e.0 → tree_of copy ≡ tree_of e.1
+    → ViewedBefore es rest (entries_view so_far) → ViewedBefore es left (entries_view now)
+viewed_more es rest left e so_far now k copy sorted step is named same before =
     let all : es ≡ before.0 ++ e ∷ left = before.1 ∙ ap (λ xs. before.0 ++ xs) step in
     let last = put_last before.0 e left (subst (λ xs. IsStrictlySortedBy string_cmp (keys_of xs)) all sorted) in
-    (before.0 ++ e ∷ [], all ∙ sym (append_assoc before.0 (e ∷ []) left), is ∙ rw (named, same, before.2) last)
+    (before.0 ++ e ∷ [], all ∙ sym (append_assoc before.0 (e ∷ []) left), ap entries_view is ∙ entries_view-insert_entry so_far k copy ∙ rw (named, same, before.2) last)

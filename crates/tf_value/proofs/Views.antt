@@ -62,13 +62,14 @@ put_last f (first ∷ done) e more h =
 abbrev pub ShownBefore : {V : Type 0} → (V → Tree) → List (String Global × V) → List (String Global × V) → Entries → Type 0
 ShownBefore {V} f es left so_far = (done : List (String Global × V)) × (es ≡ done ++ left) × (so_far ≡ shown f done)
 
--- one entry more of a map that is gone through
-pub shown_more : {V : Type 0} (f : V → Tree) (es rest left : List (String Global × V)) (e : String Global × V) (so_far now : Entries) (name : List ℕ) (t : Tree)
-    → IsStrictlySortedBy string_cmp (keys_of es) → rest ≡ e ∷ left → now ≡ put name t so_far → name ≡ string_bytes e.0 → t ≡ f e.1 → ShownBefore f es rest so_far → ShownBefore f es left now
-shown_more f es rest left e so_far now name t sorted step is named same before =
+-- one entry more of a map that is gone through, put into another
+pub shown_more : {V : Type 0} (f : V → Tree) (es rest left : List (String Global × V)) (e : String Global × V) (so_far now : List Entry) (k : String Global) (v : Value)
+    → IsStrictlySortedBy string_cmp (keys_of es) → rest ≡ e ∷ left → now ≡ insert_entry string_cmp so_far k v → string_bytes k ≡ string_bytes e.0 → tree_of v ≡ f e.1
+    → ShownBefore f es rest (entries_view so_far) → ShownBefore f es left (entries_view now)
+shown_more f es rest left e so_far now k v sorted step is named same before =
     let all : es ≡ before.0 ++ e ∷ left = before.1 ∙ ap (λ xs. before.0 ++ xs) step in
     let last = put_last f before.0 e left (subst (λ xs. IsStrictlySortedBy string_cmp (keys_of xs)) all sorted) in
-    (before.0 ++ e ∷ [], all ∙ sym (append_assoc before.0 (e ∷ []) left), is ∙ rw (named, same, before.2) last)
+    (before.0 ++ e ∷ [], all ∙ sym (append_assoc before.0 (e ∷ []) left), ap entries_view is ∙ entries_view-insert_entry so_far k v ∙ rw (named, same, before.2) last)
 
 -- all entries of a map were gone through
 pub shown_all : {V : Type 0} (f : V → Tree) (es rest : List (String Global × V)) (so_far : Entries) → rest ≡ [] → ShownBefore f es rest so_far → so_far ≡ shown f es

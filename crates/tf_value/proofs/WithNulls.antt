@@ -88,41 +88,29 @@ mutual
   entry_nulls-measure no_entries = (refl, refl)
   entry_nulls-measure (entry k t es) = let p = nulls-measure t in let q = entry_nulls-measure es in (rw (p.0, q.0) refl, rw (p.1, q.1) refl)
 
-mutual
-  pub nulls-held : (t : Tree) → IsHeld t → IsHeld (with_nulls t)
-  nulls-held (whole z) h = h
-  nulls-held (list ts) h = item_nulls-held ts h
-  nulls-held (map es) h = entry_nulls-held es h
-  nulls-held _ h = tt
-
-  item_nulls-held : (ts : Items) → AreHeld ts → AreHeld (items_with_nulls ts)
-  item_nulls-held no_items h = tt
-  item_nulls-held (item t ts) h = (nulls-held t h.0, item_nulls-held ts h.1)
-
-  entry_nulls-held : (es : Entries) → AreHeldEntries es → AreHeldEntries (entries_with_nulls es)
-  entry_nulls-held no_entries h = tt
-  entry_nulls-held (entry k t es) h = (nulls-held t h.0, entry_nulls-held es h.1)
-
 pub nulls-keys : (es : Entries) → keys_of (entries_with_nulls es) ≡ keys_of es
 nulls-keys no_entries = refl
 nulls-keys (entry k t es) = ap (λ ks. k ∷ ks) (nulls-keys es)
 
+-- whole numbers and keys stay as they were
 mutual
-  pub nulls-sorted : (t : Tree) → IsSorted t → IsSorted (with_nulls t)
-  nulls-sorted (list ts) h = item_nulls-sorted ts h
-  nulls-sorted (map es) h = (subst (λ ks. IsStrictlySortedBy (slice_cmp nat_cmp) ks) (sym (nulls-keys es)) h.0, entry_nulls-sorted es h.1)
-  nulls-sorted _ h = tt
+  nulls-keep : (t : Tree) → IsHeld t → IsSorted t → IsHeld (with_nulls t) × IsSorted (with_nulls t)
+  nulls-keep (whole z) h s = (h, tt)
+  nulls-keep (list ts) h s = item_nulls-keep ts h s
+  nulls-keep (map es) h s =
+      let p = entry_nulls-keep es h s.1 in (p.0, (subst (λ ks. IsStrictlySortedBy (slice_cmp nat_cmp) ks) (sym (nulls-keys es)) s.0, p.1))
+  nulls-keep _ h s = (tt, tt)
 
-  item_nulls-sorted : (ts : Items) → AreSorted ts → AreSorted (items_with_nulls ts)
-  item_nulls-sorted no_items h = tt
-  item_nulls-sorted (item t ts) h = (nulls-sorted t h.0, item_nulls-sorted ts h.1)
+  item_nulls-keep : (ts : Items) → AreHeld ts → AreSorted ts → AreHeld (items_with_nulls ts) × AreSorted (items_with_nulls ts)
+  item_nulls-keep no_items h s = (tt, tt)
+  item_nulls-keep (item t ts) h s = let p = nulls-keep t h.0 s.0 in let q = item_nulls-keep ts h.1 s.1 in ((p.0, q.0), (p.1, q.1))
 
-  entry_nulls-sorted : (es : Entries) → AreSortedEntries es → AreSortedEntries (entries_with_nulls es)
-  entry_nulls-sorted no_entries h = tt
-  entry_nulls-sorted (entry k t es) h = (nulls-sorted t h.0, entry_nulls-sorted es h.1)
+  entry_nulls-keep : (es : Entries) → AreHeldEntries es → AreSortedEntries es → AreHeldEntries (entries_with_nulls es) × AreSortedEntries (entries_with_nulls es)
+  entry_nulls-keep no_entries h s = (tt, tt)
+  entry_nulls-keep (entry k t es) h s = let p = nulls-keep t h.0 s.0 in let q = entry_nulls-keep es h.1 s.1 in ((p.0, q.0), (p.1, q.1))
 
 pub nulls-within : (t : Tree) → IsWithinLimits t → IsWithinLimits (with_nulls t)
 nulls-within t h = let p = nulls-measure t in rw (p.0, p.1) h
 
 pub nulls-stored : (t : Tree) → IsHeld t → IsSorted t → IsWithinLimits t → MayBeStored (with_nulls t)
-nulls-stored t held sorted within = (nulls-held t held, nulls-sorted t sorted, nulls-known t, nulls-within t within)
+nulls-stored t held sorted within = let p = nulls-keep t held sorted in (p.0, p.1, nulls-known t, nulls-within t within)

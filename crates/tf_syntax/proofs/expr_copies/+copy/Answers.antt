@@ -1,9 +1,6 @@
-use Rattle.std.proofs.Common.{ap, ◌∙◌}
-use Rattle.tf_syntax.specs.ExprTree.{entries_view}
-use Rattle.tf_syntax.proofs.ExprViews.{entries_view-insert_entry, viewed_more}
+use Rattle.tf_syntax.proofs.ExprViews.{viewed_more}
 use Rattle.tf_syntax.proofs.expr_copies.+copy.Goals as goal
 
 pub copy_entries-loop-key-preserved : goal.copy_entries-loop-key-preserved
 copy_entries-loop-key-preserved t c =
-    let inserted = ap entries_view c.in_ok-insert.ensures.entries ∙ entries_view-insert_entry c.loop-key.copies.entries c.in_ok-name.name c.in_ok-copy_expr.field-0 in
-    viewed_more c.args.entries.now.entries _ c.next.new.self (c.in-Some.key.now, c.in-Some.expr.now) _ _ _ _ c.iter-key-items.ensures.ordered c.in-Some.ensures.steps inserted c.in_ok-name.ensures.cases c.in_ok-copy_expr.ensures c.loop-key.invariant
+    viewed_more c.args.entries.now.entries _ c.next.new.self (c.in-Some.key.now, c.in-Some.expr.now) _ _ _ _ c.iter-key-items.ensures.ordered c.in-Some.ensures.steps c.in_ok-insert.ensures.entries c.in_ok-name.ensures.cases c.in_ok-copy_expr.ensures c.loop-key.invariant

@@ -1,15 +1,13 @@
-use Rattle.std.proofs.Common.{ap, ◌∙◌}
+use Rattle.std.proofs.Common.{◌∙◌}
 use Rattle.serde_json.specs.View.{view}
-use Rattle.tf_value.specs.Tree.{entries_view}
 use Rattle.tf_value.specs.Json.{tree_from}
-use Rattle.tf_value.proofs.Views.{entries_view-insert_entry, shown_more, shown_all}
+use Rattle.tf_value.proofs.Views.{shown_more, shown_all}
 use Rattle.tf_value.proofs.JsonForms.{read_members-is, read_all_items}
 use Rattle.tf_value.proofs.reading.+read.Goals as goal
 
 pub read_members-loop-key-preserved : goal.read_members-loop-key-preserved
 read_members-loop-key-preserved t c =
-    let inserted = ap entries_view c.in_ok-insert.ensures.entries ∙ entries_view-insert_entry c.loop-key.entries.entries c.in_ok-name.name c.in_ok-read.field-0 in
-    shown_more (λ j. tree_from (view j)) c.args.members.now.entries _ c.next.new.self (c.in-Some.key.now, c.in-Some.member.now) _ _ _ _ c.iter-key-items.ensures.ordered c.in-Some.ensures.steps inserted c.in_ok-name.ensures.cases c.in_ok-read.ensures c.loop-key.invariant
+    shown_more (λ j. tree_from (view j)) c.args.members.now.entries _ c.next.new.self (c.in-Some.key.now, c.in-Some.member.now) _ _ _ _ c.iter-key-items.ensures.ordered c.in-Some.ensures.steps c.in_ok-insert.ensures.entries c.in_ok-name.ensures.cases c.in_ok-read.ensures c.loop-key.invariant
 
 pub read_members-returns : goal.read_members-returns
 read_members-returns t c =
