@@ -1,11 +1,14 @@
-use crate::{
-    JsonFault, MAX_DEPTH, MAX_WEIGHT, Value, copy, depth, entries_to_json, find, from_json,
-    is_known, is_within_limits, may_be_stored, refines, scalar_text, to_json, weight, with_nulls,
-};
+//! Values, their measures and their JSON texts.
+
+use crate::fixtures::{entry, long, pair, read};
 use serde_json::Value as Json;
 use std::alloc::{AllocError, Global};
 use std::collections::BTreeMap;
 use std::test::Fail;
+use tf_value::{
+    JsonFault, MAX_DEPTH, MAX_WEIGHT, Value, copy, depth, entries_to_json, find, is_known,
+    is_within_limits, may_be_stored, refines, scalar_text, to_json, weight, with_nulls,
+};
 
 // What derives above a value rest on.
 #[derive(Debug, Clone, PartialEq, Eq, Drop)]
@@ -14,15 +17,6 @@ struct Attribute {
     value: Value,
     all: Vec<Value>,
     more: BTreeMap<String, Value>,
-}
-
-// The value of a JSON text, or why there is none; an `Err` where there is no memory.
-fn read(alloc: Global, text: &str) -> Result<Result<Value, JsonFault>, Fail> {
-    let json = Json::from_str(alloc, text)?;
-    match from_json(alloc, &json) {
-        Err(JsonFault::OutOfMemory) => Err(JsonFault::OutOfMemory.into()),
-        found => Ok(found),
-    }
 }
 
 // The text that the value of a JSON text is written as, or the name of the fault.
@@ -47,11 +41,8 @@ fn nested(alloc: Global, levels: usize, inside: &str) -> Result<String, AllocErr
 }
 
 // A JSON text of so many bytes between its quotes.
-fn long(alloc: Global, bytes: usize) -> Result<String, AllocError> {
-    let mut text = String::with_capacity(alloc, bytes)?;
-    for _ in 0..bytes {
-        text.push('x')?;
-    }
+fn quoted(alloc: Global, bytes: usize) -> Result<String, AllocError> {
+    let text = long(alloc, bytes)?;
     format!(in alloc; "\"{text}\"")
 }
 
@@ -108,7 +99,7 @@ fn limits(rt: HostRuntime) -> Result<(), Fail> {
         assert_eq!(rt; found.err(), fault, "{levels} levels around {inside}");
     }
     for (bytes, fault) in [(999_999, None), (1_000_000, Some(JsonFault::TooLarge))] {
-        let text = long(alloc, bytes)?;
+        let text = quoted(alloc, bytes)?;
         let found = read(alloc, text.as_str())?;
         assert_eq!(rt; found.err(), fault, "{bytes} bytes");
     }
@@ -136,18 +127,6 @@ fn measures(rt: HostRuntime) -> Result<(), Fail> {
     assert!(rt; is_within_limits(&Value::Unknown));
     assert!(rt; MAX_WEIGHT == 1_000_000 && MAX_DEPTH == 32);
     Ok(())
-}
-
-// A map with one entry.
-fn entry(alloc: Global, key: &str, value: Value) -> Result<Value, AllocError> {
-    let mut entries = BTreeMap::new(alloc);
-    drop(entries.insert(String::from_str(alloc, key)?, value)?);
-    Ok(Value::Map(entries))
-}
-
-// Two items, the second within a map.
-fn pair(alloc: Global, first: Value, second: Value) -> Result<Value, AllocError> {
-    Ok(Value::List(vec![in alloc; first, entry(alloc, "k", second)?]?))
 }
 
 #[test]
@@ -261,12 +240,12 @@ fn texts_of_scalars(rt: HostRuntime) -> Result<(), Fail> {
 
 #[test]
 fn laws() {
-    crate::refinement_is_an_order();
-    crate::known_values_stay();
-    crate::parts_refine();
-    crate::equality_is_of_trees();
-    crate::forms_are_one();
-    crate::forms_read_back();
-    crate::limits_decide();
-    crate::puts_are_found();
+    tf_value::refinement_is_an_order();
+    tf_value::known_values_stay();
+    tf_value::parts_refine();
+    tf_value::equality_is_of_trees();
+    tf_value::forms_are_one();
+    tf_value::forms_read_back();
+    tf_value::limits_decide();
+    tf_value::puts_are_found();
 }
