@@ -150,6 +150,12 @@ fn parts(rt: HostRuntime) -> Result<(), Fail> {
         let found = index(whole, value(alloc, at)?);
         assert!(rt; agrees(alloc, found, expected)?, "at {at}: {expected}");
     }
+    Ok(())
+}
+
+#[test]
+fn attributes(rt: HostRuntime) -> Result<(), Fail> {
+    let alloc = rt.alloc();
     for (whole, name, expected) in [
         (MAP, "a", "2"),
         (MAP, "c", "Missing"),

@@ -85,7 +85,7 @@ fn texts(rt: HostRuntime) -> Result<(), Fail> {
 }
 
 #[test]
-fn limits(rt: HostRuntime) -> Result<(), Fail> {
+fn limit_of_depth(rt: HostRuntime) -> Result<(), Fail> {
     let alloc = rt.alloc();
     for (levels, inside, fault) in [
         (31, "", None),
@@ -98,6 +98,12 @@ fn limits(rt: HostRuntime) -> Result<(), Fail> {
         let found = read(alloc, text.as_str())?;
         assert_eq!(rt; found.err(), fault, "{levels} levels around {inside}");
     }
+    Ok(())
+}
+
+#[test]
+fn limit_of_weight(rt: HostRuntime) -> Result<(), Fail> {
+    let alloc = rt.alloc();
     for (bytes, fault) in [(999_999, None), (1_000_000, Some(JsonFault::TooLarge))] {
         let text = quoted(alloc, bytes)?;
         let found = read(alloc, text.as_str())?;
@@ -129,12 +135,17 @@ fn measures(rt: HostRuntime) -> Result<(), Fail> {
     Ok(())
 }
 
+// Two items, the second within a map.
+fn item_and_entry(alloc: Global, first: Value, second: Value) -> Result<Value, AllocError> {
+    pair(alloc, first, entry(alloc, "k", second)?)
+}
+
 #[test]
 fn refinement(rt: HostRuntime) -> Result<(), Fail> {
     let alloc = rt.alloc();
-    let planned = pair(alloc, Value::Int(1), Value::Unknown)?;
-    let actual = pair(alloc, Value::Int(1), Value::Bool(true))?;
-    let other = pair(alloc, Value::Int(2), Value::Unknown)?;
+    let planned = item_and_entry(alloc, Value::Int(1), Value::Unknown)?;
+    let actual = item_and_entry(alloc, Value::Int(1), Value::Bool(true))?;
+    let other = item_and_entry(alloc, Value::Int(2), Value::Unknown)?;
     assert!(rt; refines(&planned, &actual) && !refines(&actual, &planned));
     assert!(rt; refines(&planned, &planned) && !refines(&planned, &other));
     assert!(rt; !refines(&planned, &Value::Unknown) && refines(&Value::Unknown, &planned));
@@ -164,7 +175,7 @@ fn look_up(rt: HostRuntime) -> Result<(), Fail> {
 #[test]
 fn unknown_is_not_written(rt: HostRuntime) -> Result<(), Fail> {
     let alloc = rt.alloc();
-    let planned = pair(alloc, Value::Null, Value::Unknown)?;
+    let planned = item_and_entry(alloc, Value::Null, Value::Unknown)?;
     let found = to_json(alloc, &planned);
     assert!(rt; matches!(found, Err(JsonFault::UnknownInside)));
     let message = JsonFault::UnknownInside.to_string(alloc)?;
@@ -196,7 +207,7 @@ fn sent(rt: HostRuntime) -> Result<(), Fail> {
         let long = serde_json::to_string_pretty(alloc, &value)?;
         assert_eq!(rt; long, json.to_string_pretty(alloc)?);
     }
-    let planned = pair(alloc, Value::Unknown, Value::Unknown)?;
+    let planned = item_and_entry(alloc, Value::Unknown, Value::Unknown)?;
     let text = serde_json::to_string(alloc, &planned)?;
     assert_eq!(rt; text.as_str(), "[null,{\"k\":null}]");
     Ok(())
@@ -219,10 +230,10 @@ fn derives(rt: HostRuntime) -> Result<(), Fail> {
 #[test]
 fn nulls_for_unknowns(rt: HostRuntime) -> Result<(), Fail> {
     let alloc = rt.alloc();
-    let planned = pair(alloc, Value::Unknown, entry(alloc, "id", Value::Unknown)?)?;
+    let planned = item_and_entry(alloc, Value::Unknown, entry(alloc, "id", Value::Unknown)?)?;
     let saved = with_nulls(alloc, &planned)?;
     assert!(rt; !may_be_stored(&planned) && may_be_stored(&saved));
-    assert!(rt; saved == pair(alloc, Value::Null, entry(alloc, "id", Value::Null)?)?);
+    assert!(rt; saved == item_and_entry(alloc, Value::Null, entry(alloc, "id", Value::Null)?)?);
     Ok(())
 }
 
