@@ -22,7 +22,7 @@ join_parts-loop-part-preserved g t c =
     let done = inv.0 in
     let p = c.part-item.result in
     let within : c.loop-part.part-index < length c.args.parts.now.items = omega (arith, c.loop-part-test.true, ap length xs) in
-    let is : c.part-item.result ≡ get_or c.args.parts.now.items c.loop-part.part-index c.part-item.result = c.part-item.is ∙ ap (λ ys. get_or ys i c.part-item.result) xs in
+    let is : c.part-item.result ≡ get_or c.args.parts.now.items c.loop-part.part-index c.part-item.result = ◌∙◌ {b = get_or c.deref-part-items.result.now i c.part-item.result} c.part-item.is (ap (λ ys. get_or ys i c.part-item.result) xs) in
     let v = tree_of c.in_ok-value.value in (
       done ++ (string_bytes p.0, v) ∷ [],
       pieces-more (g.S.Scope.environment c.args.scope.now) c.args.parts.now.items i p (between (g.S.Scope.environment c.args.scope.now) (parts_view c.args.parts.now.items)) done v within is inv.1 c.in_ok-value.ensures,
