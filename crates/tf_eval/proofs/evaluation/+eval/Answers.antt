@@ -38,7 +38,7 @@ woven_value-returns g t c =
     let before = joined.2 no_items c.new-joiner.ensures in
     let all = c.in_ok-push_text.ensures.ok (laid joined.0) before in
     let total : and_then (between env ps) (λ valued. woven valued last) ≡ answer_so_far c.push_text.new.self =
-    ap (λ r. and_then r (λ valued. woven valued last)) joined.1 ∙ joined_is env ps last joined.0 (◌∙◌ {a = stands_alone ps last} (sym c.stand_alone.ensures) c.if-stand_alone.false) joined.1 ∙ sym all in
+    ap (λ r. and_then r (λ valued. woven valued last)) {x = between env ps} joined.1 ∙ joined_is env ps last joined.0 (◌∙◌ {a = stands_alone ps last} (sym c.stand_alone.ensures) c.if-stand_alone.false) joined.1 ∙ sym all in
     gives-along (and_then (between env ps) (λ valued. woven valued last)) (answer_so_far c.push_text.new.self) c.finish.result total c.finish.ensures
 
 pub call_value-returns-then-not-takes : goal.call_value-returns-then-not-takes
