@@ -38,17 +38,17 @@ woven_value-returns g t c =
     let before = joined.2 no_items c.new-joiner.ensures in
     let all = c.in_ok-push_text.ensures.ok (laid joined.0) before in
     let total : and_then (between env ps) (λ valued. woven valued last) ≡ answer_so_far c.push_text.new.self =
-    ap (λ r. and_then r (λ valued. woven valued last)) {x = between env ps} joined.1 ∙ joined_is env ps last joined.0 (◌∙◌ {a = stands_alone ps last} (sym c.stand_alone.ensures) c.if-stand_alone.false) joined.1 ∙ sym all in
+    ap (λ r. and_then r (λ valued. woven valued last)) {x = between env ps} joined.1 ∙ joined_is env ps last joined.0 (sym {b = stands_alone ps last} c.stand_alone.ensures ∙ c.if-stand_alone.false) joined.1 ∙ sym all in
     gives-along (and_then (between env ps) (λ valued. woven valued last)) (answer_so_far c.push_text.new.self) c.finish.result total c.finish.ensures
 
 pub call_value-returns-then-not-takes : goal.call_value-returns-then-not-takes
 call_value-returns-then-not-takes g t c =
-    called-few c.in-Some.function (function_named c.args.name.now) c.args.terms.now.items c.len.result (meanings (g.S.Scope.environment c.args.scope.now) (terms_view c.args.terms.now.items)) c.in-Some.ensures (◌∙◌ {a = c.len.result} c.len.ensures c.args.terms.now.ok.0) (◌∙◌ {a = takes c.in-Some.function c.len.result} (sym c.takes.ensures) c.if-not-takes.true)
+    called-few c.in-Some.function (function_named c.args.name.now) c.args.terms.now.items c.len.result (meanings (g.S.Scope.environment c.args.scope.now) (terms_view c.args.terms.now.items)) c.in-Some.ensures (◌∙◌ {a = c.len.result} c.len.ensures c.args.terms.now.ok.0) (sym {b = takes c.in-Some.function c.len.result} c.takes.ensures ∙ c.if-not-takes.true)
 
 pub call_value-returns-in_err-term_values : goal.call_value-returns-in_err-term_values
 call_value-returns-in_err-term_values g t c =
     let e = err_from_is_err_and c.from_residual.result c.from_residual.ensures.1 in
-    rw (e.1, e.2) (called-fails c.in-Some.function (function_named c.args.name.now) c.args.terms.now.items c.len.result (meanings (g.S.Scope.environment c.args.scope.now) (terms_view c.args.terms.now.items)) c.in_err-term_values.field-0.0 c.in-Some.ensures (◌∙◌ {a = c.len.result} c.len.ensures c.args.terms.now.ok.0) (◌∙◌ {a = takes c.in-Some.function c.len.result} (sym c.takes.ensures) c.if-not-takes.false) c.in_err-term_values.ensures)
+    rw (e.1, e.2) (called-fails c.in-Some.function (function_named c.args.name.now) c.args.terms.now.items c.len.result (meanings (g.S.Scope.environment c.args.scope.now) (terms_view c.args.terms.now.items)) c.in_err-term_values.field-0.0 c.in-Some.ensures (◌∙◌ {a = c.len.result} c.len.ensures c.args.terms.now.ok.0) (sym {b = takes c.in-Some.function c.len.result} c.takes.ensures ∙ c.if-not-takes.false) c.in_err-term_values.ensures)
 
 pub call_value-call-requires : goal.call_value-call-requires
 call_value-call-requires g t c =
@@ -57,5 +57,5 @@ call_value-call-requires g t c =
 
 pub call_value-returns : goal.call_value-returns
 call_value-returns g t c =
-    let is = called-is c.in-Some.function (function_named c.args.name.now) c.args.terms.now.items c.len.result (meanings (g.S.Scope.environment c.args.scope.now) (terms_view c.args.terms.now.items)) (map tree_of c.in_ok-term_values.field-0.items) c.in-Some.ensures (◌∙◌ {a = c.len.result} c.len.ensures c.args.terms.now.ok.0) (◌∙◌ {a = takes c.in-Some.function c.len.result} (sym c.takes.ensures) c.if-not-takes.false) c.in_ok-term_values.ensures in
+    let is = called-is c.in-Some.function (function_named c.args.name.now) c.args.terms.now.items c.len.result (meanings (g.S.Scope.environment c.args.scope.now) (terms_view c.args.terms.now.items)) (map tree_of c.in_ok-term_values.field-0.items) c.in-Some.ensures (◌∙◌ {a = c.len.result} c.len.ensures c.args.terms.now.ok.0) (sym {b = takes c.in-Some.function c.len.result} c.takes.ensures ∙ c.if-not-takes.false) c.in_ok-term_values.ensures in
     rw is c.call.ensures
