@@ -27,7 +27,7 @@ put-above : (k : List ℕ) (v : values.Tree) (l : List ℕ) (u : values.Tree) (e
 put-above k v l u es h = rw h refl
 
 -- an entry whose name is above those before it
-pub below-more : (env : Environment) (done : List Entry) (e : Entry) (more : List Entry) (vs : values.Entries) (v : values.Tree) → IsStrictlySortedBy string_cmp (keys_of (done ++ e ∷ more))
+below-more : (env : Environment) (done : List Entry) (e : Entry) (more : List Entry) (vs : values.Entries) (v : values.Tree) → IsStrictlySortedBy string_cmp (keys_of (done ++ e ∷ more))
     → below env (entries_view done) ≡ Ok vs → meaning env (tree_of e.1) ≡ Ok v → below env (entries_view (done ++ e ∷ [])) ≡ Ok (values.put (string_bytes e.0) v vs)
 unfolding IsStrictlySortedBy
 below-more env [] e more vs v sorted h m =
@@ -55,7 +55,7 @@ valued_more env es rest left e so_far now k v sorted step is named valued before
     (before.0 ++ e ∷ [], all ∙ sym (append_assoc before.0 (e ∷ []) left), rw (put_in, named) last)
 
 -- the first fault of entries
-pub below-fault : (env : Environment) (done : List Entry) (e : Entry) (more : List Entry) (vs : values.Entries) (fault : EvalFault) → below env (entries_view done) ≡ Ok vs
+below-fault : (env : Environment) (done : List Entry) (e : Entry) (more : List Entry) (vs : values.Entries) (fault : EvalFault) → below env (entries_view done) ≡ Ok vs
     → meaning env (tree_of e.1) ≡ Err fault → below env (entries_view (done ++ e ∷ more)) ≡ Err fault
 below-fault env [] e more vs fault h m = rw m refl
 below-fault env (x ∷ done) e more vs fault h m =
@@ -63,7 +63,7 @@ below-fault env (x ∷ done) e more vs fault h m =
     rw (both.2, below-fault env done e more both.1 fault both.3 m) refl
 
 -- the first fault of entries is what is told, or there was no memory
-pub below-fails : (env : Environment) (done : List Entry) (e : Entry) (more : List Entry) (vs : values.Entries) (fault : EvalFault) → below env (entries_view done) ≡ Ok vs
+below-fails : (env : Environment) (done : List Entry) (e : Entry) (more : List Entry) (vs : values.Entries) (fault : EvalFault) → below env (entries_view done) ≡ Ok vs
     → Gives (meaning env (tree_of e.1)) (Err fault) → Fails (below env (entries_view (done ++ e ∷ more))) fault
 below-fails env done e more vs Overflow h m = below-fault env done e more vs Overflow h m
 below-fails env done e more vs WrongKind h m = below-fault env done e more vs WrongKind h m
@@ -71,3 +71,8 @@ below-fails env done e more vs Missing h m = below-fault env done e more vs Miss
 below-fails env done e more vs Arity h m = below-fault env done e more vs Arity h m
 below-fails env done e more vs TooLarge h m = below-fault env done e more vs TooLarge h m
 below-fails env done e more vs OutOfMemory h m = tt
+
+pub valued_fails : (env : Environment) (es rest left : List Entry) (e : Entry) (so_far : values.Entries) (fault : EvalFault) → rest ≡ e ∷ left
+    → Gives (meaning env (tree_of e.1)) (Err fault) → ValuedBefore env es rest so_far → Fails (below env (entries_view es)) fault
+valued_fails env es rest left e so_far fault step failed before =
+    let all : es ≡ before.0 ++ e ∷ left = before.1 ∙ ap (λ xs. before.0 ++ xs) step in rw all (below-fails env before.0 e left so_far fault before.2 failed)
