@@ -17,20 +17,14 @@ use Rattle.tf_address.specs.declared.object_id.InstanceKey.TheVariants.{Single, 
 
 keys_ordered : (a b : InstanceKey) → instance_key_cmp (instance_key_of a) (instance_key_of b) ≡ (keys.cmp-value).it a b
 keys_ordered Single Single = refl
-keys_ordered Single (Number n) = refl
-keys_ordered Single (Name t) = refl
-keys_ordered (Number m) Single = refl
 keys_ordered (Number m) (Number n) = refl
-keys_ordered (Number m) (Name t) = refl
-keys_ordered (Name s) Single = refl
-keys_ordered (Name s) (Number n) = refl
 keys_ordered (Name s) (Name t) = refl
+keys_ordered _ _ = refl
 
 deposed_ordered : (a b : Option (String Global)) → deposed_cmp (deposed_of a) (deposed_of b) ≡ option_cmp string_cmp a b
 deposed_ordered None None = refl
-deposed_ordered None (Some t) = refl
-deposed_ordered (Some s) None = refl
 deposed_ordered (Some s) (Some t) = refl
+deposed_ordered _ _ = refl
 
 pub object_ids_ordered : (p q : ObjectId) → object_id_cmp (object_id_of p) (object_id_of q) ≡ (objects.cmp-value).it p q
 object_ids_ordered p q = ap₂ ordering_then (keys_ordered p.key q.key) (deposed_ordered p.deposed q.deposed)

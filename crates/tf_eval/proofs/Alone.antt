@@ -24,6 +24,13 @@ pub split : {A B : Type 0} → (r : Result A EvalFault) (next : A → Result B E
 split (Ok a) next b h = (a, refl, h)
 split (Err e) next b h = absurd (cc)
 
+-- where two parts make a value, each has one
+pub split_two : {A B C : Type 0} → (r : Result A EvalFault) (rest : Result B EvalFault) (make : A → B → C) (c : C) → and_then r (λ a. and_then rest (λ b. Ok (make a b))) ≡ Ok c
+    → (a : A) × (b : B) × (r ≡ Ok a) × (rest ≡ Ok b) × (make a b ≡ c)
+split_two (Ok a) (Ok b) make c h = (a, b, refl, refl, (cc))
+split_two (Ok a) (Err e) make c h = absurd (cc)
+split_two (Err e) rest make c h = absurd (cc)
+
 sole_value : (r : Answer) → and_then (and_then r (λ v. Ok (([], v) ∷ []))) (λ valued. woven valued []) ≡ r
 sole_value (Ok v) = refl
 sole_value (Err e) = refl
@@ -45,9 +52,8 @@ alone_is env (p ∷ q ∷ ps) last d h =
 none_valued : (env : Environment) (ps : syntax.Parts) → between env ps ≡ Ok [] → ps ≡ syntax.no_parts
 none_valued env syntax.no_parts h = refl
 none_valued env (syntax.part s t ps) h =
-    let first = split (meaning env t) (λ v. and_then (between env ps) (λ valued. Ok ((s, v) ∷ valued))) [] h in
-    let rest = split (between env ps) (λ valued. Ok ((s, first.0) ∷ valued)) [] first.2 in
-    let wrong = rest.2 in absurd (cc)
+    let both = split_two (meaning env t) (between env ps) (λ v valued. (s, v) ∷ valued) [] h in
+    let wrong : (s, both.0) ∷ both.1 ≡ [] = both.4 in absurd (cc)
 
 woven_is : (env : Environment) (s : List ℕ) (t : syntax.Tree) (ps : syntax.Parts) (v : Tree) (rest : List (List ℕ × Tree)) (last : List ℕ) → stands_alone (syntax.part s t ps) last ≡ false
     → between env ps ≡ Ok rest → woven ((s, v) ∷ rest) last ≡ joined_value (item_behind (laid ((s, v) ∷ rest)) (text last))
@@ -61,7 +67,6 @@ pub joined_is : (env : Environment) (ps : syntax.Parts) (last : List ℕ) (value
     → woven valued last ≡ joined_value (item_behind (laid valued) (text last))
 joined_is env syntax.no_parts last valued h e = let none : [] ≡ valued = (cc) in rw (← none) refl
 joined_is env (syntax.part s t ps) last valued h e =
-    let first = split (meaning env t) (λ v. and_then (between env ps) (λ others. Ok ((s, v) ∷ others))) valued e in
-    let rest = split (between env ps) (λ others. Ok ((s, first.0) ∷ others)) valued first.2 in
-    let same : (s, first.0) ∷ rest.0 ≡ valued = (let is = rest.2 in cc) in
-    rw (← same) (woven_is env s t ps first.0 rest.0 last h rest.1)
+    let both = split_two (meaning env t) (between env ps) (λ v others. (s, v) ∷ others) valued e in
+    let same : (s, both.0) ∷ both.1 ≡ valued = both.4 in
+    rw (← same) (woven_is env s t ps both.0 both.1 last h both.3)

@@ -6,8 +6,7 @@ use Rattle.tf_operators.specs.Answer.{Answer, list_value, map_value}
 use Rattle.tf_operators.specs.Laws.{ListGrows, MapGrows}
 use Rattle.tf_eval.specs.Environment.{Environment, RefinesTo}
 use Rattle.tf_eval.specs.Growth as templates
-use Rattle.tf_eval.specs.Meaning.{and_then}
-use Rattle.tf_eval.proofs.Alone.{split}
+use Rattle.tf_eval.proofs.Alone.{split, split_two}
 use Rattle.tf_eval.specs.ExprMeaning.{meaning, meanings, below}
 use Rattle.tf_syntax.specs.ExprTree.{Tree, null, boolean, whole, template, list, map, Trees, no_trees, tree, Entries, no_entries, entry}
 
@@ -40,21 +39,17 @@ mutual
       → RefinesItems (values.items_of vs) (values.items_of ws)
   all_grow laws e f h no_trees vs ws p q = let x : [] ≡ vs = (cc) in let y : [] ≡ ws = (cc) in rw (← x, ← y) tt
   all_grow laws e f h (tree t ts) vs ws p q =
-      let x = split (meaning e t) (λ v. and_then (meanings e ts) (λ others. Ok (v ∷ others))) vs p in
-      let y = split (meaning f t) (λ v. and_then (meanings f ts) (λ others. Ok (v ∷ others))) ws q in
-      let r = split (meanings e ts) (λ others. Ok (x.0 ∷ others)) vs x.2 in
-      let s = split (meanings f ts) (λ others. Ok (y.0 ∷ others)) ws y.2 in
-      let a : x.0 ∷ r.0 ≡ vs = (let is = r.2 in cc) in
-      let b : y.0 ∷ s.0 ≡ ws = (let is = s.2 in cc) in
-      rw (← a, ← b) (grows laws e f h t x.0 y.0 x.1 y.1, all_grow laws e f h ts r.0 s.0 r.1 s.1)
+      let x = split_two (meaning e t) (meanings e ts) (λ v others. v ∷ others) vs p in
+      let y = split_two (meaning f t) (meanings f ts) (λ v others. v ∷ others) ws q in
+      let a : x.0 ∷ x.1 ≡ vs = x.4 in
+      let b : y.0 ∷ y.1 ≡ ws = y.4 in
+      rw (← a, ← b) (grows laws e f h t x.0 y.0 x.2 y.2, all_grow laws e f h ts x.1 y.1 x.3 y.3)
 
   below_grow : (laws : Laws) (before after : Environment) → RefinesTo before after → (es : Entries) (vs ws : values.Entries) → below before es ≡ Ok vs → below after es ≡ Ok ws → RefinesEntries vs ws
   below_grow laws e f h no_entries vs ws p q = let x : values.no_entries ≡ vs = (cc) in let y : values.no_entries ≡ ws = (cc) in rw (← x, ← y) tt
   below_grow laws e f h (entry k t es) vs ws p q =
-      let x = split (meaning e t) (λ v. and_then (below e es) (λ others. Ok (values.entry k v others))) vs p in
-      let y = split (meaning f t) (λ v. and_then (below f es) (λ others. Ok (values.entry k v others))) ws q in
-      let r = split (below e es) (λ others. Ok (values.entry k x.0 others)) vs x.2 in
-      let s = split (below f es) (λ others. Ok (values.entry k y.0 others)) ws y.2 in
-      let a : values.entry k x.0 r.0 ≡ vs = (let is = r.2 in cc) in
-      let b : values.entry k y.0 s.0 ≡ ws = (let is = s.2 in cc) in
-      rw (← a, ← b) (refl, grows laws e f h t x.0 y.0 x.1 y.1, below_grow laws e f h es r.0 s.0 r.1 s.1)
+      let x = split_two (meaning e t) (below e es) (λ v others. values.entry k v others) vs p in
+      let y = split_two (meaning f t) (below f es) (λ v others. values.entry k v others) ws q in
+      let a : values.entry k x.0 x.1 ≡ vs = x.4 in
+      let b : values.entry k y.0 y.1 ≡ ws = y.4 in
+      rw (← a, ← b) (refl, grows laws e f h t x.0 y.0 x.2 y.2, below_grow laws e f h es x.1 y.1 x.3 y.3)

@@ -15,7 +15,7 @@ use Rattle.tf_operators.specs.declared.fault.EvalFault.TheVariants.{Arity, TooLa
 use Rattle.tf_operators.specs.declared.function.Function.{Function}
 use Rattle.tf_eval.specs.Environment.{Environment, RefinesTo}
 use Rattle.tf_eval.specs.Meaning.{and_then, between, called, choice, chosen, count, laid, meaning, meanings, woven}
-use Rattle.tf_eval.proofs.Alone.{split}
+use Rattle.tf_eval.proofs.Alone.{split, split_two}
 
 -- what holds of the operations, and that a value refines to itself
 pub record Laws : Type 0 where
@@ -165,25 +165,21 @@ mutual
       → RefinesItems (items_of vs) (items_of ws)
   all_grow laws e f h syntax.no_trees vs ws p q = let x : [] ≡ vs = (cc) in let y : [] ≡ ws = (cc) in rw (← x, ← y) tt
   all_grow laws e f h (syntax.tree t ts) vs ws p q =
-      let x = split (meaning e t) (λ v. and_then (meanings e ts) (λ others. Ok (v ∷ others))) vs p in
-      let y = split (meaning f t) (λ v. and_then (meanings f ts) (λ others. Ok (v ∷ others))) ws q in
-      let r = split (meanings e ts) (λ others. Ok (x.0 ∷ others)) vs x.2 in
-      let s = split (meanings f ts) (λ others. Ok (y.0 ∷ others)) ws y.2 in
-      let a : x.0 ∷ r.0 ≡ vs = (let is = r.2 in cc) in
-      let b : y.0 ∷ s.0 ≡ ws = (let is = s.2 in cc) in
-      rw (← a, ← b) (grows laws e f h t x.0 y.0 x.1 y.1, all_grow laws e f h ts r.0 s.0 r.1 s.1)
+      let x = split_two (meaning e t) (meanings e ts) (λ v others. v ∷ others) vs p in
+      let y = split_two (meaning f t) (meanings f ts) (λ v others. v ∷ others) ws q in
+      let a : x.0 ∷ x.1 ≡ vs = x.4 in
+      let b : y.0 ∷ y.1 ≡ ws = y.4 in
+      rw (← a, ← b) (grows laws e f h t x.0 y.0 x.2 y.2, all_grow laws e f h ts x.1 y.1 x.3 y.3)
 
   pub between_grow : (laws : Laws) (before after : Environment) → RefinesTo before after → (ps : syntax.Parts) (xs ys : List (List ℕ × Tree)) → between before ps ≡ Ok xs → between after ps ≡ Ok ys
       → RefinesPieces xs ys
   between_grow laws e f h syntax.no_parts xs ys p q = let x : [] ≡ xs = (cc) in let y : [] ≡ ys = (cc) in rw (← x, ← y) tt
   between_grow laws e f h (syntax.part before t ps) xs ys p q =
-      let x = split (meaning e t) (λ v. and_then (between e ps) (λ others. Ok ((before, v) ∷ others))) xs p in
-      let y = split (meaning f t) (λ v. and_then (between f ps) (λ others. Ok ((before, v) ∷ others))) ys q in
-      let r = split (between e ps) (λ others. Ok ((before, x.0) ∷ others)) xs x.2 in
-      let s = split (between f ps) (λ others. Ok ((before, y.0) ∷ others)) ys y.2 in
-      let a : (before, x.0) ∷ r.0 ≡ xs = (let is = r.2 in cc) in
-      let b : (before, y.0) ∷ s.0 ≡ ys = (let is = s.2 in cc) in
-      rw (← a, ← b) (refl, grows laws e f h t x.0 y.0 x.1 y.1, between_grow laws e f h ps r.0 s.0 r.1 s.1)
+      let x = split_two (meaning e t) (between e ps) (λ v others. (before, v) ∷ others) xs p in
+      let y = split_two (meaning f t) (between f ps) (λ v others. (before, v) ∷ others) ys q in
+      let a : (before, x.0) ∷ x.1 ≡ xs = x.4 in
+      let b : (before, y.0) ∷ y.1 ≡ ys = y.4 in
+      rw (← a, ← b) (refl, grows laws e f h t x.0 y.0 x.2 y.2, between_grow laws e f h ps x.1 y.1 x.3 y.3)
 
 -- the value of a template grows
 pub template_grows : (laws : Laws) (before after : Environment) → RefinesTo before after → (ps : syntax.Parts) (last : List ℕ) (v w : Tree)

@@ -14,7 +14,7 @@ use Rattle.tf_operators.specs.declared.function.Function.{Function}
 use Rattle.tf_eval.specs.Answering.{Fails}
 use Rattle.tf_eval.specs.Environment.{Environment}
 use Rattle.tf_eval.specs.Meaning.{and_then, meaning, meanings, between, laid, count, called}
-use Rattle.tf_eval.proofs.Alone.{split}
+use Rattle.tf_eval.proofs.Alone.{split_two}
 
 -- what the rest gives, behind what there is
 abbrev pub onto : {X : Type 0} → List X → Result (List X) EvalFault → Result (List X) EvalFault
@@ -128,10 +128,9 @@ called-is f name ts n values vs is len h e = rw (← is, count-is ts, ← len, h
 values-length : (env : Environment) (ts : syntax.Trees) (vs : List Tree) → meanings env ts ≡ Ok vs → length vs ≡ count ts
 values-length env syntax.no_trees vs h = let none : [] ≡ vs = (cc) in rw (← none) refl
 values-length env (syntax.tree t ts) vs h =
-    let first = split (meaning env t) (λ v. and_then (meanings env ts) (λ others. Ok (v ∷ others))) vs h in
-    let rest = split (meanings env ts) (λ others. Ok (first.0 ∷ others)) vs first.2 in
-    let same : first.0 ∷ rest.0 ≡ vs = (let is = rest.2 in cc) in
-    rw (← same) (ap suc (values-length env ts rest.0 rest.1))
+    let both = split_two (meaning env t) (meanings env ts) (λ v others. v ∷ others) vs h in
+    let same : both.0 ∷ both.1 ≡ vs = both.4 in
+    rw (← same) (ap suc (values-length env ts both.1 both.3))
 
 -- as many values as expressions
 pub values-count : (env : Environment) (ts : List Term) (vs : List Tree) → meanings env (terms_view ts) ≡ Ok vs → length vs ≡ length ts

@@ -1,8 +1,8 @@
 -- A removal: at its start, one node on, and at its end.
-use Rattle.std.proofs.Common.{◌≡◌, ◌==◌, ◌+◌, ◌-◌, ◌<◌, ◌≤◌, ◌∷◌, ◌++◌, [], ℕ, zero, suc, List, Bool, true, false, cond, length, set, take, map, filter, replicate, refl, sym, ap, ◌∙◌, arith, eqb, inl, inr}
+use Rattle.std.proofs.Common.{◌≡◌, ◌==◌, ◌+◌, ◌-◌, ◌<◌, ◌≤◌, ◌∷◌, ◌++◌, [], ℕ, zero, suc, List, Bool, true, false, cond, length, get_or, set, take, map, filter, replicate, refl, sym, ap, ◌∙◌, arith, eqb, inl, inr}
 use Rattle.std.specs.Prelude.{Contains, slice_index}
 use Rattle.std.proofs.lemmas.Bool.{cases_eq, cases_lt, cases_Bool, eq-eqb, ne_eqb, eqb-true, both_ways}
-use Rattle.std.proofs.lemmas.List.{get_or-set_same, get_or-set_other, get_or_past, get_or_append_left, get_or_push, get_or_default, get_or-take, length-set, length-take, length_push, length-replicate, get_or-replicate}
+use Rattle.std.proofs.lemmas.List.{get_or_read, get_or-set_same, get_or-set_other, get_or_past, get_or_append_left, get_or_push, get_or_default, get_or-take, length-set, length-take, length_push, length-replicate, get_or-replicate}
 use Rattle.std.proofs.lemmas.List.Elements.{Contains-append_left, Contains-push, Contains-push_cases}
 use Rattle.tf_graph.specs.Digraph.{Digraph, IsWithin, sources_into, targets_from, predecessors_of, successors_of}
 use Rattle.tf_graph.proofs.Edges.{edge-from_source, source_inside, target_inside, contains_head, contains_tail, contains_cases}
@@ -178,6 +178,12 @@ start-done g remaining free w s = record {
   free_zero = s.free_zero;
   ready = λ k h z. inr (s.ready k h z);
 }
+
+-- what is read at a free node is whether it is left
+pub free-left : (g : Digraph) (left : List Bool) (remaining free : List ℕ) (n : ℕ) (read : Bool) → IsRemoval g left remaining (free ++ n ∷ []) [] → read ≡ get_or left n read → has left n ≡ read
+free-left g left remaining free n read r e =
+    let inside : n < length left = omega (arith, (r.free_zero n (Contains-push free n)).0, r.left_length) in
+    sym (get_or_read left n read inside e false)
 
 -- a free node that is gone already
 pub removal-skip : (g : Digraph) (left : List Bool) (remaining free : List ℕ) (n : ℕ) → IsRemoval g left remaining (free ++ n ∷ []) [] → has left n ≡ false → IsRemoval g left remaining free []

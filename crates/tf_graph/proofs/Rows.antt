@@ -1,7 +1,7 @@
 -- The lists of each node's neighbours: after a write, and one edge on.
-use Rattle.std.proofs.Common.{◌≡◌, ◌==◌, ◌++◌, ◌∷◌, ◌+◌, ◌<◌, [], ℕ, List, Bool, true, false, cond, length, map, filter, take, set, get_or, refl, sym, ap, ◌∙◌, arith, Vec, All, eqb, zero, suc}
-use Rattle.std.proofs.lemmas.List.{map-set, get_or-set_same, get_or-set_other, length-map, map-append, append-nil, get_or-map}
-use Rattle.std.proofs.lemmas.List.Elements.{filter_more, All-filter, All-map, All-from_get_or}
+use Rattle.std.proofs.Common.{◌≡◌, ◌==◌, ◌++◌, ◌∷◌, ◌<◌, [], ℕ, List, cond, length, map, filter, set, get_or, refl, sym, ap, ◌∙◌, arith, Vec, All, eqb, zero, suc}
+use Rattle.std.proofs.lemmas.List.{map-set, get_or-set_same, get_or-set_other, length-map, get_or-map}
+use Rattle.std.proofs.lemmas.List.Elements.{All-filter, All-map, All-from_get_or}
 use Rattle.std.proofs.lemmas.Bool.Decides.{nat_tests}
 use Rattle.tf_graph.specs.Digraph.{IsWithin, sources_into, targets_from, edge_at}
 use Rattle.tf_graph.specs.Lists.{row}
@@ -31,26 +31,17 @@ row-push_empty [] list (suc n) e h = refl
 row-push_empty (v ∷ vs) list zero e h = h
 row-push_empty (v ∷ vs) list (suc n) e h = row-push_empty vs list n e h
 
-pub sources_into-more : (edges : List (ℕ × ℕ)) (i n : ℕ) → i < length edges → sources_into (take (i + 1) edges) n ≡ cond (eqb (edge_at edges i).1 n) (sources_into (take i edges) n ++ (edge_at edges i).0 ∷ []) (sources_into (take i edges) n)
-sources_into-more edges i n h =
-    rw (filter_more (λ (e : ℕ × ℕ). e.1 == n) edges i (0, 0) h, map-append) (added (eqb (edge_at edges i).1 n))
-  where
-    added : (b : Bool) → map (λ (e : ℕ × ℕ). e.0) (filter (λ (e : ℕ × ℕ). e.1 == n) (take i edges)) ++ map (λ (e : ℕ × ℕ). e.0) (cond b (edge_at edges i ∷ []) []) ≡ cond b (sources_into (take i edges) n ++ (edge_at edges i).0 ∷ []) (sources_into (take i edges) n)
-    added true = refl
-    added false = append-nil _
-
-pub targets_from-more : (edges : List (ℕ × ℕ)) (i n : ℕ) → i < length edges → targets_from (take (i + 1) edges) n ≡ cond (eqb (edge_at edges i).0 n) (targets_from (take i edges) n ++ (edge_at edges i).1 ∷ []) (targets_from (take i edges) n)
-targets_from-more edges i n h =
-    rw (filter_more (λ (e : ℕ × ℕ). e.0 == n) edges i (0, 0) h, map-append) (added (eqb (edge_at edges i).0 n))
-  where
-    added : (b : Bool) → map (λ (e : ℕ × ℕ). e.1) (filter (λ (e : ℕ × ℕ). e.0 == n) (take i edges)) ++ map (λ (e : ℕ × ℕ). e.1) (cond b (edge_at edges i ∷ []) []) ≡ cond b (targets_from (take i edges) n ++ (edge_at edges i).1 ∷ []) (targets_from (take i edges) n)
-    added true = refl
-    added false = append-nil _
+-- where both ends of each edge are below a bound, so is one end of those whose other end is a node
+picked-within : (at other : ℕ × ℕ → ℕ) (nodes : ℕ) (edges : List (ℕ × ℕ)) (n : ℕ) → ((i : ℕ) → i < length edges → other (edge_at edges i) < nodes) → All (λ k. k < nodes) (map other (filter (λ (e : ℕ × ℕ). at e == n) edges))
+picked-within at other nodes edges n below =
+    All-map (λ k. k < nodes) other (filter (λ (e : ℕ × ℕ). at e == n) edges) (All-filter (λ (e : ℕ × ℕ). at e == n) (λ (e : ℕ × ℕ). other e < nodes) edges (All-from_get_or (λ (e : ℕ × ℕ). other e < nodes) edges (0, 0) below))
 
 pub sources_into-within : (nodes : ℕ) (edges : List (ℕ × ℕ)) (n : ℕ) → IsWithin nodes edges → All (λ k. k < nodes) (sources_into edges n)
-sources_into-within nodes edges n w =
-    All-map (λ k. k < nodes) (λ (e : ℕ × ℕ). e.0) (filter (λ (e : ℕ × ℕ). e.1 == n) edges) (All-filter (λ (e : ℕ × ℕ). e.1 == n) (λ (e : ℕ × ℕ). e.0 < nodes) edges (All-from_get_or (λ (e : ℕ × ℕ). e.0 < nodes) edges (0, 0) w.source_below))
+sources_into-within nodes edges n w = picked-within (λ e. e.1) (λ e. e.0) nodes edges n w.source_below
 
 pub targets_from-within : (nodes : ℕ) (edges : List (ℕ × ℕ)) (n : ℕ) → IsWithin nodes edges → All (λ k. k < nodes) (targets_from edges n)
-targets_from-within nodes edges n w =
-    All-map (λ k. k < nodes) (λ (e : ℕ × ℕ). e.1) (filter (λ (e : ℕ × ℕ). e.0 == n) edges) (All-filter (λ (e : ℕ × ℕ). e.0 == n) (λ (e : ℕ × ℕ). e.1 < nodes) edges (All-from_get_or (λ (e : ℕ × ℕ). e.1 < nodes) edges (0, 0) w.target_below))
+targets_from-within nodes edges n w = picked-within (λ e. e.0) (λ e. e.1) nodes edges n w.target_below
+
+-- what was read of the lists is below a bound where their rows are
+pub read-within : {A : Type 0} → (lists : List (Vec ℕ A)) (nodes n : ℕ) (list : Vec ℕ A) (read all : List ℕ) → read ≡ list.items → n < length lists → list ≡ get_or lists n list → row lists n ≡ all → All (λ k. k < nodes) all → All (λ k. k < nodes) read
+read-within lists nodes n list read all e h is rows below = rw (e ∙ row_read lists n list h is ∙ rows) below

@@ -11,6 +11,11 @@ use Rattle.tf_graph.specs.Path.{Path, direct, onward, HasEdge, Reaches, joined}
 use Rattle.tf_graph.specs.NodeSet.{has}
 use Rattle.tf_graph.specs.Search.{row_of, missing, AreKnown, IsSearch}
 
+fewer : (a b : Bool) → (a ≡ true → b ≡ true) → cond b 0 1 ≤ cond a 0 1
+fewer true b f = rw (f refl) (omega arith)
+fewer false true f = omega arith
+fewer false false f = omega arith
+
 -- more members, fewer missing
 pub missing-le : (set more : List Bool) (n : ℕ) → ((k : ℕ) → has set k ≡ true → has more k ≡ true) → missing more n ≤ missing set n
 unfolding missing
@@ -19,11 +24,6 @@ missing-le set more (suc n) h =
     let rest : missing more n ≤ missing set n = missing-le set more n h in
     let here : cond (has more n) 0 1 ≤ cond (has set n) 0 1 = fewer (has set n) (has more n) (h n) in
     omega arith
-  where
-    fewer : (a b : Bool) → (a ≡ true → b ≡ true) → cond b 0 1 ≤ cond a 0 1
-    fewer true b f = rw (f refl) (omega arith)
-    fewer false true f = omega arith
-    fewer false false f = omega arith
 
 -- a new member, one fewer
 pub missing-lt : (set more : List Bool) (n node : ℕ) → ((k : ℕ) → has set k ≡ true → has more k ≡ true) → node < n → has set node ≡ false → has more node ≡ true → missing more n < missing set n
@@ -40,11 +40,6 @@ missing-lt set more (suc n) node h below was is = elim (cases_eq node n) [
       let here : cond (has more n) 0 1 ≤ cond (has set n) 0 1 = fewer (has set n) (has more n) (h n) in
       omega arith
 ]
-  where
-    fewer : (a b : Bool) → (a ≡ true → b ≡ true) → cond b 0 1 ≤ cond a 0 1
-    fewer true b f = rw (f refl) (omega arith)
-    fewer false true f = omega arith
-    fewer false false f = omega arith
 
 -- a set, and more: a node is added to it, and then another set
 old_stays : (set more others : List Bool) (node : ℕ) → ((k : ℕ) → has more k ≡ ((has set k || eqb node k) || has others k)) → (k : ℕ) → has set k ≡ true → has more k ≡ true

@@ -1,8 +1,10 @@
 //! A finite directed graph, kept as the list of its edges and each node's neighbours.
 
-ghost use Rattle.std.specs.Prelude.{◌≡◌, ◌<◌, ◌≤◌, ◌↔◌, ◌==◌, ◌++◌, ◌∷◌, [], ℕ, length, All, IfOk, OnOk, IsErrOf, MatchBool, if◌then◌else◌};
+ghost use Rattle.std.specs.Prelude.{◌≡◌, ◌<◌, ◌≤◌, ◌↔◌, ◌==◌, ◌++◌, ◌∷◌, [], ℕ, length, All, Some, IfOk, OnOk, IsErrOf, MatchBool, if◌then◌else◌};
 ghost use Rattle.tf_graph.specs.Digraph.{Digraph, IsWithin, HasOutside, sources_into, targets_from, predecessors_of, successors_of};
+ghost use Rattle.tf_graph.specs.Fault.{text_of};
 ghost use Rattle.tf_graph.specs.Lists.{row};
+ghost use Rattle.tf_graph.specs.declared.graph.GraphFault.TheVariants.{OutOfMemory};
 
 use std::alloc::{AllocError, AllocFailed, Global};
 use std::error::Error;
@@ -23,10 +25,15 @@ pub enum GraphFault {
     OutOfMemory,
 }
 
-impl fmt::Display for GraphFault {
-    ghost use Rattle.std.specs.Prelude.{Some};
-    ghost use Rattle.tf_graph.specs.Fault.{text_of};
+impl From<AllocError> for GraphFault {
+    ghost from_gives = { λ _ fault. fault ≡ OutOfMemory };
 
+    fn from(_error: AllocError) -> GraphFault {
+        GraphFault::OutOfMemory
+    }
+}
+
+impl fmt::Display for GraphFault {
     ghost output = { λ fault. Some (text_of fault) };
 
     fn fmt<W: fmt::Write>(&self, f: &mut fmt::Formatter<W>) -> fmt::Result {
@@ -39,17 +46,6 @@ impl fmt::Display for GraphFault {
 }
 
 impl Error for GraphFault {}
-
-impl From<AllocError> for GraphFault {
-    ghost use Rattle.std.specs.Prelude.{◌≡◌};
-    ghost use Rattle.tf_graph.specs.declared.graph.GraphFault.TheVariants.{OutOfMemory};
-
-    ghost from_gives = { λ _ fault. fault ≡ OutOfMemory };
-
-    fn from(_error: AllocError) -> GraphFault {
-        GraphFault::OutOfMemory
-    }
-}
 
 /// A finite directed graph: a number of nodes, and a list of edges. An edge `(a, b)` says that `a`
 /// stands before `b`. Self-loops are edges like any other, and an edge may stand more than once.
@@ -88,8 +84,7 @@ impl Graph {
         if !is_within(nodes, edges) {
             return Err(GraphFault::OutOfRange);
         }
-        let before = sources(alloc, nodes, edges)?;
-        let after = targets(alloc, nodes, edges)?;
+        let (before, after) = neighbours(alloc, nodes, edges)?;
         let edges = Vec::from_slice(alloc, edges)?;
         Ok(Graph {
             nodes,
@@ -167,38 +162,25 @@ fn is_within(nodes: usize, edges: &[(usize, usize)]) -> bool
     true
 }
 
-/// For each node, where the edges into it come from.
-fn sources(
+/// For each node, where the edges into it come from; and where the edges out of it lead.
+fn neighbours(
     alloc: Global,
     nodes: usize,
     edges: &[(usize, usize)],
-) -> Result<Vec<Vec<usize>>, AllocError>
+) -> Result<(Vec<Vec<usize>>, Vec<Vec<usize>>), AllocError>
     requires { IsWithin nodes edges.now }
-    ensures length { IfOk result (λ lists. length lists.items ≡ nodes) }
-    ensures rows { IfOk result (λ lists. (n : ℕ) → row lists.items n ≡ sources_into edges.now n) }
+    ensures sources_length { IfOk result (λ both. length both.0.items ≡ nodes) }
+    ensures sources { IfOk result (λ both. (n : ℕ) → row both.0.items n ≡ sources_into edges.now n) }
+    ensures targets_length { IfOk result (λ both. length both.1.items ≡ nodes) }
+    ensures targets { IfOk result (λ both. (n : ℕ) → row both.1.items n ≡ targets_from edges.now n) }
 {
-    let mut lists = empty_lists(alloc, nodes)?;
+    let mut before = empty_lists(alloc, nodes)?;
+    let mut after = empty_lists(alloc, nodes)?;
     for (from, to) in edges {
-        add(&mut lists, *to, *from)?;
+        add(&mut before, *to, *from)?;
+        add(&mut after, *from, *to)?;
     }
-    Ok(lists)
-}
-
-/// For each node, where the edges out of it lead.
-fn targets(
-    alloc: Global,
-    nodes: usize,
-    edges: &[(usize, usize)],
-) -> Result<Vec<Vec<usize>>, AllocError>
-    requires { IsWithin nodes edges.now }
-    ensures length { IfOk result (λ lists. length lists.items ≡ nodes) }
-    ensures rows { IfOk result (λ lists. (n : ℕ) → row lists.items n ≡ targets_from edges.now n) }
-{
-    let mut lists = empty_lists(alloc, nodes)?;
-    for (from, to) in edges {
-        add(&mut lists, *from, *to)?;
-    }
-    Ok(lists)
+    Ok((before, after))
 }
 
 /// An empty list for each node.

@@ -154,15 +154,17 @@ merged_onto-grows base other (item t ts) no_items es fs h i p q = absurd i
 merged_onto-grows base other (item _ ts) us es fs h i p q = absurd (cc)
 merged_onto-grows base other no_items (item u us) es fs h i p q = absurd i
 
-entries_value-grows : (o p : Option Entries) (v w : Tree) → ((es fs : Entries) → o ≡ Some es → p ≡ Some fs → RefinesEntries es fs) → entries_value o ≡ Ok v → entries_value p ≡ Ok w → Refines v w
-entries_value-grows (Some es) (Some fs) v w h e f = map_value-grows es fs v w (h es fs refl refl) e f
-entries_value-grows None p v w h e f = absurd (cc)
-entries_value-grows (Some es) None v w h e f = absurd (cc)
+-- what is answered where there is something, and only there, grows where that does
+there_grows : {A : Type 0} (R : A → A → Type 0) (answer : Option A → Answer) → ((v : Tree) → answer None ≡ Ok v → ⊥) → ((a b : A) (v w : Tree) → R a b → answer (Some a) ≡ Ok v → answer (Some b) ≡ Ok w → Refines v w)
+    → (o p : Option A) (v w : Tree) → ((a b : A) → o ≡ Some a → p ≡ Some b → R a b) → answer o ≡ Ok v → answer p ≡ Ok w → Refines v w
+there_grows R answer none some (Some a) (Some b) v w h e f = some a b v w (h a b refl refl) e f
+there_grows R answer none some None p v w h e f = absurd (none v e)
+there_grows R answer none some (Some a) None v w h e f = absurd (none w f)
 
 merge_value-grows : (ts us : Items) (v w : Tree) → RefinesItems ts us → merge_value ts ≡ Ok v → merge_value us ≡ Ok w → Refines v w
 merge_value-grows ts us v w h p q =
     tested_grows (any_unknown ts) (any_unknown us) _ _ v w (any_unknown-stays ts us h)
-    (entries_value-grows _ _ v w (λ es fs e f. merged_onto-grows no_entries no_entries ts us es fs tt h e f)) p q
+    (there_grows RefinesEntries entries_value (λ x none. cc) map_value-grows _ _ v w (λ es fs e f. merged_onto-grows no_entries no_entries ts us es fs tt h e f)) p q
 
 -- lists in one
 
@@ -190,15 +192,10 @@ concatenated-grows (item t ts) no_items vs ws h p q = absurd h
 concatenated-grows (item _ ts) us vs ws h p q = absurd (cc)
 concatenated-grows no_items (item u us) vs ws h p q = absurd h
 
-items_value-grows : (o p : Option Items) (v w : Tree) → ((ts us : Items) → o ≡ Some ts → p ≡ Some us → RefinesItems ts us) → items_value o ≡ Ok v → items_value p ≡ Ok w → Refines v w
-items_value-grows (Some ts) (Some us) v w h e f = list_value-grows ts us v w (h ts us refl refl) e f
-items_value-grows None p v w h e f = absurd (cc)
-items_value-grows (Some ts) None v w h e f = absurd (cc)
-
 concat_value-grows : (ts us : Items) (v w : Tree) → RefinesItems ts us → concat_value ts ≡ Ok v → concat_value us ≡ Ok w → Refines v w
 concat_value-grows ts us v w h p q =
     tested_grows (any_unknown ts) (any_unknown us) _ _ v w (any_unknown-stays ts us h)
-    (items_value-grows _ _ v w (λ vs ws e f. concatenated-grows ts us vs ws h e f)) p q
+    (there_grows RefinesItems items_value (λ x none. cc) list_value-grows _ _ v w (λ vs ws e f. concatenated-grows ts us vs ws h e f)) p q
 
 -- texts, with a separator
 

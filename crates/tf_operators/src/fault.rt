@@ -1,5 +1,9 @@
 //! What an evaluation can meet.
 
+ghost use Rattle.std.specs.Prelude.{◌≡◌, Some};
+ghost use Rattle.tf_operators.specs.EvalFault.{eval_fault_name};
+ghost use Rattle.tf_operators.specs.declared.fault.EvalFault.TheVariants.{OutOfMemory};
+
 use std::alloc::{AllocError, AllocFailed};
 use std::fmt;
 
@@ -20,11 +24,16 @@ pub enum EvalFault {
     OutOfMemory,
 }
 
+impl From<AllocError> for EvalFault {
+    ghost from_gives = { λ _ fault. fault ≡ OutOfMemory };
+
+    fn from(_error: AllocError) -> EvalFault {
+        EvalFault::OutOfMemory
+    }
+}
+
 /// The name of the fault, as refusals print it.
 impl fmt::Display for EvalFault {
-    ghost use Rattle.std.specs.Prelude.{Some};
-    ghost use Rattle.tf_operators.specs.EvalFault.{eval_fault_name};
-
     ghost output = { λ fault. Some (eval_fault_name fault) };
 
     fn fmt<W: fmt::Write>(&self, f: &mut fmt::Formatter<W>) -> fmt::Result {
@@ -39,21 +48,7 @@ impl fmt::Display for EvalFault {
     }
 }
 
-impl From<AllocError> for EvalFault {
-    ghost use Rattle.std.specs.Prelude.{◌≡◌};
-    ghost use Rattle.tf_operators.specs.declared.fault.EvalFault.TheVariants.{OutOfMemory};
-
-    ghost from_gives = { λ _ fault. fault ≡ OutOfMemory };
-
-    fn from(_error: AllocError) -> EvalFault {
-        EvalFault::OutOfMemory
-    }
-}
-
 impl<T: Drop> From<AllocFailed<T>> for EvalFault {
-    ghost use Rattle.std.specs.Prelude.{◌≡◌};
-    ghost use Rattle.tf_operators.specs.declared.fault.EvalFault.TheVariants.{OutOfMemory};
-
     ghost from_gives = { λ _ fault. fault ≡ OutOfMemory };
 
     fn from(_error: AllocFailed<T>) -> EvalFault {

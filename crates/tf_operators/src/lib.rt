@@ -23,6 +23,3 @@ pub use function::Function;
 pub use joining::Joiner;
 pub use operators::{binary, unary};
 pub use parts::{attribute, index};
-
-#[cfg(test)]
-mod tests;

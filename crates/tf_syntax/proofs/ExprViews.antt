@@ -1,5 +1,5 @@
 -- A `BTreeMap` of expressions beside the entries that it stands for.
-use Rattle.std.proofs.Common.{◌≡◌, ℕ, Bool, true, false, cond, Bor, Option, Some, None, option_map, is_eq, List, [], ◌∷◌, ◌++◌, String, Global, Ordering, Less, Equal, Greater, string_bytes, string_cmp, nat_cmp, refl, ap, ◌∙◌}
+use Rattle.std.proofs.Common.{◌≡◌, ℕ, Bool, true, false, cond, Bor, Option, Some, None, option_map, is_eq, List, [], ◌∷◌, ◌++◌, String, Global, Ordering, Less, Equal, Greater, string_bytes, string_cmp, nat_cmp, refl, sym, ap, ◌∙◌, subst, append_assoc}
 use Rattle.std.proofs.lemmas.Cmp.{nat_list_cmp_total}
 use Rattle.std.proofs.lemmas.Map.Text.{is_eq-slice_cmp}
 use Rattle.std.specs.Cmp.Lexicographic.{slice_cmp}
@@ -8,7 +8,7 @@ use Rattle.std.specs.Map.{keys_of, lookup}
 use Rattle.std.specs.Ordering.{match_ordering, ordering_reverse}
 use Rattle.std.specs.BTreeMap.{insert_entry, is_at}
 use Rattle.std.specs.List.{AllByRecursion}
-use Rattle.tf_syntax.specs.ExprTree.{Tree, entry, get, put, tree_of, entries_view}
+use Rattle.tf_syntax.specs.ExprTree.{Tree, Entries, entry, get, put, tree_of, entries_view}
 use Rattle.tf_syntax.specs.declared.expr.Expr.{Expr}
 
 abbrev pub Entry : Type 0
@@ -56,3 +56,16 @@ unfolding IsStrictlySortedBy
 put_last [] e more h = refl
 put_last (first ∷ done) e more h =
     rw (is_above first done e more h) (ap (entry (string_bytes first.0) (tree_of first.1)) (put_last done e more h.1))
+
+-- entries of which those before some are seen as trees, in order
+abbrev pub ViewedBefore : List Entry → List Entry → Entries → Type 0
+ViewedBefore es left so_far = (done : List Entry) × (es ≡ done ++ left) × (so_far ≡ entries_view done)
+
+-- one entry more of a map that is gone through, put into another
+pub viewed_more : (es rest left : List Entry) (e : Entry) (so_far now : List Entry) (k : String Global) (copy : Expr)
+    → IsStrictlySortedBy string_cmp (keys_of es) → rest ≡ e ∷ left → now ≡ insert_entry string_cmp so_far k copy → string_bytes k ≡ string_bytes e.0 → tree_of copy ≡ tree_of e.1
+    → ViewedBefore es rest (entries_view so_far) → ViewedBefore es left (entries_view now)
+viewed_more es rest left e so_far now k copy sorted step is named same before =
+    let all : es ≡ before.0 ++ e ∷ left = before.1 ∙ ap (λ xs. before.0 ++ xs) step in
+    let last = put_last before.0 e left (subst (λ xs. IsStrictlySortedBy string_cmp (keys_of xs)) all sorted) in
+    (before.0 ++ e ∷ [], all ∙ sym (append_assoc before.0 (e ∷ []) left), ap entries_view is ∙ entries_view-insert_entry so_far k copy ∙ rw (named, same, before.2) last)

@@ -1,3 +1,3 @@
 pub mod Copied
 pub mod ExprViews
-pub mod Gathered
+pub mod Finding

@@ -32,13 +32,11 @@ same_entry n p q = cc
 -- each value may turn out to be itself
 mutual
   pub Refines-refl : (t : Tree) → Refines t t
-  Refines-refl null = tt
-  Refines-refl (boolean b) = refl
-  Refines-refl (whole z) = refl
-  Refines-refl (text s) = refl
   Refines-refl (list ts) = RefinesItems-refl ts
   Refines-refl (map es) = RefinesEntries-refl es
+  Refines-refl null = tt
   Refines-refl unknown = tt
+  Refines-refl _ = refl
 
   pub RefinesItems-refl : (ts : Items) → RefinesItems ts ts
   RefinesItems-refl no_items = tt

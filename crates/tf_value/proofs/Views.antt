@@ -1,6 +1,7 @@
 -- A value, level by level, and a `BTreeMap` beside the entries that it stands for.
-use Rattle.std.proofs.Common.{◌≡◌, ℕ, List, [], ◌∷◌, ◌++◌, Option, Some, None, option_map, String, Vec, BTreeMap, Global, Bor, Ordering, Less, Equal, Greater, string_bytes, string_cmp, nat_cmp, is_eq, cond, Bool, true, false, map as each, refl, ap, ◌∙◌, rules}
+use Rattle.std.proofs.Common.{◌≡◌, ℕ, List, [], ◌∷◌, ◌++◌, Option, Some, None, option_map, String, Vec, BTreeMap, Global, Bor, Ordering, Less, Equal, Greater, string_bytes, string_cmp, nat_cmp, is_eq, cond, Bool, true, false, map as each, refl, sym, ap, ◌∙◌, subst, append_assoc, rules}
 use Rattle.std.proofs.lemmas.Cmp.{nat_list_cmp_total}
+use Rattle.std.proofs.lemmas.List.{append-nil}
 use Rattle.std.proofs.lemmas.Map.Text.{is_eq-slice_cmp}
 use Rattle.std.specs.Cmp.Lexicographic.{slice_cmp}
 use Rattle.std.specs.List.{AllByRecursion}
@@ -56,6 +57,24 @@ put_last f (first ∷ done) e more h =
     let above : slice_cmp nat_cmp (string_bytes e.0) (string_bytes first.0) ≡ Greater =
     nat_list_cmp_total.antisymm (string_bytes e.0) (string_bytes first.0) ∙ ap ordering_reverse (below_middle first.0 done e more h.0) in
     rw above (ap (entry (string_bytes first.0) (f first.1)) (put_last f done e more h.1))
+
+-- entries of which those before some are shown, in order
+abbrev pub ShownBefore : {V : Type 0} → (V → Tree) → List (String Global × V) → List (String Global × V) → Entries → Type 0
+ShownBefore {V} f es left so_far = (done : List (String Global × V)) × (es ≡ done ++ left) × (so_far ≡ shown f done)
+
+-- one entry more of a map that is gone through, put into another
+pub shown_more : {V : Type 0} (f : V → Tree) (es rest left : List (String Global × V)) (e : String Global × V) (so_far now : List Entry) (k : String Global) (v : Value)
+    → IsStrictlySortedBy string_cmp (keys_of es) → rest ≡ e ∷ left → now ≡ insert_entry string_cmp so_far k v → string_bytes k ≡ string_bytes e.0 → tree_of v ≡ f e.1
+    → ShownBefore f es rest (entries_view so_far) → ShownBefore f es left (entries_view now)
+shown_more f es rest left e so_far now k v sorted step is named same before =
+    let all : es ≡ before.0 ++ e ∷ left = before.1 ∙ ap (λ xs. before.0 ++ xs) step in
+    let last = put_last f before.0 e left (subst (λ xs. IsStrictlySortedBy string_cmp (keys_of xs)) all sorted) in
+    (before.0 ++ e ∷ [], all ∙ sym (append_assoc before.0 (e ∷ []) left), ap entries_view is ∙ entries_view-insert_entry so_far k v ∙ rw (named, same, before.2) last)
+
+-- all entries of a map were gone through
+pub shown_all : {V : Type 0} (f : V → Tree) (es rest : List (String Global × V)) (so_far : Entries) → rest ≡ [] → ShownBefore f es rest so_far → so_far ≡ shown f es
+shown_all f es rest so_far none before =
+    let all : es ≡ before.0 = before.1 ∙ ap (λ xs. before.0 ++ xs) none ∙ append-nil before.0 in before.2 ∙ ap (shown f) (sym all)
 
 pub tree_of_ref : (r : Option (Bor Value)) → option_map (λ v. tree_of v.now) r ≡ option_map tree_of (option_map (λ v. v.now) r)
 tree_of_ref None = refl

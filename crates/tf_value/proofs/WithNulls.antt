@@ -8,7 +8,7 @@ use Rattle.tf_value.specs.Measure.{weight, weight_of_items, weight_of_entries, d
 use Rattle.tf_value.specs.Nulls.{with_nulls, items_with_nulls, entries_with_nulls}
 use Rattle.tf_value.specs.Refinement.{Refines, RefinesItems, RefinesEntries}
 use Rattle.tf_value.specs.Stored.{MayBeStored}
-use Rattle.tf_value.specs.Tree.{Tree, null, boolean, whole, text, list, map, unknown, Items, no_items, item, Entries, no_entries, entry, IsHeld, AreHeld, AreHeldEntries, IsSorted, AreSorted, AreSortedEntries, keys_of, tree_of, items_of, items_view, entries_view}
+use Rattle.tf_value.specs.Tree.{Tree, null, whole, list, map, unknown, Items, no_items, item, Entries, no_entries, entry, IsHeld, AreHeld, AreHeldEntries, IsSorted, AreSorted, AreSortedEntries, keys_of, tree_of, items_of, items_view, entries_view}
 use Rattle.tf_value.specs.declared.value.Value.{Value}
 use Rattle.tf_value.proofs.Conjunction.{and-first, and-second, and-both}
 use Rattle.tf_value.proofs.Views.{Entry, shown}
@@ -25,13 +25,9 @@ nulls_shown (e ∷ es) = ap (entry (string_bytes e.0) (with_nulls (tree_of e.1))
 -- then all is known
 mutual
   pub nulls-known : (t : Tree) → known (with_nulls t) ≡ true
-  nulls-known null = refl
-  nulls-known (boolean b) = refl
-  nulls-known (whole z) = refl
-  nulls-known (text s) = refl
   nulls-known (list ts) = item_nulls-known ts
   nulls-known (map es) = entry_nulls-known es
-  nulls-known unknown = refl
+  nulls-known _ = refl
 
   item_nulls-known : (ts : Items) → known_items (items_with_nulls ts) ≡ true
   item_nulls-known no_items = refl
@@ -44,13 +40,10 @@ mutual
 -- and what was known stays
 mutual
   pub known-nulls : (t : Tree) → known t ≡ true → with_nulls t ≡ t
-  known-nulls null h = refl
-  known-nulls (boolean b) h = refl
-  known-nulls (whole z) h = refl
-  known-nulls (text s) h = refl
   known-nulls (list ts) h = ap list (known-item_nulls ts h)
   known-nulls (map es) h = ap map (known-entry_nulls es h)
   known-nulls unknown h = absurd (cc)
+  known-nulls _ h = refl
 
   known-item_nulls : (ts : Items) → known_items ts ≡ true → items_with_nulls ts ≡ ts
   known-item_nulls no_items h = refl
@@ -66,13 +59,11 @@ mutual
 
 mutual
   pub nulls-refine : (t : Tree) → Refines t (with_nulls t)
-  nulls-refine null = tt
-  nulls-refine (boolean b) = refl
-  nulls-refine (whole z) = refl
-  nulls-refine (text s) = refl
   nulls-refine (list ts) = item_nulls-refine ts
   nulls-refine (map es) = entry_nulls-refine es
+  nulls-refine null = tt
   nulls-refine unknown = tt
+  nulls-refine _ = refl
 
   item_nulls-refine : (ts : Items) → RefinesItems ts (items_with_nulls ts)
   item_nulls-refine no_items = tt
@@ -82,84 +73,44 @@ mutual
   entry_nulls-refine no_entries = tt
   entry_nulls-refine (entry k t es) = (refl, nulls-refine t, entry_nulls-refine es)
 
+-- neither measure changes
 mutual
-  pub nulls-weight : (t : Tree) → weight (with_nulls t) ≡ weight t
-  nulls-weight null = refl
-  nulls-weight (boolean b) = refl
-  nulls-weight (whole z) = refl
-  nulls-weight (text s) = refl
-  nulls-weight (list ts) = ap (λ n. 1 + n) (item_nulls-weight ts)
-  nulls-weight (map es) = ap (λ n. 1 + n) (entry_nulls-weight es)
-  nulls-weight unknown = refl
+  pub nulls-measure : (t : Tree) → (weight (with_nulls t) ≡ weight t) × (depth (with_nulls t) ≡ depth t)
+  nulls-measure (list ts) = let p = item_nulls-measure ts in (ap (λ n. 1 + n) p.0, ap (λ n. 1 + n) p.1)
+  nulls-measure (map es) = let p = entry_nulls-measure es in (ap (λ n. 1 + n) p.0, ap (λ n. 1 + n) p.1)
+  nulls-measure _ = (refl, refl)
 
-  item_nulls-weight : (ts : Items) → weight_of_items (items_with_nulls ts) ≡ weight_of_items ts
-  item_nulls-weight no_items = refl
-  item_nulls-weight (item t ts) = rw (nulls-weight t, item_nulls-weight ts) refl
+  item_nulls-measure : (ts : Items) → (weight_of_items (items_with_nulls ts) ≡ weight_of_items ts) × (depth_of_items (items_with_nulls ts) ≡ depth_of_items ts)
+  item_nulls-measure no_items = (refl, refl)
+  item_nulls-measure (item t ts) = let p = nulls-measure t in let q = item_nulls-measure ts in (rw (p.0, q.0) refl, rw (p.1, q.1) refl)
 
-  entry_nulls-weight : (es : Entries) → weight_of_entries (entries_with_nulls es) ≡ weight_of_entries es
-  entry_nulls-weight no_entries = refl
-  entry_nulls-weight (entry k t es) = rw (nulls-weight t, entry_nulls-weight es) refl
-
-mutual
-  pub nulls-depth : (t : Tree) → depth (with_nulls t) ≡ depth t
-  nulls-depth null = refl
-  nulls-depth (boolean b) = refl
-  nulls-depth (whole z) = refl
-  nulls-depth (text s) = refl
-  nulls-depth (list ts) = ap (λ n. 1 + n) (item_nulls-depth ts)
-  nulls-depth (map es) = ap (λ n. 1 + n) (entry_nulls-depth es)
-  nulls-depth unknown = refl
-
-  item_nulls-depth : (ts : Items) → depth_of_items (items_with_nulls ts) ≡ depth_of_items ts
-  item_nulls-depth no_items = refl
-  item_nulls-depth (item t ts) = rw (nulls-depth t, item_nulls-depth ts) refl
-
-  entry_nulls-depth : (es : Entries) → depth_of_entries (entries_with_nulls es) ≡ depth_of_entries es
-  entry_nulls-depth no_entries = refl
-  entry_nulls-depth (entry k t es) = rw (nulls-depth t, entry_nulls-depth es) refl
-
-mutual
-  pub nulls-held : (t : Tree) → IsHeld t → IsHeld (with_nulls t)
-  nulls-held null h = tt
-  nulls-held (boolean b) h = tt
-  nulls-held (whole z) h = h
-  nulls-held (text s) h = tt
-  nulls-held (list ts) h = item_nulls-held ts h
-  nulls-held (map es) h = entry_nulls-held es h
-  nulls-held unknown h = tt
-
-  item_nulls-held : (ts : Items) → AreHeld ts → AreHeld (items_with_nulls ts)
-  item_nulls-held no_items h = tt
-  item_nulls-held (item t ts) h = (nulls-held t h.0, item_nulls-held ts h.1)
-
-  entry_nulls-held : (es : Entries) → AreHeldEntries es → AreHeldEntries (entries_with_nulls es)
-  entry_nulls-held no_entries h = tt
-  entry_nulls-held (entry k t es) h = (nulls-held t h.0, entry_nulls-held es h.1)
+  entry_nulls-measure : (es : Entries) → (weight_of_entries (entries_with_nulls es) ≡ weight_of_entries es) × (depth_of_entries (entries_with_nulls es) ≡ depth_of_entries es)
+  entry_nulls-measure no_entries = (refl, refl)
+  entry_nulls-measure (entry k t es) = let p = nulls-measure t in let q = entry_nulls-measure es in (rw (p.0, q.0) refl, rw (p.1, q.1) refl)
 
 pub nulls-keys : (es : Entries) → keys_of (entries_with_nulls es) ≡ keys_of es
 nulls-keys no_entries = refl
 nulls-keys (entry k t es) = ap (λ ks. k ∷ ks) (nulls-keys es)
 
+-- whole numbers and keys stay as they were
 mutual
-  pub nulls-sorted : (t : Tree) → IsSorted t → IsSorted (with_nulls t)
-  nulls-sorted null h = tt
-  nulls-sorted (boolean b) h = tt
-  nulls-sorted (whole z) h = tt
-  nulls-sorted (text s) h = tt
-  nulls-sorted (list ts) h = item_nulls-sorted ts h
-  nulls-sorted (map es) h = (subst (λ ks. IsStrictlySortedBy (slice_cmp nat_cmp) ks) (sym (nulls-keys es)) h.0, entry_nulls-sorted es h.1)
-  nulls-sorted unknown h = tt
+  nulls-keep : (t : Tree) → IsHeld t → IsSorted t → IsHeld (with_nulls t) × IsSorted (with_nulls t)
+  nulls-keep (whole z) h s = (h, tt)
+  nulls-keep (list ts) h s = item_nulls-keep ts h s
+  nulls-keep (map es) h s =
+      let p = entry_nulls-keep es h s.1 in (p.0, (subst (λ ks. IsStrictlySortedBy (slice_cmp nat_cmp) ks) (sym (nulls-keys es)) s.0, p.1))
+  nulls-keep _ h s = (tt, tt)
 
-  item_nulls-sorted : (ts : Items) → AreSorted ts → AreSorted (items_with_nulls ts)
-  item_nulls-sorted no_items h = tt
-  item_nulls-sorted (item t ts) h = (nulls-sorted t h.0, item_nulls-sorted ts h.1)
+  item_nulls-keep : (ts : Items) → AreHeld ts → AreSorted ts → AreHeld (items_with_nulls ts) × AreSorted (items_with_nulls ts)
+  item_nulls-keep no_items h s = (tt, tt)
+  item_nulls-keep (item t ts) h s = let p = nulls-keep t h.0 s.0 in let q = item_nulls-keep ts h.1 s.1 in ((p.0, q.0), (p.1, q.1))
 
-  entry_nulls-sorted : (es : Entries) → AreSortedEntries es → AreSortedEntries (entries_with_nulls es)
-  entry_nulls-sorted no_entries h = tt
-  entry_nulls-sorted (entry k t es) h = (nulls-sorted t h.0, entry_nulls-sorted es h.1)
+  entry_nulls-keep : (es : Entries) → AreHeldEntries es → AreSortedEntries es → AreHeldEntries (entries_with_nulls es) × AreSortedEntries (entries_with_nulls es)
+  entry_nulls-keep no_entries h s = (tt, tt)
+  entry_nulls-keep (entry k t es) h s = let p = nulls-keep t h.0 s.0 in let q = entry_nulls-keep es h.1 s.1 in ((p.0, q.0), (p.1, q.1))
 
 pub nulls-within : (t : Tree) → IsWithinLimits t → IsWithinLimits (with_nulls t)
-nulls-within t h = rw (nulls-weight t, nulls-depth t) h
+nulls-within t h = let p = nulls-measure t in rw (p.0, p.1) h
 
 pub nulls-stored : (t : Tree) → IsHeld t → IsSorted t → IsWithinLimits t → MayBeStored (with_nulls t)
-nulls-stored t held sorted within = (nulls-held t held, nulls-sorted t sorted, nulls-known t, nulls-within t within)
+nulls-stored t held sorted within = let p = nulls-keep t held sorted in (p.0, p.1, nulls-known t, nulls-within t within)

@@ -8,49 +8,28 @@ use mathlib.Core.HLevel.{×_prop, Unit-prop}
 use Rattle.tf_value.specs.Known.{known}
 use Rattle.tf_value.specs.Measure.{IsWithinLimits}
 use Rattle.tf_value.specs.Stored.{MayBeStored, EachMayBeStored, IsTable}
-use Rattle.tf_value.specs.Tree.{Tree, null, boolean, whole, text, list, map, unknown, Items, no_items, item, Entries, no_entries, entry, IsHeld, AreHeld, AreHeldEntries, IsSorted, AreSorted, AreSortedEntries, keys_of}
+use Rattle.tf_value.specs.Tree.{Tree, whole, list, map, Items, no_items, item, Entries, no_entries, entry, IsHeld, AreHeld, AreHeldEntries, IsSorted, AreSorted, AreSortedEntries, keys_of}
 
 mutual
-  IsHeld-prop : (t : Tree) → IsProp (IsHeld t)
-  IsHeld-prop null = Unit-prop
-  IsHeld-prop (boolean b) = Unit-prop
-  IsHeld-prop (whole z) = hlevel props
-  IsHeld-prop (text s) = Unit-prop
-  IsHeld-prop (list ts) = AreHeld-prop ts
-  IsHeld-prop (map es) = AreHeldEntries-prop es
-  IsHeld-prop unknown = Unit-prop
+  one_proof : (t : Tree) → IsProp (IsHeld t) × IsProp (IsSorted t)
+  one_proof (whole z) = (hlevel props, Unit-prop)
+  one_proof (list ts) = one_proof_of_items ts
+  one_proof (map es) = let p = one_proof_of_entries es in (p.0, ×_prop (IsStrictlySortedBy-prop (slice_cmp nat_cmp) (keys_of es)) p.1)
+  one_proof _ = (Unit-prop, Unit-prop)
 
-  AreHeld-prop : (ts : Items) → IsProp (AreHeld ts)
-  AreHeld-prop no_items = Unit-prop
-  AreHeld-prop (item t ts) = ×_prop (IsHeld-prop t) (AreHeld-prop ts)
+  one_proof_of_items : (ts : Items) → IsProp (AreHeld ts) × IsProp (AreSorted ts)
+  one_proof_of_items no_items = (Unit-prop, Unit-prop)
+  one_proof_of_items (item t ts) = let p = one_proof t in let q = one_proof_of_items ts in (×_prop p.0 q.0, ×_prop p.1 q.1)
 
-  AreHeldEntries-prop : (es : Entries) → IsProp (AreHeldEntries es)
-  AreHeldEntries-prop no_entries = Unit-prop
-  AreHeldEntries-prop (entry k t es) = ×_prop (IsHeld-prop t) (AreHeldEntries-prop es)
-
-mutual
-  IsSorted-prop : (t : Tree) → IsProp (IsSorted t)
-  IsSorted-prop null = Unit-prop
-  IsSorted-prop (boolean b) = Unit-prop
-  IsSorted-prop (whole z) = Unit-prop
-  IsSorted-prop (text s) = Unit-prop
-  IsSorted-prop (list ts) = AreSorted-prop ts
-  IsSorted-prop (map es) = ×_prop (IsStrictlySortedBy-prop (slice_cmp nat_cmp) (keys_of es)) (AreSortedEntries-prop es)
-  IsSorted-prop unknown = Unit-prop
-
-  AreSorted-prop : (ts : Items) → IsProp (AreSorted ts)
-  AreSorted-prop no_items = Unit-prop
-  AreSorted-prop (item t ts) = ×_prop (IsSorted-prop t) (AreSorted-prop ts)
-
-  AreSortedEntries-prop : (es : Entries) → IsProp (AreSortedEntries es)
-  AreSortedEntries-prop no_entries = Unit-prop
-  AreSortedEntries-prop (entry k t es) = ×_prop (IsSorted-prop t) (AreSortedEntries-prop es)
+  one_proof_of_entries : (es : Entries) → IsProp (AreHeldEntries es) × IsProp (AreSortedEntries es)
+  one_proof_of_entries no_entries = (Unit-prop, Unit-prop)
+  one_proof_of_entries (entry k t es) = let p = one_proof t in let q = one_proof_of_entries es in (×_prop p.0 q.0, ×_prop p.1 q.1)
 
 pub MayBeStored-prop : (t : Tree) → IsProp (MayBeStored t)
 MayBeStored-prop t h g =
     let all_known : IsProp (known t ≡ true) = hlevel props in
     let within : IsProp (IsWithinLimits t) = hlevel props in
-    λ i. (IsHeld-prop t h.0 g.0 i, IsSorted-prop t h.1 g.1 i, all_known h.2 g.2 i, within h.3 g.3 i)
+    λ i. ((one_proof t).0 h.0 g.0 i, (one_proof t).1 h.1 g.1 i, all_known h.2 g.2 i, within h.3 g.3 i)
 
 EachMayBeStored-prop : (es : Entries) → IsProp (EachMayBeStored es)
 EachMayBeStored-prop no_entries = Unit-prop

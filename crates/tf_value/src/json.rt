@@ -1,3 +1,7 @@
+ghost use Rattle.std.specs.Prelude.{◌≡◌, Some};
+ghost use Rattle.tf_value.specs.Fault.{fault_text};
+ghost use Rattle.tf_value.specs.declared.json.JsonFault.TheVariants.{OutOfMemory};
+
 use std::alloc::AllocError;
 use std::error::Error;
 use std::fmt;
@@ -16,9 +20,6 @@ pub enum JsonFault {
 }
 
 impl fmt::Display for JsonFault {
-    ghost use Rattle.std.specs.Prelude.{Some};
-    ghost use Rattle.tf_value.specs.Fault.{fault_text};
-
     ghost output = { λ fault. Some (fault_text fault) };
 
     fn fmt<W: fmt::Write>(&self, f: &mut fmt::Formatter<W>) -> fmt::Result {
@@ -34,9 +35,6 @@ impl fmt::Display for JsonFault {
 impl Error for JsonFault {}
 
 impl From<AllocError> for JsonFault {
-    ghost use Rattle.std.specs.Prelude.{◌≡◌};
-    ghost use Rattle.tf_value.specs.declared.json.JsonFault.TheVariants.{OutOfMemory};
-
     ghost from_gives = { λ _ e. e ≡ OutOfMemory };
 
     fn from(_error: AllocError) -> JsonFault {

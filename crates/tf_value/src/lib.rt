@@ -14,8 +14,6 @@ mod refinement;
 mod scalar;
 mod sending;
 mod stored;
-#[cfg(test)]
-mod tests;
 mod value;
 mod writing;
 

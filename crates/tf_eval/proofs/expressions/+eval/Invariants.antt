@@ -1,9 +1,9 @@
-use Rattle.std.proofs.Common.{◌≡◌, List, ◌++◌, map, drop, Ok}
+use Rattle.std.proofs.Common.{◌≡◌, map, drop}
 use Rattle.tf_value.specs.Tree.{tree_of as value_of, entries_view as entries_of_values}
 use Rattle.tf_eval.proofs.Rows.{onto}
-use Rattle.tf_eval.specs.ExprMeaning.{below, meanings}
-use Rattle.tf_syntax.specs.ExprTree.{trees_view, entries_view}
-use Rattle.tf_syntax.proofs.ExprViews.{Entry}
+use Rattle.tf_eval.specs.ExprMeaning.{meanings}
+use Rattle.tf_syntax.specs.ExprTree.{trees_view}
+use Rattle.tf_eval.proofs.Entries.{ValuedBefore}
 use Rattle.tf_eval.proofs.expressions.+eval.Given as goal
 
 -- what is valued so far, and the rest
@@ -13,5 +13,4 @@ invariant-eval_exprs-loop-expr g l =
 
 -- the entries so far are valued
 abbrev pub invariant-eval_entries-loop-key : goal.invariant-eval_entries-loop-key
-invariant-eval_entries-loop-key g l =
-    (done : List Entry) × (l.entries.entries ≡ done ++ l.key-iterator) × (below (g.S.Scope.environment l.scope) (entries_view done) ≡ Ok (entries_of_values l.values.entries))
+invariant-eval_entries-loop-key g l = ValuedBefore (g.S.Scope.environment l.scope) l.entries.entries l.key-iterator (entries_of_values l.values.entries)

@@ -2,12 +2,4 @@ use Rattle.tf_eval.proofs.ExprGrowing.{grows}
 use Rattle.tf_eval.proofs.laws.expr_knowledge_grows.Goals as goal
 
 pub returns : goal.returns
-returns c = λ before after h expr v w p q.
-    grows
-    (record {
-      same = c.refinement_is_an_order.ensures.reflexive;
-      templates = c.knowledge_grows.ensures;
-      list = c.collections_grow.ensures.list;
-      map = c.collections_grow.ensures.map;
-    })
-    before after h expr v w p q
+returns c = grows (record { same = c.refinement_is_an_order.ensures.reflexive; templates = c.knowledge_grows.ensures; list = c.collections_grow.ensures.list; map = c.collections_grow.ensures.map })

@@ -1,21 +1,6 @@
-use Rattle.std.proofs.Common.{◌≡◌, [], ◌∷◌, ◌++◌, string_bytes, sym, ap, ◌∙◌, subst, append_assoc}
-use Rattle.std.specs.List.Sorted.{IsStrictlySortedBy}
-use Rattle.std.specs.Map.{keys_of}
-use Rattle.std.specs.String.{string_cmp}
-use Rattle.tf_syntax.specs.ExprTree.{entries_view}
-use Rattle.tf_syntax.proofs.ExprViews.{Entry, entries_view-insert_entry, put_last}
+use Rattle.tf_syntax.proofs.ExprViews.{viewed_more}
 use Rattle.tf_syntax.proofs.expr_copies.+copy.Goals as goal
 
 pub copy_entries-loop-key-preserved : goal.copy_entries-loop-key-preserved
 copy_entries-loop-key-preserved t c =
-    let l = c.loop-key in
-    let done = l.invariant.0 in
-    let e : Entry = (c.in-Some.key.now, c.in-Some.expr.now) in
-    let left = c.next.new.self in
-    let all : c.args.entries.now.entries ≡ done ++ e ∷ left = l.invariant.1 ∙ ap (λ es. done ++ es) c.in-Some.ensures.steps in
-    let last = put_last done e left (subst (λ es. IsStrictlySortedBy string_cmp (keys_of es)) all c.iter-key-items.ensures.ordered) in
-    let named : string_bytes c.in_ok-name.name ≡ string_bytes e.0 = c.in_ok-name.ensures.cases in (
-      done ++ e ∷ [],
-      all ∙ sym (append_assoc done (e ∷ []) left),
-      ap entries_view c.in_ok-insert.ensures.entries ∙ entries_view-insert_entry l.copies.entries c.in_ok-name.name c.in_ok-copy_expr.field-0 ∙ rw (named, c.in_ok-copy_expr.ensures, l.invariant.2) last,
-    )
+    viewed_more c.args.entries.now.entries _ c.next.new.self (c.in-Some.key.now, c.in-Some.expr.now) _ _ _ _ c.iter-key-items.ensures.ordered c.in-Some.ensures.steps c.in_ok-insert.ensures.entries c.in_ok-name.ensures.cases c.in_ok-copy_expr.ensures c.loop-key.invariant

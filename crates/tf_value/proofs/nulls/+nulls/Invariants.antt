@@ -1,12 +1,11 @@
-use Rattle.std.proofs.Common.{◌≡◌, List, ◌++◌, take, map}
+use Rattle.std.proofs.Common.{◌≡◌, take, map}
 use Rattle.tf_value.specs.Tree.{tree_of, entries_view}
-use Rattle.tf_value.proofs.Views.{Entry}
-use Rattle.tf_value.specs.Nulls.{with_nulls, entries_with_nulls}
+use Rattle.tf_value.proofs.Views.{ShownBefore}
+use Rattle.tf_value.specs.Nulls.{with_nulls}
 use Rattle.tf_value.proofs.nulls.+nulls.Given as goal
 
 abbrev pub invariant-items_with_nulls-loop-item : goal.invariant-items_with_nulls-loop-item
 invariant-items_with_nulls-loop-item l = map tree_of l.copies.items ≡ map (λ v. with_nulls (tree_of v)) (take l.item-index l.item-items)
 
 abbrev pub invariant-entries_with_nulls-loop-key : goal.invariant-entries_with_nulls-loop-key
-invariant-entries_with_nulls-loop-key l =
-    (done : List Entry) × (l.entries.entries ≡ done ++ l.key-iterator) × (entries_view l.copies.entries ≡ entries_with_nulls (entries_view done))
+invariant-entries_with_nulls-loop-key l = ShownBefore (λ v. with_nulls (tree_of v)) l.entries.entries l.key-iterator (entries_view l.copies.entries)

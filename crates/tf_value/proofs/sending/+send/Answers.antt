@@ -2,7 +2,8 @@ use Rattle.std.proofs.Common.{◌≡◌, [], length, drop, Some, sym, ◌∙◌,
 use Rattle.std.proofs.lemmas.List.{drop_all}
 use Rattle.std.proofs.lemmas.Result.{on_ok_weaker}
 use Rattle.serde.specs.Event.{Logs, seq_begins, map_begins}
-use Rattle.serde_json.specs.Events.{SendsItems, SendsMembers}
+use Rattle.serde_json.specs.Data.{array, object}
+use Rattle.serde_json.specs.Events.{SendsItems, SendsMembers, SendsValue}
 use Rattle.tf_value.specs.Tree.{items_view, entries_view}
 use Rattle.tf_value.specs.Json.{items_data, entries_data}
 use Rattle.tf_value.proofs.JsonForms.{items_len-is, members_len-is}
@@ -16,7 +17,7 @@ send_items-returns g t c =
     let len : c.len.result ≡ length c.args.items.now.items = search rules in
     let begun = subst (λ n. Logs (g.S.Serializer.written c.args.out.now) first (seq_begins (Some n))) (len ∙ sym (items_len-is c.args.items.now.items)) c.in_ok-begin_seq.ensures in
     let none : drop c.loop-item.item-index xs ≡ [] = drop_all c.loop-item.item-index xs (omega arith) in
-    on_ok_weaker c.end_seq.result (λ e. (
+    on_ok_weaker {Q = SendsValue (array (items_data (items_view c.args.items.now.items))) (g.S.Serializer.written c.args.out.now) end} c.end_seq.result (λ e. (
       first,
       begun,
       subst (λ ys. SendsItems (items_data (items_view ys)) first end) c.deref-item-items.ensures.value
@@ -30,7 +31,7 @@ send_entries-returns g t c =
     let len : c.len.result ≡ length c.args.entries.now.entries = search rules in
     let all : c.into_iter-key-iterator.result ≡ c.args.entries.now.entries = search rules in
     let begun = subst (λ n. Logs (g.S.Serializer.written c.args.out.now) first (map_begins (Some n))) (len ∙ sym (members_len-is c.args.entries.now.entries)) c.in_ok-begin_map.ensures in
-    on_ok_weaker c.end_map.result (λ e. (
+    on_ok_weaker {Q = SendsValue (object (entries_data (entries_view c.args.entries.now.entries))) (g.S.Serializer.written c.args.out.now) end} c.end_map.result (λ e. (
       first,
       begun,
       subst (λ ys. SendsMembers (entries_data (entries_view ys)) first end) all

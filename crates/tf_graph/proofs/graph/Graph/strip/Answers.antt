@@ -1,11 +1,10 @@
-use Rattle.std.proofs.Common.{◌≡◌, ◌<◌, ◌++◌, ◌+◌, ◌∷◌, [], true, false, length, set, ◌∙◌, sym, arith}
+use Rattle.std.proofs.Common.{◌≡◌, ◌++◌, ◌+◌, ◌∷◌, [], false, set, ◌∙◌, arith}
 use Rattle.std.specs.Prelude.{slice_index}
-use Rattle.std.proofs.lemmas.List.{get_or_read, nil_from_length}
+use Rattle.std.proofs.lemmas.List.{nil_from_length}
 use Rattle.std.proofs.lemmas.List.Elements.{Contains-push}
 use Rattle.tf_graph.specs.Digraph.{successors_of, predecessors_of}
-use Rattle.tf_graph.specs.NodeSet.{has}
 use Rattle.tf_graph.specs.Removal.{IsRemoval, times, count_left}
-use Rattle.tf_graph.proofs.Removals.{removal-skip, removal-go, removal-done}
+use Rattle.tf_graph.proofs.Removals.{free-left, removal-skip, removal-go, removal-done}
 use Rattle.tf_graph.proofs.graph.Graph.strip.Goals as goal
 
 pub index-requires : goal.index-requires
@@ -20,33 +19,25 @@ release-requires-clause-enough c =
     let l = c.loop-node in
     let node = c.in-Some.node in
     let r : IsRemoval g l.left.items l.removal.remaining.items (c.pop.new.self.items ++ node ∷ []) [] = rw (← c.in-Some.ensures.items) l.invariant in
-    let inside : node < length l.left.items = omega (arith, (r.free_zero node (Contains-push c.pop.new.self.items node)).0, r.left_length) in
-    let is : has l.left.items node ≡ true = sym (get_or_read l.left.items node c.index.result.now inside c.index.ensures false) ∙ c.if-not-index.false in
     let next : IsRemoval g (set l.left.items node false) l.removal.remaining.items c.pop.new.self.items (successors_of g node) =
-    removal-go g l.left.items l.removal.remaining.items c.pop.new.self.items node c.nodes.ensures.within r is in
+    removal-go g l.left.items l.removal.remaining.items c.pop.new.self.items node c.nodes.ensures.within r (free-left g l.left.items l.removal.remaining.items c.pop.new.self.items node _ r c.index.ensures ∙ c.if-not-index.false) in
     λ s.
     let counted : slice_index l.removal.remaining.items s ≡ count_left (set l.left.items node false) (predecessors_of g s) + times s (successors_of g node) = next.counts s in
     omega arith
 
 pub loop-node-preserved : goal.loop-node-preserved
 loop-node-preserved c =
-    let g = c.args.self.now in
     let l = c.loop-node in
-    let node = c.in-Some.node in
-    let r : IsRemoval g l.left.items l.removal.remaining.items (c.pop.new.self.items ++ node ∷ []) [] = rw (← c.in-Some.ensures.items) l.invariant in
-    let inside : node < length l.left.items = omega (arith, (r.free_zero node (Contains-push c.pop.new.self.items node)).0, r.left_length) in
-    let is : has l.left.items node ≡ true = sym (get_or_read l.left.items node c.index.result.now inside c.index.ensures false) ∙ c.if-not-index.false in
-    c.in_ok-release.ensures.removal (set l.left.items node false) (removal-go g l.left.items l.removal.remaining.items c.pop.new.self.items node c.nodes.ensures.within r is)
+    let r : IsRemoval c.args.self.now l.left.items l.removal.remaining.items (c.pop.new.self.items ++ c.in-Some.node ∷ []) [] = rw (← c.in-Some.ensures.items) l.invariant in
+    let is = free-left c.args.self.now l.left.items l.removal.remaining.items c.pop.new.self.items c.in-Some.node _ r c.index.ensures ∙ c.if-not-index.false in
+    c.in_ok-release.ensures.removal (set l.left.items c.in-Some.node false) (removal-go c.args.self.now l.left.items l.removal.remaining.items c.pop.new.self.items c.in-Some.node c.nodes.ensures.within r is)
 
 pub loop-node-preserved-then-not-index : goal.loop-node-preserved-then-not-index
 loop-node-preserved-then-not-index c =
-    let g = c.args.self.now in
     let l = c.loop-node in
-    let node = c.in-Some.node in
-    let r : IsRemoval g l.left.items l.removal.remaining.items (c.pop.new.self.items ++ node ∷ []) [] = rw (← c.in-Some.ensures.items) l.invariant in
-    let inside : node < length l.left.items = omega (arith, (r.free_zero node (Contains-push c.pop.new.self.items node)).0, r.left_length) in
-    let gone : has l.left.items node ≡ false = sym (get_or_read l.left.items node c.index.result.now inside c.index.ensures false) ∙ c.if-not-index.true in
-    removal-skip g l.left.items l.removal.remaining.items c.pop.new.self.items node r gone
+    let r : IsRemoval c.args.self.now l.left.items l.removal.remaining.items (c.pop.new.self.items ++ c.in-Some.node ∷ []) [] = rw (← c.in-Some.ensures.items) l.invariant in
+    removal-skip c.args.self.now l.left.items l.removal.remaining.items c.pop.new.self.items c.in-Some.node r
+    (free-left c.args.self.now l.left.items l.removal.remaining.items c.pop.new.self.items c.in-Some.node _ r c.index.ensures ∙ c.if-not-index.true)
 
 pub returns : goal.returns
 returns c =

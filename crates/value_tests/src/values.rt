@@ -1,11 +1,14 @@
-use crate::{
-    JsonFault, MAX_DEPTH, MAX_WEIGHT, Value, copy, depth, entries_to_json, find, from_json,
-    is_known, is_within_limits, may_be_stored, refines, scalar_text, to_json, weight, with_nulls,
-};
+//! Values, their measures and their JSON texts.
+
+use crate::fixtures::{entry, long, pair, read};
 use serde_json::Value as Json;
 use std::alloc::{AllocError, Global};
 use std::collections::BTreeMap;
 use std::test::Fail;
+use tf_value::{
+    JsonFault, MAX_DEPTH, MAX_WEIGHT, Value, copy, depth, entries_to_json, find, is_known,
+    is_within_limits, may_be_stored, refines, scalar_text, to_json, weight, with_nulls,
+};
 
 // What derives above a value rest on.
 #[derive(Debug, Clone, PartialEq, Eq, Drop)]
@@ -14,15 +17,6 @@ struct Attribute {
     value: Value,
     all: Vec<Value>,
     more: BTreeMap<String, Value>,
-}
-
-// The value of a JSON text, or why there is none; an `Err` where there is no memory.
-fn read(alloc: Global, text: &str) -> Result<Result<Value, JsonFault>, Fail> {
-    let json = Json::from_str(alloc, text)?;
-    match from_json(alloc, &json) {
-        Err(JsonFault::OutOfMemory) => Err(JsonFault::OutOfMemory.into()),
-        found => Ok(found),
-    }
 }
 
 // The text that the value of a JSON text is written as, or the name of the fault.
@@ -47,11 +41,8 @@ fn nested(alloc: Global, levels: usize, inside: &str) -> Result<String, AllocErr
 }
 
 // A JSON text of so many bytes between its quotes.
-fn long(alloc: Global, bytes: usize) -> Result<String, AllocError> {
-    let mut text = String::with_capacity(alloc, bytes)?;
-    for _ in 0..bytes {
-        text.push('x')?;
-    }
+fn quoted(alloc: Global, bytes: usize) -> Result<String, AllocError> {
+    let text = long(alloc, bytes)?;
     format!(in alloc; "\"{text}\"")
 }
 
@@ -94,7 +85,7 @@ fn texts(rt: HostRuntime) -> Result<(), Fail> {
 }
 
 #[test]
-fn limits(rt: HostRuntime) -> Result<(), Fail> {
+fn limit_of_depth(rt: HostRuntime) -> Result<(), Fail> {
     let alloc = rt.alloc();
     for (levels, inside, fault) in [
         (31, "", None),
@@ -107,8 +98,14 @@ fn limits(rt: HostRuntime) -> Result<(), Fail> {
         let found = read(alloc, text.as_str())?;
         assert_eq!(rt; found.err(), fault, "{levels} levels around {inside}");
     }
+    Ok(())
+}
+
+#[test]
+fn limit_of_weight(rt: HostRuntime) -> Result<(), Fail> {
+    let alloc = rt.alloc();
     for (bytes, fault) in [(999_999, None), (1_000_000, Some(JsonFault::TooLarge))] {
-        let text = long(alloc, bytes)?;
+        let text = quoted(alloc, bytes)?;
         let found = read(alloc, text.as_str())?;
         assert_eq!(rt; found.err(), fault, "{bytes} bytes");
     }
@@ -138,24 +135,17 @@ fn measures(rt: HostRuntime) -> Result<(), Fail> {
     Ok(())
 }
 
-// A map with one entry.
-fn entry(alloc: Global, key: &str, value: Value) -> Result<Value, AllocError> {
-    let mut entries = BTreeMap::new(alloc);
-    drop(entries.insert(String::from_str(alloc, key)?, value)?);
-    Ok(Value::Map(entries))
-}
-
 // Two items, the second within a map.
-fn pair(alloc: Global, first: Value, second: Value) -> Result<Value, AllocError> {
-    Ok(Value::List(vec![in alloc; first, entry(alloc, "k", second)?]?))
+fn item_and_entry(alloc: Global, first: Value, second: Value) -> Result<Value, AllocError> {
+    pair(alloc, first, entry(alloc, "k", second)?)
 }
 
 #[test]
 fn refinement(rt: HostRuntime) -> Result<(), Fail> {
     let alloc = rt.alloc();
-    let planned = pair(alloc, Value::Int(1), Value::Unknown)?;
-    let actual = pair(alloc, Value::Int(1), Value::Bool(true))?;
-    let other = pair(alloc, Value::Int(2), Value::Unknown)?;
+    let planned = item_and_entry(alloc, Value::Int(1), Value::Unknown)?;
+    let actual = item_and_entry(alloc, Value::Int(1), Value::Bool(true))?;
+    let other = item_and_entry(alloc, Value::Int(2), Value::Unknown)?;
     assert!(rt; refines(&planned, &actual) && !refines(&actual, &planned));
     assert!(rt; refines(&planned, &planned) && !refines(&planned, &other));
     assert!(rt; !refines(&planned, &Value::Unknown) && refines(&Value::Unknown, &planned));
@@ -185,7 +175,7 @@ fn look_up(rt: HostRuntime) -> Result<(), Fail> {
 #[test]
 fn unknown_is_not_written(rt: HostRuntime) -> Result<(), Fail> {
     let alloc = rt.alloc();
-    let planned = pair(alloc, Value::Null, Value::Unknown)?;
+    let planned = item_and_entry(alloc, Value::Null, Value::Unknown)?;
     let found = to_json(alloc, &planned);
     assert!(rt; matches!(found, Err(JsonFault::UnknownInside)));
     let message = JsonFault::UnknownInside.to_string(alloc)?;
@@ -217,7 +207,7 @@ fn sent(rt: HostRuntime) -> Result<(), Fail> {
         let long = serde_json::to_string_pretty(alloc, &value)?;
         assert_eq!(rt; long, json.to_string_pretty(alloc)?);
     }
-    let planned = pair(alloc, Value::Unknown, Value::Unknown)?;
+    let planned = item_and_entry(alloc, Value::Unknown, Value::Unknown)?;
     let text = serde_json::to_string(alloc, &planned)?;
     assert_eq!(rt; text.as_str(), "[null,{\"k\":null}]");
     Ok(())
@@ -240,10 +230,10 @@ fn derives(rt: HostRuntime) -> Result<(), Fail> {
 #[test]
 fn nulls_for_unknowns(rt: HostRuntime) -> Result<(), Fail> {
     let alloc = rt.alloc();
-    let planned = pair(alloc, Value::Unknown, entry(alloc, "id", Value::Unknown)?)?;
+    let planned = item_and_entry(alloc, Value::Unknown, entry(alloc, "id", Value::Unknown)?)?;
     let saved = with_nulls(alloc, &planned)?;
     assert!(rt; !may_be_stored(&planned) && may_be_stored(&saved));
-    assert!(rt; saved == pair(alloc, Value::Null, entry(alloc, "id", Value::Null)?)?);
+    assert!(rt; saved == item_and_entry(alloc, Value::Null, entry(alloc, "id", Value::Null)?)?);
     Ok(())
 }
 
@@ -261,12 +251,12 @@ fn texts_of_scalars(rt: HostRuntime) -> Result<(), Fail> {
 
 #[test]
 fn laws() {
-    crate::refinement_is_an_order();
-    crate::known_values_stay();
-    crate::parts_refine();
-    crate::equality_is_of_trees();
-    crate::forms_are_one();
-    crate::forms_read_back();
-    crate::limits_decide();
-    crate::puts_are_found();
+    tf_value::refinement_is_an_order();
+    tf_value::known_values_stay();
+    tf_value::parts_refine();
+    tf_value::equality_is_of_trees();
+    tf_value::forms_are_one();
+    tf_value::forms_read_back();
+    tf_value::limits_decide();
+    tf_value::puts_are_found();
 }

@@ -1,0 +1,341 @@
+//! Worked rows of operators and functions. Values are written as JSON, with `?` for what is unknown; an answer is a
+//! value or the name of a fault.
+
+use crate::fixtures::value;
+use std::alloc::Global;
+use std::process::Abort;
+use std::test::Fail;
+use tf_operators::{EvalFault, Function, Joiner, attribute, binary, call, index, unary};
+use tf_syntax::{Operator, Prefix};
+use tf_value::Value;
+
+type Answer = Result<Value, EvalFault>;
+
+// The greatest and the least whole number.
+const MOST: &str = "9223372036854775807";
+
+const LEAST: &str = "-9223372036854775808";
+
+// A map with two entries.
+const MAP: &str = "{\"b\":1,\"a\":2}";
+
+// Whether an answer is what a row says.
+fn agrees(alloc: Global, found: Answer, expected: &str) -> Result<bool, Fail> {
+    match found {
+        Ok(found) => Ok(found == value(alloc, expected)?),
+        Err(fault) => Ok(fault.to_string(alloc)?.as_str() == expected),
+    }
+}
+
+#[test]
+fn prefixes(rt: HostRuntime) -> Result<(), Fail> {
+    let alloc = rt.alloc();
+    for (prefix, operand, expected) in [
+        (Prefix::Not, "true", "false"),
+        (Prefix::Not, "false", "true"),
+        (Prefix::Not, "?", "?"),
+        (Prefix::Not, "0", "WrongKind"),
+        (Prefix::Not, "null", "WrongKind"),
+        (Prefix::Negate, "7", "-7"),
+        (Prefix::Negate, MOST, "-9223372036854775807"),
+        (Prefix::Negate, LEAST, "Overflow"),
+        (Prefix::Negate, "?", "?"),
+        (Prefix::Negate, "true", "WrongKind"),
+    ] {
+        let found = unary(prefix, value(alloc, operand)?);
+        assert!(rt; agrees(alloc, found, expected)?, "{prefix:?} {operand}");
+    }
+    Ok(())
+}
+
+// Whether an operator answers what a row says.
+fn binary_agrees(
+    alloc: Global,
+    left: &str,
+    operator: Operator,
+    right: &str,
+    expected: &str,
+) -> Result<bool, Fail> {
+    let left = value(alloc, left)?;
+    let found = binary(operator, left, value(alloc, right)?);
+    agrees(alloc, found, expected)
+}
+
+#[test]
+fn whole_numbers(rt: HostRuntime) -> Result<(), Fail> {
+    for (left, operator, right, expected) in [
+        ("3", Operator::Multiply, "4", "12"),
+        ("2", Operator::Add, "12", "14"),
+        ("-9223372036854775807", Operator::Subtract, "1", LEAST),
+        (LEAST, Operator::Subtract, "1", "Overflow"),
+        (MOST, Operator::Add, "1", "Overflow"),
+        (MOST, Operator::Add, "0", MOST),
+        (LEAST, Operator::Multiply, "-1", "Overflow"),
+        ("4294967296", Operator::Multiply, "2147483648", "Overflow"),
+        ("4294967296", Operator::Multiply, "-2147483648", LEAST),
+        ("1", Operator::Less, "2", "true"),
+        ("2", Operator::Less, "2", "false"),
+        ("2", Operator::LessOrEqual, "2", "true"),
+        ("3", Operator::LessOrEqual, "2", "false"),
+        ("2", Operator::Greater, "-2", "true"),
+        ("2", Operator::Greater, "2", "false"),
+        ("2", Operator::GreaterOrEqual, "2", "true"),
+        ("1", Operator::GreaterOrEqual, "2", "false"),
+        ("1", Operator::Equal, "1", "true"),
+        ("1", Operator::NotEqual, "1", "false"),
+        ("1", Operator::And, "1", "WrongKind"),
+        ("1", Operator::Or, "0", "WrongKind"),
+    ] {
+        let fits = binary_agrees(rt.alloc(), left, operator, right, expected)?;
+        assert!(rt; fits, "{left} {operator:?} {right}");
+    }
+    Ok(())
+}
+
+#[test]
+fn truths_and_other_kinds(rt: HostRuntime) -> Result<(), Fail> {
+    for (left, operator, right, expected) in [
+        ("true", Operator::And, "true", "true"),
+        ("true", Operator::And, "false", "false"),
+        ("false", Operator::And, "true", "false"),
+        ("false", Operator::Or, "false", "false"),
+        ("false", Operator::Or, "true", "true"),
+        ("true", Operator::Or, "false", "true"),
+        ("false", Operator::Equal, "false", "true"),
+        ("true", Operator::NotEqual, "false", "true"),
+        ("true", Operator::Add, "true", "WrongKind"),
+        ("false", Operator::Less, "true", "WrongKind"),
+        // Equality of all kinds; unknown where a part is.
+        ("1", Operator::Equal, "\"1\"", "false"),
+        ("1", Operator::NotEqual, "\"1\"", "true"),
+        ("null", Operator::Equal, "null", "true"),
+        (MAP, Operator::Equal, MAP, "true"),
+        ("[?]", Operator::Equal, "1", "?"),
+        ("null", Operator::NotEqual, "{\"k\":?}", "?"),
+        // What is unknown goes before kinds.
+        ("?", Operator::Add, "null", "?"),
+        ("1", Operator::And, "?", "?"),
+        ("true", Operator::Or, "null", "WrongKind"),
+        ("1", Operator::Add, "\"1\"", "WrongKind"),
+        ("\"a\"", Operator::Add, "\"b\"", "WrongKind"),
+        ("[?]", Operator::Less, "1", "WrongKind"),
+    ] {
+        let fits = binary_agrees(rt.alloc(), left, operator, right, expected)?;
+        assert!(rt; fits, "{left} {operator:?} {right}");
+    }
+    Ok(())
+}
+
+#[test]
+fn parts(rt: HostRuntime) -> Result<(), Fail> {
+    let alloc = rt.alloc();
+    for (whole, at, expected) in [
+        ("[1,2]", "0", "1"),
+        ("[1,2]", "1", "2"),
+        ("[1,2]", "2", "Missing"),
+        ("[1,2]", "-1", "Missing"),
+        ("[1,2]", MOST, "Missing"),
+        ("[1,2]", LEAST, "Missing"),
+        (MAP, "\"b\"", "1"),
+        (MAP, "\"c\"", "Missing"),
+        ("[null]", "\"0\"", "WrongKind"),
+        (MAP, "0", "WrongKind"),
+        ("\"ab\"", "0", "WrongKind"),
+        ("?", "null", "?"),
+        ("null", "?", "?"),
+        ("[null]", "?", "?"),
+        ("[?]", "0", "?"),
+    ] {
+        let whole = value(alloc, whole)?;
+        let found = index(whole, value(alloc, at)?);
+        assert!(rt; agrees(alloc, found, expected)?, "at {at}: {expected}");
+    }
+    Ok(())
+}
+
+#[test]
+fn attributes(rt: HostRuntime) -> Result<(), Fail> {
+    let alloc = rt.alloc();
+    for (whole, name, expected) in [
+        (MAP, "a", "2"),
+        (MAP, "c", "Missing"),
+        ("?", "c", "?"),
+        ("null", "a", "WrongKind"),
+    ] {
+        let found = attribute(value(alloc, whole)?, name);
+        assert!(rt; agrees(alloc, found, expected)?, "{name} of {whole}");
+    }
+    Ok(())
+}
+
+// What a value between two texts is joined to.
+fn joined(alloc: Global, text: &str) -> Result<Answer, Fail> {
+    let value = value(alloc, text)?;
+    let mut joiner = Joiner::new(alloc);
+    joiner.push_text("a")?;
+    joiner.push_value(&value)?;
+    joiner.push_text("c")?;
+    Ok(joiner.finish())
+}
+
+#[test]
+fn joins(rt: HostRuntime) -> Result<(), Fail> {
+    let alloc = rt.alloc();
+    for (text, expected) in [
+        ("-12", "\"a-12c\""),
+        (LEAST, "\"a-9223372036854775808c\""),
+        ("0", "\"a0c\""),
+        ("true", "\"atruec\""),
+        ("false", "\"afalsec\""),
+        ("\"b\"", "\"abc\""),
+        ("?", "?"),
+        ("null", "WrongKind"),
+        ("[?]", "WrongKind"),
+        (MAP, "WrongKind"),
+    ] {
+        let found = joined(alloc, text)?;
+        assert!(rt; agrees(alloc, found, expected)?, "{text}");
+    }
+    assert!(rt; agrees(alloc, Joiner::new(alloc).finish(), "\"\"")?);
+    Ok(())
+}
+
+#[test]
+fn unknown_before_wrong_kinds(rt: HostRuntime) -> Result<(), Fail> {
+    let mut joiner = Joiner::new(rt.alloc());
+    joiner.push_value(&Value::Null)?;
+    joiner.push_value(&Value::Unknown)?;
+    joiner.push_value(&Value::Null)?;
+    assert!(rt; agrees(rt.alloc(), joiner.finish(), "?")?);
+    Ok(())
+}
+
+// Whether a function answers to one argument, or two, what a row says.
+fn call_agrees(
+    rt: &impl Abort,
+    alloc: Global,
+    function: Function,
+    first: &str,
+    second: Option<&str>,
+    expected: &str,
+) -> Result<bool, Fail> {
+    let mut arguments = Vec::new(alloc);
+    arguments.push(value(alloc, first)?)?;
+    if let Some(second) = second {
+        arguments.push(value(alloc, second)?)?;
+    }
+    assert!(rt; function.takes(arguments.len()));
+    agrees(alloc, call(alloc, function, arguments), expected)
+}
+
+#[test]
+fn calls_with_one_argument(rt: HostRuntime) -> Result<(), Fail> {
+    for (function, argument, expected) in [
+        (Function::Keys, MAP, "[\"a\",\"b\"]"),
+        (Function::Keys, "{\"k\":?}", "[\"k\"]"),
+        (Function::Values, MAP, "[2,1]"),
+        (Function::Length, MAP, "2"),
+        (Function::Length, "[?]", "1"),
+        (Function::Length, "?", "?"),
+        (Function::Length, "1", "WrongKind"),
+        (Function::Length, "\"abc\"", "WrongKind"),
+        (Function::Keys, "?", "?"),
+        (Function::Keys, "1", "WrongKind"),
+        (Function::Keys, "\"abc\"", "WrongKind"),
+        (Function::Values, "?", "?"),
+        (Function::Values, "1", "WrongKind"),
+        (Function::Values, "\"abc\"", "WrongKind"),
+        (Function::Merge, "?", "?"),
+        (Function::Merge, "1", "WrongKind"),
+        (Function::Merge, "\"abc\"", "WrongKind"),
+        (Function::Concat, "?", "?"),
+        (Function::Concat, "1", "WrongKind"),
+        (Function::Concat, "\"abc\"", "WrongKind"),
+    ] {
+        let fits = call_agrees(&rt, rt.alloc(), function, argument, None, expected)?;
+        assert!(rt; fits, "{function:?} of {argument}");
+    }
+    Ok(())
+}
+
+#[test]
+fn calls_with_two_arguments(rt: HostRuntime) -> Result<(), Fail> {
+    for (function, first, second, expected) in [
+        (Function::Merge, MAP, "{\"a\":5}", "{\"a\":5,\"b\":1}"),
+        (Function::Merge, "{\"a\":5}", MAP, MAP),
+        (Function::Merge, "null", "?", "?"),
+        (Function::Concat, "[1]", "[?]", "[1,?]"),
+        (Function::Concat, "null", "?", "?"),
+        (Function::Join, "\"-\"", "[\"x\",\"y\"]", "\"x-y\""),
+        (Function::Join, "false", "[1,true]", "\"1falsetrue\""),
+        (Function::Join, "0", "[]", "\"\""),
+        (Function::Join, "\"-\"", "[7]", "\"7\""),
+        (Function::Join, "null", "[]", "WrongKind"),
+        (Function::Join, "0", "[null]", "WrongKind"),
+        (Function::Join, "0", "\"x\"", "WrongKind"),
+        (Function::Join, "null", "[[?]]", "?"),
+        (Function::Join, "0", "{\"k\":?}", "?"),
+        (Function::Join, "?", "null", "?"),
+    ] {
+        let fits = call_agrees(&rt, rt.alloc(), function, first, Some(second), expected)?;
+        assert!(rt; fits, "{function:?} of {first} and {second}");
+    }
+    Ok(())
+}
+
+// Whether a function takes, of no to four arguments, just those from the least to the most.
+fn takes_just(function: Function, least: usize, most: usize) -> bool {
+    for count in 0..5 {
+        if function.takes(count) != (least <= count && count <= most) {
+            return false;
+        }
+    }
+    true
+}
+
+#[test]
+fn functions(rt: HostRuntime) {
+    for (name, function, least, most) in [
+        ("length", Function::Length, 1, 1),
+        ("keys", Function::Keys, 1, 1),
+        ("values", Function::Values, 1, 1),
+        ("merge", Function::Merge, 1, 4),
+        ("concat", Function::Concat, 1, 4),
+        ("join", Function::Join, 2, 2),
+    ] {
+        assert!(rt; Function::named(name) == Some(function), "{name}");
+        assert!(rt; takes_just(function, least, most), "{name}");
+    }
+    for name in ["", "Length", "lengths", "len", "file"] {
+        assert!(rt; Function::named(name).is_none(), "{name}");
+    }
+}
+
+#[test]
+fn names_of_faults(rt: HostRuntime) -> Result<(), Fail> {
+    for (fault, name) in [
+        (EvalFault::Overflow, "Overflow"),
+        (EvalFault::WrongKind, "WrongKind"),
+        (EvalFault::Missing, "Missing"),
+        (EvalFault::Arity, "Arity"),
+        (EvalFault::TooLarge, "TooLarge"),
+        (EvalFault::OutOfMemory, "OutOfMemory"),
+    ] {
+        let printed = fault.to_string(rt.alloc())?;
+        assert_eq!(rt; printed.as_str(), name);
+    }
+    Ok(())
+}
+
+#[test]
+fn laws() {
+    tf_operators::laws::unary_grows();
+    tf_operators::laws::binary_grows();
+    tf_operators::laws::parts_grow();
+    tf_operators::laws::collections_grow();
+    tf_operators::laws::joined_grows();
+    tf_operators::laws::calls_grow();
+    tf_operators::laws::answers_are_within_limits();
+    tf_operators::laws::later_map_wins();
+    tf_operators::laws::known_stays_known();
+}

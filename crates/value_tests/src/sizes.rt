@@ -1,0 +1,125 @@
+//! Operators and functions on values at the limits, and on large ones.
+
+use crate::fixtures::{long, pair};
+use std::alloc::{AllocError, Global};
+use std::collections::BTreeMap;
+use std::test::Fail;
+use tf_operators::{EvalFault, Function, Joiner, call, limited, list, map};
+use tf_value::Value;
+
+// A list of so many nulls.
+fn nulls(alloc: Global, count: usize) -> Result<Vec<Value>, AllocError> {
+    let mut items = Vec::with_capacity(alloc, count)?;
+    for _ in 0..count {
+        items.push(Value::Null)?;
+    }
+    Ok(items)
+}
+
+#[test]
+fn weights(rt: HostRuntime) -> Result<(), Fail> {
+    let alloc = rt.alloc();
+    assert!(rt; list(nulls(alloc, 999_999)?).is_ok());
+    assert_eq!(rt; list(nulls(alloc, 1_000_000)?), Err(EvalFault::TooLarge));
+    assert!(rt; limited(Value::Text(long(alloc, 999_999)?)).is_ok());
+    let above = limited(Value::Text(long(alloc, 1_000_000)?));
+    assert_eq!(rt; above, Err(EvalFault::TooLarge));
+    for (bytes, fault) in [(999_998, None), (999_999, Some(EvalFault::TooLarge))] {
+        let mut entries = BTreeMap::new(alloc);
+        drop(entries.insert(long(alloc, bytes)?, Value::Null)?);
+        assert_eq!(rt; map(entries).err(), fault, "{bytes} bytes");
+    }
+    Ok(())
+}
+
+#[test]
+fn weights_of_joined_parts(rt: HostRuntime) -> Result<(), Fail> {
+    let alloc = rt.alloc();
+    for (more, fault) in [(499_999, None), (500_000, Some(EvalFault::TooLarge))] {
+        let first = Value::List(nulls(alloc, 500_000)?);
+        let second = Value::List(nulls(alloc, more)?);
+        let lists = call(alloc, Function::Concat, vec![in alloc; first, second]?);
+        assert_eq!(rt; lists.err(), fault, "{more} more items");
+        let first = long(alloc, 500_000)?;
+        let second = long(alloc, more)?;
+        let mut joiner = Joiner::new(alloc);
+        joiner.push_text(first.as_str())?;
+        joiner.push_text(second.as_str())?;
+        joiner.push_text("")?;
+        assert_eq!(rt; joiner.finish().err(), fault, "{more} more bytes");
+    }
+    Ok(())
+}
+
+#[test]
+fn depths(rt: HostRuntime) -> Result<(), Fail> {
+    let alloc = rt.alloc();
+    let mut value = Value::Null;
+    for _ in 0..32 {
+        let Ok(deeper) = list(vec![in alloc; value]?) else {
+            return Err("too deep".into());
+        };
+        value = deeper;
+    }
+    assert_eq!(rt; list(vec![in alloc; value]?), Err(EvalFault::TooLarge));
+    Ok(())
+}
+
+// So many texts of one byte.
+fn letters(alloc: Global, count: usize) -> Result<Value, AllocError> {
+    let mut all = Vec::with_capacity(alloc, count)?;
+    for _ in 0..count {
+        all.push(Value::Text(String::from_str(alloc, "x")?))?;
+    }
+    Ok(Value::List(all))
+}
+
+// So many entries under keys that begin alike.
+fn numbered(alloc: Global, first: u32, count: u32) -> Result<Value, AllocError> {
+    let mut entries = BTreeMap::new(alloc);
+    for number in 0..count {
+        let key = format!(in alloc; "{}", first.saturating_add(number))?;
+        drop(entries.insert(key, Value::Int(i64::from(first)))?);
+    }
+    Ok(Value::Map(entries))
+}
+
+// How long the text, the list or the map of an answer is.
+fn size(answer: Result<Value, EvalFault>) -> Option<usize> {
+    match answer {
+        Ok(Value::Text(text)) => Some(text.len()),
+        Ok(Value::List(items)) => Some(items.len()),
+        Ok(Value::Map(entries)) => Some(entries.len()),
+        _ => None,
+    }
+}
+
+#[test]
+fn many_texts(rt: HostRuntime) -> Result<(), Fail> {
+    let alloc = rt.alloc();
+    let comma = Value::Text(String::from_str(alloc, ",")?);
+    let texts = vec![in alloc; comma, letters(alloc, 100_000)?]?;
+    assert_eq!(rt; size(call(alloc, Function::Join, texts)), Some(199_999));
+    Ok(())
+}
+
+#[test]
+fn large_maps(rt: HostRuntime) -> Result<(), Fail> {
+    let alloc = rt.alloc();
+    let first = numbered(alloc, 100_000, 50_000)?;
+    let maps = vec![in alloc; first, numbered(alloc, 125_000, 50_000)?]?;
+    assert_eq!(rt; size(call(alloc, Function::Merge, maps)), Some(75_000));
+    Ok(())
+}
+
+#[test]
+fn many_lists(rt: HostRuntime) -> Result<(), Fail> {
+    let alloc = rt.alloc();
+    let mut lists = Vec::with_capacity(alloc, 100_000)?;
+    for _ in 0..100_000 {
+        lists.push(pair(alloc, Value::Null, Value::Null)?)?;
+    }
+    assert!(rt; Function::Concat.takes(lists.len()));
+    assert_eq!(rt; size(call(alloc, Function::Concat, lists)), Some(200_000));
+    Ok(())
+}
