@@ -2,12 +2,4 @@
 #![tactic(auto)]
 
 #[cfg(test)]
-mod journal;
-#[cfg(test)]
-mod options;
-#[cfg(test)]
-mod plan;
-#[cfg(test)]
-mod provider;
-#[cfg(test)]
-mod sim;
+mod tests;

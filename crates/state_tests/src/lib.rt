@@ -2,12 +2,4 @@
 #![tactic(auto)]
 
 #[cfg(test)]
-mod accepted;
-#[cfg(test)]
-mod data;
-#[cfg(test)]
-mod memory;
-#[cfg(test)]
-mod refused;
-#[cfg(test)]
-mod writing;
+mod tests;

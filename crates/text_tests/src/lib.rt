@@ -2,14 +2,4 @@
 #![tactic(auto)]
 
 #[cfg(test)]
-mod expression;
-#[cfg(test)]
-mod json_text;
-#[cfg(test)]
-mod limits;
-#[cfg(test)]
-mod template;
-#[cfg(test)]
-mod texts;
-#[cfg(test)]
-mod value;
+mod tests;

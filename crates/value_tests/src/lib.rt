@@ -2,12 +2,4 @@
 #![tactic(auto)]
 
 #[cfg(test)]
-mod fixtures;
-#[cfg(test)]
-mod graph;
-#[cfg(test)]
-mod operators;
-#[cfg(test)]
-mod sizes;
-#[cfg(test)]
-mod values;
+mod tests;

@@ -1,6 +1,6 @@
 //! Templates, read from texts.
 
-use crate::texts::{Reader, fault_of, names_of, shown};
+use crate::tests::texts::{Reader, fault_of, names_of, shown};
 use std::alloc::Global;
 use std::test::Fail;
 use tf_expr::{ReadFault, functions, read_template, references};

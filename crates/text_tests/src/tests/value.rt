@@ -1,6 +1,6 @@
 //! Templates, evaluated where `var.m` is `{"b": 1, "a": 2}`, `var.n` is `{"a": 5}` and `a.unknown` isn't known.
 
-use crate::texts::{Reader, shown};
+use crate::tests::texts::{Reader, shown};
 use std::alloc::Global;
 use std::test::Fail;
 

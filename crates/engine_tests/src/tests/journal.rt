@@ -2,7 +2,7 @@
 
 ghost use Rattle.std.specs.Prelude.{◌≡◌, ◌<◌};
 
-use crate::provider::{Mute, finish, settle, try_call};
+use crate::tests::provider::{Mute, finish, settle, try_call};
 use std::alloc::{AllocError, Global};
 use std::test::Fail;
 use tf_claim::{Book, waive};

@@ -1,6 +1,6 @@
 //! Operators and functions on values at the limits, and on large ones.
 
-use crate::fixtures::{long, pair};
+use crate::tests::fixtures::{long, pair};
 use std::alloc::{AllocError, Global};
 use std::collections::BTreeMap;
 use std::test::Fail;

@@ -1,6 +1,6 @@
 //! Expressions, read from JSON texts.
 
-use crate::texts::{names_of, read};
+use crate::tests::texts::{names_of, read};
 use serde_json::Value;
 use std::alloc::Global;
 use std::test::Fail;

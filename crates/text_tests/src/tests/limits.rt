@@ -1,6 +1,6 @@
 //! Texts as deep and as long as may be, and those that are deeper.
 
-use crate::texts::{Reader, fault_of, nested, shown};
+use crate::tests::texts::{Reader, fault_of, nested, shown};
 use std::alloc::Global;
 use std::process::Abort;
 use std::test::Fail;

@@ -1,6 +1,6 @@
 //! Values, their measures and their JSON texts.
 
-use crate::fixtures::{entry, long, pair, read};
+use crate::tests::fixtures::{entry, long, pair, read};
 use serde_json::Value as Json;
 use std::alloc::{AllocError, Global};
 use std::collections::BTreeMap;

@@ -1,7 +1,7 @@
 //! Worked rows of operators and functions. Values are written as JSON, with `?` for what is unknown; an answer is a
 //! value or the name of a fault.
 
-use crate::fixtures::value;
+use crate::tests::fixtures::value;
 use std::alloc::Global;
 use std::process::Abort;
 use std::test::Fail;

@@ -1,0 +1,5 @@
+mod journal;
+mod options;
+mod plan;
+mod provider;
+mod sim;

@@ -1,0 +1,5 @@
+mod accepted;
+mod data;
+mod memory;
+mod refused;
+mod writing;

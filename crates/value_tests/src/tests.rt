@@ -1,0 +1,5 @@
+mod fixtures;
+mod graph;
+mod operators;
+mod sizes;
+mod values;
