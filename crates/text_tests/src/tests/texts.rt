@@ -1,6 +1,6 @@
 //! Tables of texts, and what is said of each.
 
-use crate::{expression, template, value};
+use crate::tests::{expression, template, value};
 use serde_json::Value;
 use std::alloc::Global;
 use std::process::Abort;
