@@ -3,3 +3,4 @@ pub mod Entries
 pub mod ExprGrowing
 pub mod Growing
 pub mod Rows
+pub mod Within

@@ -3,4 +3,5 @@ pub mod Constants
 pub mod Environment
 pub mod ExprMeaning
 pub mod Growth
+pub mod Limits
 pub mod Meaning

@@ -1,9 +1,11 @@
 //! Laws of the meaning.
 
 ghost use Rattle.tf_eval.specs.Growth.{ExprKnowledgeGrows, KnowledgeGrows};
+ghost use Rattle.tf_eval.specs.Limits.{ExpressionsAreWithinLimits, TemplatesAreWithinLimits};
 
 use tf_operators::laws::{
-    binary_grows, calls_grow, collections_grow, joined_grows, parts_grow, unary_grows,
+    answers_are_within_limits, binary_grows, calls_grow, collections_grow, joined_grows,
+    parts_grow, unary_grows,
 };
 use tf_value::refinement_is_an_order;
 
@@ -30,4 +32,13 @@ pub fn expr_knowledge_grows()
     refinement_is_an_order();
     knowledge_grows();
     collections_grow();
+}
+
+/// The value of a template and that of an expression are within the limits of weight and depth, whatever names
+/// stand for. It follows from the same of each operation, whose law is named here for its contract.
+pub fn values_are_within_limits()
+    ensures templates { TemplatesAreWithinLimits }
+    ensures expressions { ExpressionsAreWithinLimits }
+{
+    answers_are_within_limits();
 }
