@@ -1,2 +1,3 @@
 mod Writes
 mod Carried
+mod Savable

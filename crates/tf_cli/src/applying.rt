@@ -11,6 +11,7 @@ ghost use Rattle.tf_walk.specs.Report.{report_of};
 use crate::applied::Applied;
 use crate::planning::plan_of_texts;
 use std::alloc::Global;
+use tf_config::blocks_have_names;
 use tf_plan::Refused;
 use tf_provider::Provider;
 use tf_state::write;
@@ -33,6 +34,7 @@ pub fn apply_text(
         × IsApplied (map (λ b. meaning b) providers.now) blocks lineage.now applied) }
     ensures refused { IfErr result (Refuses config.now (option_map (λ s. s.now) state.entry) (map (λ b. meaning b) providers.now)) }
 {
+    blocks_have_names();
     let plan = plan_of_texts(alloc, config, state, lineage, providers)?;
     let text = plan.text(alloc)?;
     match run_one(alloc, &plan, providers) {

@@ -5,6 +5,7 @@ ghost use Rattle.tf_cli.specs.Accepted.{IsAccepted, IsRead, Refuses, RefusesBy};
 ghost use Rattle.tf_config.specs.Config.{Blocks, blocks_of};
 ghost use Rattle.tf_config.specs.Reading.{IsRefused};
 ghost use Rattle.tf_refusal.specs.Refusal.{Told, bare, fault, told};
+ghost use Rattle.tf_plan.specs.Bounded.{AreWithin};
 ghost use Rattle.tf_plan.specs.Plan.{action_of, plan_of, plan_text, planned, planned_actions};
 ghost use Rattle.tf_plan.specs.Served.{AreServed};
 
@@ -44,6 +45,7 @@ pub fn plan_of_texts(
         × IsAccepted config.now (option_map (λ s. s.now) state.entry) (map (λ b. meaning b) providers.now) blocks
         × (plan_of plan ≡ planned (map (λ b. meaning b) providers.now) blocks lineage.now)) }
     ensures served { IfOk result (λ plan. AreServed (map (λ b. meaning b) providers.now) (map action_of plan.actions.items)) }
+    ensures within { IfOk result (λ plan. AreWithin (map action_of plan.actions.items)) }
     ensures refused { IfErr result (Refuses config.now (option_map (λ s. s.now) state.entry) (map (λ b. meaning b) providers.now)) }
 {
     let config = read_text(alloc, config)?;

@@ -1,8 +1,11 @@
 -- What blocks keep as they are put in.
-use Rattle.std.proofs.Common.{◌≡◌, ◌∙◌, ℕ, List, [], ◌∷◌, Ordering, Less, Equal, Greater, refl, ap, subst}
+use Rattle.std.proofs.Common.{◌≡◌, ◌∙◌, ℕ, Bool, true, false, ◌&&◌, List, [], ◌∷◌, Ordering, Less, Equal, Greater, refl, ap, subst}
 use Rattle.std.proofs.lemmas.Cmp.{nat_list_cmp_total, on_total, then_total}
 use Rattle.std.specs.Cmp.{IsTotalOrder}
-use Rattle.std.specs.List.{AllByRecursion}
+use Rattle.std.specs.Prelude.{not}
+use Rattle.std.specs.List.{AllByRecursion, list_any}
+use Rattle.std.specs.Str.{bytes_eq}
+use Rattle.tf_address.specs.Name.{is_name}
 use Rattle.std.specs.List.Sorted.{IsStrictlySortedBy}
 use Rattle.std.specs.Ordering.{match_ordering, ordering_reverse}
 use Rattle.serde_json.specs.Data.{Data, null, boolean, number, string, array, object}
@@ -10,7 +13,8 @@ use Rattle.tf_expr.specs.Tree.{Entries}
 use Rattle.tf_json_path.proofs.Walks.{Builds-keeps}
 use Rattle.tf_config.specs.Config.{BlockView, Blocks, address_cmp, put_block}
 use Rattle.tf_config.specs.Configuration.{BuildsFrom, IsBody, AddsResource, AddsType, AddsTypes, AddsSection, IsConfiguration}
-use Rattle.tf_config.specs.Words.{section_of}
+use Rattle.tf_config.specs.Laws.{HasNames}
+use Rattle.tf_config.specs.Words.{section_of, reserved_types}
 use Rattle.tf_config.specs.declared.words.Section.{Section}
 use Rattle.tf_config.specs.declared.words.Section.TheVariants as sections
 
@@ -25,13 +29,18 @@ module _ {B : Type 0} (Adds : List ℕ → Data → B → B → Type 0) (P : B �
   object_keeps (array x) a b h p = absurd h
   object_keeps (object ms) a b h p = Builds-keeps Adds P keeps ms a b h p
 
+first_of : (a b : Bool) → (a && b) ≡ true → a ≡ true
+first_of true b h = refl
+first_of false b h = absurd (cc)
+
 module _ (P : Blocks → Type 0)
-    (keeps : (kind name : List ℕ) (d : Data) (arguments : Entries) (a : Blocks) → IsBody d arguments → P a → P (put_block (record { kind = kind; name = name; arguments = arguments }) a)) where
-  resource_keeps : (kind k : List ℕ) (d : Data) (a b : Blocks) → AddsResource kind k d a b → P a → P b
-  resource_keeps kind k d a b h p = subst P h.3 (keeps kind k d h.1 a h.2 p)
+    (keeps : (kind name : List ℕ) (d : Data) (arguments : Entries) (a : Blocks) → is_name kind ≡ true → is_name name ≡ true → IsBody d arguments → P a
+        → P (put_block (record { kind = kind; name = name; arguments = arguments }) a)) where
+  resource_keeps : (kind : List ℕ) → is_name kind ≡ true → (k : List ℕ) (d : Data) (a b : Blocks) → AddsResource kind k d a b → P a → P b
+  resource_keeps kind named k d a b h p = subst P h.3 (keeps kind k d h.1 a named h.0 h.2 p)
 
   type_keeps : (k : List ℕ) (d : Data) (a b : Blocks) → AddsType k d a b → P a → P b
-  type_keeps k d a b h p = object_keeps (AddsResource k) P (resource_keeps k) d a b h.1 p
+  type_keeps k d a b h p = object_keeps (AddsResource k) P (resource_keeps k (first_of (is_name k) (not (list_any (bytes_eq k) reserved_types)) h.0)) d a b h.1 p
 
   types_keep : (s : Section) (d : Data) (a b : Blocks) → AddsTypes s d a b → P a → P b
   types_keep sections.Comment d a b h p = subst P h p
@@ -77,4 +86,20 @@ order_put block (c ∷ cs) sorted = order_put_at (address_cmp block c) block c c
 
 pub blocks_in_order : (tree : Data) (blocks : Blocks) → IsConfiguration tree blocks → IsStrictlySortedBy address_cmp blocks
 unfolding IsStrictlySortedBy
-blocks_in_order tree blocks h = configuration_keeps (IsStrictlySortedBy address_cmp) (λ kind name d arguments a body sorted. order_put (record { kind = kind; name = name; arguments = arguments }) a sorted) tree blocks h tt
+blocks_in_order tree blocks h = configuration_keeps (IsStrictlySortedBy address_cmp) (λ kind name d arguments a of_kind of_name body sorted. order_put (record { kind = kind; name = name; arguments = arguments }) a sorted) tree blocks h tt
+
+-- ---- names
+
+names_put_at : (o : Ordering) (block c : BlockView) (cs : Blocks) → HasNames block → AllByRecursion HasNames (c ∷ cs) → AllByRecursion HasNames (put_block block cs)
+    → AllByRecursion HasNames (match_ordering o (block ∷ c ∷ cs) (record c { arguments = block.arguments } ∷ cs) (c ∷ put_block block cs))
+names_put_at Less block c cs h all more = (h, all)
+names_put_at Equal block c cs h all more = all
+names_put_at Greater block c cs h all more = (all.0, more)
+
+names_put : (block : BlockView) (cs : Blocks) → HasNames block → AllByRecursion HasNames cs → AllByRecursion HasNames (put_block block cs)
+names_put block [] h all = (h, tt)
+names_put block (c ∷ cs) h all = names_put_at (address_cmp block c) block c cs h all (names_put block cs h all.1)
+
+pub blocks_named : (tree : Data) (blocks : Blocks) → IsConfiguration tree blocks → AllByRecursion HasNames blocks
+blocks_named tree blocks h =
+    configuration_keeps (AllByRecursion HasNames) (λ kind name d arguments a of_kind of_name body all. names_put (record { kind = kind; name = name; arguments = arguments }) a (of_kind, of_name) all) tree blocks h tt

@@ -1,5 +1,5 @@
 -- What holds of configurations and refusals, whatever they are.
-use Rattle.std.specs.Prelude.{◌≡◌, ◌⊎◌, ℕ, ◌≤◌, List, length}
+use Rattle.std.specs.Prelude.{◌≡◌, ◌⊎◌, ℕ, ◌≤◌, true, List, length}
 use Rattle.std.specs.List.{AllByRecursion}
 use Rattle.std.specs.List.Sorted.{IsStrictlySortedBy}
 use Rattle.serde_json.specs.Data.{Data}
@@ -7,7 +7,8 @@ use Rattle.tf_expr.specs.Demand as expr
 use Rattle.tf_expr.specs.Spelling.{SpellsTemplate}
 use Rattle.tf_expr.specs.TemplateTree.{Woven}
 use Rattle.tf_json_path.specs.Check.{IsFirst}
-use Rattle.tf_config.specs.Config.{Blocks, address_cmp}
+use Rattle.tf_address.specs.Name.{is_name}
+use Rattle.tf_config.specs.Config.{BlockView, Blocks, address_cmp}
 use Rattle.tf_config.specs.Configuration.{configuration_checks, IsConfiguration}
 use Rattle.tf_config.specs.Demand.{Demand, of_expression, AreMet, IsMet}
 use Rattle.tf_refusal.specs.OfExpression.{Way, bad_template, too_deep}
@@ -30,6 +31,14 @@ StandsForOne = (tree : Data) (blocks others : Blocks) → IsConfiguration tree b
 -- Blocks stand in address order, each address once.
 abbrev pub BlocksAreInOrder : Type 0
 BlocksAreInOrder = (tree : Data) (blocks : Blocks) → IsConfiguration tree blocks → IsStrictlySortedBy address_cmp blocks
+
+-- a block's address is of names
+abbrev pub HasNames : BlockView → Type 0
+HasNames b = (is_name b.kind ≡ true) × (is_name b.name ≡ true)
+
+-- The address of each block is of names.
+abbrev pub BlocksHaveNames : Type 0
+BlocksHaveNames = (tree : Data) (blocks : Blocks) → IsConfiguration tree blocks → AllByRecursion HasNames blocks
 
 -- Where all names of blocks are known, their arguments name nothing, and each function that they call is
 -- one.

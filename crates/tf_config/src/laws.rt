@@ -1,4 +1,4 @@
-ghost use Rattle.tf_config.specs.Laws.{StandingIsFaultless, FaultlessStands, StandsForOne, BlocksAreInOrder, KnownNamesAreNone, NoNamesAreKnown, RefusedOnce, RefusedIsNotRead};
+ghost use Rattle.tf_config.specs.Laws.{StandingIsFaultless, FaultlessStands, StandsForOne, BlocksAreInOrder, BlocksHaveNames, KnownNamesAreNone, NoNamesAreKnown, RefusedOnce, RefusedIsNotRead};
 
 /// A JSON tree stands for blocks exactly where all checks of it are met, and for one list of blocks at most.
 pub fn faultless_trees_stand()
@@ -10,6 +10,11 @@ pub fn faultless_trees_stand()
 /// The blocks of a configuration stand in address order, each address once.
 pub fn blocks_are_in_order()
     ensures order { BlocksAreInOrder }
+{}
+
+/// The address of each block of a configuration is of names.
+pub fn blocks_have_names()
+    ensures { BlocksHaveNames }
 {}
 
 /// All names of blocks are known exactly where their arguments name nothing, and each function that they call

@@ -15,7 +15,8 @@ mod words;
 
 pub use config::{Block, Config};
 pub use laws::{
-    blocks_are_in_order, faultless_trees_stand, known_names_are_none, refusals_are_one,
+    blocks_are_in_order, blocks_have_names, faultless_trees_stand, known_names_are_none,
+    refusals_are_one,
 };
 pub use reading::read;
 pub use tf_refusal::{Detail, EvalFault, Refusal};

@@ -15,6 +15,7 @@ pub use fault::{Cause, ExprFault};
 pub use reading::{read_expr, read_expr_at};
 pub use tf_eval::{
     Constant, Constants, EvalFault, Scope, eval, eval_expr, expr_knowledge_grows, knowledge_grows,
+    values_are_within_limits,
 };
 pub use tf_operators::Function;
 pub use tf_syntax::{

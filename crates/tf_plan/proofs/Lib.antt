@@ -2,3 +2,4 @@ pub mod Attributes
 pub mod Entries
 pub mod Orders
 pub mod Served
+pub mod Within

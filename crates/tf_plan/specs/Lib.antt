@@ -1,4 +1,5 @@
 pub mod Argument
+pub mod Bounded
 pub mod Gives
 pub mod Object
 pub mod Order

@@ -1,7 +1,8 @@
 //! What an argument gives the attribute that it names.
 
-ghost use Rattle.std.specs.Prelude.{◌≡◌, option_map};
+ghost use Rattle.std.specs.Prelude.{◌≡◌, true, IfOk, option_map};
 ghost use Rattle.tf_expr.specs.Tree.{tree_of as expr_of};
+ghost use Rattle.tf_value.specs.Measure.{is_within};
 ghost use Rattle.tf_value.specs.Tree.{tree_of};
 ghost use Rattle.tf_plan.specs.Argument.{argument_value, unset_value, set_value, given_value, attribute_value, converted, or_bad_argument};
 ghost use Rattle.tf_protocol.specs.declared.schema.Kind.TheVariants as kinds;
@@ -10,7 +11,7 @@ ghost use Rattle.tf_plan.specs.Gives.{Gives};
 ghost use Rattle.tf_protocol.specs.Schema.{attribute_of};
 
 use std::alloc::{AllocError, AllocFailed, Global};
-use tf_expr::{Constants, EvalFault, Expr, eval_expr};
+use tf_expr::{Constants, EvalFault, Expr, eval_expr, values_are_within_limits};
 use tf_protocol::{Attribute, Kind, Mode};
 use tf_value::Value;
 
@@ -46,8 +47,9 @@ pub fn attribute_value(
     attribute: &Attribute,
     argument: Option<&Expr>,
 ) -> Result<Value, ValueFault>
-    ensures { Gives tree_of result
+    ensures gives { Gives tree_of result
         (attribute_value (attribute_of attribute.now) (option_map (λ e. expr_of e.now) argument.entry)) }
+    ensures within { IfOk result (λ v. is_within (tree_of v) ≡ true) }
 {
     match argument {
         None => unset_value(attribute.mode),
@@ -60,8 +62,10 @@ pub fn attribute_value(
 
 /// The value that an argument stands for.
 fn argument_value(alloc: Global, expr: &Expr) -> Result<Value, ValueFault>
-    ensures { Gives tree_of result (argument_value (expr_of expr.now)) }
+    ensures gives { Gives tree_of result (argument_value (expr_of expr.now)) }
+    ensures within { IfOk result (λ v. is_within (tree_of v) ≡ true) }
 {
+    values_are_within_limits();
     let constants = Vec::new(alloc);
     match eval_expr(alloc, expr, &Constants { constants }) {
         Ok(value) => Ok(value),
@@ -72,7 +76,8 @@ fn argument_value(alloc: Global, expr: &Expr) -> Result<Value, ValueFault>
 
 /// The value of an attribute that isn't set.
 fn unset_value(mode: Mode) -> Result<Value, ValueFault>
-    ensures { Gives tree_of result (unset_value mode) }
+    ensures gives { Gives tree_of result (unset_value mode) }
+    ensures within { IfOk result (λ v. is_within (tree_of v) ≡ true) }
 {
     match mode {
         Mode::Required => Err(BAD_ARGUMENT),
@@ -83,7 +88,8 @@ fn unset_value(mode: Mode) -> Result<Value, ValueFault>
 
 /// The value of an attribute whose argument has this value; null means that it isn't set.
 fn given_value(alloc: Global, mode: Mode, kind: Kind, value: Value) -> Result<Value, ValueFault>
-    ensures { Gives tree_of result (given_value mode kind (tree_of value)) }
+    ensures gives { Gives tree_of result (given_value mode kind (tree_of value)) }
+    ensures within { is_within (tree_of value) ≡ true → IfOk result (λ v. is_within (tree_of v) ≡ true) }
 {
     match value {
         Value::Null => unset_value(mode),
@@ -93,7 +99,8 @@ fn given_value(alloc: Global, mode: Mode, kind: Kind, value: Value) -> Result<Va
 
 /// The value of an attribute that is set.
 fn set_value(alloc: Global, mode: Mode, kind: Kind, value: Value) -> Result<Value, ValueFault>
-    ensures { Gives tree_of result (set_value mode kind (tree_of value)) }
+    ensures gives { Gives tree_of result (set_value mode kind (tree_of value)) }
+    ensures within { is_within (tree_of value) ≡ true → IfOk result (λ v. is_within (tree_of v) ≡ true) }
 {
     match mode {
         Mode::Computed => Err(BAD_ARGUMENT),
@@ -104,7 +111,8 @@ fn set_value(alloc: Global, mode: Mode, kind: Kind, value: Value) -> Result<Valu
 
 /// A value as one of this kind.
 fn converted(alloc: Global, kind: Kind, value: Value) -> Result<Value, ValueFault>
-    ensures { Gives tree_of result (or_bad_argument (converted kind (tree_of value))) }
+    ensures gives { Gives tree_of result (or_bad_argument (converted kind (tree_of value))) }
+    ensures within { is_within (tree_of value) ≡ true → IfOk result (λ v. is_within (tree_of v) ≡ true) }
 {
     match kind {
         Kind::Any => Ok(value),
@@ -115,7 +123,8 @@ fn converted(alloc: Global, kind: Kind, value: Value) -> Result<Value, ValueFaul
 }
 
 fn as_text(alloc: Global, value: Value) -> Result<Value, ValueFault>
-    ensures { Gives tree_of result (or_bad_argument (converted kinds.String (tree_of value))) }
+    ensures gives { Gives tree_of result (or_bad_argument (converted kinds.String (tree_of value))) }
+    ensures within { is_within (tree_of value) ≡ true → IfOk result (λ v. is_within (tree_of v) ≡ true) }
 {
     match value {
         Value::Unknown => Ok(Value::Unknown),
@@ -130,7 +139,8 @@ fn as_text(alloc: Global, value: Value) -> Result<Value, ValueFault>
 }
 
 fn as_number(value: Value) -> Result<Value, ValueFault>
-    ensures { Gives tree_of result (or_bad_argument (converted kinds.Number (tree_of value))) }
+    ensures gives { Gives tree_of result (or_bad_argument (converted kinds.Number (tree_of value))) }
+    ensures within { is_within (tree_of value) ≡ true → IfOk result (λ v. is_within (tree_of v) ≡ true) }
 {
     match value {
         Value::Unknown => Ok(Value::Unknown),
@@ -140,7 +150,8 @@ fn as_number(value: Value) -> Result<Value, ValueFault>
 }
 
 fn as_truth_value(value: Value) -> Result<Value, ValueFault>
-    ensures { Gives tree_of result (or_bad_argument (converted kinds.Bool (tree_of value))) }
+    ensures gives { Gives tree_of result (or_bad_argument (converted kinds.Bool (tree_of value))) }
+    ensures within { is_within (tree_of value) ≡ true → IfOk result (λ v. is_within (tree_of v) ≡ true) }
 {
     match value {
         Value::Unknown => Ok(Value::Unknown),

@@ -4,6 +4,7 @@ ghost use Rattle.std.specs.Prelude.{◌≡◌, ◌≤◌, [], None, Some, length
 ghost use Rattle.tf_address.specs.Label.{label_of, label_text};
 ghost use Rattle.tf_config.specs.Config.{block_of, blocks_of};
 ghost use Rattle.tf_refusal.specs.Refusal.{told, fault, bare};
+ghost use Rattle.tf_plan.specs.Bounded.{AreWithin, IsCreateWithin};
 ghost use Rattle.tf_plan.specs.Plan.{action_of, plan_of, planned, planned_actions};
 ghost use Rattle.tf_plan.specs.PlansBlock.{PlansBlock};
 ghost use Rattle.tf_plan.specs.Served.{AreServed};
@@ -39,6 +40,7 @@ pub fn plan_for(
         ≡ planned (map (λ b. meaning b) providers.now) (blocks_of config.now) lineage.now) }
     ensures nothing { IfOk result (λ _. plan_refusals (map (λ b. meaning b) providers.now) (blocks_of config.now) ≡ []) }
     ensures served { IfOk result (λ plan. AreServed (map (λ b. meaning b) providers.now) (map action_of plan.actions.items)) }
+    ensures within { IfOk result (λ plan. AreWithin (map action_of plan.actions.items)) }
     ensures refused { IfErr result (Tells (plan_refusals (map (λ b. meaning b) providers.now) (blocks_of config.now))) }
 {
     let planned = plan_blocks(alloc, config, providers)?;
@@ -69,6 +71,7 @@ fn plan_blocks(
 ) -> Result<PlannedBlocks, AllocError>
     ensures actions { IfOk result (λ p. map action_of p.actions.items
         ≡ planned_actions (map (λ b. meaning b) providers.now) (blocks_of config.now)) }
+    ensures within { IfOk result (λ p. AreWithin (map action_of p.actions.items)) }
     ensures few { IfOk result (λ p. length p.actions.items ≤ length (blocks_of config.now)) }
     ensures refusals { IfOk result (λ p. map told p.refusals.items
         ≡ plan_refusals (map (λ b. meaning b) providers.now) (blocks_of config.now)) }
@@ -99,7 +102,8 @@ fn plan_block(
     block: &Block,
     providers: &[Box<dyn Provider + Sync>],
 ) -> Result<PlannedBlock, AllocError>
-    ensures { IfOk result (PlansBlock (map (λ b. meaning b) providers.now) (block_of (label.now, block.now))) }
+    ensures plans { IfOk result (PlansBlock (map (λ b. meaning b) providers.now) (block_of (label.now, block.now))) }
+    ensures within { IfOk result IsCreateWithin }
 {
     let Some(schema) = schema_for(providers, label.type_name.as_str()) else {
         let place = label.to_string(alloc)?;

@@ -17,17 +17,19 @@ loop-attribute-preserved c =
     let arguments = arguments_view c.args.arguments.now.entries in
     let a = c.attribute-item.result in
     let left : map attribute_of (drop i xs) ≡ attribute_of a ∷ map attribute_of (drop (i + 1) xs) = ap (map attribute_of) (drop-item xs i a c.loop-attribute-test.true c.attribute-item.is) in
-    let before = rw left at c.loop-attribute.invariant in
+    let before = rw left at c.loop-attribute.invariant.0 in
     let argument : option_map (λ e. expr_of e.now) c.argument_named-argument.result ≡ get (attribute_of a).name arguments =
     c.argument_named-argument.ensures ∙ ap (λ (k : List ℕ). get k arguments) c.as_str.ensures.value in
     let planned = attribute_value (attribute_of a) (get (attribute_of a).name arguments) in
-    let gives : Gives tree_of c.attribute_value-value.result planned = rw argument at c.attribute_value-value.ensures in
-    let both = rw c.as_str-in-loop-attribute.ensures.value at (c.in_ok-tried.ensures planned gives) in
-    so_far-step _ _ _ _ (attribute_of a) (map attribute_of (drop (i + 1) xs)) (map attribute_of xs) arguments before both.0 both.1
+    let gives : Gives tree_of c.attribute_value-value.result planned = rw argument at c.attribute_value-value.ensures.gives in
+    let both = rw c.as_str-in-loop-attribute.ensures.value at (c.in_ok-tried.ensures.adds planned gives) in (
+      so_far-step _ _ _ _ (attribute_of a) (map attribute_of (drop (i + 1) xs)) (map attribute_of xs) arguments before both.0 both.1,
+      c.in_ok-tried.ensures.within c.attribute_value-value.ensures.within c.loop-attribute.invariant.1,
+    )
 
 pub returns-clause-object : goal.returns-clause-object
 returns-clause-object c =
     let xs = c.args.attributes.now in
     let i = c.loop-attribute.attribute-index in
     let none : drop i xs ≡ [] = drop_all i xs c.loop-attribute-test.false in
-    sym (onto-nothing (entries_view c.loop-attribute.tried.object.entries)) ∙ (rw none at c.loop-attribute.invariant).object
+    sym (onto-nothing (entries_view c.loop-attribute.tried.object.entries)) ∙ (rw none at c.loop-attribute.invariant.0).object

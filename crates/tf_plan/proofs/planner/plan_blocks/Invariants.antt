@@ -3,6 +3,7 @@ use Rattle.std.proofs.Common.{◌≡◌, ◌+◌, ◌≤◌, ◌++◌, length, m
 use Rattle.std.specs.List.{filter_map}
 use Rattle.tf_config.specs.Config.{block_of}
 use Rattle.tf_refusal.specs.Refusal.{told}
+use Rattle.tf_plan.specs.Bounded.{AreWithin}
 use Rattle.tf_plan.specs.Plan.{action_of, planned_actions}
 use Rattle.tf_plan.specs.Refused.{plan_refusals}
 use Rattle.tf_plan.proofs.planner.plan_blocks.Given as goal
@@ -15,5 +16,6 @@ invariant-loop-label g l =
     record {
       actions : map action_of l.planned.actions.items ++ planned_actions ms left ≡ planned_actions ms all;
       refusals : map told l.planned.refusals.items ++ plan_refusals ms left ≡ plan_refusals ms all;
+      within : AreWithin (map action_of l.planned.actions.items);
       few : length l.planned.actions.items + length left ≤ length all;
     }
