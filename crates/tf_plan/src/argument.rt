@@ -1,9 +1,10 @@
 //! What an argument gives the attribute that it names.
 
-ghost use Rattle.std.specs.Prelude.{◌≡◌, true, IfOk, option_map};
+ghost use Rattle.std.specs.Fmt.{signed_decimal};
+ghost use Rattle.std.specs.Prelude.{◌≡◌, true, IfOk, option_map, string_bytes};
 ghost use Rattle.tf_expr.specs.Tree.{tree_of as expr_of};
 ghost use Rattle.tf_value.specs.Measure.{is_within};
-ghost use Rattle.tf_value.specs.Tree.{tree_of};
+ghost use Rattle.tf_value.specs.Tree.{text, tree_of};
 ghost use Rattle.tf_plan.specs.Argument.{argument_value, unset_value, set_value, given_value, attribute_value, converted, or_bad_argument};
 ghost use Rattle.tf_protocol.specs.declared.schema.Kind.TheVariants as kinds;
 ghost use Rattle.tf_plan.specs.declared.argument.ValueFault.TheVariants.{OutOfMemory};
@@ -129,13 +130,21 @@ fn as_text(alloc: Global, value: Value) -> Result<Value, ValueFault>
     match value {
         Value::Unknown => Ok(Value::Unknown),
         Value::Text(text) => Ok(Value::Text(text)),
-        Value::Int(number) => Ok(Value::Text(number.to_string(alloc)?)),
+        Value::Int(number) => Ok(Value::Text(decimal(alloc, number)?)),
         Value::Bool(true) => Ok(Value::Text(String::from_str(alloc, "true")?)),
         Value::Bool(false) => Ok(Value::Text(String::from_str(alloc, "false")?)),
         Value::Null => Err(BAD_ARGUMENT),
         Value::List(_) => Err(BAD_ARGUMENT),
         Value::Map(_) => Err(BAD_ARGUMENT),
     }
+}
+
+fn decimal(alloc: Global, number: i64) -> Result<String, AllocError>
+    ensures text { IfOk result (λ s. string_bytes s ≡ signed_decimal number) }
+    ensures within { IfOk result (λ s. is_within (text (string_bytes s)) ≡ true) }
+{
+    let text = number.to_string(alloc)?;
+    Ok(text)
 }
 
 fn as_number(value: Value) -> Result<Value, ValueFault>
