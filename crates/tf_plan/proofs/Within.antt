@@ -1,15 +1,13 @@
 -- What is planned is within the limits.
-use Rattle.std.proofs.Common.{◌≡◌, ◌≤◌, ◌<◌, ◌+◌, ℕ, ℤ, Bool, true, false, ◌&&◌, List, [], ◌∷◌, ◌++◌, length, refl, arith}
+use Rattle.std.proofs.Common.{◌≡◌, ◌≤◌, ℕ, Bool, true, false, ◌&&◌, List, length, refl, arith}
 use Rattle.std.proofs.lemmas.Bool.{le-leb}
 use Rattle.std.specs.Cmp.Lexicographic.{slice_cmp}
-use Rattle.std.specs.List.{AllByRecursion}
 use Rattle.std.specs.Ordering.{nat_cmp, match_ordering}
 use Rattle.std.specs.declared.cmp.Ordering.{Ordering}
 use Rattle.std.specs.declared.cmp.Ordering.TheVariants.{Less, Equal, Greater}
-use Rattle.tf_value.specs.Measure.{IsWithinLimits, is_within, max_weight}
+use Rattle.tf_value.specs.Measure.{IsWithinLimits, is_within}
 use Rattle.tf_value.specs.Tree.{Tree, text, Entries, no_entries, entry, put}
-use Rattle.tf_plan.specs.Bounded.{each_within, IsWithin, AreWithin}
-use Rattle.tf_plan.specs.Plan.{ActionView}
+use Rattle.tf_plan.specs.Bounded.{each_within}
 
 -- the test of what is within the limits answers so
 pub within_test : (t : Tree) → IsWithinLimits t → is_within t ≡ true
@@ -41,8 +39,3 @@ put_at Greater k l t u es h g more = both (is_within u) (each_within (put k t es
 pub put_within : (k : List ℕ) (t : Tree) (es : Entries) → is_within t ≡ true → each_within es ≡ true → each_within (put k t es) ≡ true
 put_within k t no_entries h g = both (is_within t) true h refl
 put_within k t (entry l u es) h g = put_at (slice_cmp nat_cmp k l) k l t u es h g (put_within k t es h (second (is_within u) (each_within es) g))
-
--- one action more
-pub one_more : (xs : List ActionView) (a : ActionView) → AreWithin xs → IsWithin a → AreWithin (xs ++ a ∷ [])
-one_more [] a h g = (g, tt)
-one_more (x ∷ xs) a h g = (h.0, one_more xs a h.1 g)
