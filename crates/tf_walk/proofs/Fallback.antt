@@ -3,7 +3,7 @@ use Rattle.std.proofs.Common.{◌≡◌, true, false, ◌&&◌, Option, Some, No
 use Rattle.std.specs.Option.{option_map_or}
 use Rattle.std.specs.Prelude.{nat_le}
 use Rattle.tf_value.proofs.Conjunction.{and-first, and-second, and-both}
-use Rattle.tf_value.proofs.WithNulls.{nulls-known, nulls-weight, nulls-depth}
+use Rattle.tf_value.proofs.WithNulls.{nulls-known, nulls-measure}
 use Rattle.tf_value.specs.Equality.{same_Decides}
 use Rattle.tf_value.specs.Measure.{max_weight, max_depth}
 use Rattle.tf_value.specs.Nulls.{with_nulls, entries_with_nulls}
@@ -22,7 +22,7 @@ fallback-is (Some t) fallback e = ap Some ((same_Decides (with_nulls t) fallback
 nulls-stored : (es : Entries) → each_within es ≡ true → each_may_be_stored (entries_with_nulls es) ≡ true
 nulls-stored no_entries h = refl
 nulls-stored (entry k t es) h =
-    let within = ap₂ (λ w d. nat_le w max_weight && nat_le d max_depth) (nulls-weight t) (nulls-depth t) ∙ and-first _ _ h in
+    let within = ap₂ (λ w d. nat_le w max_weight && nat_le d max_depth) (nulls-measure t).0 (nulls-measure t).1 ∙ and-first _ _ h in
     and-both _ _ (and-both _ _ (nulls-known t) within) (nulls-stored es (and-second _ _ h))
 
 object-stored : (t : Tree) → has_attributes_within t ≡ true → has_stored_attributes (with_nulls t) ≡ true
