@@ -35,7 +35,7 @@ first_of false b h = absurd (cc)
 
 module _ (P : Blocks → Type 0)
     (keeps : (kind name : List ℕ) (d : Data) (arguments : Entries) (a : Blocks) → is_name kind ≡ true → is_name name ≡ true → IsBody d arguments → P a
-        → P (put_block (record { kind = kind; name = name; arguments = arguments }) a)) where
+    → P (put_block (record { kind = kind; name = name; arguments = arguments }) a)) where
   resource_keeps : (kind : List ℕ) → is_name kind ≡ true → (k : List ℕ) (d : Data) (a b : Blocks) → AddsResource kind k d a b → P a → P b
   resource_keeps kind named k d a b h p = subst P h.3 (keeps kind k d h.1 a named h.0 h.2 p)
 
