@@ -10,8 +10,8 @@ use Rattle.serde_json.specs.Data as json
 use Rattle.serde_json.specs.Events.{items_len, members_len}
 use Rattle.serde_json.specs.View.{view, items_view as json_items, items_of as json_items_of, members_view, members_of}
 use Rattle.serde_json.proofs.Views.{Entry as Member}
-use Rattle.tf_value.specs.Tree.{Entries, items_of, tree_of, items_view, entries_view}
-use Rattle.tf_value.specs.Json.{value_data, items_data, entries_data, tree_from, items_from, entries_from}
+use Rattle.tf_value.specs.Tree.{Entries, items_of, tree_of, items_view, entries_view, texts_view}
+use Rattle.tf_value.specs.Json.{value_data, items_data, entries_data, texts_data, tree_from, items_from, entries_from}
 use Rattle.tf_value.proofs.Views.{Entry, shown, below_middle}
 use Rattle.tf_value.specs.declared.value.Value.{Value}
 use Rattle.serde_json.specs.declared.value.Value.{Value as Json}
@@ -24,6 +24,10 @@ read_items-is (j ∷ js) = rw (read_items-is js)
 pub written_items-is : (vs : List Value) → json_items_of (each (λ v. value_data (tree_of v)) vs) ≡ items_data (items_view vs)
 written_items-is [] = refl
 written_items-is (v ∷ vs) = rw (written_items-is vs)
+
+pub written_texts-is : (ss : List (String Global)) → json_items_of (each (λ s. json.string (string_bytes s)) ss) ≡ texts_data (texts_view ss)
+written_texts-is [] = refl
+written_texts-is (s ∷ ss) = rw (written_texts-is ss)
 
 -- all items were read, or written
 pub read_all_items : (js : List Json) (n : ℕ) (vs : List Value) → length js ≤ n → each tree_of vs ≡ each (λ j. tree_from (view j)) (take n js) → items_view vs ≡ items_from (json_items js)
@@ -56,6 +60,10 @@ written_entries-is (e ∷ es) = rw (written_entries-is es)
 pub items_len-is : (vs : List Value) → items_len (items_data (items_view vs)) ≡ length vs
 items_len-is [] = refl
 items_len-is (v ∷ vs) = ap suc (items_len-is vs)
+
+pub texts_len-is : (ss : List (String Global)) → items_len (texts_data (texts_view ss)) ≡ length ss
+texts_len-is [] = refl
+texts_len-is (s ∷ ss) = ap suc (texts_len-is ss)
 
 pub members_len-is : (es : List Entry) → members_len (entries_data (entries_view es)) ≡ length es
 members_len-is [] = refl

@@ -1,10 +1,12 @@
 pub mod Conjunction
+pub mod Copied
 pub mod Views
 pub mod Keys
 pub mod Order
 pub mod JsonForms
 pub mod Forms
 pub mod WithNulls
+pub mod WithLists
 pub mod Ordered
 pub mod Refining
 pub mod Scalars

@@ -2,7 +2,7 @@
 use Rattle.std.proofs.Common.{◌≡◌, ℕ, suc, List, [], ◌∷◌, length, Bool, true, false, refl, sym, ap, ◌∙◌, subst, IsTrue}
 use Rattle.std.specs.Prelude.{◌↔◌}
 use Rattle.std.specs.Bool.{one_answer}
-use Rattle.tf_value.specs.Tree.{Tree, null, boolean, whole, text, list, map, unknown, Items, no_items, item, Entries, no_entries, entry, same, items_view, entries_view}
+use Rattle.tf_value.specs.Tree.{Tree, null, boolean, whole, text, list, map, set, unknown, Items, no_items, item, Entries, no_entries, entry, same, items_view, entries_view}
 use Rattle.tf_value.specs.Refinement.{Refines, RefinesItems, RefinesEntries}
 use Rattle.tf_value.specs.Equality.{same_Decides}
 use Rattle.tf_value.specs.Known.{known, known_items, known_entries}
@@ -54,6 +54,7 @@ mutual
   Refines-antisymm (text s) (text t) h g = ap text h
   Refines-antisymm (list ts) (list us) h g = ap list (RefinesItems-antisymm ts us h g)
   Refines-antisymm (map ts) (map us) h g = ap map (RefinesEntries-antisymm ts us h g)
+  Refines-antisymm (set ss) (set ts) h g = ap set h
   Refines-antisymm unknown unknown h g = refl
   Refines-antisymm _ _ h g = absurd (assumption)
 
@@ -89,6 +90,7 @@ mutual
   Refines-trans (whole x) (whole y) (whole z) h g = h ∙ g
   Refines-trans (text r) (text s) (text t) h g = h ∙ g
   Refines-trans (list ts) (list us) (list vs) h g = RefinesItems-trans ts us vs h g
+  Refines-trans (set rs) (set ss) (set ts) h g = h ∙ g
   Refines-trans (map ts) (map us) (map vs) h g = RefinesEntries-trans ts us vs h g
   Refines-trans _ _ _ h g = absurd (assumption)
 
@@ -110,6 +112,7 @@ mutual
   Refines-known (whole y) (whole z) e h = ap whole h
   Refines-known (text s) (text t) e h = ap text h
   Refines-known (list ts) (list us) e h = ap list (RefinesItems-known ts us e h)
+  Refines-known (set ss) (set ts) e h = ap set h
   Refines-known (map ts) (map us) e h = ap map (RefinesEntries-known ts us e h)
   Refines-known unknown u e h = absurd (cc)
   Refines-known _ _ e h = absurd (assumption)

@@ -5,7 +5,8 @@ use Rattle.std.specs.Cmp.{booleans_Decides, signed_Decides}
 use Rattle.std.proofs.lemmas.Bool.{false≢true}
 use Rattle.std.proofs.lemmas.Bool.Decides.{same_from_decides}
 use Rattle.std.proofs.lemmas.Slice.Eq.{bytes_eq-Decides}
-use Rattle.tf_value.specs.Tree.{Tree, null, boolean, whole, text, list, map as mapped, unknown, Items, no_items, item, Entries, no_entries, entry}
+use Rattle.tf_value.specs.Equality.{same_texts_Decides}
+use Rattle.tf_value.specs.Tree.{Tree, null, boolean, whole, text, list, map as mapped, set, unknown, Items, no_items, item, Entries, no_entries, entry}
 use Rattle.tf_value.specs.Refinement.{Refines, RefinesItems, RefinesEntries, refined, refined_items, refined_entries}
 
 -- where each of two tests decides its fact, both together decide both facts
@@ -21,6 +22,7 @@ mutual
   refined_Decides (text s) (text t) = bytes_eq-Decides s t
   refined_Decides (list ts) (list us) = refined_items_Decides ts us
   refined_Decides (mapped ts) (mapped us) = refined_entries_Decides ts us
+  refined_Decides (set ss) (set ts) = same_texts_Decides ss ts
   refined_Decides unknown u = (λ e. tt, λ e. refl)
   refined_Decides _ _ = (λ e. false≢true e, λ e. absurd e)
 

@@ -34,7 +34,7 @@ sorted_at Greater k m t u es is h more =
     let below : slice_cmp nat_cmp m k ≡ Less = nat_list_cmp_total.antisymm m k ∙ ap ordering_reverse is in
     (after-put m k t es below h.0, more)
 
-sorted-put : (k : List ℕ) (t : Tree) (es : Entries) → IsStrictlySortedBy (slice_cmp nat_cmp) (keys_of es) → IsStrictlySortedBy (slice_cmp nat_cmp) (keys_of (put k t es))
+pub sorted-put : (k : List ℕ) (t : Tree) (es : Entries) → IsStrictlySortedBy (slice_cmp nat_cmp) (keys_of es) → IsStrictlySortedBy (slice_cmp nat_cmp) (keys_of (put k t es))
 unfolding IsStrictlySortedBy
 sorted-put k t no_entries h = (tt, tt)
 sorted-put k t (entry m u es) h = sorted_at (slice_cmp nat_cmp k m) k m t u es refl h (sorted-put k t es h.1)

@@ -1,5 +1,5 @@
 -- A value, level by level, and a `BTreeMap` beside the entries that it stands for.
-use Rattle.std.proofs.Common.{◌≡◌, ℕ, List, [], ◌∷◌, ◌++◌, Option, Some, None, option_map, String, Vec, BTreeMap, Global, Bor, Ordering, Less, Equal, Greater, string_bytes, string_cmp, nat_cmp, is_eq, cond, Bool, true, false, map as each, refl, sym, ap, ◌∙◌, subst, append_assoc, rules}
+use Rattle.std.proofs.Common.{◌≡◌, ℕ, List, [], ◌∷◌, ◌++◌, Option, Some, None, option_map, String, Vec, BTreeMap, BTreeSet, Global, Bor, Ordering, Less, Equal, Greater, string_bytes, string_cmp, nat_cmp, is_eq, cond, Bool, true, false, map as each, refl, sym, ap, ◌∙◌, subst, append_assoc, rules}
 use Rattle.std.proofs.lemmas.Cmp.{nat_list_cmp_total}
 use Rattle.std.proofs.lemmas.List.{append-nil}
 use Rattle.std.proofs.lemmas.Map.Text.{is_eq-slice_cmp}
@@ -9,8 +9,8 @@ use Rattle.std.specs.List.Sorted.{IsStrictlySortedBy}
 use Rattle.std.specs.Map.{keys_of, lookup}
 use Rattle.std.specs.Ordering.{match_ordering, ordering_reverse}
 use Rattle.std.specs.BTreeMap.{insert_entry, is_at}
-use Rattle.tf_value.specs.Tree.{Tree, list, map, Entries, entry, get, put, entries_of, tree_of, items_view, entries_view}
-use Rattle.tf_value.specs.declared.value.Value.{Value, List as Listed, Map as Mapped, the_lemmas}
+use Rattle.tf_value.specs.Tree.{Tree, text, list, map, set, item, Entries, entry, get, put, entries_of, tree_of, items_view, entries_view, texts_view, text_items}
+use Rattle.tf_value.specs.declared.value.Value.{Value, Text as Worded, List as Listed, Map as Mapped, Set as Texts, the_lemmas}
 
 abbrev pub Entry : Type 0
 Entry = String Global × Value
@@ -20,6 +20,9 @@ tree_of-List v = search (rules, the_lemmas)
 
 pub tree_of-Map : (m : BTreeMap (String Global) Value) → tree_of (Mapped m) ≡ map (entries_view m.entries)
 tree_of-Map m = search (rules, the_lemmas)
+
+pub tree_of-Set : (s : BTreeSet (String Global)) → tree_of (Texts s) ≡ set (texts_view s.keys)
+tree_of-Set s = search (rules, the_lemmas)
 
 found_or : (b : Bool) (v : Value) (rest : Option Value) (r : Option Tree) → option_map tree_of rest ≡ r → option_map tree_of (cond b (Some v) rest) ≡ cond b (Some (tree_of v)) r
 found_or true v rest r e = refl
@@ -79,3 +82,11 @@ shown_all f es rest so_far none before =
 pub tree_of_ref : (r : Option (Bor Value)) → option_map (λ v. tree_of v.now) r ≡ option_map tree_of (option_map (λ v. v.now) r)
 tree_of_ref None = refl
 tree_of_ref (Some v) = refl
+
+pub tree_of-Text : (s : String Global) → tree_of (Worded s) ≡ text (string_bytes s)
+tree_of-Text s = search (rules, the_lemmas)
+
+-- the texts of a set, as values
+pub texts-items : (ss : List (String Global)) → items_view (each Worded ss) ≡ text_items (texts_view ss)
+texts-items [] = refl
+texts-items (s ∷ ss) = ap (λ t. item t (items_view (each Worded ss))) (tree_of-Text s) ∙ ap (item (text (string_bytes s))) (texts-items ss)

@@ -1,5 +1,5 @@
 -- Values with null in place of what isn't known.
-use Rattle.std.proofs.Common.{◌≡◌, ◌+◌, true, List, [], ◌∷◌, map as each, string_bytes, subst, refl, sym, ap}
+use Rattle.std.proofs.Common.{◌≡◌, ◌+◌, true, List, [], ◌∷◌, map as each, string_bytes, subst, refl, sym, ap, ◌∙◌}
 use Rattle.std.specs.Cmp.Lexicographic.{slice_cmp}
 use Rattle.std.specs.List.Sorted.{IsStrictlySortedBy}
 use Rattle.std.specs.Ordering.{nat_cmp}
@@ -7,10 +7,12 @@ use Rattle.tf_value.specs.Known.{known, known_items, known_entries}
 use Rattle.tf_value.specs.Measure.{weight, weight_of_items, weight_of_entries, depth, depth_of_items, depth_of_entries, IsWithinLimits}
 use Rattle.tf_value.specs.Nulls.{with_nulls, items_with_nulls, entries_with_nulls}
 use Rattle.tf_value.specs.Refinement.{Refines, RefinesItems, RefinesEntries}
-use Rattle.tf_value.specs.Stored.{MayBeStored}
-use Rattle.tf_value.specs.Tree.{Tree, null, whole, list, map, unknown, Items, no_items, item, Entries, no_entries, entry, IsHeld, AreHeld, AreHeldEntries, IsSorted, AreSorted, AreSortedEntries, keys_of, tree_of, items_of, items_view, entries_view}
+use Rattle.tf_value.specs.Sets.{has_no_set, items_have_no_set, entries_have_no_set}
+use Rattle.tf_value.specs.Stored.{MayBeStored, may_be_planned}
+use Rattle.tf_value.specs.Tree.{Tree, null, whole, list, map, set, unknown, Items, no_items, item, Entries, no_entries, entry, IsHeld, AreHeld, AreHeldEntries, IsSorted, AreSorted, AreSortedEntries, keys_of, tree_of, items_of, items_view, entries_view}
 use Rattle.tf_value.specs.declared.value.Value.{Value}
 use Rattle.tf_value.proofs.Conjunction.{and-first, and-second, and-both}
+use Rattle.tf_value.proofs.Storing.{within-limits}
 use Rattle.tf_value.proofs.Views.{Entry, shown}
 
 -- item by item, and entry by entry
@@ -99,6 +101,7 @@ mutual
   nulls-keep (list ts) h s = item_nulls-keep ts h s
   nulls-keep (map es) h s =
       let p = entry_nulls-keep es h s.1 in (p.0, (subst (λ ks. IsStrictlySortedBy (slice_cmp nat_cmp) ks) (sym (nulls-keys es)) s.0, p.1))
+  nulls-keep (set ss) h s = (tt, s)
   nulls-keep _ h s = (tt, tt)
 
   item_nulls-keep : (ts : Items) → AreHeld ts → AreSorted ts → AreHeld (items_with_nulls ts) × AreSorted (items_with_nulls ts)
@@ -112,5 +115,22 @@ mutual
 pub nulls-within : (t : Tree) → IsWithinLimits t → IsWithinLimits (with_nulls t)
 nulls-within t h = let p = nulls-measure t in rw (p.0, p.1) h
 
-pub nulls-stored : (t : Tree) → IsHeld t → IsSorted t → IsWithinLimits t → MayBeStored (with_nulls t)
-nulls-stored t held sorted within = let p = nulls-keep t held sorted in (p.0, p.1, nulls-known t, nulls-within t within)
+-- and where there was no set, there is none
+mutual
+  pub nulls-no_set : (t : Tree) → has_no_set (with_nulls t) ≡ has_no_set t
+  nulls-no_set (list ts) = item_nulls-no_set ts
+  nulls-no_set (map es) = entry_nulls-no_set es
+  nulls-no_set _ = refl
+
+  item_nulls-no_set : (ts : Items) → items_have_no_set (items_with_nulls ts) ≡ items_have_no_set ts
+  item_nulls-no_set no_items = refl
+  item_nulls-no_set (item t ts) = let p = nulls-no_set t in let q = item_nulls-no_set ts in rw (p, q) refl
+
+  entry_nulls-no_set : (es : Entries) → entries_have_no_set (entries_with_nulls es) ≡ entries_have_no_set es
+  entry_nulls-no_set no_entries = refl
+  entry_nulls-no_set (entry k t es) = let p = nulls-no_set t in let q = entry_nulls-no_set es in rw (p, q) refl
+
+pub nulls-stored : (t : Tree) → IsHeld t → IsSorted t → may_be_planned t ≡ true → MayBeStored (with_nulls t)
+nulls-stored t held sorted planned =
+    let p = nulls-keep t held sorted in
+    (p.0, p.1, nulls-known t, nulls-within t (within-limits t (and-first _ _ planned)), nulls-no_set t ∙ and-second _ _ planned)

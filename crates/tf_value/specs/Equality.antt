@@ -1,16 +1,22 @@
 -- `same` is equality of trees.
-use Rattle.std.specs.Prelude.{Bool, true, false, ◌&&◌, ◌≡◌, refl}
+use Rattle.std.specs.Prelude.{ℕ, List, Bool, true, false, ◌&&◌, ◌≡◌, refl}
 use Rattle.std.specs.Bool.{Decides}
 use Rattle.std.specs.Cmp.{IsPartialEquivalence, IsEquivalence, decided, on_equiv, partial_equiv_from_equiv, booleans_Decides, signed_Decides}
+use Rattle.std.specs.Cmp.Lexicographic.{pointwise}
 use Rattle.std.specs.Ordering.{on}
+use Rattle.std.specs.Str.{bytes_eq}
 use Rattle.std.proofs.Common.{ap}
-use Rattle.std.proofs.lemmas.Slice.Eq.{bytes_eq-Decides}
-use Rattle.tf_value.specs.Tree.{Tree, null, boolean, whole, text, list, map, unknown, Items, no_items, item, Entries, no_entries, entry, same, same_items, same_entries, tree_of}
+use Rattle.std.proofs.lemmas.Slice.Eq.{bytes_eq-Decides, slice_eq-Decides}
+use Rattle.tf_value.specs.Tree.{Tree, null, boolean, whole, text, list, map, set, unknown, Items, no_items, item, Entries, no_entries, entry, same, same_items, same_entries, tree_of}
 
 -- where each of two tests decides its fact, both together decide both facts
 both : {P Q R : Type 0} (b c : Bool) → Decides b P → Decides c Q → (P → Q → R) → (R → P × Q) → Decides (b && c) R
 both true c p q make parts = (λ e. make (p.0 refl) (q.0 e), λ r. q.1 (parts r).1)
 both false c p q make parts = (λ e. absurd (cc), λ r. p.1 (parts r).0)
+
+-- two sets are the same where their texts are
+pub same_texts_Decides : (ss ts : List (List ℕ)) → Decides (pointwise bytes_eq ss ts) (ss ≡ ts)
+same_texts_Decides ss ts = slice_eq-Decides bytes_eq-Decides ss ts (pointwise bytes_eq ss ts) refl
 
 mutual
   pub same_Decides : (t u : Tree) → Decides (same t u) (t ≡ u)
@@ -20,6 +26,7 @@ mutual
   same_Decides (text s) (text t) = (λ e. ap text ((bytes_eq-Decides s t).0 e), λ e. (bytes_eq-Decides s t).1 (cc))
   same_Decides (list ts) (list us) = (λ e. ap list ((same_items_Decides ts us).0 e), λ e. (same_items_Decides ts us).1 (cc))
   same_Decides (map ts) (map us) = (λ e. ap map ((same_entries_Decides ts us).0 e), λ e. (same_entries_Decides ts us).1 (cc))
+  same_Decides (set ss) (set ts) = (λ e. ap set ((same_texts_Decides ss ts).0 e), λ e. (same_texts_Decides ss ts).1 (cc))
   same_Decides unknown unknown = (λ e. refl, λ e. refl)
   same_Decides _ _ = (λ e. cc, λ e. cc)
 

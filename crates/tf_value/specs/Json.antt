@@ -1,17 +1,23 @@
 -- Values and JSON trees.
-use Rattle.std.specs.Prelude.{◌^◌, pos, negsuc, ◌≡◌, nat_lt, if◌then◌else◌, true, false, Option, Some, None, FitsSigned, ⊤}
+use Rattle.std.specs.Prelude.{ℕ, List, [], ◌∷◌, ◌^◌, pos, negsuc, ◌≡◌, nat_lt, if◌then◌else◌, true, false, Option, Some, None, FitsSigned, ⊤}
 use Rattle.std.specs.Int.{w64}
 use Rattle.serde_json.specs.Data as json
 use Rattle.serde_json.specs.Find.{of_integer}
-use Rattle.tf_value.specs.Tree.{Tree, null, boolean, whole, text, list, map, unknown, Items, no_items, item, Entries, no_entries, entry}
+use Rattle.tf_value.specs.Tree.{Tree, null, boolean, whole, text, list, map, set, unknown, Items, no_items, item, Entries, no_entries, entry}
 use Rattle.tf_value.specs.Known.{known}
 use Rattle.tf_value.specs.Measure.{IsWithinLimits, IsTooLarge}
 use Rattle.tf_value.specs.declared.json.JsonFault.{JsonFault}
 use Rattle.tf_value.specs.declared.json.JsonFault.TheVariants.{UnknownInside, NotWhole, TooLarge, OutOfMemory}
 
+-- strings are texts, one by one
+abbrev pub AreTexts : List (List ℕ) → json.Items → Type 0
+AreTexts [] json.no_items = ⊤
+AreTexts (s ∷ ss) (json.item (json.string t) ds) = (s ≡ t) × AreTexts ss ds
+AreTexts _ _ = ⊥
+
 -- A JSON tree is the form of a value where both have the same shape: the same scalars, whole numbers of 64 bits
--- as numbers without a fraction or an exponent, lists as arrays and maps as objects of the same keys. A value
--- with an unknown part has no form.
+-- as numbers without a fraction or an exponent, lists as arrays, sets as the arrays of their texts in byte order,
+-- and maps as objects of the same keys. A value with an unknown part has no form.
 abbrev mutual
   pub IsJson : Tree → json.Data → Type 0
   IsJson null json.null = ⊤
@@ -20,6 +26,7 @@ abbrev mutual
   IsJson (text s) (json.string t) = s ≡ t
   IsJson (list ts) (json.array ds) = IsArray ts ds
   IsJson (map es) (json.object ms) = IsObject es ms
+  IsJson (set ss) (json.array ds) = AreTexts ss ds
   IsJson _ _ = ⊥
 
   pub IsArray : Items → json.Items → Type 0
@@ -32,6 +39,11 @@ abbrev mutual
   IsObject (entry k t es) (json.member l d ms) = (k ≡ l) × IsJson t d × IsObject es ms
   IsObject _ _ = ⊥
 
+-- the texts of a set, as strings
+abbrev pub texts_data : List (List ℕ) → json.Items
+texts_data [] = json.no_items
+texts_data (s ∷ ss) = json.item (json.string s) (texts_data ss)
+
 -- the JSON form of a known value; null stands where a part is unknown
 abbrev mutual
   pub value_data : Tree → json.Data
@@ -41,6 +53,7 @@ abbrev mutual
   value_data (text s) = json.string s
   value_data (list ts) = json.array (items_data ts)
   value_data (map es) = json.object (entries_data es)
+  value_data (set ss) = json.array (texts_data ss)
   value_data unknown = json.null
 
   pub items_data : Items → json.Items
@@ -58,7 +71,7 @@ whole_from (json.negative (pos n)) = unknown
 whole_from (json.negative (negsuc n)) = if nat_lt n (2 ^ 63) then whole (negsuc n) else unknown
 whole_from (json.float x) = unknown
 
--- the value that a JSON tree reads as, with an unknown part for each number that isn't whole
+-- the value that a JSON tree reads as, with an unknown part for each number that isn't whole; an array reads as a list
 abbrev mutual
   pub tree_from : json.Data → Tree
   tree_from json.null = null
@@ -76,7 +89,7 @@ abbrev mutual
   entries_from json.no_members = no_entries
   entries_from (json.member k d ms) = entry k (tree_from d) (entries_from ms)
 
--- the value that a JSON tree is the form of; none where a number in it isn't whole
+-- the value without a set that a JSON tree is the form of; none where a number in it isn't whole
 abbrev pub value_from : json.Data → Option Tree
 value_from d = if known (tree_from d) then Some (tree_from d) else None
 

@@ -1,8 +1,8 @@
 -- Values without an unknown part.
 use Rattle.std.specs.Prelude.{Bool, true, false, ◌&&◌}
-use Rattle.tf_value.specs.Tree.{Tree, null, boolean, whole, text, list, map, unknown, Items, no_items, item, Entries, no_entries, entry}
+use Rattle.tf_value.specs.Tree.{Tree, null, boolean, whole, text, list, map, set, unknown, Items, no_items, item, Entries, no_entries, entry}
 
--- A value is known where no part of it is unknown.
+-- A value is known where no part of it is unknown; a set has no such part.
 abbrev mutual
   pub known : Tree → Bool
   known null = true
@@ -11,6 +11,7 @@ abbrev mutual
   known (text s) = true
   known (list ts) = known_items ts
   known (map es) = known_entries es
+  known (set ss) = true
   known unknown = false
 
   pub known_items : Items → Bool

@@ -5,10 +5,11 @@ use Rattle.tf_value.specs.Tree.{Tree, Entries, IsHeld, IsSorted, get, put, same}
 use Rattle.tf_value.specs.Known.{known}
 use Rattle.tf_value.specs.Refinement.{Refines, refined}
 use Rattle.tf_value.specs.Place.{Place, with_part}
-use Rattle.tf_value.specs.Measure.{IsWithinLimits, IsTooLarge, weight, depth}
+use Rattle.tf_value.specs.Measure.{IsWithinLimits, IsTooLarge, is_within, weight, depth}
 use Rattle.tf_value.specs.Nulls.{with_nulls}
 use Rattle.tf_value.specs.Scalar.{scalar_text}
-use Rattle.tf_value.specs.Stored.{IsTable, MayBeStored, may_be_stored}
+use Rattle.tf_value.specs.Sets.{has_no_set, with_lists}
+use Rattle.tf_value.specs.Stored.{IsTable, MayBeStored, may_be_planned, may_be_stored}
 use Rattle.tf_value.specs.Json.{IsJson, value_data, value_from}
 
 -- Each value refines to itself.
@@ -43,9 +44,9 @@ SameIsEquality = (t u : Tree) → (same t u ≡ true) ↔ (t ≡ u)
 abbrev pub FormIsOne : Type 0
 FormIsOne = (t : Tree) (d e : Data) → IsJson t d → IsJson t e → d ≡ e
 
--- A JSON tree is the form of at most one value.
+-- A JSON tree is the form of at most one value without sets.
 abbrev pub ValueOfFormIsOne : Type 0
-ValueOfFormIsOne = (t u : Tree) (d : Data) → IsJson t d → IsJson u d → t ≡ u
+ValueOfFormIsOne = (t u : Tree) (d : Data) → has_no_set t ≡ true → has_no_set u ≡ true → IsJson t d → IsJson u d → t ≡ u
 
 -- What has a JSON form is known.
 abbrev pub FormedIsKnown : Type 0
@@ -55,17 +56,17 @@ FormedIsKnown = (t : Tree) (d : Data) → IsJson t d → known t ≡ true
 abbrev pub KnownHasForm : Type 0
 KnownHasForm = (t : Tree) → IsHeld t → known t ≡ true → IsJson t (value_data t)
 
--- `value_from` answers the value that a JSON tree is the form of.
+-- `value_from` answers the value without sets that a JSON tree is the form of.
 abbrev pub ReadsForms : Type 0
-ReadsForms = (t : Tree) (d : Data) → (value_from d ≡ Some t) ↔ IsJson t d
+ReadsForms = (t : Tree) (d : Data) → (value_from d ≡ Some t) ↔ (IsJson t d × (has_no_set t ≡ true))
 
 -- `value_from` answers none exactly where a JSON tree is no value's form.
 abbrev pub ReadsFormsAlone : Type 0
 ReadsFormsAlone = (d : Data) → (value_from d ≡ None) ↔ ((t : Tree) → ¬ IsJson t d)
 
--- The JSON form of a known value reads as that value.
+-- The JSON form of a known value reads as that value, with a list for each set.
 abbrev pub FormReadsBack : Type 0
-FormReadsBack = (t : Tree) → IsHeld t → known t ≡ true → value_from (value_data t) ≡ Some t
+FormReadsBack = (t : Tree) → IsHeld t → known t ≡ true → value_from (value_data t) ≡ Some (with_lists t)
 
 -- A value is within the limits or too large.
 abbrev pub LimitsDecide : Type 0
@@ -94,9 +95,40 @@ NullsRefine = (t : Tree) → Refines t (with_nulls t)
 abbrev pub NullsMeasureTheSame : Type 0
 NullsMeasureTheSame = (t : Tree) → (weight (with_nulls t) ≡ weight t) × (depth (with_nulls t) ≡ depth t)
 
--- What a `Value` holds within the limits may be stored with null for what is unknown.
+-- What may be planned may be stored with null for what is unknown.
 abbrev pub NullsMayBeStored : Type 0
-NullsMayBeStored = (t : Tree) → IsHeld t → IsSorted t → IsWithinLimits t → MayBeStored (with_nulls t)
+NullsMayBeStored = (t : Tree) → IsHeld t → IsSorted t → may_be_planned t ≡ true → MayBeStored (with_nulls t)
+
+-- With a list for each set, a value has no set, and a value without one stays as it is.
+abbrev pub ListsAreNoSets : Type 0
+ListsAreNoSets = (t : Tree) → has_no_set (with_lists t) ≡ true
+
+abbrev pub NoSetKeepsItself : Type 0
+NoSetKeepsItself = (t : Tree) → has_no_set t ≡ true → with_lists t ≡ t
+
+-- As much is known of a value with a list for each set as of the value.
+abbrev pub ListsAreAsKnown : Type 0
+ListsAreAsKnown = (t : Tree) → known (with_lists t) ≡ known t
+
+-- Where a value refines to another one, so it does with a list for each set.
+abbrev pub ListsRefine : Type 0
+ListsRefine = (t u : Tree) → Refines t u → Refines (with_lists t) (with_lists u)
+
+-- A list in place of a set changes neither weight nor depth.
+abbrev pub ListsMeasureTheSame : Type 0
+ListsMeasureTheSame = (t : Tree) → (weight (with_lists t) ≡ weight t) × (depth (with_lists t) ≡ depth t)
+
+-- A list in place of a set doesn't change the JSON form.
+abbrev pub ListsHaveTheForm : Type 0
+ListsHaveTheForm = (t : Tree) → value_data (with_lists t) ≡ value_data t
+
+-- What is known and within the limits may be stored with a list for each set.
+abbrev pub ListsMayBeStored : Type 0
+ListsMayBeStored = (t : Tree) → IsHeld t → IsSorted t → known t ≡ true → IsWithinLimits t → MayBeStored (with_lists t)
+
+-- What is within the limits may be planned with a list for each set.
+abbrev pub ListsMayBePlanned : Type 0
+ListsMayBePlanned = (t : Tree) → is_within t ≡ true → may_be_planned (with_lists t) ≡ true
 
 -- `may_be_stored` answers, of what a `Value` holds, whether it may be stored.
 abbrev pub StoredIsTested : Type 0

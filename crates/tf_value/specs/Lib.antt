@@ -7,6 +7,7 @@ pub mod Json
 pub mod Place
 pub mod Fault
 pub mod Nulls
+pub mod Sets
 pub mod Scalar
 pub mod Stored
 pub mod StoredOnce

@@ -1,6 +1,11 @@
 -- How large a value is.
-use Rattle.std.specs.Prelude.{ℕ, ◌+◌, ◌<◌, ◌≤◌, ◌⊎◌, max, length, Bool, ◌&&◌, nat_le}
-use Rattle.tf_value.specs.Tree.{Tree, null, boolean, whole, text, list, map, unknown, Items, no_items, item, Entries, no_entries, entry}
+use Rattle.std.specs.Prelude.{ℕ, List, [], ◌∷◌, ◌+◌, ◌<◌, ◌≤◌, ◌⊎◌, max, length, Bool, ◌&&◌, nat_le}
+use Rattle.tf_value.specs.Tree.{Tree, null, boolean, whole, text, list, map, set, unknown, Items, no_items, item, Entries, no_entries, entry}
+
+-- the weights of a set's texts, each as a value
+abbrev pub weight_of_texts : List (List ℕ) → ℕ
+weight_of_texts [] = 0
+weight_of_texts (s ∷ ss) = (1 + length s) + weight_of_texts ss
 
 -- A value's weight is one for itself, the bytes of its texts and keys, and the weights of its parts.
 abbrev mutual
@@ -11,6 +16,7 @@ abbrev mutual
   weight (text s) = 1 + length s
   weight (list ts) = 1 + weight_of_items ts
   weight (map es) = 1 + weight_of_entries es
+  weight (set ss) = 1 + weight_of_texts ss
   weight unknown = 1
 
   pub weight_of_items : Items → ℕ
@@ -21,7 +27,7 @@ abbrev mutual
   weight_of_entries no_entries = 0
   weight_of_entries (entry k t es) = (length k + weight t) + weight_of_entries es
 
--- A value's depth is the number of lists and maps that stand in one another.
+-- A value's depth is the number of lists, maps and sets that stand in one another.
 abbrev mutual
   pub depth : Tree → ℕ
   depth null = 0
@@ -30,6 +36,7 @@ abbrev mutual
   depth (text s) = 0
   depth (list ts) = 1 + depth_of_items ts
   depth (map es) = 1 + depth_of_entries es
+  depth (set ss) = 1
   depth unknown = 0
 
   pub depth_of_items : Items → ℕ

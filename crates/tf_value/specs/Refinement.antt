@@ -1,12 +1,13 @@
 -- What a value may turn out to be, once more is known.
 use Rattle.std.specs.Prelude.{◌≡◌, ⊤, Bool, true, false, ◌&&◌}
+use Rattle.std.specs.Cmp.Lexicographic.{pointwise}
 use Rattle.std.specs.Ordering.{int_eq}
 use Rattle.std.specs.Str.{bytes_eq}
 use mathlib.Core.Bool.{beq}
-use Rattle.tf_value.specs.Tree.{Tree, null, boolean, whole, text, list, map, unknown, Items, no_items, item, Entries, no_entries, entry}
+use Rattle.tf_value.specs.Tree.{Tree, null, boolean, whole, text, list, map, set, unknown, Items, no_items, item, Entries, no_entries, entry}
 
 -- One value refines to another where it is unknown, or where both have the same shape (as many items, the
--- same keys), their parts refine one by one and scalars are equal.
+-- same keys), their parts refine one by one, and scalars and sets are equal.
 abbrev mutual
   pub Refines : Tree → Tree → Type 0
   Refines null null = ⊤
@@ -15,6 +16,7 @@ abbrev mutual
   Refines (text s) (text t) = s ≡ t
   Refines (list ts) (list us) = RefinesItems ts us
   Refines (map ts) (map us) = RefinesEntries ts us
+  Refines (set ss) (set ts) = ss ≡ ts
   Refines unknown u = ⊤
   Refines _ _ = ⊥
 
@@ -37,6 +39,7 @@ abbrev mutual
   refined (text s) (text t) = bytes_eq s t
   refined (list ts) (list us) = refined_items ts us
   refined (map ts) (map us) = refined_entries ts us
+  refined (set ss) (set ts) = pointwise bytes_eq ss ts
   refined unknown u = true
   refined _ _ = false
 

@@ -5,16 +5,21 @@ use Rattle.std.specs.Cmp.Lexicographic.{slice_cmp}
 use Rattle.std.specs.List.Sorted.{IsStrictlySortedBy}
 use Rattle.tf_value.specs.Known.{known}
 use Rattle.tf_value.specs.Measure.{IsWithinLimits, is_within}
+use Rattle.tf_value.specs.Sets.{has_no_set}
 use Rattle.tf_value.specs.Tree.{Tree, Entries, no_entries, entry, IsHeld, IsSorted, keys_of}
 
--- A value may be stored where all of it is known and it is within the limits. Its whole numbers are those of 64 bits,
--- and the keys of its maps stand in byte order, which holds of each `Value`.
+-- A value may be stored where all of it is known, it is within the limits, and there is no set in it. Its whole numbers
+-- are those of 64 bits, and the keys of its maps stand in byte order, which holds of each `Value`.
 abbrev pub MayBeStored : Tree → Type 0
-MayBeStored t = IsHeld t × IsSorted t × (known t ≡ true) × IsWithinLimits t
+MayBeStored t = IsHeld t × IsSorted t × (known t ≡ true) × IsWithinLimits t × (has_no_set t ≡ true)
 
--- the same as a test of what a `Value` holds
+-- A value may be planned for an attribute where it is within the limits and there is no set in it; it needn't be known.
+abbrev pub may_be_planned : Tree → Bool
+may_be_planned t = is_within t && has_no_set t
+
+-- `MayBeStored` as a test of what a `Value` holds
 abbrev pub may_be_stored : Tree → Bool
-may_be_stored t = known t && is_within t
+may_be_stored t = known t && may_be_planned t
 
 -- each value of a map's entries may be stored
 abbrev pub EachMayBeStored : Entries → Type 0

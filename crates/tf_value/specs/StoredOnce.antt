@@ -7,14 +7,16 @@ use denote.Struct.Props.{props}
 use mathlib.Core.HLevel.{×_prop, Unit-prop}
 use Rattle.tf_value.specs.Known.{known}
 use Rattle.tf_value.specs.Measure.{IsWithinLimits}
+use Rattle.tf_value.specs.Sets.{has_no_set}
 use Rattle.tf_value.specs.Stored.{MayBeStored, EachMayBeStored, IsTable}
-use Rattle.tf_value.specs.Tree.{Tree, whole, list, map, Items, no_items, item, Entries, no_entries, entry, IsHeld, AreHeld, AreHeldEntries, IsSorted, AreSorted, AreSortedEntries, keys_of}
+use Rattle.tf_value.specs.Tree.{Tree, whole, list, map, set, Items, no_items, item, Entries, no_entries, entry, IsHeld, AreHeld, AreHeldEntries, IsSorted, AreSorted, AreSortedEntries, keys_of}
 
 mutual
   one_proof : (t : Tree) → IsProp (IsHeld t) × IsProp (IsSorted t)
   one_proof (whole z) = (hlevel props, Unit-prop)
   one_proof (list ts) = one_proof_of_items ts
   one_proof (map es) = let p = one_proof_of_entries es in (p.0, ×_prop (IsStrictlySortedBy-prop (slice_cmp nat_cmp) (keys_of es)) p.1)
+  one_proof (set ss) = (Unit-prop, IsStrictlySortedBy-prop (slice_cmp nat_cmp) ss)
   one_proof _ = (Unit-prop, Unit-prop)
 
   one_proof_of_items : (ts : Items) → IsProp (AreHeld ts) × IsProp (AreSorted ts)
@@ -29,7 +31,8 @@ pub MayBeStored-prop : (t : Tree) → IsProp (MayBeStored t)
 MayBeStored-prop t h g =
     let all_known : IsProp (known t ≡ true) = hlevel props in
     let within : IsProp (IsWithinLimits t) = hlevel props in
-    λ i. ((one_proof t).0 h.0 g.0 i, (one_proof t).1 h.1 g.1 i, all_known h.2 g.2 i, within h.3 g.3 i)
+    let no_set : IsProp (has_no_set t ≡ true) = hlevel props in
+    λ i. ((one_proof t).0 h.0 g.0 i, (one_proof t).1 h.1 g.1 i, all_known h.2 g.2 i, within h.3 g.3 i, no_set h.4 g.4 i)
 
 EachMayBeStored-prop : (es : Entries) → IsProp (EachMayBeStored es)
 EachMayBeStored-prop no_entries = Unit-prop

@@ -1,7 +1,7 @@
 -- What a value is, as plain data: no pointers, no capacities.
 use Rattle.std.specs.Prelude.{ℕ, ℤ, Bool, true, false, if◌then◌else◌, ◌&&◌, Option, Some, None, List, [], ◌∷◌, map as each, String, string_bytes, FitsSigned, ⊤}
 use Rattle.std.specs.Ordering.{int_eq, nat_cmp, match_ordering}
-use Rattle.std.specs.Cmp.Lexicographic.{slice_cmp}
+use Rattle.std.specs.Cmp.Lexicographic.{pointwise, slice_cmp}
 use Rattle.std.specs.Int.{w64}
 use Rattle.std.specs.List.Sorted.{IsStrictlySortedBy}
 use Rattle.std.specs.Str.{bytes_eq}
@@ -10,7 +10,7 @@ use Rattle.std.specs.declared.alloc.Global.{Global}
 use Rattle.tf_value.specs.declared.value.Value.{Value, fold-Value}
 use Rattle.tf_value.specs.declared.value.Value.TheOpen.{Value-F}
 
--- A value: a scalar, a list of values, a map from texts to values, or one that isn't known yet.
+-- A value: a scalar, a list of values, a map from texts to values, a set of texts, or one that isn't known yet.
 mutual
   pub data Tree : Type 0 where
     null : Tree
@@ -19,6 +19,8 @@ mutual
     text : List ℕ → Tree
     list : Items → Tree
     map : Entries → Tree
+    -- its texts, in byte order
+    set : List (List ℕ) → Tree
     unknown : Tree
 
   pub data Items : Type 0 where
@@ -48,6 +50,7 @@ level (Value-F.Int z) = whole z
 level (Value-F.Text s) = text (string_bytes s)
 level (Value-F.List v) = list (items_of v.items)
 level (Value-F.Map m) = map (entries_of m.entries)
+level (Value-F.Set s) = set (each string_bytes s.keys)
 level Value-F.Unknown = unknown
 
 -- the tree that a `Value` stands for
@@ -61,6 +64,15 @@ items_view vs = items_of (each tree_of vs)
 -- the entries of a `BTreeMap<String, Value>`
 abbrev pub entries_view : List (String Global × Value) → Entries
 entries_view es = entries_of (each (λ e. (e.0, tree_of e.1)) es)
+
+-- the texts of a `BTreeSet<String>`
+abbrev pub texts_view : List (String Global) → List (List ℕ)
+texts_view ss = each string_bytes ss
+
+-- texts, as items
+abbrev pub text_items : List (List ℕ) → Items
+text_items [] = no_items
+text_items (s ∷ ss) = item (text s) (text_items ss)
 
 -- what stands at a key
 abbrev pub get : List ℕ → Entries → Option Tree
@@ -98,11 +110,12 @@ abbrev mutual
   AreHeldEntries no_entries = ⊤
   AreHeldEntries (entry k t es) = IsHeld t × AreHeldEntries es
 
--- A tree is sorted where the keys of each map in it stand strictly in byte order.
+-- A tree is sorted where the keys of each map and the texts of each set in it stand strictly in byte order.
 abbrev mutual
   pub IsSorted : Tree → Type 0
   IsSorted (list ts) = AreSorted ts
   IsSorted (map es) = IsStrictlySortedBy (slice_cmp nat_cmp) (keys_of es) × AreSortedEntries es
+  IsSorted (set ss) = IsStrictlySortedBy (slice_cmp nat_cmp) ss
   IsSorted _ = ⊤
 
   pub AreSorted : Items → Type 0
@@ -122,6 +135,7 @@ abbrev mutual
   same (text s) (text t) = bytes_eq s t
   same (list ts) (list us) = same_items ts us
   same (map ts) (map us) = same_entries ts us
+  same (set ss) (set ts) = pointwise bytes_eq ss ts
   same unknown unknown = true
   same _ _ = false
 

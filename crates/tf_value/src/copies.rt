@@ -1,10 +1,10 @@
 // `copy` and `clone`, written out since a derived one says nothing of a type that holds itself.
 ghost use Rattle.std.specs.Prelude.{◌≡◌, IfOk};
-ghost use Rattle.tf_value.specs.Tree.{tree_of, items_view, entries_view};
+ghost use Rattle.tf_value.specs.Tree.{tree_of, items_view, entries_view, texts_view};
 
 use crate::value::Value;
 use std::alloc::AllocError;
-use std::collections::BTreeMap;
+use std::collections::{BTreeMap, BTreeSet};
 use std::default::Emptied;
 
 impl Clone for Value {
@@ -27,6 +27,7 @@ pub fn copy(value: &Value) -> Result<Value, AllocError>
         Value::Text(text) => Ok(Value::Text(text.clone()?)),
         Value::List(items) => Ok(Value::List(copy_items(items)?)),
         Value::Map(entries) => Ok(Value::Map(copy_entries(entries)?)),
+        Value::Set(texts) => Ok(Value::Set(copy_texts(texts)?)),
         Value::Unknown => Ok(Value::Unknown),
     }
 }
@@ -51,5 +52,13 @@ fn copy_entries(entries: &BTreeMap<String, Value>) -> Result<BTreeMap<String, Va
         let name = key.clone()?;
         drop(copies.insert(name, copy(value)?)?);
     }
+    Ok(copies)
+}
+
+// The same texts.
+pub(crate) fn copy_texts(texts: &BTreeSet<String>) -> Result<BTreeSet<String>, AllocError>
+    ensures { IfOk result (λ s. texts_view s.keys ≡ texts_view texts.now.keys) }
+{
+    let copies = texts.clone()?;
     Ok(copies)
 }

@@ -11,7 +11,7 @@ pub fn is_known(value: &Value) -> bool
     ensures { result ≡ known (tree_of value.now) }
 {
     match value {
-        Value::Null | Value::Bool(_) | Value::Int(_) | Value::Text(_) => true,
+        Value::Null | Value::Bool(_) | Value::Int(_) | Value::Text(_) | Value::Set(_) => true,
         Value::List(items) => are_known(items),
         Value::Map(entries) => entries_are_known(entries),
         Value::Unknown => false,

@@ -1,10 +1,10 @@
 ghost use Rattle.std.specs.Prelude.{◌≡◌, ◌↔◌, ◌^◌, ◌-◌, min, FitsSigned, IsTrue};
 ghost use Rattle.std.specs.Int.{w64};
-ghost use Rattle.tf_value.specs.Tree.{map, IsHeld, IsSorted, AreHeld, AreSorted, tree_of, items_view, entries_view};
-ghost use Rattle.tf_value.specs.Measure.{weight as weight_of, weight_of_items, weight_of_entries, depth as depth_of, depth_of_items, depth_of_entries, IsWithinLimits};
+ghost use Rattle.tf_value.specs.Tree.{map, set, IsHeld, IsSorted, AreHeld, AreSorted, tree_of, items_view, entries_view, texts_view};
+ghost use Rattle.tf_value.specs.Measure.{weight as weight_of, weight_of_texts, weight_of_items, weight_of_entries, depth as depth_of, depth_of_items, depth_of_entries, IsWithinLimits};
 
 use crate::value::Value;
-use std::collections::BTreeMap;
+use std::collections::{BTreeMap, BTreeSet};
 
 /// The greatest weight of a value that is taken from outside.
 pub const MAX_WEIGHT: u64 = 1_000_000;
@@ -23,7 +23,7 @@ pub fn is_within_limits(value: &Value) -> bool
 
 /// How much a value weighs: one for itself, the bytes of its texts and keys, and the weights of its parts;
 /// 2^64 - 1 where that is more. As it sees each part, it also says what holds of each value: its numbers are of 64
-/// bits, and the keys of its maps stand in byte order.
+/// bits, and the keys of its maps and the texts of its sets stand in byte order.
 #[cycle(weight)]
 pub fn weight(value: &Value) -> u64
     ensures total { result ≡ min (weight_of (tree_of value.now)) (2 ^ 64 - 1) }
@@ -36,6 +36,7 @@ pub fn weight(value: &Value) -> u64
         Value::Text(text) => (text.len() as u64).saturating_add(1),
         Value::List(items) => weigh_items(items).saturating_add(1),
         Value::Map(entries) => weigh_entries(entries).saturating_add(1),
+        Value::Set(texts) => weigh_texts(texts).saturating_add(1),
     }
 }
 
@@ -76,8 +77,21 @@ fn weigh_entries(entries: &BTreeMap<String, Value>) -> u64
     total
 }
 
-/// How many lists and maps stand in one another: 0 for a scalar and an unknown value, 1 for an empty list or map,
-/// else one more than the deepest part's; 2^32 - 1 where that is more.
+// A text of a set weighs as much as it does as a value.
+#[tactic(auto, using(crate::proofs::Ordered::texts_sorted))]
+fn weigh_texts(texts: &BTreeSet<String>) -> u64
+    ensures total { result ≡ min (weight_of_texts (texts_view texts.now.keys)) (2 ^ 64 - 1) }
+    ensures sorted { IsSorted (set (texts_view texts.now.keys)) }
+{
+    let mut total = 0u64;
+    for text in texts.iter() {
+        total = total.saturating_add(text.len() as u64).saturating_add(1);
+    }
+    total
+}
+
+/// How many lists, maps and sets stand in one another: 0 for a scalar and an unknown value, 1 for a set and for an
+/// empty list or map, else one more than the deepest part's; 2^32 - 1 where that is more.
 #[cycle(depth)]
 pub fn depth(value: &Value) -> u32
     ensures { result ≡ min (depth_of (tree_of value.now)) (2 ^ 32 - 1) }
@@ -85,6 +99,7 @@ pub fn depth(value: &Value) -> u32
     match value {
         Value::List(items) => deepest_item(items).saturating_add(1),
         Value::Map(entries) => deepest_entry(entries).saturating_add(1),
+        Value::Set(_) => 1,
         _ => 0,
     }
 }

@@ -4,6 +4,7 @@ ghost use Rattle.std.specs.Prelude.{◌≡◌, IfOk};
 ghost use Rattle.tf_value.specs.Nulls.{with_nulls, items_with_nulls, entries_with_nulls};
 ghost use Rattle.tf_value.specs.Tree.{tree_of, items_view, entries_view};
 
+use crate::copies::copy_texts;
 use crate::value::Value;
 use std::alloc::{AllocError, Global};
 use std::collections::BTreeMap;
@@ -20,6 +21,7 @@ pub fn with_nulls(alloc: Global, value: &Value) -> Result<Value, AllocError>
         Value::Text(text) => Ok(Value::Text(text.clone()?)),
         Value::List(items) => Ok(Value::List(items_with_nulls(alloc, items)?)),
         Value::Map(entries) => Ok(Value::Map(entries_with_nulls(alloc, entries)?)),
+        Value::Set(texts) => Ok(Value::Set(copy_texts(texts)?)),
     }
 }
 

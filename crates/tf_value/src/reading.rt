@@ -13,7 +13,7 @@ use serde_json::{Map, Value as Json};
 use std::alloc::{AllocError, Global};
 use std::collections::BTreeMap;
 
-/// The value that a JSON tree is the form of. Refused `NotWhole` exactly where it is no value's form, since a
+/// The value without sets that a JSON tree is the form of. Refused `NotWhole` exactly where it is no value's form, since a
 /// number in it isn't held as a whole number of 64 bits with a sign (`1.0`, `1e3`, `-0`, 2^63); else `TooLarge`
 /// exactly where the value is beyond the limits, `MAX_WEIGHT` and `MAX_DEPTH`; else only where there is no memory.
 ///

@@ -1,12 +1,12 @@
 ghost use Rattle.std.specs.Prelude.{◌≡◌, ◌↔◌, IsTrue};
-ghost use Rattle.tf_value.specs.Tree.{tree_of, items_view, entries_view};
+ghost use Rattle.tf_value.specs.Tree.{tree_of, items_view, entries_view, texts_view};
 ghost use Rattle.tf_value.specs.Refinement.{Refines, RefinesItems, RefinesEntries, refined};
 
 use crate::value::Value;
-use std::collections::BTreeMap;
+use std::collections::{BTreeMap, BTreeSet};
 
 /// Whether a value may turn out to be the other one, once more is known: it is unknown, or both have the same
-/// shape (as many items, the same keys), their parts refine one by one and scalars are equal.
+/// shape (as many items, the same keys), their parts refine one by one, and scalars and sets are equal.
 #[cycle(refines)]
 pub fn refines(value: &Value, other: &Value) -> bool
     ensures { IsTrue result ↔ Refines (tree_of value.now) (tree_of other.now) }
@@ -19,6 +19,7 @@ pub fn refines(value: &Value, other: &Value) -> bool
         (Value::Text(a), Value::Text(b)) => a == b,
         (Value::List(items), Value::List(others)) => items_refine(items, others),
         (Value::Map(entries), Value::Map(others)) => entries_refine(entries, others),
+        (Value::Set(texts), Value::Set(others)) => same_texts(texts, others),
         _ => false,
     }
 }
@@ -51,4 +52,11 @@ fn entries_refine(entries: &BTreeMap<String, Value>, others: &BTreeMap<String, V
         }
     }
     true
+}
+
+// Whether two sets have the same texts.
+fn same_texts(texts: &BTreeSet<String>, others: &BTreeSet<String>) -> bool
+    ensures { IsTrue result ↔ (texts_view texts.now.keys ≡ texts_view others.now.keys) }
+{
+    texts == others
 }

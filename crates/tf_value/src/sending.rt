@@ -4,12 +4,12 @@ ghost use Rattle.serde.specs.Event.{Logs};
 ghost use Rattle.serde_json.specs.Data.{array, object};
 ghost use Rattle.serde_json.specs.Events.{SendsValue, number_event};
 ghost use Rattle.serde_json.specs.Find.{of_integer};
-ghost use Rattle.tf_value.specs.Tree.{tree_of, items_view, entries_view};
-ghost use Rattle.tf_value.specs.Json.{value_data, items_data, entries_data};
+ghost use Rattle.tf_value.specs.Tree.{tree_of, items_view, entries_view, texts_view};
+ghost use Rattle.tf_value.specs.Json.{value_data, items_data, entries_data, texts_data};
 
 use crate::value::Value;
 use serde::{Described, Serialize, Serializer};
-use std::collections::BTreeMap;
+use std::collections::{BTreeMap, BTreeSet};
 
 impl Described for Value {
     ghost writes = { λ v. SendsValue (value_data (tree_of v)) };
@@ -34,6 +34,7 @@ fn send<S: Serializer>(value: &Value, out: &mut S) -> Result<(), S::Error>
         Value::Text(text) => out.str(text.as_str()),
         Value::List(items) => send_items(items, out),
         Value::Map(entries) => send_entries(entries, out),
+        Value::Set(texts) => send_texts(texts, out),
     }
 }
 
@@ -74,4 +75,15 @@ fn send_entries<S: Serializer>(
         send(value, out)?;
     }
     out.end_map()
+}
+
+fn send_texts<S: Serializer>(texts: &BTreeSet<String>, out: &mut S) -> Result<(), S::Error>
+    ensures { OnOk result (SendsValue (array (texts_data (texts_view texts.now.keys)))
+        (S.written out.old) (S.written out.new)) }
+{
+    out.begin_seq(Some(texts.len()))?;
+    for text in texts.iter() {
+        out.str(text.as_str())?;
+    }
+    out.end_seq()
 }

@@ -2,21 +2,22 @@
 
 ghost use Rattle.std.specs.Bool.{OnTrue};
 ghost use Rattle.std.specs.Prelude.{◌≡◌};
-ghost use Rattle.tf_value.specs.Stored.{IsTable, MayBeStored, each_may_be_stored, may_be_stored};
+ghost use Rattle.tf_value.specs.Stored.{IsTable, MayBeStored, each_may_be_stored, may_be_planned, may_be_stored};
 ghost use Rattle.tf_value.specs.Tree.{entries_view, tree_of};
 
 use crate::known::is_known;
 use crate::measure::is_within_limits;
+use crate::sets::has_no_set;
 use crate::value::Value;
 use std::collections::BTreeMap;
 
-/// Whether a value may be stored: all of it is known, and it is within the limits.
+/// Whether a value may be stored: all of it is known, it is within the limits, and there is no set in it.
 pub fn may_be_stored(value: &Value) -> bool
     ensures exact { result ≡ may_be_stored (tree_of value.now) }
     ensures stored { OnTrue result (MayBeStored (tree_of value.now)) }
 {
     let within = is_within_limits(value);
-    within && is_known(value)
+    within && is_known(value) && has_no_set(value)
 }
 
 /// Whether each value of a map's entries may be stored.

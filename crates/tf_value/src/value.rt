@@ -1,6 +1,6 @@
 ghost use Rattle.std.specs.Prelude.{◌≡◌, option_map};
 
-use std::collections::BTreeMap;
+use std::collections::{BTreeMap, BTreeSet};
 
 /// A value of a configuration, a plan or a state, which may hold parts that aren't known yet.
 ///
@@ -19,6 +19,8 @@ pub enum Value {
     List(Vec<Value>),
     /// Values by key, in byte order of the keys.
     Map(BTreeMap<String, Value>),
+    /// Texts, each once, in byte order.
+    Set(BTreeSet<String>),
     /// A value that will be known only after an apply.
     Unknown,
 }

@@ -1,14 +1,14 @@
 ghost use Rattle.std.specs.Prelude.{◌≡◌, IfOk, IfErr, OnOk};
 ghost use Rattle.serde_json.specs.View.{view, items_view as json_items, members_view};
-ghost use Rattle.tf_value.specs.Tree.{map, IsHeld, AreHeld, AreHeldEntries, tree_of, items_view, entries_view};
-ghost use Rattle.tf_value.specs.Json.{IsJson, IsObject, IsUnwritten, value_data, items_data, entries_data};
+ghost use Rattle.tf_value.specs.Tree.{map, IsHeld, AreHeld, AreHeldEntries, tree_of, items_view, entries_view, texts_view};
+ghost use Rattle.tf_value.specs.Json.{IsJson, IsObject, IsUnwritten, value_data, items_data, entries_data, texts_data};
 
 use crate::json::JsonFault;
 use crate::known::{entries_are_known, is_known};
 use crate::value::Value;
 use serde_json::{Map, Number, Value as Json};
 use std::alloc::{AllocError, Global};
-use std::collections::BTreeMap;
+use std::collections::{BTreeMap, BTreeSet};
 
 /// The JSON form of a value. Refused `UnknownInside` exactly where a part of the value is unknown, else only
 /// where there is no memory.
@@ -52,6 +52,7 @@ fn written(alloc: Global, value: &Value) -> Result<Json, AllocError>
         Value::Text(text) => Ok(Json::String(text.clone()?)),
         Value::List(items) => Ok(Json::Array(written_items(alloc, items)?)),
         Value::Map(entries) => Ok(Json::Object(written_entries(alloc, entries)?)),
+        Value::Set(texts) => Ok(Json::Array(written_texts(alloc, texts)?)),
     }
 }
 
@@ -81,4 +82,15 @@ fn written_entries(
         drop(object.insert(name, written(alloc, value)?)?);
     }
     Ok(object)
+}
+
+// The texts of a set as an array, in byte order.
+fn written_texts(alloc: Global, texts: &BTreeSet<String>) -> Result<Vec<Json>, AllocError>
+    ensures { IfOk result (λ js. json_items js.items ≡ texts_data (texts_view texts.now.keys)) }
+{
+    let mut array = Vec::with_capacity(alloc, texts.len())?;
+    for text in texts.iter() {
+        array.push(Json::String(text.clone()?))?;
+    }
+    Ok(array)
 }

@@ -2,7 +2,7 @@
 
 use serde_json::Value as Json;
 use std::alloc::{AllocError, Global};
-use std::collections::BTreeMap;
+use std::collections::{BTreeMap, BTreeSet};
 use std::test::Fail;
 use tf_value::{JsonFault, Value, from_json};
 
@@ -15,7 +15,8 @@ pub fn read(alloc: Global, text: &str) -> Result<Result<Value, JsonFault>, Fail>
     }
 }
 
-// The value of a JSON text in which a `?` stands for an unknown part, at the places that tests need.
+// The value of a JSON text in which a `?` stands for an unknown part and `set(..)` for a set, at the places that
+// tests need.
 pub fn value(alloc: Global, text: &str) -> Result<Value, Fail> {
     match text {
         "?" => Ok(Value::Unknown),
@@ -23,6 +24,9 @@ pub fn value(alloc: Global, text: &str) -> Result<Value, Fail> {
         "[1,?]" => Ok(pair(alloc, Value::Int(1), Value::Unknown)?),
         "[[?]]" => Ok(alone(alloc, alone(alloc, Value::Unknown)?)?),
         "{\"k\":?}" => Ok(entry(alloc, "k", Value::Unknown)?),
+        "set()" => Ok(set(alloc, &[])?),
+        "set(a)" => Ok(set(alloc, &["a"])?),
+        "set(a,b)" => Ok(set(alloc, &["b", "a", "b"])?),
         text => Ok(read(alloc, text)??),
     }
 }
@@ -32,6 +36,15 @@ pub fn entry(alloc: Global, key: &str, value: Value) -> Result<Value, AllocError
     let mut entries = BTreeMap::new(alloc);
     drop(entries.insert(String::from_str(alloc, key)?, value)?);
     Ok(Value::Map(entries))
+}
+
+// A set of texts.
+pub fn set(alloc: Global, texts: &[&str]) -> Result<Value, AllocError> {
+    let mut set = BTreeSet::new(alloc);
+    for text in texts {
+        set.insert(String::from_str(alloc, text)?)?;
+    }
+    Ok(Value::Set(set))
 }
 
 // A list of one value.

@@ -109,6 +109,11 @@ fn truths_and_other_kinds(rt: HostRuntime) -> Result<(), Fail> {
         ("1", Operator::Equal, "\"1\"", "false"),
         ("1", Operator::NotEqual, "\"1\"", "true"),
         ("null", Operator::Equal, "null", "true"),
+        ("set(a,b)", Operator::Equal, "set(a,b)", "true"),
+        ("set(a)", Operator::NotEqual, "set(a,b)", "true"),
+        ("set(a)", Operator::Equal, "[\"a\"]", "false"),
+        ("set()", Operator::Equal, "[]", "false"),
+        ("[?]", Operator::Equal, "set(a)", "?"),
         (MAP, Operator::Equal, MAP, "true"),
         ("[?]", Operator::Equal, "1", "?"),
         ("null", Operator::NotEqual, "{\"k\":?}", "?"),
@@ -118,6 +123,7 @@ fn truths_and_other_kinds(rt: HostRuntime) -> Result<(), Fail> {
         ("true", Operator::Or, "null", "WrongKind"),
         ("1", Operator::Add, "\"1\"", "WrongKind"),
         ("\"a\"", Operator::Add, "\"b\"", "WrongKind"),
+        ("set(a)", Operator::Add, "set(a)", "WrongKind"),
         ("[?]", Operator::Less, "1", "WrongKind"),
     ] {
         let fits = binary_agrees(rt.alloc(), left, operator, right, expected)?;
@@ -141,6 +147,11 @@ fn parts(rt: HostRuntime) -> Result<(), Fail> {
         ("[null]", "\"0\"", "WrongKind"),
         (MAP, "0", "WrongKind"),
         ("\"ab\"", "0", "WrongKind"),
+        ("set(a)", "0", "WrongKind"),
+        ("set(a)", "\"a\"", "WrongKind"),
+        ("set(a)", "?", "?"),
+        ("[1,2]", "set(a)", "WrongKind"),
+        (MAP, "set(a)", "WrongKind"),
         ("?", "null", "?"),
         ("null", "?", "?"),
         ("[null]", "?", "?"),
@@ -161,6 +172,7 @@ fn attributes(rt: HostRuntime) -> Result<(), Fail> {
         (MAP, "c", "Missing"),
         ("?", "c", "?"),
         ("null", "a", "WrongKind"),
+        ("set(a)", "a", "WrongKind"),
     ] {
         let found = attribute(value(alloc, whole)?, name);
         assert!(rt; agrees(alloc, found, expected)?, "{name} of {whole}");
@@ -192,6 +204,7 @@ fn joins(rt: HostRuntime) -> Result<(), Fail> {
         ("null", "WrongKind"),
         ("[?]", "WrongKind"),
         (MAP, "WrongKind"),
+        ("set(a)", "WrongKind"),
     ] {
         let found = joined(alloc, text)?;
         assert!(rt; agrees(alloc, found, expected)?, "{text}");
@@ -239,6 +252,21 @@ fn calls_with_one_argument(rt: HostRuntime) -> Result<(), Fail> {
         (Function::Length, "?", "?"),
         (Function::Length, "1", "WrongKind"),
         (Function::Length, "\"abc\"", "WrongKind"),
+        (Function::Length, "set(a,b)", "2"),
+        (Function::Keys, "set(a)", "WrongKind"),
+        (Function::Values, "set(a)", "WrongKind"),
+        (Function::Merge, "set(a)", "WrongKind"),
+        (Function::Concat, "set(a)", "WrongKind"),
+        (Function::ToSet, "[\"b\",\"a\",\"b\"]", "set(a,b)"),
+        (Function::ToSet, "[]", "set()"),
+        (Function::ToSet, "set(a)", "set(a)"),
+        (Function::ToSet, "[1]", "WrongKind"),
+        (Function::ToSet, "[\"a\",null]", "WrongKind"),
+        (Function::ToSet, "\"a\"", "WrongKind"),
+        (Function::ToSet, MAP, "WrongKind"),
+        (Function::ToSet, "?", "?"),
+        (Function::ToSet, "[1,?]", "?"),
+        (Function::ToSet, "{\"k\":?}", "?"),
         (Function::Keys, "?", "?"),
         (Function::Keys, "1", "WrongKind"),
         (Function::Keys, "\"abc\"", "WrongKind"),
@@ -302,11 +330,12 @@ fn functions(rt: HostRuntime) {
         ("merge", Function::Merge, 1, 4),
         ("concat", Function::Concat, 1, 4),
         ("join", Function::Join, 2, 2),
+        ("toset", Function::ToSet, 1, 1),
     ] {
         assert!(rt; Function::named(name) == Some(function), "{name}");
         assert!(rt; takes_just(function, least, most), "{name}");
     }
-    for name in ["", "Length", "lengths", "len", "file"] {
+    for name in ["", "Length", "lengths", "len", "file", "toSet"] {
         assert!(rt; Function::named(name).is_none(), "{name}");
     }
 }
@@ -336,6 +365,7 @@ fn laws() {
     tf_operators::laws::joined_grows();
     tf_operators::laws::calls_grow();
     tf_operators::laws::answers_are_within_limits();
+    tf_operators::laws::sets_have_their_texts();
     tf_operators::laws::later_map_wins();
     tf_operators::laws::known_stays_known();
 }

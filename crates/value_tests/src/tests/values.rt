@@ -1,13 +1,14 @@
 //! Values, their measures and their JSON texts.
 
-use crate::tests::fixtures::{entry, long, pair, read};
+use crate::tests::fixtures::{alone, entry, long, pair, read, set, value};
 use serde_json::Value as Json;
 use std::alloc::{AllocError, Global};
 use std::collections::BTreeMap;
 use std::test::Fail;
 use tf_value::{
-    JsonFault, MAX_DEPTH, MAX_WEIGHT, Value, copy, depth, entries_to_json, find, is_known,
-    is_within_limits, may_be_stored, refines, scalar_text, to_json, weight, with_nulls,
+    JsonFault, MAX_DEPTH, MAX_WEIGHT, Value, copy, depth, entries_to_json, find, has_no_set,
+    is_known, is_within_limits, may_be_stored, refines, scalar_text, to_json, weight, with_lists,
+    with_nulls,
 };
 
 // What derives above a value rest on.
@@ -157,6 +158,36 @@ fn refinement(rt: HostRuntime) -> Result<(), Fail> {
 }
 
 #[test]
+fn sets(rt: HostRuntime) -> Result<(), Fail> {
+    let alloc = rt.alloc();
+    for (text, weighs, form) in [
+        ("set()", 1, "[]"),
+        ("set(a)", 3, "[\"a\"]"),
+        ("set(a,b)", 5, "[\"a\",\"b\"]"),
+    ] {
+        let set = value(alloc, text)?;
+        assert_eq!(rt; weight(&set), weighs, "the weight of {text}");
+        assert_eq!(rt; depth(&set), 1, "the depth of {text}");
+        assert!(rt; is_known(&set) && copy(&set)? == set && with_nulls(alloc, &set)? == set);
+        assert!(rt; refines(&set, &set) && refines(&Value::Unknown, &set));
+        assert!(rt; !has_no_set(&set) && !may_be_stored(&set) && is_within_limits(&set));
+        assert!(rt; scalar_text(alloc, &set)?.is_none() && set.get("a").is_none());
+        let list = read(alloc, form)??;
+        assert!(rt; list != set && !refines(&set, &list) && !refines(&list, &set));
+        let json = to_json(alloc, &set)?.to_string(alloc)?;
+        assert_eq!(rt; json.as_str(), form);
+        assert_eq!(rt; serde_json::to_string(alloc, &set)?.as_str(), form);
+        let nested = alone(alloc, entry(alloc, "k", set)?)?;
+        assert!(rt; !has_no_set(&nested) && !may_be_stored(&nested));
+        let listed = with_lists(alloc, nested)?;
+        assert!(rt; has_no_set(&listed) && may_be_stored(&listed));
+        assert!(rt; listed == alone(alloc, entry(alloc, "k", list)?)?);
+    }
+    assert!(rt; !refines(&set(alloc, &["a"])?, &set(alloc, &["a", "b"])?));
+    Ok(())
+}
+
+#[test]
 fn look_up(rt: HostRuntime) -> Result<(), Fail> {
     let alloc = rt.alloc();
     let mut entries = BTreeMap::new(alloc);
@@ -257,6 +288,7 @@ fn laws() {
     tf_value::equality_is_of_trees();
     tf_value::forms_are_one();
     tf_value::forms_read_back();
+    tf_value::lists_stand_for_sets();
     tf_value::limits_decide();
     tf_value::puts_are_found();
 }
