@@ -1,7 +1,7 @@
 -- Knowledge only grows, from part to part.
 use Rattle.std.proofs.Common.{◌≡◌, refl, ◌⊎◌, ℕ, Bool, true, false, Option, Some, None, List, [], ◌∷◌, Result, Ok, Err, sym, inl, inr, subst, if◌then◌else◌, ◌&&◌, nat_le}
 use Rattle.tf_syntax.specs.TemplateTree as syntax
-use Rattle.tf_value.specs.Tree.{Tree, null, boolean, whole, text, list, map, unknown, items_of}
+use Rattle.tf_value.specs.Tree.{Tree, null, boolean, whole, text, list, map, set, unknown, items_of}
 use Rattle.tf_value.specs.Measure.{weight, depth, max_weight, max_depth}
 use Rattle.tf_value.specs.Refinement.{Refines, RefinesItems}
 use Rattle.tf_operators.specs.Answer.{Answer, limited, item_behind, list_value}
@@ -97,12 +97,14 @@ choice_grows (boolean x) (whole z) k l h p q = absurd h
 choice_grows (boolean x) (text s) k l h p q = absurd h
 choice_grows (boolean x) (list ts) k l h p q = absurd h
 choice_grows (boolean x) (map es) k l h p q = absurd h
+choice_grows (boolean x) (set ss) k l h p q = absurd h
 choice_grows (boolean x) unknown k l h p q = absurd h
 choice_grows null b k l h p q = absurd (cc)
 choice_grows (whole z) b k l h p q = absurd (cc)
 choice_grows (text s) b k l h p q = absurd (cc)
 choice_grows (list ts) b k l h p q = absurd (cc)
 choice_grows (map es) b k l h p q = absurd (cc)
+choice_grows (set ss) b k l h p q = absurd (cc)
 
 -- the branches grow, so what is chosen of them does
 chosen_grows : (k l : Option Bool) (a b c d : Answer) (v w : Tree) → ((x y : Tree) → a ≡ Ok x → b ≡ Ok y → Refines x y) → ((x y : Tree) → c ≡ Ok x → d ≡ Ok y → Refines x y)

@@ -2,5 +2,6 @@ pub mod Alone
 pub mod Entries
 pub mod ExprGrowing
 pub mod Growing
+pub mod Locality
 pub mod Rows
 pub mod Within

@@ -4,4 +4,5 @@ pub mod Environment
 pub mod ExprMeaning
 pub mod Growth
 pub mod Limits
+pub mod Locality
 pub mod Meaning

@@ -1,7 +1,7 @@
 -- What templates and expressions mean.
 use Rattle.std.specs.Prelude.{ℕ, suc, pos, Bool, true, false, if◌then◌else◌, Option, Some, None, List, [], ◌∷◌, Result, Ok, Err}
 use Rattle.tf_syntax.specs.TemplateTree as syntax
-use Rattle.tf_value.specs.Tree.{Tree, null, boolean, whole, text, list, map, unknown, Items, no_items, item, items_of}
+use Rattle.tf_value.specs.Tree.{Tree, null, boolean, whole, text, list, map, set, unknown, Items, no_items, item, items_of}
 use Rattle.tf_operators.specs.Answer.{Answer, limited, whole_value, list_value, item_behind}
 use Rattle.tf_operators.specs.Functions.{function_named, takes, call_value}
 use Rattle.tf_operators.specs.Joining.{joined_value}
@@ -26,6 +26,7 @@ choice (whole z) = Err WrongKind
 choice (text s) = Err WrongKind
 choice (list ts) = Err WrongKind
 choice (map es) = Err WrongKind
+choice (set ss) = Err WrongKind
 
 -- Only the branch that a condition chooses matters, and neither where the condition isn't known yet.
 abbrev pub chosen : Option Bool → Answer → Answer → Answer

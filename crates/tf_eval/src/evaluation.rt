@@ -128,6 +128,7 @@ fn choice(condition: Value) -> Result<Option<bool>, EvalFault>
         Value::Text(_) => Err(EvalFault::WrongKind),
         Value::List(_) => Err(EvalFault::WrongKind),
         Value::Map(_) => Err(EvalFault::WrongKind),
+        Value::Set(_) => Err(EvalFault::WrongKind),
     }
 }
 

@@ -1,6 +1,7 @@
 //! Laws of the meaning.
 
 ghost use Rattle.tf_eval.specs.Growth.{ExprKnowledgeGrows, KnowledgeGrows};
+ghost use Rattle.tf_eval.specs.Locality.{ExpressionsAreLocal, TemplatesAreLocal};
 ghost use Rattle.tf_eval.specs.Limits.{ExpressionsAreWithinLimits, TemplatesAreWithinLimits};
 
 use tf_operators::laws::{
@@ -42,3 +43,9 @@ pub fn values_are_within_limits()
 {
     answers_are_within_limits();
 }
+
+/// A template and an expression mean the same in environments that agree on what they name.
+pub fn meaning_is_local()
+    ensures templates { TemplatesAreLocal }
+    ensures expressions { ExpressionsAreLocal }
+{}

@@ -16,6 +16,6 @@ mod scope;
 pub use constants::{Constant, Constants};
 pub use evaluation::eval;
 pub use expressions::eval_expr;
-pub use laws::{expr_knowledge_grows, knowledge_grows, values_are_within_limits};
+pub use laws::{expr_knowledge_grows, knowledge_grows, meaning_is_local, values_are_within_limits};
 pub use scope::Scope;
 pub use tf_operators::EvalFault;

@@ -1,21 +1,24 @@
 -- What operations answer is within the limits.
-use Rattle.std.proofs.Common.{◌≡◌, ◌≤◌, ℕ, zero, suc, ℤ, pos, negsuc, List, max, Bool, true, false, cond, Option, Some, None, Ok, Err, refl, ap, subst, arith}
+use Rattle.std.proofs.Common.{◌≡◌, ◌≤◌, ℕ, zero, suc, ℤ, pos, negsuc, List, [], ◌∷◌, length, ◌+◌, Ordering, Less, Equal as same, Greater as above, nat_cmp, max, Bool, true, false, cond, Option, Some, None, Ok, Err, refl, ap, subst, arith}
 use Rattle.std.specs.Prelude.{is_some, not, neg_ℤ, ◌+ℤ◌, ◌-ℤ◌, ◌*ℤ◌}
+use Rattle.std.specs.BTreeSet.{insert_key}
+use Rattle.std.specs.Cmp.Lexicographic.{slice_cmp}
+use Rattle.std.specs.Ordering.{match_ordering}
 use Rattle.std.specs.Str.{bytes_eq}
 use Rattle.tf_syntax.specs.declared.operator.Operator.{Operator}
 use Rattle.tf_syntax.specs.declared.operator.Operator.TheVariants.{Or, And, Equal, NotEqual, Greater, GreaterOrEqual, Less, LessOrEqual, Add, Subtract, Multiply}
 use Rattle.tf_syntax.specs.declared.tree.Prefix.{Prefix}
 use Rattle.tf_syntax.specs.declared.tree.Prefix.TheVariants.{Not, Negate}
-use Rattle.tf_value.specs.Tree.{Tree, null, boolean, whole, text, list, map, unknown, Items, no_items, item, Entries, no_entries, entry, get}
-use Rattle.tf_value.specs.Measure.{weight, weight_of_items, weight_of_entries, depth, depth_of_items, depth_of_entries, IsWithinLimits}
+use Rattle.tf_value.specs.Tree.{Tree, null, boolean, whole, text, list, map, set, unknown, Items, no_items, item, Entries, no_entries, entry, get}
+use Rattle.tf_value.specs.Measure.{weight, weight_of_texts, weight_of_items, weight_of_entries, depth, depth_of_items, depth_of_entries, IsWithinLimits}
 use Rattle.tf_operators.specs.declared.function.Function.{Function}
-use Rattle.tf_operators.specs.declared.function.Function.TheVariants.{Length, Keys, Values, Merge, Concat, Join}
+use Rattle.tf_operators.specs.declared.function.Function.TheVariants.{Length, Keys, Values, Merge, Concat, Join, ToSet}
 use Rattle.tf_operators.specs.declared.fault.EvalFault.TheVariants.{Overflow, WrongKind}
 use Rattle.tf_operators.specs.Answer.{Answer, any_unknown, whole_value, list_value, map_value}
 use Rattle.tf_operators.specs.Operators.{unary_value, truths_value, wholes_value, scalars_value, binary_value}
 use Rattle.tf_operators.specs.Parts.{item_at, item_at_whole, attribute_value, index_value}
 use Rattle.tf_operators.specs.Joining.{text_of, joined_text, text_value, joined_value}
-use Rattle.tf_operators.specs.Functions.{items_count, entries_count, key_items, value_items, length_value, keys_value, values_value, entries_value, merged_onto, items_value, concatenated, spaced, spaced_value, join_value, call_value}
+use Rattle.tf_operators.specs.Functions.{items_count, entries_count, key_items, value_items, length_value, keys_value, values_value, entries_value, merged_onto, items_value, concatenated, spaced, spaced_value, join_value, texts_with, texts_value, set_value, toset_value, call_value}
 use Rattle.tf_operators.specs.Laws.{AreWithinLimits}
 use Rattle.tf_operators.proofs.Growth.{answered, ok_value, present, some_value}
 use Rattle.tf_operators.proofs.Limits.{limited-holds}
@@ -155,6 +158,7 @@ weight_is_some (whole z) = omega arith
 weight_is_some (text s) = omega arith
 weight_is_some (list ts) = omega arith
 weight_is_some (map es) = omega arith
+weight_is_some (set ss) = omega arith
 weight_is_some unknown = omega arith
 
 keys_weigh : (es : Entries) → weight_of_items (key_items es) ≤ weight_of_entries es
@@ -183,6 +187,7 @@ length_within : (t v : Tree) → length_value t ≡ Ok v → IsWithinLimits v
 length_within unknown v e = unknown_within v e
 length_within (list ts) v e = whole_within (pos (items_count ts)) v e
 length_within (map es) v e = whole_within (pos (entries_count es)) v e
+length_within (set ss) v e = whole_within (pos (length ss)) v e
 length_within _ v e = absurd (cc)
 
 keys_value-within : (t v : Tree) → IsWithinLimits t → keys_value t ≡ Ok v → IsWithinLimits v
@@ -218,6 +223,35 @@ spaced_within s _ v e = absurd (cc)
 join_within : (s t v : Tree) → join_value s t ≡ Ok v → IsWithinLimits v
 join_within s t v e = if_text _ _ _ v (spaced_within s t v) (unknown_within v) e
 
+insert_at : (o : Ordering) (s t : List ℕ) (ss more : List (List ℕ)) → weight_of_texts more ≤ (1 + length s) + weight_of_texts ss
+    → weight_of_texts (match_ordering o (s ∷ t ∷ ss) (t ∷ ss) (t ∷ more)) ≤ (1 + length s) + ((1 + length t) + weight_of_texts ss)
+insert_at Less s t ss more h = omega arith
+insert_at same s t ss more h = omega arith
+insert_at above s t ss more h = omega (arith, h)
+
+insert_weighs : (ss : List (List ℕ)) (s : List ℕ) → weight_of_texts (insert_key (slice_cmp nat_cmp) ss s) ≤ (1 + length s) + weight_of_texts ss
+insert_weighs [] s = omega arith
+insert_weighs (t ∷ ss) s = insert_at (slice_cmp nat_cmp s t) s t ss (insert_key (slice_cmp nat_cmp) ss s) (insert_weighs ss s)
+
+-- a set of texts weighs no more than their list
+texts_weigh : (ts : Items) (ss us : List (List ℕ)) → texts_with ss ts ≡ Some us → weight_of_texts us ≤ weight_of_texts ss + weight_of_items ts
+texts_weigh no_items ss us e = let same_texts : ss ≡ us = cc in subst (λ x. weight_of_texts x ≤ weight_of_texts ss + 0) same_texts (omega arith)
+texts_weigh (item (text s) ts) ss us e =
+    let a = texts_weigh ts (insert_key (slice_cmp nat_cmp) ss s) us e in let b = insert_weighs ss s in omega (arith, a, b)
+texts_weigh (item _ ts) ss us e = absurd (cc)
+
+texts_value-within : (ts : Items) (o : Option (List (List ℕ))) (v : Tree) → IsWithinLimits (list ts) → ((us : List (List ℕ)) → o ≡ Some us → weight_of_texts us ≤ 0 + weight_of_items ts) → texts_value o ≡ Ok v → IsWithinLimits v
+texts_value-within ts None v h few e = absurd (cc)
+texts_value-within ts (Some ss) v h few e = let a = h.0 in let b = few ss refl in subst IsWithinLimits (ok_value (set ss) v e) (omega (arith, a, b), omega arith)
+
+set_value-within : (t v : Tree) → IsWithinLimits t → set_value t ≡ Ok v → IsWithinLimits v
+set_value-within (list ts) v h e = texts_value-within ts (texts_with [] ts) v h (texts_weigh ts []) e
+set_value-within (set ss) v h e = subst IsWithinLimits (ok_value _ v e) h
+set_value-within _ v h e = absurd (cc)
+
+toset_within : (t v : Tree) → IsWithinLimits t → toset_value t ≡ Ok v → IsWithinLimits v
+toset_within t v h e = if_text _ _ _ v (set_value-within t v h) (unknown_within v) e
+
 pub call_value-within : (f : Function) (ts : Items) (v : Tree) → AreWithinLimits ts → call_value f ts ≡ Ok v → IsWithinLimits v
 call_value-within Length (item t no_items) v h e = length_within t v e
 call_value-within Keys (item t no_items) v h e = keys_value-within t v h.0 e
@@ -225,4 +259,5 @@ call_value-within Values (item t no_items) v h e = values_value-within t v h.0 e
 call_value-within Merge (item t ts) v h e = unless_unknown (any_unknown (item t ts)) _ v (entries_within (merged_onto no_entries (item t ts)) v) e
 call_value-within Concat (item t ts) v h e = unless_unknown (any_unknown (item t ts)) _ v (items_within (concatenated (item t ts)) v) e
 call_value-within Join (item s (item t no_items)) v h e = join_within s t v e
+call_value-within ToSet (item t no_items) v h e = toset_within t v h.0 e
 call_value-within _ _ v h e = absurd (cc)

@@ -5,7 +5,7 @@ use Rattle.std.proofs.lemmas.List.{nil_from_length}
 use Rattle.tf_value.specs.Tree.{tree_of, items_view}
 use Rattle.tf_value.specs.declared.value.Value.{Value}
 use Rattle.tf_operators.specs.declared.function.Function.{Function}
-use Rattle.tf_operators.specs.declared.function.Function.TheVariants.{Length, Keys, Values, Merge, Concat, Join}
+use Rattle.tf_operators.specs.declared.function.Function.TheVariants.{Length, Keys, Values, Merge, Concat, Join, ToSet}
 use Rattle.tf_operators.specs.Functions.{takes, call_value, merge_value, concat_value, join_value}
 
 some_taken : (n : ℕ) → takes Merge n ≡ true → 0 < n
@@ -32,13 +32,14 @@ joined front a b h =
     nil_from_length front (omega arith)
 
 -- `join` takes two
-pub call-Join : (f : Function) (vs front : List Value) (a b : Value) → (f ≡ Length → ⊥) → (f ≡ Keys → ⊥) → (f ≡ Values → ⊥) → (f ≡ Merge → ⊥) → (f ≡ Concat → ⊥) → takes f (length vs) ≡ true
+pub call-Join : (f : Function) (vs front : List Value) (a b : Value) → (f ≡ Length → ⊥) → (f ≡ Keys → ⊥) → (f ≡ Values → ⊥) → (f ≡ ToSet → ⊥) → (f ≡ Merge → ⊥) → (f ≡ Concat → ⊥) → takes f (length vs) ≡ true
     → vs ≡ (front ++ a ∷ []) ++ b ∷ [] → call_value f (items_view vs) ≡ join_value (tree_of a) (tree_of b)
-call-Join Length vs front a b n1 n2 n3 n4 n5 h e = absurd (n1 refl)
-call-Join Keys vs front a b n1 n2 n3 n4 n5 h e = absurd (n2 refl)
-call-Join Values vs front a b n1 n2 n3 n4 n5 h e = absurd (n3 refl)
-call-Join Merge vs front a b n1 n2 n3 n4 n5 h e = absurd (n4 refl)
-call-Join Concat vs front a b n1 n2 n3 n4 n5 h e = absurd (n5 refl)
-call-Join Join vs front a b n1 n2 n3 n4 n5 h e =
+call-Join Length vs front a b n1 n2 n3 n6 n4 n5 h e = absurd (n1 refl)
+call-Join Keys vs front a b n1 n2 n3 n6 n4 n5 h e = absurd (n2 refl)
+call-Join Values vs front a b n1 n2 n3 n6 n4 n5 h e = absurd (n3 refl)
+call-Join ToSet vs front a b n1 n2 n3 n6 n4 n5 h e = absurd (n6 refl)
+call-Join Merge vs front a b n1 n2 n3 n6 n4 n5 h e = absurd (n4 refl)
+call-Join Concat vs front a b n1 n2 n3 n6 n4 n5 h e = absurd (n5 refl)
+call-Join Join vs front a b n1 n2 n3 n6 n4 n5 h e =
     let none = joined front a b (ap length (sym e) ∙ two_taken (length vs) h) in
     ap (λ xs. call_value Join (items_view xs)) (e ∙ ap (λ xs. (xs ++ a ∷ []) ++ b ∷ []) none)

@@ -1,19 +1,19 @@
 -- Where more is known of what is joined, and of the arguments of functions, no more than more is known of results.
-use Rattle.std.proofs.Common.{◌≡◌, ◌&&◌, ◌||◌, ◌+◌, ℕ, pos, List, Bool, true, false, cond, Option, Some, None, Ok, option_map, Ordering, Less, Equal, Greater, nat_cmp, refl, sym, ap, ◌∙◌, subst, inl, inr}
+use Rattle.std.proofs.Common.{◌≡◌, ◌&&◌, ◌||◌, ◌+◌, ℕ, pos, List, length, Bool, true, false, cond, Option, Some, None, Ok, option_map, Ordering, Less, Equal, Greater, nat_cmp, refl, sym, ap, ◌∙◌, subst, inl, inr}
 use Rattle.std.specs.Cmp.Lexicographic.{slice_cmp}
 use Rattle.std.specs.Fmt.{◌++?◌}
 use Rattle.std.specs.Ordering.{match_ordering}
-use Rattle.tf_value.specs.Tree.{Tree, null, boolean, whole, text, list, map, unknown, Items, no_items, item, Entries, no_entries, entry, put}
+use Rattle.tf_value.specs.Tree.{Tree, null, boolean, whole, text, list, map, set, unknown, Items, no_items, item, Entries, no_entries, entry, put}
 use Rattle.tf_value.specs.Known.{known, known_items}
 use Rattle.tf_value.specs.Refinement.{Refines, RefinesItems, RefinesEntries}
 use Rattle.tf_value.proofs.Conjunction.{and-both}
 use Rattle.tf_value.proofs.Order.{Refines-refl}
 use Rattle.tf_operators.specs.declared.function.Function.{Function}
-use Rattle.tf_operators.specs.declared.function.Function.TheVariants.{Length, Keys, Values, Merge, Concat, Join}
+use Rattle.tf_operators.specs.declared.function.Function.TheVariants.{Length, Keys, Values, Merge, Concat, Join, ToSet}
 use Rattle.tf_operators.specs.Answer.{Answer, any_unknown, is_unknown, items_behind, whole_value}
 use Rattle.tf_operators.specs.Joining.{text_of, joined_text, text_value, joined_value}
-use Rattle.tf_operators.specs.Functions.{items_count, entries_count, key_items, value_items, length_value, keys_value, values_value, laid_over, merged_onto, entries_value, merge_value, concatenated, items_value, concat_value, join_value, call_value}
-use Rattle.tf_operators.proofs.Growth.{IsSettled, answered, ok_value, unknown_grows, values_grow, both_settled_grow, items_settled_grow, list_value-grows, map_value-grows}
+use Rattle.tf_operators.specs.Functions.{items_count, entries_count, key_items, value_items, length_value, keys_value, values_value, laid_over, merged_onto, entries_value, merge_value, concatenated, items_value, concat_value, join_value, toset_value, call_value}
+use Rattle.tf_operators.proofs.Growth.{IsSettled, answered, ok_value, unknown_grows, values_grow, settled_grows, both_settled_grow, items_settled_grow, list_value-grows, map_value-grows}
 
 -- texts
 
@@ -69,8 +69,10 @@ length_value-grows : (t u v w : Tree) → Refines t u → length_value t ≡ Ok 
 length_value-grows unknown u v w h p q = unknown_grows v w (ok_value unknown v p)
 length_value-grows (list ts) (list us) v w h p q = whole_value-is _ _ v w (items_count-same ts us h) p q
 length_value-grows (map es) (map fs) v w h p q = whole_value-is _ _ v w (entries_count-same es fs h) p q
+length_value-grows (set ss) (set ts) v w h p q = whole_value-is _ _ v w (ap length h) p q
 length_value-grows (list ts) _ v w h p q = absurd h
 length_value-grows (map es) _ v w h p q = absurd h
+length_value-grows (set ss) _ v w h p q = absurd h
 length_value-grows _ u v w h p q = absurd (cc)
 
 keys_value-grows : (t u v w : Tree) → Refines t u → keys_value t ≡ Ok v → keys_value u ≡ Ok w → Refines v w
@@ -95,6 +97,7 @@ is_unknown-stays (whole y) (whole z) h e = refl
 is_unknown-stays (text s) (text t) h e = refl
 is_unknown-stays (list ts) (list us) h e = refl
 is_unknown-stays (map es) (map fs) h e = refl
+is_unknown-stays (set ss) (set ts) h e = refl
 is_unknown-stays _ _ h e = absurd (assumption)
 
 or-first : (b c : Bool) → (b || c) ≡ false → b ≡ false
@@ -206,6 +209,9 @@ join_settled false a v e = inl (ok_value unknown v e)
 join_value-grows : (a b c d v w : Tree) → Refines a b → Refines c d → join_value a c ≡ Ok v → join_value b d ≡ Ok w → Refines v w
 join_value-grows a b c d v w h i p q = both_settled_grow join_value a b c d v w (join_settled _ _ v p) h i p q
 
+toset_value-grows : (t u v w : Tree) → Refines t u → toset_value t ≡ Ok v → toset_value u ≡ Ok w → Refines v w
+toset_value-grows t u v w h p q = settled_grows toset_value t u v w (join_settled _ _ v p) h p q
+
 -- all functions
 pub call_value-grows : (f : Function) (ts us : Items) (v w : Tree) → RefinesItems ts us → call_value f ts ≡ Ok v → call_value f us ≡ Ok w → Refines v w
 call_value-grows Length (item t no_items) (item u no_items) v w h p q = length_value-grows t u v w h.0 p q
@@ -214,4 +220,5 @@ call_value-grows Values (item t no_items) (item u no_items) v w h p q = values_v
 call_value-grows Merge (item t ts) (item u us) v w h p q = merge_value-grows (item t ts) (item u us) v w h p q
 call_value-grows Concat (item t ts) (item u us) v w h p q = concat_value-grows (item t ts) (item u us) v w h p q
 call_value-grows Join (item s (item t no_items)) (item r (item u no_items)) v w h p q = join_value-grows s r t u v w h.0 h.1.0 p q
+call_value-grows ToSet (item t no_items) (item u no_items) v w h p q = toset_value-grows t u v w h.0 p q
 call_value-grows _ _ _ v w h p q = absurd (cc)

@@ -1,5 +1,5 @@
 -- What operations answer to known operands is known.
-use Rattle.std.proofs.Common.{◌≡◌, ◌&&◌, ◌||◌, ℕ, zero, suc, ℤ, pos, negsuc, List, Bool, true, false, cond, Option, Some, None, Ok, Err, option_map, Ordering, Less, Equal, Greater, nat_cmp, refl, subst}
+use Rattle.std.proofs.Common.{◌≡◌, ◌&&◌, ◌||◌, ℕ, zero, suc, ℤ, pos, negsuc, List, [], length, Bool, true, false, cond, Option, Some, None, Ok, Err, option_map, Ordering, Less, Equal, Greater, nat_cmp, refl, subst}
 use Rattle.std.specs.Prelude.{is_some, not, neg_ℤ, ◌+ℤ◌, ◌-ℤ◌, ◌*ℤ◌}
 use Rattle.std.specs.Cmp.Lexicographic.{slice_cmp}
 use Rattle.std.specs.Ordering.{match_ordering}
@@ -8,17 +8,17 @@ use Rattle.tf_syntax.specs.declared.operator.Operator.{Operator}
 use Rattle.tf_syntax.specs.declared.operator.Operator.TheVariants.{Or, And, Equal as same_as, NotEqual, Greater as above, GreaterOrEqual, Less as below, LessOrEqual, Add, Subtract, Multiply}
 use Rattle.tf_syntax.specs.declared.tree.Prefix.{Prefix}
 use Rattle.tf_syntax.specs.declared.tree.Prefix.TheVariants.{Not, Negate}
-use Rattle.tf_value.specs.Tree.{Tree, boolean, whole, text, list, map, unknown, Items, no_items, item, Entries, no_entries, entry, get, put}
+use Rattle.tf_value.specs.Tree.{Tree, boolean, whole, text, list, map, set, unknown, Items, no_items, item, Entries, no_entries, entry, get, put}
 use Rattle.tf_value.specs.Known.{known, known_items, known_entries}
 use Rattle.tf_value.proofs.Conjunction.{and-first, and-second, and-both}
 use Rattle.tf_operators.specs.declared.function.Function.{Function}
-use Rattle.tf_operators.specs.declared.function.Function.TheVariants.{Length, Keys, Values, Merge, Concat, Join}
+use Rattle.tf_operators.specs.declared.function.Function.TheVariants.{Length, Keys, Values, Merge, Concat, Join, ToSet}
 use Rattle.tf_operators.specs.declared.fault.EvalFault.TheVariants.{Overflow, WrongKind}
 use Rattle.tf_operators.specs.Answer.{Answer, any_unknown, is_unknown, items_behind, whole_value, list_value, map_value}
 use Rattle.tf_operators.specs.Operators.{unary_value, truths_value, wholes_value, scalars_value, binary_value}
 use Rattle.tf_operators.specs.Parts.{item_at, item_at_whole, attribute_value, index_value}
 use Rattle.tf_operators.specs.Joining.{text_of, joined_text, text_value, joined_value}
-use Rattle.tf_operators.specs.Functions.{items_count, entries_count, key_items, value_items, length_value, keys_value, values_value, entries_value, laid_over, merged_onto, items_value, concatenated, each_after, spaced, spaced_value, join_value, call_value}
+use Rattle.tf_operators.specs.Functions.{items_count, entries_count, key_items, value_items, length_value, keys_value, values_value, entries_value, laid_over, merged_onto, items_value, concatenated, each_after, spaced, spaced_value, join_value, texts_with, texts_value, set_value, toset_value, call_value}
 use Rattle.tf_operators.proofs.Growth.{answered, ok_value, present, some_value}
 use Rattle.tf_operators.proofs.Limits.{limited-value}
 
@@ -144,6 +144,7 @@ length_known : (t v : Tree) → known t ≡ true → length_value t ≡ Ok v →
 length_known unknown v k e = absurd (cc)
 length_known (list ts) v k e = whole_known (pos (items_count ts)) v e
 length_known (map es) v k e = whole_known (pos (entries_count es)) v e
+length_known (set ss) v k e = whole_known (pos (length ss)) v e
 length_known _ v k e = absurd (cc)
 
 key_items-known : (es : Entries) → known_items (key_items es) ≡ true
@@ -228,6 +229,18 @@ if_known false a v k h e = absurd (cc)
 join_known : (s t v : Tree) → known s ≡ true → known t ≡ true → join_value s t ≡ Ok v → known v ≡ true
 join_known s t v h i e = if_known (known s && known t) (spaced_value s t) v (and-both _ _ h i) (spaced_value-known s t v h i) e
 
+texts_known : (o : Option (List (List ℕ))) (v : Tree) → texts_value o ≡ Ok v → known v ≡ true
+texts_known None v e = absurd (cc)
+texts_known (Some ss) v e = known_answer (set ss) v refl e
+
+set_value-known : (t v : Tree) → set_value t ≡ Ok v → known v ≡ true
+set_value-known (list ts) v e = texts_known (texts_with [] ts) v e
+set_value-known (set ss) v e = known_answer (set ss) v refl e
+set_value-known _ v e = absurd (cc)
+
+toset_known : (t v : Tree) → known t ≡ true → toset_value t ≡ Ok v → known v ≡ true
+toset_known t v h e = if_known (known t) (set_value t) v h (set_value-known t v) e
+
 pub call_value-known : (f : Function) (ts : Items) (v : Tree) → known_items ts ≡ true → call_value f ts ≡ Ok v → known v ≡ true
 call_value-known Length (item t no_items) v h e = length_known t v (and-first _ _ h) e
 call_value-known Keys (item t no_items) v h e = keys_known t v (and-first _ _ h) e
@@ -237,4 +250,5 @@ call_value-known Merge (item t ts) v h e =
 call_value-known Concat (item t ts) v h e =
     none_unknown (any_unknown (item t ts)) (items_value (concatenated (item t ts))) v (any_unknown-known (item t ts) h) (items_known (concatenated (item t ts)) v (λ xs f. concatenated-known (item t ts) xs h f)) e
 call_value-known Join (item s (item t no_items)) v h e = join_known s t v (and-first _ _ h) (and-first _ _ (and-second (known s) _ h)) e
+call_value-known ToSet (item t no_items) v h e = toset_known t v (and-first _ _ h) e
 call_value-known _ _ v h e = absurd (cc)

@@ -10,3 +10,4 @@ pub mod Growing
 pub mod Bounds
 pub mod Merging
 pub mod Knowing
+pub mod Sets

@@ -1,8 +1,11 @@
 -- Items and entries, one behind the other.
-use Rattle.std.proofs.Common.{◌≡◌, ◌<◌, ◌≤◌, zero, ◌+◌, add-one, drop-cons, drop, get_or, length, ℕ, List, [], ◌∷◌, ◌++◌, Option, Some, None, option_map, map as each, suc, arith, refl, sym, ap, ◌∙◌}
+use Rattle.std.proofs.Common.{◌≡◌, ◌<◌, ◌≤◌, zero, ◌+◌, add-one, drop-cons, drop, get_or, length, ℕ, List, [], ◌∷◌, ◌++◌, Option, Some, None, Ordering, Less, Equal, Greater, String, Global, string_bytes, string_cmp, nat_cmp, option_map, map as each, suc, arith, refl, sym, ap, ◌∙◌}
 use Rattle.tf_value.specs.Tree.{Tree, Items, no_items, item, tree_of, items_view}
 use Rattle.std.specs.Map.{keys_of, values_of}
-use Rattle.tf_value.specs.Tree.{entries_view}
+use Rattle.tf_value.specs.Tree.{entries_view, texts_view}
+use Rattle.std.specs.BTreeSet.{insert_key}
+use Rattle.std.specs.Cmp.Lexicographic.{slice_cmp}
+use Rattle.std.specs.Ordering.{match_ordering}
 use Rattle.tf_value.specs.declared.value.Value.{Value, Text}
 use Rattle.tf_value.proofs.Views.{Entry}
 use Rattle.tf_operators.specs.Answer.{items_behind, item_behind}
@@ -76,3 +79,18 @@ pub item_at-beyond : (vs : List Value) (i : ℕ) → length vs ≤ i → item_at
 item_at-beyond [] i h = refl
 item_at-beyond (w ∷ vs) zero h = absurd (omega arith)
 item_at-beyond (w ∷ vs) (suc i) h = item_at-beyond vs i (omega arith)
+
+-- as many texts, as seen
+pub texts_view-length : (ss : List (String Global)) → length (texts_view ss) ≡ length ss
+texts_view-length [] = refl
+texts_view-length (s ∷ ss) = ap suc (texts_view-length ss)
+
+texts_view-match_ordering : (o : Ordering) (a b c : List (String Global)) → texts_view (match_ordering o a b c) ≡ match_ordering o (texts_view a) (texts_view b) (texts_view c)
+texts_view-match_ordering Less a b c = refl
+texts_view-match_ordering Equal a b c = refl
+texts_view-match_ordering Greater a b c = refl
+
+-- what an insert into a `BTreeSet<String>` leaves
+pub texts_view-insert_key : (ss : List (String Global)) (s : String Global) → texts_view (insert_key string_cmp ss s) ≡ insert_key (slice_cmp nat_cmp) (texts_view ss) (string_bytes s)
+texts_view-insert_key [] s = refl
+texts_view-insert_key (t ∷ ss) s = texts_view-match_ordering (string_cmp s t) _ _ _ ∙ rw (texts_view-insert_key ss s)

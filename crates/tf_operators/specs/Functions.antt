@@ -1,12 +1,15 @@
 -- What functions answer.
-use Rattle.std.specs.Prelude.{ℕ, ◌+◌, ◌==◌, pos, Bool, ◌&&◌, nat_lt, if◌then◌else◌, List, codes, is_some, Option, Some, None, Ok, Err}
+use Rattle.std.specs.Prelude.{ℕ, ◌+◌, ◌==◌, pos, Bool, ◌&&◌, nat_lt, if◌then◌else◌, List, [], length, codes, is_some, Option, Some, None, Ok, Err}
+use Rattle.std.specs.BTreeSet.{insert_key}
+use Rattle.std.specs.Cmp.Lexicographic.{slice_cmp}
 use Rattle.std.specs.Option.{option_map}
+use Rattle.std.specs.Ordering.{nat_cmp}
 use Rattle.std.specs.Str.{bytes_eq}
 use Rattle.tf_value.specs.Known.{known}
-use Rattle.tf_value.specs.Tree.{Tree, text, list, map, unknown, Items, no_items, item, Entries, no_entries, entry, put}
+use Rattle.tf_value.specs.Tree.{Tree, text, list, map, set, unknown, Items, no_items, item, Entries, no_entries, entry, put}
 use Rattle.tf_operators.specs.declared.fault.EvalFault.TheVariants.{WrongKind, Arity}
 use Rattle.tf_operators.specs.declared.function.Function.{Function}
-use Rattle.tf_operators.specs.declared.function.Function.TheVariants.{Length, Keys, Values, Merge, Concat, Join}
+use Rattle.tf_operators.specs.declared.function.Function.TheVariants.{Length, Keys, Values, Merge, Concat, Join, ToSet}
 use Rattle.tf_operators.specs.Answer.{Answer, whole_value, list_value, map_value, any_unknown, items_behind}
 use Rattle.tf_operators.specs.Joining.{text_of, joined_value}
 
@@ -19,7 +22,8 @@ function_named name =
     else (if bytes_eq name (codes "merge") then Some Merge
     else (if bytes_eq name (codes "concat") then Some Concat
     else (if bytes_eq name (codes "join") then Some Join
-    else None)))))
+    else (if bytes_eq name (codes "toset") then Some ToSet
+    else None))))))
 
 -- A function takes one argument, `merge` and `concat` one or more, `join` two.
 abbrev pub takes : Function → ℕ → Bool
@@ -29,6 +33,7 @@ takes Values n = n == 1
 takes Merge n = nat_lt 0 n
 takes Concat n = nat_lt 0 n
 takes Join n = n == 2
+takes ToSet n = n == 1
 
 -- how many there are
 abbrev pub items_count : Items → ℕ
@@ -49,11 +54,12 @@ abbrev pub value_items : Entries → Items
 value_items no_entries = no_items
 value_items (entry k t es) = item t (value_items es)
 
--- `length` counts the items of a list, and the entries of a map.
+-- `length` counts the items of a list, the entries of a map, and the texts of a set.
 abbrev pub length_value : Tree → Answer
 length_value unknown = Ok unknown
 length_value (list ts) = whole_value (pos (items_count ts))
 length_value (map es) = whole_value (pos (entries_count es))
+length_value (set ss) = whole_value (pos (length ss))
 length_value _ = Err WrongKind
 
 -- `keys` lists the keys of a map, in byte order.
@@ -123,6 +129,28 @@ spaced_value s _ = Err WrongKind
 abbrev pub join_value : Tree → Tree → Answer
 join_value s t = if known s && known t then spaced_value s t else Ok unknown
 
+-- texts with those of a list put in, each once and in byte order; none where a value is no text
+abbrev pub texts_with : List (List ℕ) → Items → Option (List (List ℕ))
+texts_with ss no_items = Some ss
+texts_with ss (item (text s) ts) = texts_with (insert_key (slice_cmp nat_cmp) ss s) ts
+texts_with ss (item _ ts) = None
+
+-- a set, where there are texts; else a value is of another kind
+abbrev pub texts_value : Option (List (List ℕ)) → Answer
+texts_value None = Err WrongKind
+texts_value (Some ss) = Ok (set ss)
+
+-- the set of a list's texts; a set as it is
+abbrev pub set_value : Tree → Answer
+set_value (list ts) = texts_value (texts_with [] ts)
+set_value (set ss) = Ok (set ss)
+set_value _ = Err WrongKind
+
+-- `toset` gives the set of a list of texts, and a set as it is. Where a part of its argument is unknown, at any
+-- depth, so is the result.
+abbrev pub toset_value : Tree → Answer
+toset_value t = if known t then set_value t else Ok unknown
+
 -- what a function answers to its arguments
 abbrev pub call_value : Function → Items → Answer
 call_value Length (item t no_items) = length_value t
@@ -131,4 +159,5 @@ call_value Values (item t no_items) = values_value t
 call_value Merge (item t ts) = merge_value (item t ts)
 call_value Concat (item t ts) = concat_value (item t ts)
 call_value Join (item s (item t no_items)) = join_value s t
+call_value ToSet (item t no_items) = toset_value t
 call_value _ _ = Err Arity

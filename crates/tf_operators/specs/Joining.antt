@@ -6,7 +6,7 @@ use Rattle.tf_operators.specs.declared.fault.EvalFault.TheVariants.{WrongKind}
 use Rattle.tf_operators.specs.Answer.{Answer, limited, any_unknown}
 
 -- The text that a value counts as among texts: a text itself, a whole number in decimal, a truth value by its
--- name. Null, lists and maps have none.
+-- name. Null, lists, maps and sets have none.
 abbrev pub text_of : Tree → Option (List ℕ)
 text_of (boolean b) = Some (if b then codes "true" else codes "false")
 text_of (whole z) = Some (signed_decimal z)

@@ -1,8 +1,12 @@
 -- What holds of operations, whatever their operands are.
-use Rattle.std.specs.Prelude.{ℕ, List, ◌≡◌, true, Option, Some, None, Ok, ⊤}
+use Rattle.std.specs.Prelude.{ℕ, List, ◌≡◌, ◌↔◌, ◌⊎◌, true, Option, Some, None, Ok, ⊤}
+use Rattle.std.specs.Cmp.Lexicographic.{slice_cmp}
+use Rattle.std.specs.List.{Contains}
+use Rattle.std.specs.List.Sorted.{IsStrictlySortedBy}
+use Rattle.std.specs.Ordering.{nat_cmp}
 use Rattle.tf_syntax.specs.declared.operator.Operator.{Operator}
 use Rattle.tf_syntax.specs.declared.tree.Prefix.{Prefix}
-use Rattle.tf_value.specs.Tree.{Tree, Items, no_items, item, Entries, no_entries, entry, get}
+use Rattle.tf_value.specs.Tree.{Tree, text, list, set, Items, no_items, item, Entries, no_entries, entry, get}
 use Rattle.tf_value.specs.Known.{known, known_items, known_entries}
 use Rattle.tf_value.specs.Refinement.{Refines, RefinesItems, RefinesEntries}
 use Rattle.tf_value.specs.Measure.{IsWithinLimits}
@@ -11,7 +15,7 @@ use Rattle.tf_operators.specs.Answer.{list_value, map_value}
 use Rattle.tf_operators.specs.Operators.{unary_value, binary_value}
 use Rattle.tf_operators.specs.Parts.{attribute_value, index_value}
 use Rattle.tf_operators.specs.Joining.{joined_value}
-use Rattle.tf_operators.specs.Functions.{laid_over, call_value}
+use Rattle.tf_operators.specs.Functions.{laid_over, call_value, toset_value}
 
 -- Where more is known of the operand of `!` or `-`, no more than more is known of the result.
 abbrev pub UnaryGrows : Type 0
@@ -84,6 +88,16 @@ later_or_earlier None earlier = earlier
 -- Where a map is merged onto another, its own value stands at each of its keys, and the other's at the others.
 abbrev pub LaterMapWins : Type 0
 LaterMapWins = (k : List ℕ) (base es : Entries) → AreDistinct es → get k (laid_over base es) ≡ later_or_earlier (get k es) (get k base)
+
+-- a value is an item of a list
+abbrev pub IsAmong : Tree → Items → Type 0
+IsAmong t no_items = ⊥
+IsAmong t (item u us) = (t ≡ u) ⊎ IsAmong t us
+
+-- The set that `toset` gives of a list has exactly the list's texts, each once and in byte order.
+abbrev pub SetHasTheTexts : Type 0
+SetHasTheTexts = (ts : Items) (ss : List (List ℕ)) → toset_value (list ts) ≡ Ok (set ss)
+    → IsStrictlySortedBy (slice_cmp nat_cmp) ss × ((s : List ℕ) → Contains ss s ↔ IsAmong (text s) ts)
 
 -- What an operator answers to known operands is known.
 abbrev pub OperatorsKeepKnown : Type 0

@@ -1,12 +1,12 @@
 //! Calls of functions.
 
 ghost use Rattle.std.specs.Prelude.{◌≡◌, IsTrue, pos, vec_len};
-ghost use Rattle.tf_value.specs.Tree.{tree_of, items_view};
+ghost use Rattle.tf_value.specs.Tree.{list, tree_of, items_view};
 ghost use Rattle.tf_operators.specs.Answer.{Answers, Gives, whole_value};
-ghost use Rattle.tf_operators.specs.Functions.{call_value, takes, length_value, join_value, spaced};
+ghost use Rattle.tf_operators.specs.Functions.{call_value, takes, length_value, join_value, spaced, spaced_value};
 ghost use Rattle.tf_operators.specs.Joining.{joined_value};
 
-use crate::collections::{concat, keys, merge, values};
+use crate::collections::{concat, keys, merge, toset, values};
 use crate::fault::EvalFault;
 use crate::function::Function;
 use crate::joining::Joiner;
@@ -14,7 +14,7 @@ use std::alloc::Global;
 use tf_value::{Value, is_known};
 
 /// What a function answers to as many arguments as it takes; `Unknown` where an argument is `Unknown`, and for
-/// `join` where any part of an argument is unknown.
+/// `join` and `toset` where any part of an argument is unknown.
 ///
 /// Refused `WrongKind` exactly where an argument is of a kind that the function doesn't take, `TooLarge`
 /// exactly where the result is above the limits, and else only where there is no memory.
@@ -35,6 +35,7 @@ pub fn call(alloc: Global, function: Function, arguments: Vec<Value>) -> Result<
         Function::Length => length(last),
         Function::Keys => keys(alloc, last),
         Function::Values => values(alloc, last),
+        Function::ToSet => toset(alloc, last),
         _ => match arguments.pop() {
             Some(separator) => join(alloc, separator, last),
             None => Err(EvalFault::Arity),
@@ -42,7 +43,7 @@ pub fn call(alloc: Global, function: Function, arguments: Vec<Value>) -> Result<
     }
 }
 
-// How many elements a list or a map has.
+// How many elements a list, a map or a set has.
 fn length(argument: Value) -> Result<Value, EvalFault>
     ensures { Answers (length_value (tree_of argument)) result }
 {
@@ -50,6 +51,7 @@ fn length(argument: Value) -> Result<Value, EvalFault>
         Value::Unknown => Ok(Value::Unknown),
         Value::List(items) => count(items.len()),
         Value::Map(entries) => count(entries.len()),
+        Value::Set(texts) => count(texts.len()),
         _ => Err(EvalFault::WrongKind),
     }
 }
@@ -70,10 +72,23 @@ fn join(alloc: Global, separator: Value, list: Value) -> Result<Value, EvalFault
     if !is_known(&separator) || !is_known(&list) {
         return Ok(Value::Unknown);
     }
-    match (&separator, list) {
-        (Value::Text(_) | Value::Int(_) | Value::Bool(_), Value::List(items)) => {
-            join_items(alloc, &separator, &items)
-        }
+    join_list(alloc, &separator, list)
+}
+
+fn join_list(alloc: Global, separator: &Value, list: Value) -> Result<Value, EvalFault>
+    ensures { Gives (spaced_value (tree_of separator.now) (tree_of list)) result }
+{
+    match list {
+        Value::List(items) => join_spaced(alloc, separator, &items),
+        _ => Err(EvalFault::WrongKind),
+    }
+}
+
+fn join_spaced(alloc: Global, separator: &Value, items: &Vec<Value>) -> Result<Value, EvalFault>
+    ensures { Gives (spaced_value (tree_of separator.now) (list (items_view items.now.items))) result }
+{
+    match separator {
+        Value::Text(_) | Value::Int(_) | Value::Bool(_) => join_items(alloc, separator, items),
         _ => Err(EvalFault::WrongKind),
     }
 }

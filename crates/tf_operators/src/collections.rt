@@ -1,17 +1,17 @@
-//! Functions on lists and maps.
+//! Functions on lists, maps and sets.
 
-ghost use Rattle.std.specs.Prelude.{◌≡◌, IfOk, OnOk, map as each};
+ghost use Rattle.std.specs.Prelude.{◌≡◌, IfOk, OnOk, map as each, []};
 ghost use Rattle.std.specs.BTreeMap.{keys as map_keys, values as map_values};
 ghost use Rattle.tf_value.specs.Tree.{tree_of, items_view, entries_view};
 ghost use Rattle.tf_value.specs.declared.value.Value.{Text};
 ghost use Rattle.tf_operators.specs.Answer.{Answers, Gives, any_unknown};
-ghost use Rattle.tf_operators.specs.Functions.{keys_value, values_value, merge_value, concat_value, laid_over};
+ghost use Rattle.tf_operators.specs.Functions.{keys_value, values_value, merge_value, concat_value, laid_over, set_value, toset_value, texts_value, texts_with};
 
 use crate::building::{list, map};
 use crate::fault::EvalFault;
 use std::alloc::{AllocError, Global};
-use std::collections::BTreeMap;
-use tf_value::Value;
+use std::collections::{BTreeMap, BTreeSet};
+use tf_value::{Value, is_known};
 
 // The keys of a map.
 pub(crate) fn keys(alloc: Global, argument: Value) -> Result<Value, EvalFault>
@@ -95,6 +95,41 @@ pub(crate) fn concat(alloc: Global, arguments: Vec<Value>) -> Result<Value, Eval
         }
     }
     list(joined)
+}
+
+// The set of a list's texts; a set as it is.
+pub(crate) fn toset(alloc: Global, argument: Value) -> Result<Value, EvalFault>
+    ensures { Gives (toset_value (tree_of argument)) result }
+{
+    if !is_known(&argument) {
+        return Ok(Value::Unknown);
+    }
+    set_of(alloc, argument)
+}
+
+fn set_of(alloc: Global, argument: Value) -> Result<Value, EvalFault>
+    ensures { Gives (set_value (tree_of argument)) result }
+{
+    match argument {
+        Value::List(items) => set_of_texts(alloc, items),
+        Value::Set(texts) => Ok(Value::Set(texts)),
+        _ => Err(EvalFault::WrongKind),
+    }
+}
+
+fn set_of_texts(alloc: Global, items: Vec<Value>) -> Result<Value, EvalFault>
+    ensures { Gives (texts_value (texts_with [] (items_view items.items))) result }
+{
+    let mut texts = BTreeSet::new(alloc);
+    for item in items {
+        match item {
+            Value::Text(text) => {
+                texts.insert(text)?;
+            }
+            _ => return Err(EvalFault::WrongKind),
+        }
+    }
+    Ok(Value::Set(texts))
 }
 
 // Whether one of several values is unknown as a whole.

@@ -3,7 +3,7 @@
 /// A function of expressions.
 #[derive(Clone, Copy, Debug, PartialEq, Eq, Drop)]
 pub enum Function {
-    /// How many elements a list or a map has.
+    /// How many elements a list, a map or a set has.
     Length,
     /// The keys of a map, in byte order.
     Keys,
@@ -15,6 +15,8 @@ pub enum Function {
     Concat,
     /// The texts of a list, with a separator between each two.
     Join,
+    /// The set of a list's texts.
+    ToSet,
 }
 
 impl Function {
@@ -32,6 +34,7 @@ impl Function {
             "merge" => Some(Function::Merge),
             "concat" => Some(Function::Concat),
             "join" => Some(Function::Join),
+            "toset" => Some(Function::ToSet),
             _ => None,
         }
     }
@@ -41,7 +44,7 @@ impl Function {
         ensures { result ≡ takes self count }
     {
         match self {
-            Function::Length | Function::Keys | Function::Values => count == 1,
+            Function::Length | Function::Keys | Function::Values | Function::ToSet => count == 1,
             Function::Merge | Function::Concat => count > 0,
             Function::Join => count == 2,
         }

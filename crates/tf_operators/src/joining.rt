@@ -9,7 +9,7 @@ use std::alloc::{AllocError, Global};
 use tf_value::{MAX_WEIGHT, Value};
 
 /// Texts and values, one behind the other, that are joined to a text: a template's texts and the values of its
-/// interpolations. Texts, whole numbers and truth values count as texts; null, lists and maps don't, and an
+/// interpolations. Texts, whole numbers and truth values count as texts; null, lists, maps and sets don't, and an
 /// `Unknown` among the values makes the result `Unknown`.
 ///
 /// It holds what the values so far are joined to, so no more than a value may hold, however many they are.
@@ -80,7 +80,7 @@ impl Joiner {
                 self.joined = Joined::Unknown;
                 Ok(())
             }
-            Value::Null | Value::List(_) | Value::Map(_) => {
+            Value::Null | Value::List(_) | Value::Map(_) | Value::Set(_) => {
                 self.push_misfit();
                 Ok(())
             }
@@ -98,7 +98,7 @@ impl Joiner {
     }
 
     /// The text that all is joined to, or `Unknown` where a value is `Unknown`. Refused `WrongKind` exactly
-    /// where no value is `Unknown` and one is null, a list or a map, and `TooLarge` exactly where all have
+    /// where no value is `Unknown` and one is null, a list, a map or a set, and `TooLarge` exactly where all have
     /// texts and those, joined, are above the limits.
     pub fn finish(self) -> Result<Value, EvalFault>
         ensures { Answers (answer_so_far self) result }

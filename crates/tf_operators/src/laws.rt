@@ -1,6 +1,6 @@
 //! Laws of operations, proved for all operands: each function's contract is a law, and its body does nothing.
 
-ghost use Rattle.tf_operators.specs.Laws.{UnaryGrows, BinaryGrows, AttributeGrows, IndexGrows, ListGrows, MapGrows, JoinedGrows, CallGrows, OperatorsAreWithinLimits, PartsAreWithinLimits, CollectionsAreWithinLimits, CallsAreWithinLimits, LaterMapWins, OperatorsKeepKnown, PartsKeepKnown, CollectionsKeepKnown, CallsKeepKnown};
+ghost use Rattle.tf_operators.specs.Laws.{UnaryGrows, BinaryGrows, AttributeGrows, IndexGrows, ListGrows, MapGrows, JoinedGrows, CallGrows, OperatorsAreWithinLimits, PartsAreWithinLimits, CollectionsAreWithinLimits, CallsAreWithinLimits, LaterMapWins, SetHasTheTexts, OperatorsKeepKnown, PartsKeepKnown, CollectionsKeepKnown, CallsKeepKnown};
 
 /// Where the operand of an operator turns out to be another value, what the operator answered turns out to be
 /// what it answers to that one.
@@ -49,6 +49,11 @@ pub fn answers_are_within_limits()
 /// Where maps are merged, a later one's value stands at each of its keys, and earlier ones' values at the others.
 pub fn later_map_wins()
     ensures { LaterMapWins }
+{}
+
+/// The set of a list has exactly the list's texts, each once and in byte order.
+pub fn sets_have_their_texts()
+    ensures { SetHasTheTexts }
 {}
 
 /// What an operation answers to operands without an unknown part has none.

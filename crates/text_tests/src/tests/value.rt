@@ -5,7 +5,7 @@ use std::alloc::Global;
 use std::test::Fail;
 
 /// Their values, and the first faults.
-pub(crate) static VALUES: [(&str, &str); 49] = [
+pub(crate) static VALUES: [(&str, &str); 73] = [
     ("", "Text(\"\")"),
     ("${2 + 3 * 4}", "Int(14)"),
     ("${-9223372036854775807 - 1}", "Int(-9223372036854775808)"),
@@ -59,6 +59,33 @@ pub(crate) static VALUES: [(&str, &str); 49] = [
     ("${a.unknown + \"a\"}", "Unknown"),
     ("${a.unknown ? 1 + null : 2}", "Unknown"),
     ("${[1, a.unknown]}", "List([Int(1), Unknown])"),
+    ("${toset([\"b\", \"a\", \"b\"])}", "Set({\"a\", \"b\"})"),
+    ("${toset([])}", "Set({})"),
+    ("${toset(toset([\"x\"]))}", "Set({\"x\"})"),
+    ("${length(toset([\"b\", \"a\", \"b\"]))}", "Int(2)"),
+    ("${toset([\"a\"]) == [\"a\"]}", "Bool(false)"),
+    (
+        "${toset([\"b\", \"a\"]) == toset([\"a\", \"b\"])}",
+        "Bool(true)",
+    ),
+    ("${toset([\"a\"]) != toset([\"b\"])}", "Bool(true)"),
+    ("${[toset([\"a\"])] == [toset([\"a\"])]}", "Bool(true)"),
+    ("${toset([1])}", "WrongKind"),
+    ("${toset([\"a\", null])}", "WrongKind"),
+    ("${toset(var.m)}", "WrongKind"),
+    ("${toset(\"a\")}", "WrongKind"),
+    ("${toset([1, [a.unknown]])}", "Unknown"),
+    ("${toset(a.unknown)}", "Unknown"),
+    ("${toset()}", "Arity"),
+    ("${toset([\"a\"], [\"b\"])}", "Arity"),
+    ("${keys(toset([\"a\"]))}", "WrongKind"),
+    ("${concat(toset([\"a\"]))}", "WrongKind"),
+    ("${join(\"-\", toset([\"a\"]))}", "WrongKind"),
+    ("${toset([\"a\"])[0]}", "WrongKind"),
+    ("${[1][toset([\"a\"])]}", "WrongKind"),
+    ("${toset([\"a\"]).a}", "WrongKind"),
+    ("x${toset([\"a\"])}", "WrongKind"),
+    ("${toset([\"a\"]) ? 1 : 2}", "WrongKind"),
     ("${join(\"-\", [[a.unknown]])}", "Unknown"),
 ];
 

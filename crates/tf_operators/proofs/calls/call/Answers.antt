@@ -24,4 +24,4 @@ returns-in-Some-pop c =
     ∙ ap (λ vs. vs ++ last ∷ []) (c.pop-in_default-function.ensures.items ∙ ap (λ o. front ++ option_to_list o) c.in-Some-pop.is) in
     let not_one = c.in_default-function in
     subst (λ a. Gives a c.join.result)
-    (sym (call-Join c.args.function c.args.arguments.items front c.in-Some-pop.separator last not_one.not-Length not_one.not-Keys not_one.not-Values c.in_default.not-Merge c.in_default.not-Concat fit parts)) c.join.ensures
+    (sym (call-Join c.args.function c.args.arguments.items front c.in-Some-pop.separator last not_one.not-Length not_one.not-Keys not_one.not-Values not_one.not-ToSet c.in_default.not-Merge c.in_default.not-Concat fit parts)) c.join.ensures
