@@ -1,12 +1,11 @@
 -- Whether an answer keeps what was promised, by the request, the answer and the schema alone.
-use Rattle.std.specs.Prelude.{◌≡◌, ℕ, Bool, true, false, ◌&&◌, ◌||◌, nat_le, List, [], ◌∷◌, map as each, Option, Some, None, if◌then◌else◌, not, option_and_then}
+use Rattle.std.specs.Prelude.{◌≡◌, ℕ, Bool, true, false, ◌&&◌, ◌||◌, List, [], ◌∷◌, map as each, Option, Some, None, if◌then◌else◌, not, option_and_then}
 use Rattle.std.specs.List.{list_all, position_from}
 use Rattle.std.specs.Option.{option_map_or}
 use Rattle.std.specs.Str.{bytes_eq}
 use Rattle.tf_value.specs.Tree.{Tree, null, boolean, whole, text, map, part_at, keys_of}
-use Rattle.tf_value.specs.Known.{known}
-use Rattle.tf_value.specs.Measure.{weight, depth, max_weight, max_depth}
 use Rattle.tf_value.specs.Refinement.{refined}
+use Rattle.tf_value.specs.Stored.{may_be_stored}
 use Rattle.tf_protocol.specs.Schema.{AttributeView, SchemaView}
 use Rattle.tf_protocol.specs.Meaning.{Asked, Answer, object, gone, failed}
 use Rattle.tf_protocol.specs.declared.request.Op.{Op}
@@ -52,9 +51,9 @@ abbrev pub is_allowed : AttributeView → Tree → Bool
 is_allowed a null = not (is_required a.mode)
 is_allowed a t = is_of_kind a.kind t
 
--- A value fits an attribute where it is known, of weight at most 1,000,000 and depth at most 32, and allowed.
+-- A value fits an attribute where it may be stored and is allowed.
 abbrev pub fits : AttributeView → Tree → Bool
-fits a t = known t && nat_le (weight t) max_weight && nat_le (depth t) max_depth && is_allowed a t
+fits a t = may_be_stored t && is_allowed a t
 
 -- an object has a value for the attribute, and it fits
 abbrev pub fits_in : Tree → AttributeView → Bool
@@ -67,6 +66,7 @@ well_formed s t = has_attributes s t && list_all (fits_in t) s.attributes
 abbrev pub IsWellFormed : SchemaView → Tree → Type 0
 IsWellFormed s t = well_formed s t ≡ true
 
+-- The outcome of an action is good where the verdict on its reply is good, and so is no other verdict.
 abbrev pub is_good_verdict : Verdict → Bool
 is_good_verdict verdict.Good = true
 is_good_verdict _ = false

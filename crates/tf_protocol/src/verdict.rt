@@ -10,7 +10,7 @@ ghost use Rattle.tf_protocol.specs.Verdict.{asks_fully, verdict_on, verdict_on_o
 use crate::request::{Op, Reply, Request};
 use crate::schema::{Attribute, Kind, Mode, Schema};
 use std::collections::BTreeMap;
-use tf_value::{MAX_DEPTH, MAX_WEIGHT, Value, depth, is_known, refines, weight};
+use tf_value::{Value, may_be_stored, refines};
 
 /// Whether a reply keeps what was promised.
 #[derive(Clone, Copy, Debug, PartialEq, Eq)]
@@ -76,8 +76,8 @@ fn judge_object(wanted: &Option<Value>, there: &Value, schema: &Schema) -> Verdi
 }
 
 /// Whether a value is an object as the schema wants it: it has exactly the schema's attributes, each value
-/// is known, of weight at most 1,000,000 and depth at most 32, and null (not for a required attribute) or of
-/// the attribute's kind, without conversion.
+/// may be stored (known, of weight at most 1,000,000 and depth at most 32, without a set in it), and is null (not
+/// for a required attribute) or of the attribute's kind, without conversion.
 pub fn well_formed(value: &Value, schema: &Schema) -> bool
     ensures { result ≡ well_formed schema.now (tree_of value.now) }
 {
@@ -136,10 +136,7 @@ fn fits_in(value: &Value, attribute: &Attribute) -> bool
 fn fits(value: &Value, attribute: &Attribute) -> bool
     ensures { result ≡ fits (attribute_of attribute.now) (tree_of value.now) }
 {
-    is_known(value)
-        && weight(value) <= MAX_WEIGHT
-        && depth(value) <= MAX_DEPTH
-        && is_allowed(value, attribute)
+    may_be_stored(value) && is_allowed(value, attribute)
 }
 
 /// Whether a value is null where it may be, or of the attribute's kind.
@@ -151,7 +148,9 @@ fn is_allowed(value: &Value, attribute: &Attribute) -> bool
         Value::Text(_) => attribute.kind == Kind::String || attribute.kind == Kind::Any,
         Value::Int(_) => attribute.kind == Kind::Number || attribute.kind == Kind::Any,
         Value::Bool(_) => attribute.kind == Kind::Bool || attribute.kind == Kind::Any,
-        Value::List(_) | Value::Map(_) | Value::Unknown => attribute.kind == Kind::Any,
+        Value::List(_) | Value::Map(_) | Value::Set(_) | Value::Unknown => {
+            attribute.kind == Kind::Any
+        }
     }
 }
 

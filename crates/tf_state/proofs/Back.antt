@@ -11,6 +11,7 @@ use Rattle.tf_json_text.specs.Plain.{ArePlainMembers, AreAbove}
 use Rattle.tf_value.specs.Json.{value_data, entries_data}
 use Rattle.tf_value.specs.Tree.{Tree, map, Entries, no_entries, entry, put}
 use Rattle.tf_value.proofs.Forms.{value_from-value_data}
+use Rattle.tf_value.proofs.WithLists.{no_set-lists}
 use Rattle.tf_address.specs.ObjectId.{InstanceKeyView, single, number, name}
 use Rattle.tf_state.specs.Reading.{value_in, values_in, key_in, deposed_in, attributes_in, addresses_in, dependencies_in, tainted_in, flag_in, put_text, put_new, below, below_or_zero, output_in}
 use Rattle.tf_state.specs.Text.{key_data, status_data, flag_data, dependencies_data, output_data, outputs_data}
@@ -22,7 +23,7 @@ use Rattle.tf_state.proofs.ValueForms.{value_read}
 -- ---- values
 
 pub value-back : (t : Tree) → IsSaved t → value_in (value_data t) ≡ Some t
-value-back t h = value_read (value_data t) t (value_from-value_data t h.0 h.1) h.2
+value-back t h = value_read (value_data t) t (value_from-value_data t h.0 h.1 ∙ ap Some (no_set-lists t h.3)) h.2
 
 -- values by name, as members
 abbrev pub members_for : (Tree → Data) → Entries → Members

@@ -6,8 +6,8 @@ use Rattle.serde_json.specs.Data as json
 use Rattle.serde_json.specs.Find.{of_integer, is_float}
 use Rattle.serde_json.specs.View.{items_of}
 use Rattle.serde_json.specs.Written.{has_float, items_have_float, members_have_float}
-use Rattle.tf_value.specs.Json.{value_data, items_data, entries_data}
-use Rattle.tf_value.specs.Tree.{Tree, null, boolean, whole as whole_number, text, list, map, unknown, Items, no_items, item, Entries, no_entries, entry}
+use Rattle.tf_value.specs.Json.{value_data, items_data, entries_data, texts_data}
+use Rattle.tf_value.specs.Tree.{Tree, null, boolean, whole as whole_number, text, list, map, set, unknown, Items, no_items, item, Entries, no_entries, entry}
 use Rattle.std.specs.Prelude.{Option, Some, None, option_map}
 use Rattle.tf_address.specs.ObjectId.{InstanceKeyView, single, number, name}
 use Rattle.tf_state_data.specs.Record.{RecordView}
@@ -24,6 +24,10 @@ of_integer-whole : (z : ℤ) → is_float (of_integer z) ≡ false
 of_integer-whole (pos n) = refl
 of_integer-whole (negsuc n) = refl
 
+texts_data-whole : (ss : List (List ℕ)) → items_have_float (texts_data ss) ≡ false
+texts_data-whole [] = refl
+texts_data-whole (s ∷ ss) = texts_data-whole ss
+
 mutual
   value_data-whole : (t : Tree) → has_float (value_data t) ≡ false
   value_data-whole null = refl
@@ -32,6 +36,7 @@ mutual
   value_data-whole (text s) = refl
   value_data-whole (list ts) = items_data-whole ts
   value_data-whole (map es) = entries_data-whole es
+  value_data-whole (set ss) = texts_data-whole ss
   value_data-whole unknown = refl
 
   items_data-whole : (ts : Items) → items_have_float (items_data ts) ≡ false
@@ -50,6 +55,7 @@ mutual
   type_data-whole (text s) = refl
   type_data-whole (list ts) = neither _ _ (item_types-whole ts) refl
   type_data-whole (map es) = neither _ _ (entry_types-whole es) refl
+  type_data-whole (set ss) = refl
   type_data-whole unknown = refl
 
   item_types-whole : (ts : Items) → items_have_float (item_types ts) ≡ false

@@ -6,9 +6,9 @@ use Rattle.serde_json.specs.Data.{Data, object, string, array, number as json_nu
 use Rattle.serde_json.specs.View.{items_of}
 use Rattle.tf_json_text.specs.Plain.{IsPlain, ArePlain, ArePlainMembers, AreAbove}
 use Rattle.tf_json_text.proofs.Puts.{plain-put, depth-put}
-use Rattle.tf_value.specs.Json.{value_data, items_data, entries_data}
+use Rattle.tf_value.specs.Json.{value_data, items_data, entries_data, texts_data}
 use Rattle.tf_value.specs.Measure as measure
-use Rattle.tf_value.specs.Tree.{Tree, null, boolean as truth, whole, text, list, map, unknown, Items, no_items, item, Entries, no_entries, entry}
+use Rattle.tf_value.specs.Tree.{Tree, null, boolean as truth, whole, text, list, map, set, unknown, Items, no_items, item, Entries, no_entries, entry}
 use Rattle.tf_address.specs.ObjectId.{InstanceKeyView, single, number, name}
 use Rattle.tf_state_data.specs.Record.{RecordView}
 use Rattle.tf_state_data.specs.Resource.{ResourceView}
@@ -34,6 +34,7 @@ mutual
   type-plain (text s) h = tt
   type-plain (list ts) h = (tt, (item_types-plain ts h, tt))
   type-plain (map es) h = (tt, (entry_types-plain es h, tt))
+  type-plain (set ss) h = (tt, (tt, tt))
   type-plain unknown h = tt
 
   item_types-plain : (ts : Items) → ArePlain (items_data ts) → ArePlain (item_types ts)
@@ -140,6 +141,10 @@ state-plain s h =
 
 -- ---- depth
 
+set-depth : (ss : List (List ℕ)) → items_depth (texts_data ss) ≤ 0
+set-depth [] = omega arith
+set-depth (s ∷ ss) = omega (arith, set-depth ss)
+
 mutual
   value-depth : (t : Tree) → depth (value_data t) ≤ measure.depth t
   value-depth null = omega arith
@@ -148,6 +153,7 @@ mutual
   value-depth (text s) = omega arith
   value-depth (list ts) = omega (arith, items-depth ts)
   value-depth (map es) = omega (arith, entries-depth es)
+  value-depth (set ss) = omega (arith, set-depth ss)
   value-depth unknown = omega arith
 
   items-depth : (ts : Items) → items_depth (items_data ts) ≤ measure.depth_of_items ts
@@ -166,6 +172,7 @@ mutual
   type-depth (text s) = omega arith
   type-depth (list ts) = omega (arith, item_types-depth ts)
   type-depth (map es) = omega (arith, entry_types-depth es)
+  type-depth (set ss) = omega arith
   type-depth unknown = omega arith
 
   item_types-depth : (ts : Items) → items_depth (item_types ts) ≤ 2 * measure.depth_of_items ts

@@ -13,10 +13,10 @@ use Rattle.serde_json.specs.Find.{get}
 use Rattle.tf_json_text.specs.Plain.{IsPlain, ArePlain, ArePlainMembers, IsSorted, AreSorted, AreSortedMembers}
 use Rattle.tf_json_text.proofs.Puts.{plain-put}
 use Rattle.tf_json_text.proofs.Sorted.{read_is_sorted, sorted-get}
-use Rattle.tf_value.specs.Json.{IsJson, IsArray, IsObject, value_data, entries_data, tree_from}
+use Rattle.tf_value.specs.Json.{IsJson, IsArray, IsObject, AreTexts, value_data, entries_data, tree_from}
 use Rattle.tf_value.specs.Known.{known}
-use Rattle.tf_value.specs.Tree.{Tree, null, boolean, whole, text, list, map, Items, no_items, item, Entries, no_entries, entry, put}
-use Rattle.tf_value.proofs.Forms.{form_of, form-held, form-tree_from, IsJson-one_form}
+use Rattle.tf_value.specs.Tree.{Tree, null, boolean, whole, text, list, map, set, Items, no_items, item, Entries, no_entries, entry, put}
+use Rattle.tf_value.proofs.Forms.{form_of, form-held, form-tree_from, tree_from-no_set, IsJson-one_form}
 use Rattle.tf_value.specs.Stored.{IsTable}
 use Rattle.tf_state.specs.Laws.{ReadIsValid}
 use Rattle.tf_address.specs.Label.{label_cmp}
@@ -41,6 +41,11 @@ use Rattle.tf_state.proofs.ValueForms.{within-limits}
 
 -- ---- values
 
+texts-plain : (ss : List (List ℕ)) (ds : json.Items) → AreTexts ss ds → ArePlain ds
+texts-plain [] json.no_items h = tt
+texts-plain (s ∷ ss) (json.item (json.string t) ds) h = (tt, texts-plain ss ds h.1)
+texts-plain _ _ h = absurd (assumption)
+
 mutual
   form-plain : (t : Tree) (d : json.Data) → IsJson t d → IsSorted d → IsPlain d
   form-plain null json.null h s = tt
@@ -49,6 +54,7 @@ mutual
   form-plain (text u) (json.string v) h s = tt
   form-plain (list ts) (json.array ds) h s = array-plain ts ds h s
   form-plain (map es) (json.object ms) h s = object-plain es ms h s
+  form-plain (set ss) (json.array ds) h s = texts-plain ss ds h
   form-plain _ _ h s = absurd (assumption)
 
   array-plain : (ts : Items) (ds : json.Items) → IsArray ts ds → AreSorted ds → ArePlain ds
@@ -75,7 +81,7 @@ value-fine d t s e =
     let form = form-tree_from d parts.0 in
     let held = form-held u d form in
     let shown : value_data u ≡ d = IsJson-one_form u (value_data u) d (form_of u held parts.0) form in
-    subst IsFine (same u t g.1) ((held, parts.0, within-limits u parts.1), subst IsPlain (sym shown) (form-plain u d form s))
+    subst IsFine (same u t g.1) ((held, parts.0, within-limits u parts.1, tree_from-no_set d), subst IsPlain (sym shown) (form-plain u d form s))
 
 -- ---- tables
 

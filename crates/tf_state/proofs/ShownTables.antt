@@ -1,5 +1,5 @@
 -- Tables beside the members that are written for them.
-use Rattle.std.proofs.Common.{◌≡◌, ℕ, ◌^◌, ◌<◌, ℤ, pos, negsuc, true, List, Less, nat_cmp, arith, rules}
+use Rattle.std.proofs.Common.{◌≡◌, ℕ, ◌^◌, ◌<◌, ℤ, pos, negsuc, true, List, [], ◌∷◌, Less, nat_cmp, arith, rules}
 use Rattle.std.specs.Cmp.Lexicographic.{slice_cmp}
 use Rattle.std.specs.Int.{w64}
 use Rattle.std.specs.List.{AllByRecursion}
@@ -9,15 +9,17 @@ use Rattle.std.proofs.lemmas.Int.{ints}
 use Rattle.serde_json.specs.Data as json
 use Rattle.serde_json.specs.Find.{of_integer}
 use Rattle.tf_json_text.specs.Plain.{IsPlain, ArePlain, ArePlainMembers, AreAbove}
-use Rattle.tf_value.specs.Json.{value_data, items_data, entries_data}
+use Rattle.tf_value.specs.Json.{value_data, items_data, entries_data, texts_data}
 use Rattle.tf_value.specs.Known.{known}
 use Rattle.tf_value.specs.Measure.{IsWithinLimits}
+use Rattle.tf_value.specs.Sets.{has_no_set, items_have_no_set, entries_have_no_set}
+use Rattle.tf_value.proofs.Conjunction.{and-first, and-second}
 use Rattle.tf_value.specs.Stored.{EachMayBeStored, IsTable}
-use Rattle.tf_value.specs.Tree.{Tree, null, boolean, whole, text, list, map, unknown, Items, no_items, item, Entries, no_entries, entry, keys_of, IsHeld, AreHeld, AreHeldEntries, IsSorted, AreSorted, AreSortedEntries}
+use Rattle.tf_value.specs.Tree.{Tree, null, boolean, whole, text, list, map, set, unknown, Items, no_items, item, Entries, no_entries, entry, keys_of, IsHeld, AreHeld, AreHeldEntries, IsSorted, AreSorted, AreSortedEntries}
 
 -- A value that may be saved, but for the order of its keys.
 abbrev pub IsSaved : Tree → Type 0
-IsSaved t = IsHeld t × (known t ≡ true) × IsWithinLimits t
+IsSaved t = IsHeld t × (known t ≡ true) × IsWithinLimits t × (has_no_set t ≡ true)
 
 abbrev pub AreSaved : Entries → Type 0
 AreSaved no_entries = ⊤
@@ -45,6 +47,10 @@ after-above : (k : List ℕ) (es : Entries) → AreAbove k (entries_data es) →
 after-above k no_entries h = tt
 after-above k (entry l t es) h = (h.0, after-above k es h.1)
 
+texts-plain : (ss : List (List ℕ)) → ArePlain (texts_data ss)
+texts-plain [] = tt
+texts-plain (s ∷ ss) = (tt, texts-plain ss)
+
 mutual
   unfolding IsStrictlySortedBy
 
@@ -55,6 +61,7 @@ mutual
   sorted-plain (text u) h s = tt
   sorted-plain (list ts) h s = sorted_items-plain ts h s
   sorted-plain (map es) h s = sorted_entries-plain es h s.0 s.1
+  sorted-plain (set ss) h s = texts-plain ss
   sorted-plain unknown h s = tt
 
   sorted_items-plain : (ts : Items) → AreHeld ts → AreSorted ts → ArePlain (items_data ts)
@@ -71,22 +78,23 @@ keys-rise no_entries h = tt
 keys-rise (entry k t es) h = (after-above k es h.0, keys-rise es h.2)
 
 mutual
-  plain-sorted : (t : Tree) → IsPlain (value_data t) → IsSorted t
-  plain-sorted null h = tt
-  plain-sorted (boolean b) h = tt
-  plain-sorted (whole z) h = tt
-  plain-sorted (text u) h = tt
-  plain-sorted (list ts) h = plain-sorted_items ts h
-  plain-sorted (map es) h = (keys-rise es h, plain-sorted_entries es h)
-  plain-sorted unknown h = tt
+  plain-sorted : (t : Tree) → has_no_set t ≡ true → IsPlain (value_data t) → IsSorted t
+  plain-sorted null e h = tt
+  plain-sorted (boolean b) e h = tt
+  plain-sorted (whole z) e h = tt
+  plain-sorted (text u) e h = tt
+  plain-sorted (list ts) e h = plain-sorted_items ts e h
+  plain-sorted (map es) e h = (keys-rise es h, plain-sorted_entries es e h)
+  plain-sorted (set ss) e h = absurd (cc)
+  plain-sorted unknown e h = tt
 
-  plain-sorted_items : (ts : Items) → ArePlain (items_data ts) → AreSorted ts
-  plain-sorted_items no_items h = tt
-  plain-sorted_items (item t ts) h = (plain-sorted t h.0, plain-sorted_items ts h.1)
+  plain-sorted_items : (ts : Items) → items_have_no_set ts ≡ true → ArePlain (items_data ts) → AreSorted ts
+  plain-sorted_items no_items e h = tt
+  plain-sorted_items (item t ts) e h = (plain-sorted t (and-first _ _ e) h.0, plain-sorted_items ts (and-second _ _ e) h.1)
 
-  plain-sorted_entries : (es : Entries) → ArePlainMembers (entries_data es) → AreSortedEntries es
-  plain-sorted_entries no_entries h = tt
-  plain-sorted_entries (entry k t es) h = (plain-sorted t h.1, plain-sorted_entries es h.2)
+  plain-sorted_entries : (es : Entries) → entries_have_no_set es ≡ true → ArePlainMembers (entries_data es) → AreSortedEntries es
+  plain-sorted_entries no_entries e h = tt
+  plain-sorted_entries (entry k t es) e h = (plain-sorted t (and-first _ _ e) h.1, plain-sorted_entries es (and-second _ _ e) h.2)
 
 held_of : (es : Entries) → EachMayBeStored es → AreHeldEntries es
 held_of no_entries h = tt
@@ -98,14 +106,14 @@ sorted_of (entry k t es) h = (h.0.1, sorted_of es h.1)
 
 saved_of : (es : Entries) → EachMayBeStored es → AreSaved es
 saved_of no_entries h = tt
-saved_of (entry k t es) h = ((h.0.0, h.0.2, h.0.3), saved_of es h.1)
+saved_of (entry k t es) h = ((h.0.0, h.0.2, h.0.3, h.0.4), saved_of es h.1)
 
 pub shown : (es : Entries) → IsTable es → IsShown es
 shown es h = (sorted_entries-plain es (held_of es h.1) h.0 (sorted_of es h.1), saved_of es h.1)
 
 each_stored : (es : Entries) → ArePlainMembers (entries_data es) → AreSaved es → EachMayBeStored es
 each_stored no_entries h s = tt
-each_stored (entry k t es) h s = ((s.0.0, plain-sorted t h.1, s.0.1, s.0.2), each_stored es h.2 s.1)
+each_stored (entry k t es) h s = ((s.0.0, plain-sorted t s.0.3 h.1, s.0.1, s.0.2, s.0.3), each_stored es h.2 s.1)
 
 pub shown_table : (es : Entries) → IsShown es → IsTable es
 shown_table es h = (keys-rise es h.0, each_stored es h.0 h.1)

@@ -17,7 +17,7 @@ use Rattle.serde_json.specs.Find.{get as get_property}
 use Rattle.tf_value.specs.Json.{tree_from}
 use Rattle.tf_value.specs.Known.{known}
 use Rattle.tf_value.specs.Tree.{Tree, Entries, no_entries, entry, get, put}
-use Rattle.tf_value.proofs.Forms.{IsJson-known, form-tree_from, tree_from-form}
+use Rattle.tf_value.proofs.Forms.{IsJson-known, form-tree_from, tree_from-no_set, tree_from-value}
 use Rattle.tf_value.proofs.Keys.{get-put, get-put_other}
 use Rattle.tf_state.specs.Reading.{is_within, output_in, required_value, value_in, values_in}
 use Rattle.tf_state.specs.Table.{EachMemberSays, SaysOutput, SaysPart, SaysTable, SaysValue, last_member, names_of}
@@ -35,10 +35,10 @@ pub value-says : (d : Data) (t : Tree) → value_in d ≡ Some t → SaysValue d
 value-says d t e =
     let g = guarded (known (tree_from d) && is_within (tree_from d)) (Some (tree_from d)) t e in
     let parts = and_parts (known (tree_from d)) (is_within (tree_from d)) g.0 in
-    subst (SaysValue d) (same (tree_from d) t g.1) (form-tree_from d parts.0, within-limits (tree_from d) parts.1)
+    subst (SaysValue d) (same (tree_from d) t g.1) (form-tree_from d parts.0, within-limits (tree_from d) parts.1, tree_from-no_set d)
 
 pub value-said : (d : Data) (t : Tree) → SaysValue d t → value_in d ≡ Some t
-value-said d t h = rw (tree_from-form t d h.0, IsJson-known t d h.0, is_within-true t h.1) refl
+value-said d t h = rw (tree_from-value t d h.2 h.0, IsJson-known t d h.0, is_within-true t h.1) refl
 
 required-says : (o : Option Data) (t : Tree) → required_value o ≡ Some t → SaysPart SaysValue o (Some t)
 required-says None t e = absurd (cc)

@@ -14,6 +14,7 @@ use Rattle.serde_json.specs.Read.{read}
 use Rattle.tf_address.specs.Name.{is_name}
 use Rattle.tf_value.specs.Json.{IsJson}
 use Rattle.tf_value.specs.Measure.{IsWithinLimits}
+use Rattle.tf_value.specs.Sets.{has_no_set}
 use Rattle.tf_value.specs.Tree.{Tree, map, Entries, no_entries, entry, get as value_at}
 use Rattle.tf_address.specs.ObjectId.{InstanceKeyView, single, number, name}
 use Rattle.tf_state.specs.Arrangement.{record_cmp, resource_cmp, with_records}
@@ -70,9 +71,9 @@ pub record SaysTable (Says : Data → Tree → Type 0) (ms : Members) (es : Entr
   pub order : IsStrictlySortedBy (slice_cmp nat_cmp) (names_of es)
   pub values : (k : List ℕ) → SaysPart Says (last_member k ms) (value_at k es)
 
--- a value within the limits of weight and depth, of which the tree is the JSON form
+-- a value without sets, within the limits of weight and depth, of which the tree is the JSON form
 abbrev pub SaysValue : Data → Tree → Type 0
-SaysValue d t = IsJson t d × IsWithinLimits t
+SaysValue d t = IsJson t d × IsWithinLimits t × (has_no_set t ≡ true)
 
 -- ---- what may stand at a property
 

@@ -1,14 +1,14 @@
 -- The type that a state names beside an output's value, which is made of the value alone.
 use Rattle.std.specs.Prelude.{ℕ, List, codes}
 use Rattle.serde_json.specs.Data.{Data, string, array, object, Items as JsonItems, no_items as no_json_items, item as json_item, Members, no_members, member}
-use Rattle.tf_value.specs.Tree.{Tree, null, boolean, whole, text, list, map, unknown, Items, no_items, item, Entries, no_entries, entry}
+use Rattle.tf_value.specs.Tree.{Tree, null, boolean, whole, text, list, map, set, unknown, Items, no_items, item, Entries, no_entries, entry}
 
 -- a word beside a tree
 abbrev pub pair_data : List ℕ → Data → Data
 pair_data word d = array (json_item (string word) (json_item d no_json_items))
 
 -- A text is a `string`, a whole number a `number`, a truth value a `bool`, null `dynamic`, a list a `tuple` of its
--- items' types, and a map an `object` of its parts' types by key.
+-- items' types, a map an `object` of its parts' types by key, and a set a `set` of `string`s.
 abbrev mutual
   pub type_data : Tree → Data
   type_data null = string (codes "dynamic")
@@ -17,6 +17,7 @@ abbrev mutual
   type_data (text s) = string (codes "string")
   type_data (list ts) = pair_data (codes "tuple") (array (item_types ts))
   type_data (map es) = pair_data (codes "object") (object (entry_types es))
+  type_data (set ss) = pair_data (codes "set") (string (codes "string"))
   type_data unknown = string (codes "dynamic")
 
   pub item_types : Items → JsonItems

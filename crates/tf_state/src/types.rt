@@ -32,6 +32,12 @@ pub(crate) fn send_type<S: Serializer>(value: &Value, out: &mut S) -> Result<(),
             send_entry_types(entries, out)?;
             out.end_seq()
         }
+        Value::Set(_) => {
+            out.begin_seq(Some(2))?;
+            out.str("set")?;
+            out.str("string")?;
+            out.end_seq()
+        }
     }
 }
 

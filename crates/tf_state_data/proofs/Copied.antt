@@ -1,5 +1,5 @@
 -- A copy is seen as what it is a copy of.
-use Rattle.std.proofs.Common.{◌≡◌, ℕ, Bool, List, [], ◌∷◌, map, String, string_bytes, refl, ap, ap₂, ◌∙◌}
+use Rattle.std.proofs.Common.{◌≡◌, ℕ, Bool, List, [], ◌∷◌, String, string_bytes, refl, ap, ap₂, ◌∙◌}
 use Rattle.std.specs.List.{AllZip}
 use Rattle.std.specs.declared.alloc.Global.{Global}
 use Rattle.tf_address.proofs.CopiedIds.{object_id_copied}
@@ -9,13 +9,8 @@ use Rattle.tf_state_data.specs.State.{outputs_of}
 use Rattle.tf_state_data.specs.contracts.record.RecordClone.TheImpl as RecordClone
 use Rattle.tf_state_data.specs.declared.object.Object.{Object}
 use Rattle.tf_state_data.specs.declared.record.Record.{Record}
+pub use Rattle.tf_value.proofs.Copied.{copied}
 use Rattle.tf_value.specs.Tree.{Tree, entry, tree_of}
-
-pub copied : {A B : Type 0} (C : A → A → Type 0) (f : A → B) → ((x y : A) → C x y → f y ≡ f x) → (xs ys : List A) → AllZip C xs ys → map f ys ≡ map f xs
-copied C f same [] [] h = refl
-copied C f same (x ∷ xs) (y ∷ ys) h = ap₂ (λ z zs. z ∷ zs) (same x y h.0) (copied C f same xs ys h.1)
-copied C f same [] (y ∷ ys) h = absurd h
-copied C f same (x ∷ xs) [] h = absurd h
 
 record_seen : {p q : ObjectIdView} {t u : Tree} {m n : ℕ} {a b c d : Bool} {xs ys : List (List ℕ)} → q ≡ p → u ≡ t → n ≡ m → b ≡ a → ys ≡ xs → d ≡ c
     → ◌≡◌ {A = RecordView} (record { id = q; attributes = u; schema_version = n; tainted = b; dependencies = ys; create_before_destroy = d })
