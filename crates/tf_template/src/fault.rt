@@ -29,6 +29,14 @@ impl From<AllocError> for Fault {
     }
 }
 
+impl<T: Drop> From<AllocFailed<T>> for Fault {
+    ghost from_gives = { λ _ fault. fault ≡ OutOfMemory };
+
+    fn from(_error: AllocFailed<T>) -> Fault {
+        Fault::OutOfMemory
+    }
+}
+
 /// The refusal of a token.
 pub(crate) fn refusal(token: Token<'_>) -> Fault
     ensures { IsRefusal result }
@@ -81,12 +89,4 @@ pub(crate) fn pass_brace(text: &str) -> Result<&str, Fault>
         return Err(refusal_behind(token));
     };
     Ok(token.rest)
-}
-
-impl<T: Drop> From<AllocFailed<T>> for Fault {
-    ghost from_gives = { λ _ fault. fault ≡ OutOfMemory };
-
-    fn from(_error: AllocFailed<T>) -> Fault {
-        Fault::OutOfMemory
-    }
 }
