@@ -94,7 +94,7 @@ end_inside g _ _ w (direct a b e) = target_inside g a b w e
 end_inside g _ _ w (onward a b c e p) = end_inside g b c w p
 
 -- what stands directly before a node is a node
-all_by_contained : (P : ℕ → Type 0) (xs : List ℕ) → ((x : ℕ) → Contains xs x → P x) → AllByRecursion P xs
+pub all_by_contained : (P : ℕ → Type 0) (xs : List ℕ) → ((x : ℕ) → Contains xs x → P x) → AllByRecursion P xs
 all_by_contained P [] f = tt
 all_by_contained P (x ∷ xs) f = (f x (contains_head x x xs refl), all_by_contained P xs (λ y c. f y (contains_tail y x xs c)))
 

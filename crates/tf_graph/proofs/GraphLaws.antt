@@ -1,5 +1,5 @@
 -- The proofs of the laws on closures and on what is left of a graph, for other proofs to cite.
-use Rattle.std.proofs.Common.{◌≡◌, ◌<◌, ◌≤◌, ◌+◌, ◌∷◌, ◌⊎◌, ℕ, zero, suc, Bool, true, false, List, [], refl, sym, ◌∙◌, arith, length, take, inl, inr}
+use Rattle.std.proofs.Common.{◌≡◌, ◌<◌, ◌≤◌, ◌+◌, ◌∷◌, ◌⊎◌, ℕ, zero, suc, Bool, true, false, not, List, [], map, refl, sym, ◌∙◌, arith, length, take, inl, inr}
 use Rattle.std.specs.Prelude.{Contains, slice_index}
 use Rattle.std.specs.List.{AllByRecursion}
 use Rattle.std.proofs.lemmas.Bool.{cases_lt, cases_Bool, both_ways, false_from_ne_true, true_from_ne_false}
@@ -8,10 +8,12 @@ use Rattle.tf_graph.specs.Digraph.{Digraph, IsWithin, predecessors_of}
 use Rattle.tf_graph.specs.Path.{direct, onward, HasEdge, Reaches, joined}
 use Rattle.tf_graph.specs.NodeSet.{has}
 use Rattle.tf_graph.proofs.Edges.{edge-from_source, stands-from_reaches, source_inside, start_inside, end_inside, contains_head, contains_tail, contains_cases}
-use Rattle.tf_graph.specs.Closure.{reaches, IsTransitiveOver, ClosureIsLeast, AcyclicIsRanked}
+use Rattle.tf_graph.specs.Closure.{reaches, IsTransitiveOver, ClosureIsLeast, ReachedIsClosed, AcyclicIsRanked}
 use Rattle.tf_graph.proofs.Solving.{ranked-by_order, order-follows_paths, all_by_at, all_by_weaker}
-use Rattle.tf_graph.proofs.Orders.{contains_or_not, IsApart, pigeonhole, ordered-next}
-use Rattle.tf_graph.specs.Strip.{IsOrdered, IsStripped, StripIsEmpty, LeftIsBehindCycle}
+use Rattle.std.specs.List.{range_with_len}
+use Rattle.std.proofs.lemmas.List.FromFn.{get_or-map-range_with_len, length-map-range_with_len}
+use Rattle.tf_graph.proofs.Orders.{holds, contains-from_holds, holds-from_contains, contains_or_not, IsApart, pigeonhole, ordered-next}
+use Rattle.tf_graph.specs.Strip.{IsOrdered, IsStripped, IsWholeOrder, WholeOrderHoldsAll, StripIsEmpty, LeftIsBehindCycle}
 
 -- a relation that holds the edges and is transitive holds each path
 holds_path : (g : Digraph) (holds : ℕ → ℕ → Bool) → IsTransitiveOver g holds → (a b : ℕ) → Reaches g a b → holds a b ≡ true
@@ -25,6 +27,12 @@ closure-least g t is = (
     transitive = λ a b c h k. is.found a c (joined a b c (is.led a b h) (is.led b c k));
   },
   λ holds over a b h. holds_path g holds over a b (is.led a b h),
+)
+
+pub reached-closed : ReachedIsClosed
+reached-closed g t is a b c = (
+  λ h e. is.found a c (joined a b c (is.led a b h) (direct b c e)),
+  λ e h. is.found a c (onward a b c e (is.led b c h)),
 )
 
 -- what holds of each element that a list contains
@@ -126,3 +134,34 @@ strip-empty g left within stripped = (
       let c = (left-behind_cycle g left within stripped n).0 h in
       acyclic c.0 c.1),
 )
+
+-- the nodes that a list does not hold
+left_out : Digraph → List ℕ → List Bool
+left_out g entries = map (λ k. not (holds entries k)) (range_with_len 0 g.nodes)
+
+not-true : (b : Bool) → not b ≡ true → b ≡ false
+not-true true h = sym h
+not-true false h = refl
+
+not-false : (b : Bool) → not b ≡ false → b ≡ true
+not-false true h = refl
+not-false false h = sym h
+
+whole-stripped : (g : Digraph) (entries : List ℕ) → IsWholeOrder g entries → IsStripped g (left_out g entries)
+unfolding left_out
+whole-stripped g entries w = record {
+  length = length-map-range_with_len (λ k. not (holds entries k)) 0 g.nodes;
+  gone = λ n h no. (entries, w.in_order, contains-from_holds entries n (not-false (holds entries n) (sym (read n h) ∙ no)));
+  kept = λ n yes o.
+      let long = length-map-range_with_len (λ k. not (holds entries k)) 0 g.nodes in
+      let h : n < g.nodes = omega (arith, has_below (left_out g entries) n yes, long) in
+      both_ways (holds entries n) (not-true (holds entries n) (sym (read n h) ∙ yes)) (holds-from_contains entries n (w.whole n o h));
+}
+  where
+    read : (n : ℕ) → n < g.nodes → has (map (λ k. not (holds entries k)) (range_with_len 0 g.nodes)) n ≡ not (holds entries n)
+    read n h = get_or-map-range_with_len (λ k. not (holds entries k)) 0 g.nodes n n false h (omega arith)
+
+pub whole_order-all : WholeOrderHoldsAll
+whole_order-all g entries within acyclic w n h =
+    let s = whole-stripped g entries w in
+    w.whole n (s.gone n h ((strip-empty g (left_out g entries) within s).1 acyclic n)) h

@@ -5,14 +5,14 @@ use Rattle.std.proofs.lemmas.Bool.{cases_eq, cases_lt, cases_Bool, eq-eqb, ne_eq
 use Rattle.std.proofs.lemmas.List.{get_or_read, get_or-set_same, get_or-set_other, get_or_past, get_or_append_left, get_or_push, get_or_default, get_or-take, length-set, length-take, length_push, length-replicate, get_or-replicate}
 use Rattle.std.proofs.lemmas.List.Elements.{Contains-append_left, Contains-push, Contains-push_cases}
 use Rattle.tf_graph.specs.Digraph.{Digraph, IsWithin, sources_into, targets_from, predecessors_of, successors_of}
-use Rattle.tf_graph.proofs.Edges.{edge-from_source, source_inside, target_inside, contains_head, contains_tail, contains_cases}
+use Rattle.tf_graph.proofs.Edges.{all_by_contained, edge-from_source, source_inside, target_inside, contains_head, contains_tail, contains_cases}
 use Rattle.tf_graph.specs.NodeSet.{has}
 use Rattle.tf_graph.specs.Order.{IsInOrder}
-use Rattle.tf_graph.proofs.Solving.{all_by_at}
-use Rattle.tf_graph.proofs.Orders.{ordered-next}
+use Rattle.tf_graph.proofs.Solving.{all_by_at, order-grows}
+use Rattle.tf_graph.proofs.Orders.{ordered-next, order-empty}
 use Rattle.tf_graph.proofs.GraphLaws.{has_below}
-use Rattle.tf_graph.specs.Strip.{IsStripped}
-use Rattle.tf_graph.specs.Removal.{times, count_left, total, IsRemoval}
+use Rattle.tf_graph.specs.Strip.{IsOrdered, IsStripped, IsWholeOrder}
+use Rattle.tf_graph.specs.Removal.{times, count_left, total, IsRemoval, IsTaken}
 
 -- one less at a place, one less in all
 pub total-set : (xs : List ℕ) (i : ℕ) → i < length xs → 0 < slice_index xs i → total (set xs i (slice_index xs i - 1)) + 1 ≡ total xs
@@ -239,6 +239,52 @@ removal-go g left remaining free n w r is = record {
 
     inside : (a : ℕ) → Contains (predecessors_of g n) a → a < g.nodes
     inside a c = source_inside g a n w (edge-from_source g.edges n a c)
+
+-- nothing is taken at the start
+pub taken-none : (g : Digraph) → IsTaken g (replicate g.nodes true) []
+taken-none g = record {
+  in_order = order-empty (predecessors_of g);
+  gone = λ n h no. absurd (both_ways _ no (get_or-replicate g.nodes n true false h));
+  taken = λ n c. absurd (omega (arith, c.1));
+}
+
+-- a free node goes behind what is taken
+pub taken-go : (g : Digraph) (left : List Bool) (remaining free : List ℕ) (n : ℕ) (order : List ℕ) → IsWithin g.nodes g.edges → IsRemoval g left remaining (free ++ n ∷ []) [] → has left n ≡ true → IsTaken g left order → IsTaken g (set left n false) (order ++ n ∷ [])
+taken-go g left remaining free n order w r is t = record {
+  in_order = order-grows (predecessors_of g) order n t.in_order (λ c. both_ways (has left n) (t.taken n c).1 is)
+      (all_by_contained (λ a. Contains order a) (predecessors_of g n) (λ a c. t.gone a (source_inside g a n w (edge-from_source g.edges n a c)) (none-from_count left (predecessors_of g n) zero_left a c)));
+  gone = λ k h no. elim (cases_eq k n) [
+    | inl here ↦ rw here (Contains-push order n)
+    | inr other ↦ Contains-append_left order (n ∷ []) k (t.gone k h (sym (get_or-set_other left n k false false other) ∙ no))
+  ];
+  taken = λ k c. elim (Contains-push_cases order n k c) [ inl old ↦ earlier k (t.taken k old) | inr here ↦ rw (← here) (free_n.0, away) ];
+}
+  where
+    free_n : (n < g.nodes) × (slice_index remaining n ≡ 0)
+    free_n = r.free_zero n (Contains-push free n)
+
+    below : n < length left
+    below = omega (arith, free_n.0, r.left_length)
+
+    away : has (set left n false) n ≡ false
+    away = get_or-set_same left n false false below
+
+    zero_left : count_left left (predecessors_of g n) ≡ 0
+    zero_left = let counted : slice_index remaining n ≡ count_left left (predecessors_of g n) + times n [] = r.counts n in omega (arith, free_n.1)
+
+    earlier : (k : ℕ) → (k < g.nodes) × (has left k ≡ false) → (k < g.nodes) × (has (set left n false) k ≡ false)
+    earlier k old = elim (cases_eq k n) [
+      | inl here ↦ (old.0, rw here away)
+      | inr other ↦ (old.0, get_or-set_other left n k false false other ∙ old.1)
+    ]
+
+-- what is taken in the end is a whole order
+pub taken-whole : (g : Digraph) (left : List Bool) (order : List ℕ) → IsStripped g left → IsTaken g left order → IsWholeOrder g order
+taken-whole g left order s t = record {
+  in_order = t.in_order;
+  within = λ n c. (t.taken n c).0;
+  whole = λ n o h. elim (cases_Bool (has left n)) [ inl here ↦ absurd (s.kept n here o) | inr away ↦ t.gone n h away ];
+}
 
 -- one successor is counted off
 pub removal-step : (g : Digraph) (left : List Bool) (remaining more_remaining free more_free due : List ℕ) (s : ℕ) → IsRemoval g left remaining free (s ∷ due) → s < g.nodes → more_remaining ≡ set remaining s (slice_index remaining s - 1) → more_free ≡ cond (eqb (slice_index remaining s) 1) (free ++ s ∷ []) free → IsRemoval g left more_remaining more_free due

@@ -1,12 +1,12 @@
 -- The proofs of the laws on solutions, ranks and orders, for other proofs to cite.
-use Rattle.std.proofs.Common.{◌≡◌, ◌<◌, ◌≤◌, ◌+◌, ◌∷◌, ◌&&◌, ℕ, zero, suc, Bool, true, false, not, List, [], refl, sym, ap, ◌∙◌, arith, cond, length, get_or, take, inl, inr, ◌⊎◌}
+use Rattle.std.proofs.Common.{◌≡◌, ◌<◌, ◌≤◌, ◌+◌, ◌∷◌, ◌&&◌, ℕ, zero, suc, Bool, true, false, not, List, [], refl, sym, ap, subst, ◌∙◌, arith, cond, length, get_or, take, inl, inr, ◌⊎◌}
 use Rattle.std.specs.Prelude.{Contains, slice_index}
 use Rattle.std.specs.List.{list_all, AllByRecursion}
 use Rattle.std.proofs.lemmas.List.Elements.{All-from_recursion, All-contains}
 use Rattle.std.proofs.lemmas.List.{get_or-take, get_or_append_left, get_or_push, take-append-le, length_push, length-take, take_all, get_or_default}
 use Rattle.std.proofs.lemmas.Bool.{cases_eq}
 use Rattle.tf_graph.specs.Path.{Path, direct, onward, StandsBefore}
-use Rattle.tf_graph.specs.Solutions.{seen_by, Solves, Ranked, StaysBelow, is_ready, SolutionIsUnique, SolutionExists, AllAreDone, RankedHasNoCycle, OrderedIsRanked}
+use Rattle.tf_graph.specs.Solutions.{seen_by, Solves, Ranked, StaysBelow, is_ready, SolutionIsUnique, SolutionsAreRelated, SolutionExists, AllAreDone, RankedHasNoCycle, OrderedIsRanked}
 use Rattle.tf_graph.specs.Order.{IsInOrder, OrderGrows, OrderFollowsPaths}
 
 -- where two results agree at each node, a rule sees the same
@@ -30,14 +30,24 @@ all_by_weaker P S (x ∷ xs) f p = (f x p.0, all_by_weaker P S xs f p.1)
 pub all_by_at : (P : ℕ → Type 0) (xs : List ℕ) (x : ℕ) → AllByRecursion P xs → Contains xs x → P x
 all_by_at P xs x p h = All-contains P xs x (All-from_recursion P xs p) h
 
-unique_below : {R : Type 0} → (count : ℕ) (before : ℕ → List ℕ) (rule : ℕ → List (ℕ × R) → R) (results others : ℕ → R) → (ranked : Ranked before) → StaysBelow count before → Solves count before rule results → Solves count before rule others → (bound : ℕ) → (n : ℕ) → n < count → ranked.0 n < bound → results n ≡ others n
-unique_below count before rule results others ranked stays s t zero n h below = absurd (omega arith)
-unique_below count before rule results others ranked stays s t (suc bound) n h below =
-    s n h ∙ ap (rule n) (seen_by-same results others (before n) (all_by_both _ _ (λ a. results a ≡ others a) (before n) (λ a rises stay. unique_below count before rule results others ranked stays s t bound a stay (omega arith)) (ranked.1 n) (stays n h))) ∙ sym (t n h)
+related_below : {R S : Type 0} → (Related : ℕ → R → S → Type 0) (count : ℕ) (before : ℕ → List ℕ) (rule : ℕ → List (ℕ × R) → R) (other_rule : ℕ → List (ℕ × S) → S) (results : ℕ → R) (others : ℕ → S)
+    → (ranked : Ranked before) → StaysBelow count before → Solves count before rule results → Solves count before other_rule others
+    → ((n : ℕ) → n < count → AllByRecursion (λ a. Related a (results a) (others a)) (before n) → Related n (rule n (seen_by results (before n))) (other_rule n (seen_by others (before n))))
+    → (bound : ℕ) → (n : ℕ) → n < count → ranked.0 n < bound → Related n (results n) (others n)
+related_below Related count before rule other_rule results others ranked stays s t step zero n h below = absurd (omega arith)
+related_below Related count before rule other_rule results others ranked stays s t step (suc bound) n h below =
+    let earlier = all_by_both (λ a. ranked.0 a < ranked.0 n) (λ a. a < count) (λ a. Related a (results a) (others a)) (before n)
+    (λ a rises stay. related_below Related count before rule other_rule results others ranked stays s t step bound a stay (omega arith)) (ranked.1 n) (stays n h) in
+    subst (λ r. Related n r (others n)) (sym (s n h)) (subst (λ r. Related n (rule n (seen_by results (before n))) r) (sym (t n h)) (step n h earlier))
+
+pub solutions-related : {R S : Type 0} → (Related : ℕ → R → S → Type 0) → SolutionsAreRelated R S Related
+solutions-related Related count before rule other_rule results others ranked stays s t step n h =
+    related_below Related count before rule other_rule results others ranked stays s t step (ranked.0 n + 1) n h (omega arith)
 
 pub solution-unique : {R : Type 0} → SolutionIsUnique R
-solution-unique count before rule results others ranked stays s t n h =
-    unique_below count before rule results others ranked stays s t (ranked.0 n + 1) n h (omega arith)
+solution-unique count before rule results others ranked stays s t =
+    solutions-related (λ n r q. r ≡ q) count before rule rule results others ranked stays s t
+    (λ n h same. ap (rule n) (seen_by-same results others (before n) same))
 
 -- the result at a node, from results that go so many steps back
 pub result_within : {R : Type 0} → (ℕ → List ℕ) → (ℕ → List (ℕ × R) → R) → ℕ → ℕ → R

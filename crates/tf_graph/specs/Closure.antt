@@ -32,6 +32,13 @@ ClosureIsLeast =
     → IsTransitiveOver g (reaches t)
     × ((holds : ℕ → ℕ → Bool) → IsTransitiveOver g holds → (a b : ℕ) → reaches t a b ≡ true → holds a b ≡ true)
 
+-- what a reached node has an edge to is reached too, and what has an edge to a node that reaches another reaches it
+abbrev pub ReachedIsClosed : Type 0
+ReachedIsClosed =
+    (g : Digraph) (t : Table) → IsClosure g t → (a b c : ℕ)
+    → (reaches t a b ≡ true → HasEdge g b c → reaches t a c ≡ true)
+    × (HasEdge g a b → reaches t b c ≡ true → reaches t a c ≡ true)
+
 -- where no node reaches itself, what stands directly before a node has a rank
 abbrev pub AcyclicIsRanked : Type 0
 AcyclicIsRanked =

@@ -1,10 +1,10 @@
--- Paths: one step or more, each from a number to one that it stands directly before.
+-- Paths: one step or more, of a relation between things of any type.
 use Rattle.std.specs.Prelude.{ℕ, List, Contains}
 use Rattle.tf_graph.specs.Digraph.{Digraph}
 
-pub data Path (Direct : ℕ → ℕ → Type 0) : ℕ → ℕ → Type 0 where
-  direct : (a b : ℕ) → Direct a b → Path Direct a b
-  onward : (a b c : ℕ) → Direct a b → Path Direct b c → Path Direct a c
+pub data Path {A : Type 0} (Direct : A → A → Type 0) : A → A → Type 0 where
+  direct : (a b : A) → Direct a b → Path Direct a b
+  onward : (a b c : A) → Direct a b → Path Direct b c → Path Direct a c
 
 -- a stands directly before b, by a list for each number of what stands directly before it
 abbrev pub StandsBefore : (ℕ → List ℕ) → ℕ → ℕ → Type 0
@@ -23,6 +23,6 @@ abbrev pub IsAcyclic : Digraph → Type 0
 IsAcyclic g = (n : ℕ) → Reaches g n n → ⊥
 
 -- a path and a path on from its end are one path
-pub joined : {Direct : ℕ → ℕ → Type 0} → (a b c : ℕ) → Path Direct a b → Path Direct b c → Path Direct a c
+pub joined : {A : Type 0} {Direct : A → A → Type 0} → (a b c : A) → Path Direct a b → Path Direct b c → Path Direct a c
 joined _ _ c (direct a b d) q = onward a b c d q
 joined _ _ d (onward a b c e p) q = onward a b d e (joined b c d p q)

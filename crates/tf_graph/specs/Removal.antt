@@ -2,6 +2,7 @@
 use Rattle.std.specs.Prelude.{◌≡◌, ◌<◌, ◌+◌, ◌⊎◌, ℕ, Bool, false, cond, eqb, List, [], ◌∷◌, length, slice_index, Contains}
 use Rattle.tf_graph.specs.Digraph.{Digraph, predecessors_of}
 use Rattle.tf_graph.specs.NodeSet.{has}
+use Rattle.tf_graph.specs.Order.{IsInOrder}
 use Rattle.tf_graph.specs.Strip.{IsOrdered}
 
 -- how often a number stands in a list
@@ -28,3 +29,9 @@ pub record IsRemoval (g : Digraph) (left : List Bool) (remaining free due : List
   pub gone : (n : ℕ) → n < g.nodes → has left n ≡ false → IsOrdered g n
   pub free_zero : (s : ℕ) → Contains free s → (s < g.nodes) × (slice_index remaining s ≡ 0)
   pub ready : (s : ℕ) → s < g.nodes → slice_index remaining s ≡ 0 → (has left s ≡ false) ⊎ Contains free s
+
+-- what is removed so far is a list in order, which holds exactly what isn't left
+pub record IsTaken (g : Digraph) (left : List Bool) (order : List ℕ) : Type 0 where
+  pub in_order : IsInOrder (predecessors_of g) order
+  pub gone : (n : ℕ) → n < g.nodes → has left n ≡ false → Contains order n
+  pub taken : (n : ℕ) → Contains order n → (n < g.nodes) × (has left n ≡ false)

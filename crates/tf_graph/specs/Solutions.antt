@@ -32,6 +32,17 @@ SolutionIsUnique R =
     → Solves count before rule results → Solves count before rule others
     → (n : ℕ) → n < count → results n ≡ others n
 
+-- Where two rules make related results of related ones, two solutions of them are related at each node. That two
+-- solutions of one rule are the same is the case of equality.
+abbrev pub SolutionsAreRelated : (R S : Type 0) → (ℕ → R → S → Type 0) → Type 0
+SolutionsAreRelated R S Related =
+    (count : ℕ) (before : ℕ → List ℕ) (rule : ℕ → List (ℕ × R) → R) (other_rule : ℕ → List (ℕ × S) → S) (results : ℕ → R) (others : ℕ → S)
+    → Ranked before → StaysBelow count before
+    → Solves count before rule results → Solves count before other_rule others
+    → ((n : ℕ) → n < count → AllByRecursion (λ a. Related a (results a) (others a)) (before n)
+    → Related n (rule n (seen_by results (before n))) (other_rule n (seen_by others (before n))))
+    → (n : ℕ) → n < count → Related n (results n) (others n)
+
 -- each rule has a solution
 abbrev pub SolutionExists : Type 0 → Type 0
 SolutionExists R =

@@ -15,6 +15,18 @@ pub record IsStripped (g : Digraph) (left : List Bool) : Type 0 where
   pub gone : (n : ℕ) → n < g.nodes → has left n ≡ false → IsOrdered g n
   pub kept : (n : ℕ) → has left n ≡ true → IsOrdered g n → ⊥
 
+-- a list in order of nodes alone, which holds each node that some list in order holds
+pub record IsWholeOrder (g : Digraph) (entries : List ℕ) : Type 0 where
+  pub in_order : IsInOrder (predecessors_of g) entries
+  pub within : (n : ℕ) → Contains entries n → n < g.nodes
+  pub whole : (n : ℕ) → IsOrdered g n → n < g.nodes → Contains entries n
+
+-- where no node reaches itself, such a list holds each node
+abbrev pub WholeOrderHoldsAll : Type 0
+WholeOrderHoldsAll =
+    (g : Digraph) (entries : List ℕ) → IsWithin g.nodes g.edges → IsAcyclic g → IsWholeOrder g entries
+    → (n : ℕ) → n < g.nodes → Contains entries n
+
 -- no node is left exactly where no node reaches itself
 abbrev pub StripIsEmpty : Type 0
 StripIsEmpty =

@@ -2,8 +2,8 @@
 
 ghost use Rattle.std.specs.Prelude.{◌≡◌, ◌≤◌, ◌<◌, ◌+◌, ◌-◌, ◌==◌, ◌++◌, ◌∷◌, [], ◌⊎◌, ℕ, Bool, true, List, length, replicate, IfOk, OnOk, vec_len, slice_index, slice_set, if◌then◌else◌};
 ghost use Rattle.tf_graph.specs.Digraph.{predecessors_of, successors_of};
-ghost use Rattle.tf_graph.specs.Strip.{IsStripped};
-ghost use Rattle.tf_graph.specs.Removal.{times, total, IsRemoval};
+ghost use Rattle.tf_graph.specs.Strip.{IsStripped, IsWholeOrder};
+ghost use Rattle.tf_graph.specs.Removal.{times, total, IsRemoval, IsTaken};
 
 use crate::graph::Graph;
 use std::alloc::{AllocError, Global};
@@ -14,17 +14,37 @@ impl Graph {
     pub fn strip(&self, alloc: Global) -> Result<Vec<bool>, AllocError>
         ensures { IfOk result (λ left. IsStripped self.now left.items) }
     {
-        let mut left = vec![in alloc; true; self.nodes()]?;
-        let mut removal = start(alloc, self)?;
-        while let Some(node) = removal.free.pop() {
-            if !left[node] {
-                continue;
-            }
-            left[node] = false;
-            release(self, &mut removal, node)?;
-        }
+        let (left, _) = take_all(alloc, self)?;
         Ok(left)
     }
+
+    /// The nodes that such a removal takes, each once and after all that stands directly before it.
+    /// Where no node reaches itself these are all nodes.
+    pub fn order(&self, alloc: Global) -> Result<Vec<usize>, AllocError>
+        ensures { IfOk result (λ order. IsWholeOrder self.now order.items) }
+    {
+        let (_, order) = take_all(alloc, self)?;
+        Ok(order)
+    }
+}
+
+/// Which nodes are left, and those that are removed, in order.
+fn take_all(alloc: Global, graph: &Graph) -> Result<(Vec<bool>, Vec<usize>), AllocError>
+    ensures left { IfOk result (λ both. IsStripped graph.now both.0.items) }
+    ensures order { IfOk result (λ both. IsTaken graph.now both.0.items both.1.items) }
+{
+    let mut left = vec![in alloc; true; graph.nodes()]?;
+    let mut order = Vec::with_capacity(alloc, graph.nodes())?;
+    let mut removal = start(alloc, graph)?;
+    while let Some(node) = removal.free.pop() {
+        if !left[node] {
+            continue;
+        }
+        left[node] = false;
+        order.push(node)?;
+        release(graph, &mut removal, node)?;
+    }
+    Ok((left, order))
 }
 
 /// What remains before each node, and the nodes before which nothing remains.
