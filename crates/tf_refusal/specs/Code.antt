@@ -17,6 +17,10 @@ bad_template = 3
 abbrev pub unknown_name : ℕ
 unknown_name = 4
 
+-- locals or resources that need themselves
+abbrev pub cycle : ℕ
+cycle = 5
+
 -- an evaluation has a fault
 abbrev pub evaluate : ℕ
 evaluate = 9

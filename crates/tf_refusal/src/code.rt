@@ -12,6 +12,9 @@ pub const BAD_TEMPLATE: u8 = 3;
 /// A name that isn't declared, or a function that isn't there.
 pub const UNKNOWN_NAME: u8 = 4;
 
+/// Locals or resources that need themselves.
+pub const CYCLE: u8 = 5;
+
 /// An evaluation has a fault.
 pub const EVALUATE: u8 = 9;
 

@@ -1,0 +1,16 @@
+//! The names of a configuration: what each stands for, and what it refers to directly.
+//!
+//! A name is a local value or a resource. Each has a place, by which it is numbered: locals in byte order of their
+//! names, then resources in address order. What names stand for and refer to is defined in `tf_config_data`.
+#![tactic(auto)]
+
+mod cycles;
+mod dependence;
+mod known_names;
+mod properties;
+mod table;
+
+pub use cycles::demand_acyclic;
+pub use dependence::Dependence;
+pub use known_names::{Context, demand_known_names};
+pub use table::{Named, Names};

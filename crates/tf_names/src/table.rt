@@ -1,0 +1,215 @@
+//! The table of a configuration's names.
+
+ghost use Rattle.std.specs.Prelude.{◌≡◌, ◌<◌, ◌++◌, ◌∷◌, [], Some, IfOk, OnOk, length, map, slice_get};
+ghost use Rattle.tf_config_data.specs.Config.{block_at, config_of, repetition_of};
+ghost use Rattle.tf_config_data.specs.Names.{block_refers, directly_before, label_pair, meant_at, named_in_repetition, names_of, place_of, places, refers, same_pair};
+ghost use Rattle.tf_address.specs.Label.{LabelView, label_of};
+ghost use Rattle.tf_syntax.specs.ExprNames.{named_below, named_by};
+ghost use Rattle.tf_syntax.specs.ExprTree.{entries_view, tree_of};
+ghost use Rattle.tf_names.specs.Table.{named_view, names_in};
+
+use std::alloc::{AllocError, Global};
+use std::collections::BTreeMap;
+use tf_address::Label;
+use tf_config_data::{Block, Config, Repetition};
+use tf_syntax::Expr;
+
+/// A name of a configuration, with what it stands for.
+#[derive(Clone, Copy)]
+pub enum Named<'a> {
+    /// `local.NAME`: the name, and the expression that it stands for.
+    Local(&'a String, &'a Expr),
+    /// `TYPE.NAME`: the resource's type and name, and its block.
+    Resource(&'a Label, &'a Block),
+}
+
+impl Named<'_> {
+    /// Whether these are the two texts around the name's dot.
+    fn is_named(&self, first: &str, name: &str) -> bool
+        ensures { result ≡ same_pair (named_view self.now).name (first.now, name.now) }
+    {
+        match self {
+            Named::Local(own, _) => "local" == first && own.as_str() == name,
+            Named::Resource(label, _) => {
+                label.type_name.as_str() == first && label.name.as_str() == name
+            }
+        }
+    }
+}
+
+/// The names of a configuration that need and can be needed: its locals in byte order, then its resources in
+/// address order. Each stands at a place, from 0 on.
+#[derive(Drop)]
+pub struct Names<'a> {
+    entries: Vec<Named<'a>>,
+}
+
+impl<'a> Names<'a> {
+    /// The names of a configuration.
+    ///
+    /// # Errors
+    ///
+    /// Only where memory runs out.
+    pub fn new(alloc: Global, config: &'a Config) -> Result<Names<'a>, AllocError>
+        ensures { IfOk result (λ names. names_in names ≡ names_of (config_of config.now)) }
+    {
+        let mut entries = Vec::new(alloc);
+        for (name, expr) in config.locals.iter() {
+            entries.push(Named::Local(name, expr))?;
+        }
+        for (label, block) in config.resources.iter() {
+            entries.push(Named::Resource(label, block))?;
+        }
+        Ok(Names { entries })
+    }
+
+    /// How many names there are.
+    pub fn len(&self) -> usize
+        ensures { result ≡ length (names_in self.now) }
+    {
+        self.entries.len()
+    }
+
+    /// What stands at a place.
+    pub fn at(&self, place: usize) -> Named<'a>
+        requires { place < length (names_in self.now) }
+        ensures name { slice_get (names_in self.now) place ≡ Some (named_view result) }
+        ensures meant { meant_at (names_in self.now) place ≡ Some (named_view result).meant }
+    {
+        self.entries[place]
+    }
+
+    /// The place of a name, by the two texts around its dot; `None` where it isn't declared.
+    pub fn place(&self, first: &str, name: &str) -> Option<usize>
+        ensures { result ≡ place_of (names_in self.now) (first.now, name.now) }
+    {
+        for (place, named) in self.entries.iter().enumerate() {
+            if named.is_named(first, name) {
+                return Some(place);
+            }
+        }
+        None
+    }
+
+    /// The places of all names that the one at a place refers to directly, as often as it does: in its expressions,
+    /// both branches of a conditional included, and in `depends_on`. What isn't declared is left out.
+    ///
+    /// # Errors
+    ///
+    /// Only where memory runs out.
+    pub fn before(&self, alloc: Global, place: usize) -> Result<Vec<usize>, AllocError>
+        requires { place < length (names_in self.now) }
+        ensures { IfOk result (λ before. before.items ≡ directly_before (names_in self.now) place) }
+    {
+        let mut found = Vec::new(alloc);
+        self.add_meant(alloc, self.at(place), &mut found)?;
+        Ok(found)
+    }
+
+    /// Adds the places of what a name refers to.
+    fn add_meant(
+        &self,
+        alloc: Global,
+        named: Named<'_>,
+        found: &mut Vec<usize>,
+    ) -> Result<(), AllocError>
+        ensures { OnOk result (found.new.items
+            ≡ found.old.items ++ places (names_in self.now) (refers (named_view named.entry).meant)) }
+    {
+        match named {
+            Named::Local(_, expr) => self.add_named(alloc, expr, found),
+            Named::Resource(_, block) => {
+                self.add_block(alloc, block, found)?;
+                Ok(())
+            }
+        }
+    }
+
+    /// Adds the places of what a block refers to.
+    fn add_block(
+        &self,
+        alloc: Global,
+        block: &Block,
+        found: &mut Vec<usize>,
+    ) -> Result<(), AllocError>
+        ensures { OnOk result ((label : LabelView) → found.new.items
+            ≡ found.old.items ++ places (names_in self.now) (block_refers (block_at label block.now))) }
+    {
+        self.add_repetition(alloc, &block.repetition, found)?;
+        self.add_named_below(alloc, &block.arguments, found)?;
+        self.add_labels(block.depends_on.as_slice(), found)?;
+        Ok(())
+    }
+
+    /// Adds the places of what `count` or `for_each` names.
+    fn add_repetition(
+        &self,
+        alloc: Global,
+        repetition: &Repetition,
+        found: &mut Vec<usize>,
+    ) -> Result<(), AllocError>
+        ensures { OnOk result (found.new.items
+            ≡ found.old.items ++ places (names_in self.now) (named_in_repetition (repetition_of repetition.now))) }
+    {
+        match repetition {
+            Repetition::Single => Ok(()),
+            Repetition::Count(expr) | Repetition::ForEach(expr) => {
+                self.add_named(alloc, expr, found)
+            }
+        }
+    }
+
+    /// Adds the places of resources.
+    fn add_labels(&self, labels: &[Label], found: &mut Vec<usize>) -> Result<(), AllocError>
+        ensures { OnOk result (found.new.items
+            ≡ found.old.items ++ places (names_in self.now) (map label_pair (map label_of labels.now))) }
+    {
+        for label in labels {
+            self.add_place(label.type_name.as_str(), label.name.as_str(), found)?;
+        }
+        Ok(())
+    }
+
+    /// Adds the places of what the expressions of a map name.
+    fn add_named_below(
+        &self,
+        alloc: Global,
+        entries: &BTreeMap<String, Expr>,
+        found: &mut Vec<usize>,
+    ) -> Result<(), AllocError>
+        ensures { OnOk result (found.new.items
+            ≡ found.old.items ++ places (names_in self.now) (named_below (entries_view entries.now.entries))) }
+    {
+        for (_, expr) in entries.iter() {
+            self.add_named(alloc, expr, found)?;
+        }
+        Ok(())
+    }
+
+    /// Adds the places of what an expression names.
+    fn add_named(
+        &self,
+        alloc: Global,
+        expr: &Expr,
+        found: &mut Vec<usize>,
+    ) -> Result<(), AllocError>
+        ensures { OnOk result (found.new.items ≡ found.old.items ++ places (names_in self.now) (named_by (tree_of expr.now))) }
+    {
+        let references = expr.references(alloc)?;
+        for reference in &references {
+            self.add_place(reference.first.as_str(), reference.name.as_str(), found)?;
+        }
+        Ok(())
+    }
+
+    /// Adds the place of a name, where it is declared.
+    fn add_place(&self, first: &str, name: &str, found: &mut Vec<usize>) -> Result<(), AllocError>
+        ensures { OnOk result (found.new.items
+            ≡ found.old.items ++ places (names_in self.now) ((first.now, name.now) ∷ [])) }
+    {
+        if let Some(place) = self.place(first, name) {
+            found.push(place)?;
+        }
+        Ok(())
+    }
+}
