@@ -1,0 +1,9 @@
+pub mod Places
+pub mod Seen
+pub mod Locals
+pub mod Refining
+pub mod Keeping
+pub mod Laying
+pub mod TooMany
+pub mod Growing
+pub mod Stages

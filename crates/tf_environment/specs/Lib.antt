@@ -1,0 +1,8 @@
+pub mod Shape
+pub mod Standing
+pub mod Repetition
+pub mod Stages
+pub mod Laws
+pub mod Instance
+pub mod Views
+pub mod Kept

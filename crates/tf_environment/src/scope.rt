@@ -1,0 +1,55 @@
+//! What references stand for, by the standings of names.
+
+ghost use Rattle.tf_names.specs.Table.{names_in};
+ghost use Rattle.tf_operators.specs.Answer.{Gives};
+ghost use Rattle.tf_value.specs.Tree.{entries_view};
+ghost use Rattle.tf_environment.specs.Standing.{answer_at, environment, or_missing};
+ghost use Rattle.tf_environment.specs.Views.{standing_of, standings_of};
+
+use crate::standing::Standing;
+use std::alloc::Global;
+use std::collections::BTreeMap;
+use tf_eval::{EvalFault, Scope};
+use tf_names::Names;
+use tf_syntax::Reference;
+use tf_value::{Value, find};
+
+/// What references stand for: variables for their values, locals and resources for what they stand for.
+#[derive(Drop)]
+pub struct NamesScope<'a> {
+    /// The variables' values by name.
+    pub variables: &'a BTreeMap<String, Value>,
+    /// The names of locals and resources.
+    pub names: &'a Names<'a>,
+    /// What stands at the place of each name.
+    pub standings: &'a [Standing],
+}
+
+impl Scope for NamesScope<'_> {
+    ghost environment = { λ s. environment (entries_view s.variables.now.entries) (names_in s.names.now) (standings_of s.standings.now) };
+
+    fn look_up(&self, alloc: Global, reference: &Reference) -> Result<Value, EvalFault> {
+        let first = reference.first.as_str();
+        let name = reference.name.as_str();
+        if first == "var" {
+            return match find(self.variables, name) {
+                Some(value) => Ok(value.clone()?),
+                None => Err(EvalFault::Missing),
+            };
+        }
+        answer(self.standings, self.names.place(first, name))
+    }
+}
+
+/// The answer at a place; `Missing` where there is none.
+fn answer(standings: &[Standing], place: Option<usize>) -> Result<Value, EvalFault>
+    ensures { Gives (answer_at (standings_of standings.now) place) result }
+{
+    let Some(place) = place else {
+        return Err(EvalFault::Missing);
+    };
+    match standings.get(place) {
+        Some(standing) => standing.answer(),
+        None => Err(EvalFault::Missing),
+    }
+}

@@ -1,0 +1,66 @@
+//! What names stand for.
+
+ghost use Rattle.std.specs.Prelude.{◌≡◌, IfOk, Some, is_some};
+ghost use Rattle.tf_operators.specs.Answer.{Gives};
+ghost use Rattle.tf_syntax.specs.ExprTree.{tree_of as expr_of};
+ghost use Rattle.tf_eval.specs.ExprMeaning.{meaning};
+ghost use Rattle.tf_environment.specs.Standing.{or_missing};
+ghost use Rattle.tf_environment.specs.Views.{standing_of};
+
+use crate::evaluation::valued;
+use std::alloc::{AllocError, Global};
+use tf_eval::{EvalFault, Scope};
+use tf_syntax::Expr;
+use tf_value::Value;
+
+/// What a local or a resource stands for.
+#[derive(Debug, Drop)]
+pub enum Standing {
+    /// Nothing: the resource is refused, or something that it needs is.
+    Nothing,
+    /// A value.
+    Value(Value),
+    /// A fault, which is the fault of whoever refers to it. Want of memory is none.
+    Fault(EvalFault),
+}
+
+impl Standing {
+    /// Whether there is a value or a fault.
+    pub fn is_there(&self) -> bool
+        ensures { result ≡ is_some (standing_of self.now) }
+    {
+        match self {
+            Standing::Nothing => false,
+            Standing::Value(_) | Standing::Fault(_) => true,
+        }
+    }
+
+    /// The value, copied.
+    ///
+    /// # Errors
+    ///
+    /// The fault, `Missing` where there is nothing, and `OutOfMemory`.
+    pub fn answer(&self) -> Result<Value, EvalFault>
+        ensures { Gives (or_missing (standing_of self.now)) result }
+    {
+        match self {
+            Standing::Nothing => Err(EvalFault::Missing),
+            Standing::Value(value) => Ok(value.clone()?),
+            Standing::Fault(fault) => Err(*fault),
+        }
+    }
+}
+
+/// What a local stands for: what its expression means.
+///
+/// # Errors
+///
+/// Only where memory runs out.
+pub fn evaluated<S: Scope>(alloc: Global, expr: &Expr, scope: &S) -> Result<Standing, AllocError>
+    ensures { IfOk result (λ standing. standing_of standing ≡ Some (meaning (S.environment scope.now) (expr_of expr.now))) }
+{
+    match valued(alloc, expr, scope)? {
+        Ok(value) => Ok(Standing::Value(value)),
+        Err(fault) => Ok(Standing::Fault(fault)),
+    }
+}

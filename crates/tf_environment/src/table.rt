@@ -1,0 +1,154 @@
+//! What all names of a configuration stand for at a stage.
+
+ghost use Rattle.std.specs.Prelude.{◌≡◌, ◌<◌, ℕ, IfOk, None, if◌then◌else◌, is_some, length, Contains};
+ghost use Rattle.tf_config_data.specs.Names.{directly_before, meant_at};
+ghost use Rattle.tf_graph.specs.NodeSet.{has};
+ghost use Rattle.tf_graph.specs.Order.{IsInOrder};
+ghost use Rattle.tf_graph.specs.Solutions.{seen_by};
+ghost use Rattle.tf_names.specs.Needs.{IsDependence, order_in};
+ghost use Rattle.tf_names.specs.Table.{names_in};
+ghost use Rattle.tf_value.specs.Tree.{entries_view};
+ghost use Rattle.tf_environment.specs.Kept.{AreClosed, HaveStandings, OnlyWanted};
+ghost use Rattle.tf_environment.specs.Laws.{IsLocal};
+ghost use Rattle.tf_environment.specs.Standing.{StandingView, all_stand as all_that_stand, environment, stands_at, where_all};
+ghost use Rattle.tf_environment.specs.Views.{standing_of, standings_of};
+
+use crate::scope::NamesScope;
+use crate::stage::Stage;
+use crate::standing::{Standing, evaluated};
+use std::alloc::{AllocError, Global};
+use std::collections::BTreeMap;
+use tf_names::{Dependence, Named, Names};
+use tf_value::Value;
+
+/// What a configuration declares, and the values of its variables.
+#[derive(Drop)]
+pub struct Declarations<'a> {
+    /// The variables' values by name.
+    pub variables: &'a BTreeMap<String, Value>,
+    /// The names of locals and resources.
+    pub names: &'a Names<'a>,
+    /// Which of them needs which.
+    pub dependence: &'a Dependence,
+}
+
+/// What each wanted name stands for at a stage, by place, where none needs itself; nothing stands at any other place.
+/// Each local is evaluated once, and none that isn't wanted. `wanted` says of each place whether it is wanted, and with
+/// a name all that it needs is.
+///
+/// # Errors
+///
+/// Only where memory runs out.
+pub fn standings<T: Stage>(
+    alloc: Global,
+    stage: &T,
+    declared: &Declarations,
+    wanted: &[bool],
+) -> Result<Vec<Standing>, AllocError>
+    requires local { IsLocal (T.stage stage.now) }
+    requires dependence { IsDependence (names_in declared.now.names.now) declared.now.dependence.now }
+    requires closed { AreClosed (names_in declared.now.names.now) wanted.now }
+    ensures standings { IfOk result (λ kept. HaveStandings (T.stage stage.now) (entries_view declared.now.variables.now.entries)
+        (names_in declared.now.names.now) (order_in declared.now.dependence.now) wanted.now (standings_of kept.items)) }
+    ensures only { IfOk result (λ kept. OnlyWanted wanted.now (standings_of kept.items)) }
+{
+    standings_in(alloc, stage, declared, declared.dependence.order(), wanted)
+}
+
+/// The same, of the names in a list in which each stands after all that it needs.
+fn standings_in<T: Stage>(
+    alloc: Global,
+    stage: &T,
+    declared: &Declarations,
+    order: &[usize],
+    wanted: &[bool],
+) -> Result<Vec<Standing>, AllocError>
+    requires local { IsLocal (T.stage stage.now) }
+    requires dependence { IsDependence (names_in declared.now.names.now) declared.now.dependence.now }
+    requires order { IsInOrder (directly_before (names_in declared.now.names.now)) order.now }
+    requires within { (n : ℕ) → Contains order.now n → n < length (names_in declared.now.names.now) }
+    requires closed { AreClosed (names_in declared.now.names.now) wanted.now }
+    ensures standings { IfOk result (λ kept. HaveStandings (T.stage stage.now) (entries_view declared.now.variables.now.entries)
+        (names_in declared.now.names.now) order.now wanted.now (standings_of kept.items)) }
+    ensures only { IfOk result (λ kept. OnlyWanted wanted.now (standings_of kept.items)) }
+{
+    let mut kept = nothing(alloc, declared.names.len())?;
+    for place in order {
+        let is_wanted = contains(wanted, *place);
+        let standing = stand_at(alloc, stage, declared, kept.as_slice(), *place, is_wanted)?;
+        kept[*place] = standing;
+    }
+    Ok(kept)
+}
+
+/// As many places, at none of which anything stands.
+fn nothing(alloc: Global, count: usize) -> Result<Vec<Standing>, AllocError>
+    ensures length { IfOk result (λ kept. length kept.items ≡ count) }
+    ensures none { IfOk result (λ kept. (n : ℕ) → standings_of kept.items n ≡ None) }
+{
+    let mut kept = Vec::with_capacity(alloc, count)?;
+    for _ in 0..count {
+        kept.push(Standing::Nothing)?;
+    }
+    Ok(kept)
+}
+
+/// Whether a place is wanted.
+fn contains(wanted: &[bool], place: usize) -> bool
+    ensures { result ≡ has wanted.now place }
+{
+    place < wanted.len() && wanted[place]
+}
+
+/// What the name at a place stands for, by what names stand for so far; nothing where it isn't wanted.
+fn stand_at<T: Stage>(
+    alloc: Global,
+    stage: &T,
+    declared: &Declarations,
+    kept: &[Standing],
+    place: usize,
+    is_wanted: bool,
+) -> Result<Standing, AllocError>
+    requires place { place < length (names_in declared.now.names.now) }
+    requires dependence { IsDependence (names_in declared.now.names.now) declared.now.dependence.now }
+    ensures { IfOk result (λ standing. standing_of standing ≡ (if is_wanted
+        then where_all (all_that_stand (seen_by (standings_of kept.now) (directly_before (names_in declared.now.names.now) place)))
+        (stands_at (T.stage stage.now) place (meant_at (names_in declared.now.names.now) place)
+        (environment (entries_view declared.now.variables.now.entries) (names_in declared.now.names.now) (standings_of kept.now)))
+        else None)) }
+{
+    if !is_wanted || !all_stand(kept, declared.dependence.before(place)) {
+        return Ok(Standing::Nothing);
+    }
+    let scope = NamesScope {
+        variables: declared.variables,
+        names: declared.names,
+        standings: kept,
+    };
+    match declared.names.at(place) {
+        Named::Local(_, expr) => evaluated(alloc, expr, &scope),
+        Named::Resource(label, block) => stage.stand(alloc, place, label, block, &scope),
+    }
+}
+
+/// Whether something stands at each of these places.
+pub fn all_stand(kept: &[Standing], places: &[usize]) -> bool
+    ensures { result ≡ all_that_stand (seen_by (standings_of kept.now) places.now) }
+{
+    for place in places {
+        if !stands(kept, *place) {
+            return false;
+        }
+    }
+    true
+}
+
+/// Whether something stands at a place.
+fn stands(kept: &[Standing], place: usize) -> bool
+    ensures { result ≡ is_some (standings_of kept.now place) }
+{
+    match kept.get(place) {
+        Some(standing) => standing.is_there(),
+        None => false,
+    }
+}

@@ -1,0 +1,138 @@
+-- Shapes, name after name.
+use Rattle.std.proofs.Common.{◌≡◌, ◌<◌, ◌≤◌, ◌+◌, ℕ, zero, suc, Bool, true, if◌then◌else◌, List, [], ◌∷◌, ◌++◌, map, length, get_or, min, replicate, Option, None, Some, Result, Ok, Err, IfOk, Contains, Vec, Global, refl, sym, ap, ◌∙◌, arith, inl, inr}
+use Rattle.std.specs.declared.alloc.AllocError.{AllocError}
+use Rattle.std.proofs.Math.Nat.{le-min, min-le_left}
+use Rattle.std.proofs.lemmas.Bool.{cases_eq, cases_lt}
+use Rattle.std.proofs.lemmas.List.{get_or_append_left, get_or_push, length_push, length-map}
+use Rattle.std.specs.List.{AllByRecursion}
+use Rattle.tf_config_data.specs.Names.{NameView, Meant, a_local, a_block, meant_at, refers_at, named_in_repetition, label_pair, directly_before}
+use Rattle.tf_graph.specs.NodeSet.{has}
+use Rattle.tf_graph.specs.Solutions.{seen_by}
+use Rattle.tf_graph.proofs.Solving.{seen_by-same}
+use Rattle.tf_syntax.specs.ExprNames.{named_below}
+use Rattle.tf_value.specs.Tree.{Entries}
+use Rattle.tf_eval.proofs.Locality.{both_halves, expressions_local}
+use Rattle.tf_environment.specs.Shape.{one}
+use Rattle.tf_environment.specs.Standing.{StandingView, all_stand, environment, AreStandings}
+use Rattle.tf_environment.specs.Views.{shape_of, shapes_of, standings_of}
+use Rattle.tf_environment.specs.Kept.{HaveStandings}
+use Rattle.tf_environment.specs.Stages.{expansion}
+use Rattle.tf_environment.specs.declared.standing.Standing.{Standing}
+use Rattle.tf_environment.specs.declared.repetition.RepetitionFault.{RepetitionFault}
+use Rattle.tf_environment.specs.declared.shape.Shape.{Shape}
+use Rattle.tf_environment.proofs.Locals.{instances_local}
+use Rattle.tf_environment.proofs.Places.{all_places}
+use Rattle.tf_environment.proofs.Seen.{agree_on}
+use Rattle.tf_expand.specs.Expanding.{max_instances, shape_in, expanded, instances_before, AreExpanded, IsFirstRefused, AreTooMany}
+use Rattle.tf_expand.specs.Told.{HaveShapes, Shapes, Refuses}
+use Rattle.tf_expand.specs.declared.expansion.ExpansionFault.{ExpansionFault}
+use Rattle.tf_expand.specs.declared.expansion.ExpansionFault.TheVariants.{OutOfMemory, Resource, TooMany}
+
+-- the shapes of the names before a place
+pub record HaveShapesBefore (variables : Entries) (names : List NameView) (standings : ℕ → StandingView) (n : ℕ) (shapes : List Shape) : Type 0 where
+  pub long : length shapes ≡ n
+  pub each : (m : ℕ) → m < n → expanded variables names standings m ≡ Ok (shapes_of shapes m)
+
+shapes-push : (shapes : List Shape) (shape : Shape) (m : ℕ) → shapes_of (shapes ++ shape ∷ []) m ≡ get_or (map shape_of shapes ++ shape_of shape ∷ []) m one
+shapes-push shapes shape m = ap (λ xs. get_or xs m one) (map-push shapes)
+  where
+    map-push : (xs : List Shape) → map shape_of (xs ++ shape ∷ []) ≡ map shape_of xs ++ shape_of shape ∷ []
+    map-push [] = refl
+    map-push (x ∷ xs) = ap (λ ys. shape_of x ∷ ys) (map-push xs)
+
+-- one shape more
+pub shapes_more : (variables : Entries) (names : List NameView) (standings : ℕ → StandingView) (n : ℕ) (shapes now : List Shape) (shape : Shape) → now ≡ shapes ++ shape ∷ []
+    → Ok (shape_of shape) ≡ expanded variables names standings n → HaveShapesBefore variables names standings n shapes → HaveShapesBefore variables names standings (n + 1) now
+shapes_more variables names standings n shapes now shape is worked inv = rw is (record {
+  long = length_push shapes shape ∙ ap (λ k. k + 1) inv.long;
+  each = λ m h.
+      let long : length (map shape_of shapes) ≡ n = length-map shapes shape_of ∙ inv.long in
+      elim (cases_eq m n) [
+        | inl here ↦
+            ap (expanded variables names standings) here ∙ sym worked ∙ ap Ok (sym (shapes-push shapes shape m ∙ get_or_push (map shape_of shapes) (shape_of shape) one m (long ∙ sym here)))
+        | inr other ↦
+            inv.each m (omega arith) ∙ ap Ok (sym (shapes-push shapes shape m ∙ get_or_append_left (map shape_of shapes) (shape_of shape ∷ []) one m (omega (arith, long))))
+      ];
+})
+
+-- the first that is refused
+pub first_refused : (variables : Entries) (names : List NameView) (standings : ℕ → StandingView) (n : ℕ) (shapes : List Shape) (why : RepetitionFault) → n < length names
+    → Err why ≡ expanded variables names standings n → HaveShapesBefore variables names standings n shapes → IsFirstRefused variables names standings n why
+first_refused variables names standings n shapes why h refused inv = record { inside = h; refused = sym refused; first = λ m k. (shapes_of shapes m, inv.each m k) }
+
+pub shapes_all : (variables : Entries) (names : List NameView) (standings : ℕ → StandingView) (n : ℕ) (shapes : List Shape) → n ≡ length names
+    → HaveShapesBefore variables names standings n shapes → HaveShapes variables names standings shapes
+shapes_all variables names standings n shapes all inv = record { long = inv.long ∙ all; each = λ m h. inv.each m (omega arith) }
+
+-- all places are wanted
+pub has_all : (count n : ℕ) → n < count → has (replicate count true) n ≡ true
+has_all zero n h = absurd (omega arith)
+has_all (suc count) zero h = refl
+has_all (suc count) (suc n) h = has_all count n (omega arith)
+
+-- so are all that stand directly before a name
+pub all_closed : (names : List NameView) (wanted : List Bool) → wanted ≡ replicate (length names) true → (n : ℕ) → AllByRecursion (λ a. has wanted a ≡ true) (directly_before names n)
+all_closed names wanted is n = all_places (λ a. has wanted a ≡ true) names (refers_at (meant_at names n)) (λ a h. rw is (has_all (length names) a h))
+
+shape_same : (variables : Entries) (names : List NameView) (kept standings : ℕ → StandingView) → ((a : ℕ) → a < length names → kept a ≡ standings a) → (m : Option Meant)
+    → shape_in m (environment variables names kept) ≡ shape_in m (environment variables names standings)
+shape_same variables names kept standings h None = refl
+shape_same variables names kept standings h (Some (a_local e)) = refl
+shape_same variables names kept standings h (Some (a_block b)) =
+    let e = environment variables names kept in
+    let f = environment variables names standings in
+    let agree = agree_on variables names kept standings (refers_at (Some (a_block b))) (all_places (λ a. kept a ≡ standings a) names (refers_at (Some (a_block b))) h) in
+    let outer = both_halves (λ pair. e pair.0 pair.1 ≡ f pair.0 pair.1) (named_in_repetition b.repetition ++ named_below b.arguments) (map label_pair b.depends_on) agree in
+    let inner = both_halves (λ pair. e pair.0 pair.1 ≡ f pair.0 pair.1) (named_in_repetition b.repetition) (named_below b.arguments) outer.0 in
+    instances_local expressions_local b.repetition e f inner.0
+
+-- standings that are the same at each name give each the same
+pub expanded_same : (variables : Entries) (names : List NameView) (kept standings : ℕ → StandingView) → ((a : ℕ) → a < length names → kept a ≡ standings a) → (n : ℕ)
+    → expanded variables names kept n ≡ expanded variables names standings n
+expanded_same variables names kept standings h n =
+    let seen : seen_by kept (directly_before names n) ≡ seen_by standings (directly_before names n) =
+    seen_by-same kept standings (directly_before names n) (all_places (λ a. kept a ≡ standings a) names (refers_at (meant_at names n)) h) in
+    ap (λ x. if all_stand x then shape_in (meant_at names n) (environment variables names kept) else Ok one) seen
+    ∙ ap (λ y. if all_stand (seen_by standings (directly_before names n)) then y else Ok one) (shape_same variables names kept standings h (meant_at names n))
+
+few_of : (a limit : ℕ) → min a 18446744073709551615 ≤ limit → limit < 18446744073709551615 → a ≤ limit
+few_of a limit h k = elim (cases_lt limit a) [
+  | inl more ↦ let both : limit + 1 ≤ min a 18446744073709551615 = le-min (omega arith) (omega arith) in absurd (omega arith)
+  | inr few ↦ omega arith
+]
+
+pub all_expanded : (variables : Entries) (names : List NameView) (kept standings : ℕ → StandingView) (shapes : List Shape) → ((a : ℕ) → a < length names → kept a ≡ standings a)
+    → HaveShapes variables names kept shapes → min (instances_before names (shapes_of shapes) (length names)) 18446744073709551615 ≤ max_instances → AreExpanded variables names standings (shapes_of shapes)
+all_expanded variables names kept standings shapes same have few = record {
+  each = λ n h. sym (expanded_same variables names kept standings same n) ∙ have.each n h;
+  few = few_of (instances_before names (shapes_of shapes) (length names)) max_instances few (omega arith);
+}
+
+more_of : (a limit : ℕ) → limit < min a 18446744073709551615 → limit < a
+more_of a limit h = let least : min a 18446744073709551615 ≤ a = min-le_left a 18446744073709551615 in omega arith
+
+pub too_many : (variables : Entries) (names : List NameView) (kept standings : ℕ → StandingView) (shapes : List Shape) → ((a : ℕ) → a < length names → kept a ≡ standings a)
+    → HaveShapes variables names kept shapes → max_instances < min (instances_before names (shapes_of shapes) (length names)) 18446744073709551615 → AreTooMany variables names standings
+too_many variables names kept standings shapes same have more = record {
+  shapes = shapes_of shapes;
+  each = λ n h. sym (expanded_same variables names kept standings same n) ∙ have.each n h;
+  more = more_of (instances_before names (shapes_of shapes) (length names)) max_instances more;
+}
+
+-- what is refused by standings that are the same at each name
+pub refused_same : {X : Type 0} → (view : X → List Shape) (variables : Entries) (names : List NameView) (kept standings : ℕ → StandingView) (fault : ExpansionFault) → ((a : ℕ) → a < length names → kept a ≡ standings a)
+    → Shapes {X = X} view variables names kept (Err fault) → Refuses variables names standings fault
+refused_same view variables names kept standings OutOfMemory same h = tt
+refused_same view variables names kept standings TooMany same h = absurd h
+refused_same view variables names kept standings (Resource n why) same h = record {
+  inside = h.inside;
+  refused = sym (expanded_same variables names kept standings same n) ∙ h.refused;
+  first = λ m k. let before = h.first m k in (before.0, sym (expanded_same variables names kept standings same m) ∙ before.1);
+}
+
+-- where all names are wanted and stand in the order, each has its standing
+pub all_wanted : (variables : Entries) (names : List NameView) (order : List ℕ) (wanted : List Bool) (result : Result (Vec Standing Global) AllocError) → wanted ≡ replicate (length names) true
+    → ((n : ℕ) → n < length names → Contains order n) → IfOk result (λ kept. HaveStandings expansion variables names order wanted (standings_of kept.items))
+    → IfOk result (λ kept. (standings : ℕ → StandingView) → AreStandings expansion variables names standings → (n : ℕ) → n < length names → standings_of kept.items n ≡ standings n)
+all_wanted variables names order wanted (Ok kept) all whole have = λ standings solves n h. have standings solves n (whole n h) (ap (λ xs. has xs n) all ∙ has_all (length names) n h)
+all_wanted variables names order wanted (Err e) all whole have = have

@@ -1,0 +1,23 @@
+use Rattle.std.proofs.Common.{◌≡◌, true, length, replicate, ap, ◌∙◌}
+use Rattle.tf_names.specs.Needs.{order_in}
+use Rattle.tf_names.specs.Table.{names_in}
+use Rattle.tf_value.specs.Tree.{entries_view}
+use Rattle.tf_eval.proofs.Locality.{expressions_local}
+use Rattle.tf_environment.proofs.Locals.{expansion_local}
+use Rattle.tf_expand.proofs.Shaping.{all_closed, all_wanted}
+use Rattle.tf_expand.proofs.expansion.all_standings.Goals as goal
+
+pub standings-requires-clause-local : goal.standings-requires-clause-local
+standings-requires-clause-local c = expansion_local expressions_local
+
+pub standings-requires-clause-closed : goal.standings-requires-clause-closed
+standings-requires-clause-closed c =
+    let names = names_in c.args.declared.now.names.now in
+    let all : c.as_slice.result.now ≡ replicate (length names) true = c.as_slice.ensures.value ∙ c.in_ok-wanted.ensures.items_if_clones_equal (λ y e. e) ∙ ap (λ n. replicate n true) c.len.ensures in
+    λ n h. all_closed names c.as_slice.result.now all n
+
+pub returns : goal.returns
+returns c =
+    let names = names_in c.args.declared.now.names.now in
+    let all : c.as_slice.result.now ≡ replicate (length names) true = c.as_slice.ensures.value ∙ c.in_ok-wanted.ensures.items_if_clones_equal (λ y e. e) ∙ ap (λ n. replicate n true) c.len.ensures in
+    all_wanted (entries_view c.args.declared.now.variables.now.entries) names (order_in c.args.declared.now.dependence.now) c.as_slice.result.now c.standings.result all (c.requires.dependence.whole c.requires.acyclic) c.standings.ensures.standings

@@ -1,0 +1,2 @@
+pub mod Expanding
+pub mod Told

@@ -1,0 +1,9 @@
+//! The instances of each resource of a configuration, or why there are none.
+//!
+//! In the expansion `count` and `for_each` are evaluated where nothing is known of the objects of resources but how
+//! many there are. What becomes of each name is defined in `specs/Expanding.antt`.
+#![tactic(auto)]
+
+mod expansion;
+
+pub use expansion::{ExpansionFault, MAX_INSTANCES, expand};
