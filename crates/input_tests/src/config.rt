@@ -205,10 +205,7 @@ static TEMPLATES: [(&str, &str); 16] = [
         "${upper(1)}",
         "error 4 at resource.sim_net.a.x: UnknownName",
     ),
-    (
-        "a${join(1, [toset([])])}",
-        "error 4 at resource.sim_net.a.x: UnknownName",
-    ),
+    ("a${join(1, [toset([])])}", "1 blocks"),
 ];
 
 #[test]

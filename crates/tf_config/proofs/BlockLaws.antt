@@ -9,10 +9,11 @@ use Rattle.tf_address.specs.Name.{is_name}
 use Rattle.std.specs.List.Sorted.{IsStrictlySortedBy}
 use Rattle.std.specs.Ordering.{match_ordering, ordering_reverse}
 use Rattle.serde_json.specs.Data.{Data, null, boolean, number, string, array, object}
-use Rattle.tf_expr.specs.Tree.{Entries}
 use Rattle.tf_json_path.proofs.Walks.{Builds-keeps}
-use Rattle.tf_config.specs.Config.{BlockView, Blocks, address_cmp, put_block}
-use Rattle.tf_config.specs.Configuration.{BuildsFrom, IsBody, AddsResource, AddsType, AddsTypes, AddsSection, IsConfiguration}
+use Rattle.tf_address.specs.Label.{LabelView}
+use Rattle.tf_config.specs.Config.{BlockBody, Blocks, address_cmp, block_with, put_block, plain_config}
+use Rattle.tf_config_data.specs.Config.{BlockView, ConfigView}
+use Rattle.tf_config.specs.Configuration.{BuildsFrom, AddsResource, AddsType, AddsOfSection, AddsSection, IsConfiguration}
 use Rattle.tf_config.specs.Laws.{HasNames}
 use Rattle.tf_config.specs.Words.{section_of, reserved_types}
 use Rattle.tf_config.specs.declared.words.Section.{Section}
@@ -34,32 +35,34 @@ first_of true b h = refl
 first_of false b h = absurd (cc)
 
 module _ (P : Blocks → Type 0)
-    (keeps : (kind name : List ℕ) (d : Data) (arguments : Entries) (a : Blocks) → is_name kind ≡ true → is_name name ≡ true → IsBody d arguments → P a
-    → P (put_block (record { kind = kind; name = name; arguments = arguments }) a)) where
-  resource_keeps : (kind : List ℕ) → is_name kind ≡ true → (k : List ℕ) (d : Data) (a b : Blocks) → AddsResource kind k d a b → P a → P b
-  resource_keeps kind named k d a b h p = subst P h.3 (keeps kind k d h.1 a named h.0 h.2 p)
+    (keeps : (label : LabelView) (body : BlockBody) (a : Blocks) → is_name label.type_name ≡ true → is_name label.name ≡ true → P a → P (put_block (block_with label body) a)) where
+  resource_keeps : (type_name : List ℕ) → is_name type_name ≡ true → (k : List ℕ) (d : Data) (a b : Blocks) → AddsResource type_name k d a b → P a → P b
+  resource_keeps type_name named k d a b h p = subst P h.1.2 (keeps (record { type_name = type_name; name = k }) h.1.0 a named h.0 p)
 
   type_keeps : (k : List ℕ) (d : Data) (a b : Blocks) → AddsType k d a b → P a → P b
   type_keeps k d a b h p = object_keeps (AddsResource k) P (resource_keeps k (first_of (is_name k) (not (list_any (bytes_eq k) reserved_types)) h.0)) d a b h.1 p
 
-  types_keep : (s : Section) (d : Data) (a b : Blocks) → AddsTypes s d a b → P a → P b
-  types_keep sections.Comment d a b h p = subst P h p
-  types_keep sections.Resource d a b h p = object_keeps AddsType P type_keeps d a b h p
-  types_keep sections.Other d a b h p = absurd h
+  section_keeps : (s : Section) (d : Data) (a b : ConfigView) → AddsOfSection s d a b → P a.blocks → P b.blocks
+  section_keeps sections.Comment d a b h p = subst (λ c. P c.blocks) h p
+  section_keeps sections.Variables d a b h p = subst (λ c. P c.blocks) h.2 p
+  section_keeps sections.Locals d a b h p = subst (λ c. P c.blocks) h.2 p
+  section_keeps sections.Outputs d a b h p = subst (λ c. P c.blocks) h.2 p
+  section_keeps sections.Resources d a b h p = subst (λ c. P c.blocks) h.2 (object_keeps AddsType P type_keeps d a.blocks h.0 h.1 p)
+  section_keeps sections.Other d a b h p = absurd h
 
-  configuration_keeps : (tree : Data) (blocks : Blocks) → IsConfiguration tree blocks → P [] → P blocks
-  configuration_keeps tree blocks h p = object_keeps AddsSection P (λ k d a b. types_keep (section_of k) d a b) tree [] blocks h p
+  configuration_keeps : (tree : Data) (config : ConfigView) → IsConfiguration tree config → P [] → P config.blocks
+  configuration_keeps tree config h p = object_keeps AddsSection (λ c. P c.blocks) (λ k d a b. section_keeps (section_of k) d a b) tree plain_config config h p
 
 -- ---- order
 
 addresses_total : IsTotalOrder address_cmp
-addresses_total = then_total (on_total (λ (b : BlockView). b.kind) nat_list_cmp_total) (on_total (λ (b : BlockView). b.name) nat_list_cmp_total)
+addresses_total = then_total (on_total (λ (b : BlockView). b.label.type_name) nat_list_cmp_total) (on_total (λ (b : BlockView). b.label.name) nat_list_cmp_total)
 
 abbrev AreAfter : BlockView → Blocks → Type 0
 AreAfter first blocks = AllByRecursion (λ block. address_cmp first block ≡ Less) blocks
 
 after_put_at : (o : Ordering) (first block c : BlockView) (cs : Blocks) → address_cmp first block ≡ Less → AreAfter first (c ∷ cs) → AreAfter first (put_block block cs)
-    → AreAfter first (match_ordering o (block ∷ c ∷ cs) (record c { arguments = block.arguments } ∷ cs) (c ∷ put_block block cs))
+    → AreAfter first (match_ordering o (block ∷ c ∷ cs) (record block { label = c.label } ∷ cs) (c ∷ put_block block cs))
 after_put_at Less first block c cs h all later = (h, all)
 after_put_at Equal first block c cs h all later = all
 after_put_at Greater first block c cs h all later = (all.0, later)
@@ -73,7 +76,7 @@ after_later block c [] h all = tt
 after_later block c (d ∷ ds) h all = (addresses_total.trans block c d h all.0, after_later block c ds h all.1)
 
 order_put_at : (o : Ordering) (block c : BlockView) (cs : Blocks) → address_cmp block c ≡ o → AreAfter c cs → IsStrictlySortedBy address_cmp cs → IsStrictlySortedBy address_cmp (put_block block cs)
-    → IsStrictlySortedBy address_cmp (match_ordering o (block ∷ c ∷ cs) (record c { arguments = block.arguments } ∷ cs) (c ∷ put_block block cs))
+    → IsStrictlySortedBy address_cmp (match_ordering o (block ∷ c ∷ cs) (record block { label = c.label } ∷ cs) (c ∷ put_block block cs))
 unfolding IsStrictlySortedBy
 order_put_at Less block c cs is after sorted later = ((is, after_later block c cs is after), (after, sorted))
 order_put_at Equal block c cs is after sorted later = (after, sorted)
@@ -84,14 +87,14 @@ unfolding IsStrictlySortedBy
 order_put block [] sorted = (tt, tt)
 order_put block (c ∷ cs) sorted = order_put_at (address_cmp block c) block c cs refl sorted.0 sorted.1 (order_put block cs sorted.1)
 
-pub blocks_in_order : (tree : Data) (blocks : Blocks) → IsConfiguration tree blocks → IsStrictlySortedBy address_cmp blocks
+pub blocks_in_order : (tree : Data) (config : ConfigView) → IsConfiguration tree config → IsStrictlySortedBy address_cmp config.blocks
 unfolding IsStrictlySortedBy
-blocks_in_order tree blocks h = configuration_keeps (IsStrictlySortedBy address_cmp) (λ kind name d arguments a of_kind of_name body sorted. order_put (record { kind = kind; name = name; arguments = arguments }) a sorted) tree blocks h tt
+blocks_in_order tree config h = configuration_keeps (IsStrictlySortedBy address_cmp) (λ label body a of_type of_name sorted. order_put (block_with label body) a sorted) tree config h tt
 
 -- ---- names
 
 names_put_at : (o : Ordering) (block c : BlockView) (cs : Blocks) → HasNames block → AllByRecursion HasNames (c ∷ cs) → AllByRecursion HasNames (put_block block cs)
-    → AllByRecursion HasNames (match_ordering o (block ∷ c ∷ cs) (record c { arguments = block.arguments } ∷ cs) (c ∷ put_block block cs))
+    → AllByRecursion HasNames (match_ordering o (block ∷ c ∷ cs) (record block { label = c.label } ∷ cs) (c ∷ put_block block cs))
 names_put_at Less block c cs h all more = (h, all)
 names_put_at Equal block c cs h all more = all
 names_put_at Greater block c cs h all more = (all.0, more)
@@ -100,6 +103,6 @@ names_put : (block : BlockView) (cs : Blocks) → HasNames block → AllByRecurs
 names_put block [] h all = (h, tt)
 names_put block (c ∷ cs) h all = names_put_at (address_cmp block c) block c cs h all (names_put block cs h all.1)
 
-pub blocks_named : (tree : Data) (blocks : Blocks) → IsConfiguration tree blocks → AllByRecursion HasNames blocks
-blocks_named tree blocks h =
-    configuration_keeps (AllByRecursion HasNames) (λ kind name d arguments a of_kind of_name body all. names_put (record { kind = kind; name = name; arguments = arguments }) a (of_kind, of_name) all) tree blocks h tt
+pub blocks_named : (tree : Data) (config : ConfigView) → IsConfiguration tree config → AllByRecursion HasNames config.blocks
+blocks_named tree config h =
+    configuration_keeps (AllByRecursion HasNames) (λ label body a of_type of_name all. names_put (block_with label body) a (of_type, of_name) all) tree config h tt

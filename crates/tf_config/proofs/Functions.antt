@@ -1,5 +1,5 @@
 -- Names, one after another, that are those of functions.
-use Rattle.std.proofs.Common.{◌≡◌, ℕ, suc, ◌+◌, ◌<◌, List, [], ◌∷◌, Option, None, Some, Bool, true, String, Global, IsSome, is_none, length, get_or, drop, drop-cons, map, string_bytes, sym, ap, ◌∙◌, subst, add-one}
+use Rattle.std.proofs.Common.{◌≡◌, ℕ, suc, ◌+◌, ◌<◌, List, ◌∷◌, Option, None, Some, true, String, Global, IsSome, is_none, length, get_or, drop, drop-cons, map, string_bytes, sym, ap, ◌∙◌, subst, add-one}
 use Rattle.std.specs.List.{AllByRecursion}
 use Rattle.tf_config.specs.KnownNames.{IsFunction}
 

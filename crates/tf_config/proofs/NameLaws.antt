@@ -2,8 +2,8 @@
 use Rattle.std.proofs.Common.{◌≡◌, ℕ, ◌+◌, List, [], ◌∷◌, ◌++◌, refl}
 use Rattle.std.specs.Fmt.{decimal}
 use Rattle.std.specs.List.{AllByRecursion}
-use Rattle.tf_expr.specs.Named.{named_by, named_among, named_below, called_by, called_among, called_below}
-use Rattle.tf_expr.specs.Tree.{Tree, null, boolean, whole, template, list, map, Trees, no_trees, tree, Entries, no_entries, entry}
+use Rattle.tf_syntax.specs.ExprNames.{named_by, named_among, named_below, called_by, called_among, called_below}
+use Rattle.tf_syntax.specs.ExprTree.{Tree, null, boolean, whole, template, list, map, Trees, no_trees, tree, Entries, no_entries, entry}
 use Rattle.tf_json_path.proofs.Checks.{AllMet-append, AllMet-left, AllMet-right}
 use Rattle.tf_config.specs.Config.{Blocks}
 use Rattle.tf_config.specs.KnownNames.{IsFunction, AreNamesMet, AreKnown, name_checks, item_name_checks, entry_name_checks, block_place, block_name_checks, KnownBlocks, NamesNothing}

@@ -1,15 +1,16 @@
 -- What is told of checks, one after another.
-use Rattle.std.proofs.Common.{ℕ, List, ◌∷◌, ◌++◌, string_bytes, refl}
+use Rattle.std.proofs.Common.{ℕ, ◌+◌, ◌<◌, List, ◌∷◌, ◌++◌, length, get_or, take, string_bytes, refl}
 use Rattle.serde_json.proofs.Views.{Entry}
 use Rattle.serde_json.specs.Data.{Data}
-use Rattle.serde_json.specs.View.{view, members_view}
+use Rattle.serde_json.specs.View.{view, items_view, members_view}
+use Rattle.serde_json.specs.declared.value.Value.{Value}
 use Rattle.tf_expr.proofs.Within.{IsFirst-demanded_as}
 use Rattle.tf_expr.specs.Demand as expr
 use Rattle.tf_expr.specs.Fault as faults
 use Rattle.tf_expr.specs.Within.{demanded_as}
 use Rattle.tf_json_path.proofs.Checks.{IsFirst-left, IsFirst-right}
-use Rattle.tf_json_path.proofs.Walks.{fails_at}
-use Rattle.tf_json_path.specs.Walk.{each}
+use Rattle.tf_json_path.proofs.Walks.{fails_at, fails_at_item}
+use Rattle.tf_json_path.specs.Walk.{each, each_item}
 use Rattle.tf_config.specs.Demand.{Checks, AreMet, IsMet, Fails, Refuses, of_expression}
 use Rattle.tf_refusal.specs.OfExpression.{refused_expression, way_of}
 use Rattle.tf_refusal.specs.Refusal.{Told, no_memory, workers, fault}
@@ -30,6 +31,13 @@ pub Refuses-at : (checks : List ℕ → Data → Checks) (done : List Entry) (e 
 Refuses-at checks done e more no_memory met h = tt
 Refuses-at checks done e more workers met h = absurd h
 Refuses-at checks done e more (fault code place detail) met h = fails_at IsMet Fails place (code, detail) checks done e more met h
+
+-- and so of the first element
+pub Refuses-at_item : (checks : ℕ → Data → Checks) (vs : List Value) (n i : ℕ) (d : Value) (t : Told) → i < length vs
+    → AreMet (each_item checks n (items_view (take i vs))) → Refuses (checks (n + i) (view (get_or vs i d))) t → Refuses (each_item checks n (items_view vs)) t
+Refuses-at_item checks vs n i d no_memory within met h = tt
+Refuses-at_item checks vs n i d workers within met h = absurd h
+Refuses-at_item checks vs n i d (fault code place detail) within met h = fails_at_item IsMet Fails place (code, detail) checks vs n i d within met h
 
 -- what is told of an expression is told of it as a part of a configuration
 pub Refuses-expression : (checks : expr.Checks) (t : faults.Told) → expr.Refuses checks t → Refuses (demanded_as of_expression checks) (refused_expression t)

@@ -1,5 +1,5 @@
 -- What the format of a configuration demands, and how a demand fails.
-use Rattle.std.specs.Prelude.{◌≡◌, ℕ, List, IsTrue, MatchResult, Result, false}
+use Rattle.std.specs.Prelude.{◌≡◌, ℕ, Bool, List, IsTrue, MatchResult, Result, false}
 use Rattle.tf_address.specs.Name.{is_name}
 use Rattle.tf_expr.specs.Demand as expr
 use Rattle.tf_expr.specs.declared.fault.Cause.{Cause}
@@ -13,17 +13,22 @@ use Rattle.tf_refusal.specs.declared.refusal.Refusal.{Refusal}
 pub data Demand : Type 0 where
   -- nothing is allowed at the place
   nothing_fits : Demand
-  -- the text is a name
-  a_name : List ℕ → Demand
-  -- the text is a name that may be a resource type
-  a_type_name : List ℕ → Demand
+  -- a condition on what stands at the place
+  holds : Bool → Demand
   -- what is demanded of a part of an expression
   of_expression : expr.Demand → Demand
 
+-- the text is a name
+abbrev pub a_name : List ℕ → Demand
+a_name text = holds (is_name text)
+
+-- the text is a name that may be a resource type
+abbrev pub a_type_name : List ℕ → Demand
+a_type_name text = holds (is_type_name text)
+
 abbrev pub IsMet : Demand → Type 0
 IsMet nothing_fits = ⊥
-IsMet (a_name text) = IsTrue (is_name text)
-IsMet (a_type_name text) = IsTrue (is_type_name text)
+IsMet (holds condition) = IsTrue condition
 IsMet (of_expression demand) = expr.IsMet demand
 
 -- 2, BadShape
@@ -37,8 +42,7 @@ unknown_name = (code.unknown_name, bare)
 -- a demand fails in this way
 abbrev pub Fails : Demand → Way → Type 0
 Fails nothing_fits way = way ≡ bad_shape
-Fails (a_name text) way = (is_name text ≡ false) × (way ≡ bad_shape)
-Fails (a_type_name text) way = (is_type_name text ≡ false) × (way ≡ bad_shape)
+Fails (holds condition) way = (condition ≡ false) × (way ≡ bad_shape)
 Fails (of_expression demand) way = (cause : Cause) × expr.Fails demand cause × (way ≡ way_of cause)
 
 -- what there is to check, in walk order
@@ -49,11 +53,15 @@ Checks = List (Check Demand)
 abbrev pub AreMet : Checks → Type 0
 AreMet = AllMet IsMet
 
--- The first fault of the checks is what is told, or there was no memory.
+-- The first fault of some checks is what is told, or there was no memory.
+abbrev pub RefusesBy : {D : Type 0} → (D → Type 0) → (D → Way → Type 0) → List (Check D) → Told → Type 0
+RefusesBy IsMet Fails checks no_memory = Unit {0}
+RefusesBy IsMet Fails checks workers = ⊥
+RefusesBy IsMet Fails checks (fault code place detail) = IsFirst IsMet Fails place (code, detail) checks
+
+-- the same of what the format demands
 abbrev pub Refuses : Checks → Told → Type 0
-Refuses checks no_memory = Unit {0}
-Refuses checks workers = ⊥
-Refuses checks (fault code place detail) = IsFirst IsMet Fails place (code, detail) checks
+Refuses = RefusesBy IsMet Fails
 
 -- An answer that only judges: all checks are met, or the first fault is told.
 abbrev pub Judges : {T : Type 0} → Checks → Result T Refusal → Type 0

@@ -2,16 +2,17 @@
 use Rattle.std.specs.Prelude.{◌≡◌, ℕ, ◌+◌, List, [], ◌∷◌, ◌++◌, IsSome, MatchResult, Result, codes}
 use Rattle.std.specs.Fmt.{decimal}
 use Rattle.std.specs.List.{AllByRecursion}
-use Rattle.tf_expr.specs.Named.{named_below, called_below}
-use Rattle.tf_expr.specs.Tree.{Tree, null, boolean, whole, template, list, map, Trees, no_trees, tree, Entries, no_entries, entry}
+use Rattle.tf_syntax.specs.ExprNames.{named_below, called_below}
+use Rattle.tf_syntax.specs.ExprTree.{Tree, null, boolean, whole, template, list, map, Trees, no_trees, tree, Entries, no_entries, entry}
 use Rattle.tf_expr.specs.Functions.{function_named}
 use Rattle.tf_expr.specs.TemplateNames.{called, named}
 use Rattle.tf_expr.specs.TemplateTree.{Woven}
-use Rattle.tf_json_path.specs.Check.{Check, AllMet, IsFirst, demanded}
-use Rattle.tf_config.specs.Config.{BlockView, Blocks}
-use Rattle.tf_config.specs.Demand.{unknown_name}
+use Rattle.tf_json_path.specs.Check.{Check, AllMet, demanded}
+use Rattle.tf_config.specs.Config.{Blocks}
+use Rattle.tf_config_data.specs.Config.{BlockView}
+use Rattle.tf_config.specs.Demand.{unknown_name, RefusesBy}
 use Rattle.tf_refusal.specs.OfExpression.{Way}
-use Rattle.tf_refusal.specs.Refusal.{Told, no_memory, workers, fault, told}
+use Rattle.tf_refusal.specs.Refusal.{Told, told}
 use Rattle.tf_refusal.specs.declared.refusal.Refusal.{Refusal}
 
 -- the name is that of a function
@@ -59,7 +60,7 @@ abbrev mutual
 
 -- the place of a block in the file: `resource`, its type, its name
 abbrev pub block_place : BlockView → List (List ℕ)
-block_place block = block.name ∷ block.kind ∷ codes "resource" ∷ []
+block_place block = block.label.name ∷ block.label.type_name ∷ codes "resource" ∷ []
 
 -- what there is to check of the arguments of blocks, block after block
 abbrev pub block_name_checks : Blocks → NameChecks
@@ -72,9 +73,7 @@ AreKnown = AllMet AreNamesMet
 
 -- The first text with a name that isn't known is what is told, or there was no memory.
 abbrev pub RefusesNames : NameChecks → Told → Type 0
-RefusesNames checks no_memory = Unit {0}
-RefusesNames checks workers = ⊥
-RefusesNames checks (fault code place detail) = IsFirst AreNamesMet AreNamesWrong place (code, detail) checks
+RefusesNames = RefusesBy AreNamesMet AreNamesWrong
 
 -- An answer that only judges: each name is known, or the first text with another name is told.
 abbrev pub JudgesNames : {T : Type 0} → NameChecks → Result T Refusal → Type 0

@@ -5,40 +5,42 @@ use Rattle.std.specs.List.Sorted.{IsStrictlySortedBy}
 use Rattle.serde_json.specs.Data.{Data}
 use Rattle.tf_expr.specs.Demand as expr
 use Rattle.tf_expr.specs.Spelling.{SpellsTemplate}
-use Rattle.tf_expr.specs.TemplateTree.{Woven}
+use Rattle.tf_syntax.specs.TemplateTree.{Woven}
 use Rattle.tf_json_path.specs.Check.{IsFirst}
 use Rattle.tf_address.specs.Name.{is_name}
-use Rattle.tf_config.specs.Config.{BlockView, Blocks, address_cmp}
+use Rattle.tf_config.specs.Config.{Blocks, address_cmp}
+use Rattle.tf_config.specs.Unplanned.{IsPlanned, HasBlocksAlone}
+use Rattle.tf_config_data.specs.Config.{BlockView, ConfigView}
 use Rattle.tf_config.specs.Configuration.{configuration_checks, IsConfiguration}
 use Rattle.tf_config.specs.Demand.{Demand, of_expression, AreMet, IsMet}
 use Rattle.tf_refusal.specs.OfExpression.{Way, bad_template, too_deep}
 use Rattle.tf_config.specs.KnownNames.{KnownBlocks, NamesNothing}
-use Rattle.tf_config.specs.Reading.{IsTree, IsRefused, max_bytes, max_blocks}
+use Rattle.tf_config.specs.Reading.{IsTree, IsRefused, IsRefusedWhole, max_bytes, IsWithinCounts}
 use Rattle.tf_refusal.specs.Refusal.{DetailView, fault}
 
--- All checks of a tree that stands for blocks are met.
+-- All checks of a tree that stands for a configuration are met.
 abbrev pub StandingIsFaultless : Type 0
-StandingIsFaultless = (tree : Data) (blocks : Blocks) → IsConfiguration tree blocks → AreMet (configuration_checks tree)
+StandingIsFaultless = (tree : Data) (config : ConfigView) → IsConfiguration tree config → AreMet (configuration_checks tree)
 
--- A tree whose checks are all met stands for blocks.
+-- A tree whose checks are all met stands for a configuration.
 abbrev pub FaultlessStands : Type 0
-FaultlessStands = (tree : Data) → AreMet (configuration_checks tree) → (blocks : Blocks) × IsConfiguration tree blocks
+FaultlessStands = (tree : Data) → AreMet (configuration_checks tree) → (config : ConfigView) × IsConfiguration tree config
 
--- A tree stands for one list of blocks at most.
+-- A tree stands for one configuration at most.
 abbrev pub StandsForOne : Type 0
-StandsForOne = (tree : Data) (blocks others : Blocks) → IsConfiguration tree blocks → IsConfiguration tree others → blocks ≡ others
+StandsForOne = (tree : Data) (config other : ConfigView) → IsConfiguration tree config → IsConfiguration tree other → config ≡ other
 
 -- Blocks stand in address order, each address once.
 abbrev pub BlocksAreInOrder : Type 0
-BlocksAreInOrder = (tree : Data) (blocks : Blocks) → IsConfiguration tree blocks → IsStrictlySortedBy address_cmp blocks
+BlocksAreInOrder = (tree : Data) (config : ConfigView) → IsConfiguration tree config → IsStrictlySortedBy address_cmp config.blocks
 
 -- a block's address is of names
 abbrev pub HasNames : BlockView → Type 0
-HasNames b = (is_name b.kind ≡ true) × (is_name b.name ≡ true)
+HasNames b = (is_name b.label.type_name ≡ true) × (is_name b.label.name ≡ true)
 
 -- The address of each block is of names.
 abbrev pub BlocksHaveNames : Type 0
-BlocksHaveNames = (tree : Data) (blocks : Blocks) → IsConfiguration tree blocks → AllByRecursion HasNames blocks
+BlocksHaveNames = (tree : Data) (config : ConfigView) → IsConfiguration tree config → AllByRecursion HasNames config.blocks
 
 -- Where all names of blocks are known, their arguments name nothing, and each function that they call is
 -- one.
@@ -69,7 +71,23 @@ RefusedOnce = (bytes : List ℕ) (code code' : ℕ) (place place' : List ℕ) (d
     → IsRefused bytes (fault code place detail) → IsRefused bytes (fault code' place' detail')
     → (place ≡ place') × ((fault code place detail ≡ fault code' place' detail') ⊎ (IsUnspelled bytes place × IsTemplateWay (code, detail) × IsTemplateWay (code', detail')))
 
--- A text of which a fault is told isn't a configuration within the limits, all names of which are known.
+-- The same of a text that is read whole.
+abbrev pub WholeRefusedOnce : Type 0
+WholeRefusedOnce = (bytes : List ℕ) (code code' : ℕ) (place place' : List ℕ) (detail detail' : DetailView)
+    → IsRefusedWhole bytes (fault code place detail) → IsRefusedWhole bytes (fault code' place' detail')
+    → (place ≡ place') × ((fault code place detail ≡ fault code' place' detail') ⊎ (IsUnspelled bytes place × IsTemplateWay (code, detail) × IsTemplateWay (code', detail')))
+
+-- A text of which a fault is told isn't a configuration within the limits that planning knows, all names of which are
+-- known.
 abbrev pub RefusedIsNotRead : Type 0
-RefusedIsNotRead = (bytes : List ℕ) (code : ℕ) (place : List ℕ) (detail : DetailView) (tree : Data) (blocks : Blocks) → IsRefused bytes (fault code place detail)
-    → length bytes ≤ max_bytes → IsTree bytes tree → IsConfiguration tree blocks → length blocks ≤ max_blocks → KnownBlocks blocks → ⊥
+RefusedIsNotRead = (bytes : List ℕ) (code : ℕ) (place : List ℕ) (detail : DetailView) (tree : Data) (config : ConfigView) → IsRefused bytes (fault code place detail)
+    → length bytes ≤ max_bytes → IsTree bytes tree → IsConfiguration tree config → IsWithinCounts config → IsPlanned tree → KnownBlocks config.blocks → ⊥
+
+-- A text of which a fault is told, read whole, isn't a configuration within the limits.
+abbrev pub WholeRefusedIsNotRead : Type 0
+WholeRefusedIsNotRead = (bytes : List ℕ) (code : ℕ) (place : List ℕ) (detail : DetailView) (tree : Data) (config : ConfigView) → IsRefusedWhole bytes (fault code place detail)
+    → length bytes ≤ max_bytes → IsTree bytes tree → IsConfiguration tree config → IsWithinCounts config → ⊥
+
+-- A configuration whose tree planning knows declares nothing but blocks with arguments alone.
+abbrev pub PlannedHasBlocksAlone : Type 0
+PlannedHasBlocksAlone = (tree : Data) (config : ConfigView) → IsConfiguration tree config → IsPlanned tree → HasBlocksAlone config

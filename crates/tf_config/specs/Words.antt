@@ -1,29 +1,78 @@
--- The words of the format: which property is which.
-use Rattle.std.specs.Prelude.{ℕ, Bool, not, ◌&&◌, if◌then◌else◌, List, [], ◌∷◌, codes}
-use Rattle.std.specs.List.{list_any}
+-- The words of the format: which property is which, and which texts are types and addresses.
+use Rattle.std.specs.Prelude.{ℕ, Bool, not, ◌&&◌, ◌==◌, if◌then◌else◌, List, [], ◌∷◌, Option, Some, None, codes}
+use Rattle.std.specs.List.{list_any, before_first, after_first}
 use Rattle.std.specs.Str.{bytes_eq}
+use Rattle.tf_address.specs.Label.{LabelView}
 use Rattle.tf_address.specs.Name.{is_name}
+use Rattle.tf_config.specs.declared.words.BlockProperty.{BlockProperty}
+use Rattle.tf_config.specs.declared.words.BlockProperty.TheVariants as in_block
+use Rattle.tf_config.specs.declared.words.LifecycleProperty.{LifecycleProperty}
+use Rattle.tf_config.specs.declared.words.LifecycleProperty.TheVariants as in_lifecycle
+use Rattle.tf_config.specs.declared.words.LocalsProperty.{LocalsProperty}
+use Rattle.tf_config.specs.declared.words.LocalsProperty.TheVariants as in_locals
+use Rattle.tf_config.specs.declared.words.OutputProperty.{OutputProperty}
+use Rattle.tf_config.specs.declared.words.OutputProperty.TheVariants as in_output
 use Rattle.tf_config.specs.declared.words.Section.{Section}
 use Rattle.tf_config.specs.declared.words.Section.TheVariants as sections
-use Rattle.tf_config.specs.declared.words.Property.{Property}
-use Rattle.tf_config.specs.declared.words.Property.TheVariants as properties
+use Rattle.tf_config.specs.declared.words.VariableProperty.{VariableProperty}
+use Rattle.tf_config.specs.declared.words.VariableProperty.TheVariants as in_variable
+use Rattle.tf_config_data.specs.declared.variable.Element.TheVariants as elements
+use Rattle.tf_config_data.specs.declared.variable.VariableType.{VariableType}
+use Rattle.tf_config_data.specs.declared.variable.VariableType.TheVariants as types
+
+-- the name of a comment, which is ignored
+abbrev pub is_comment : List ℕ → Bool
+is_comment name = bytes_eq name (codes "//")
 
 -- what a property at the top is
 abbrev pub section_of : List ℕ → Section
 section_of name =
-    if bytes_eq name (codes "//") then sections.Comment
-    else (if bytes_eq name (codes "resource") then sections.Resource else sections.Other)
+    if is_comment name then sections.Comment
+    else (if bytes_eq name (codes "variable") then sections.Variables
+    else (if bytes_eq name (codes "locals") then sections.Locals
+    else (if bytes_eq name (codes "output") then sections.Outputs
+    else (if bytes_eq name (codes "resource") then sections.Resources else sections.Other))))
 
--- the names in a resource body that are no arguments
-abbrev pub reserved_properties : List (List ℕ)
-reserved_properties =
-    codes "connection" ∷ codes "count" ∷ codes "depends_on" ∷ codes "for_each" ∷ codes "lifecycle" ∷ codes "provider" ∷ codes "provisioner" ∷ []
+-- what a property in the body of a variable is
+abbrev pub variable_property_of : List ℕ → VariableProperty
+variable_property_of name =
+    if is_comment name then in_variable.Comment
+    else (if bytes_eq name (codes "type") then in_variable.Type
+    else (if bytes_eq name (codes "default") then in_variable.Default
+    else (if bytes_eq name (codes "description") then in_variable.Description else in_variable.Other)))
+
+-- what a property of `locals` is
+abbrev pub locals_property_of : List ℕ → LocalsProperty
+locals_property_of name = if is_comment name then in_locals.Comment else in_locals.Local
+
+-- what a property in the body of an output is
+abbrev pub output_property_of : List ℕ → OutputProperty
+output_property_of name =
+    if is_comment name then in_output.Comment
+    else (if bytes_eq name (codes "value") then in_output.Value
+    else (if bytes_eq name (codes "description") then in_output.Description else in_output.Other))
+
+-- the names that a resource body may not have
+abbrev pub refused_properties : List (List ℕ)
+refused_properties = codes "connection" ∷ codes "provider" ∷ codes "provisioner" ∷ []
 
 -- what a property in a resource body is
-abbrev pub property_of : List ℕ → Property
-property_of name =
-    if bytes_eq name (codes "//") then properties.Comment
-    else (if list_any (bytes_eq name) reserved_properties then properties.Reserved else properties.Argument)
+abbrev pub block_property_of : List ℕ → BlockProperty
+block_property_of name =
+    if is_comment name then in_block.Comment
+    else (if bytes_eq name (codes "count") then in_block.Count
+    else (if bytes_eq name (codes "for_each") then in_block.ForEach
+    else (if bytes_eq name (codes "depends_on") then in_block.DependsOn
+    else (if bytes_eq name (codes "lifecycle") then in_block.Lifecycle
+    else (if list_any (bytes_eq name) refused_properties then in_block.Refused else in_block.Argument)))))
+
+-- what a property of `lifecycle` is
+abbrev pub lifecycle_property_of : List ℕ → LifecycleProperty
+lifecycle_property_of name =
+    if is_comment name then in_lifecycle.Comment
+    else (if bytes_eq name (codes "create_before_destroy") then in_lifecycle.CreateBeforeDestroy
+    else (if bytes_eq name (codes "prevent_destroy") then in_lifecycle.PreventDestroy
+    else (if bytes_eq name (codes "ignore_changes") then in_lifecycle.IgnoreChanges else in_lifecycle.Other)))
 
 -- the names that are no resource types, since expressions give them another meaning
 abbrev pub reserved_types : List (List ℕ)
@@ -34,3 +83,27 @@ reserved_types =
 -- a name that may be a resource type
 abbrev pub is_type_name : List ℕ → Bool
 is_type_name text = is_name text && not (list_any (bytes_eq text) reserved_types)
+
+-- the resource of a type and a name; none where these are no resource type and no name
+abbrev pub label_of_names : List ℕ → List ℕ → Option LabelView
+label_of_names type_name name = if is_type_name type_name && is_name name then Some (record { type_name = type_name; name = name }) else None
+
+-- the resource whose address a text is: a resource type, a dot, a name; none where it is no address
+abbrev pub label_in : List ℕ → Option LabelView
+label_in text = if list_any (λ c. c == 46) text then label_of_names (before_first (λ c. c == 46) text) (after_first (λ c. c == 46) text) else None
+
+-- the type that a text names; none where it names none
+abbrev pub type_in : List ℕ → Option VariableType
+type_in text =
+    if bytes_eq text (codes "any") then Some (types.One elements.Any)
+    else (if bytes_eq text (codes "string") then Some (types.One elements.String)
+    else (if bytes_eq text (codes "number") then Some (types.One elements.Number)
+    else (if bytes_eq text (codes "bool") then Some (types.One elements.Bool)
+    else (if bytes_eq text (codes "list(any)") then Some (types.List elements.Any)
+    else (if bytes_eq text (codes "list(string)") then Some (types.List elements.String)
+    else (if bytes_eq text (codes "list(number)") then Some (types.List elements.Number)
+    else (if bytes_eq text (codes "list(bool)") then Some (types.List elements.Bool)
+    else (if bytes_eq text (codes "map(any)") then Some (types.Map elements.Any)
+    else (if bytes_eq text (codes "map(string)") then Some (types.Map elements.String)
+    else (if bytes_eq text (codes "map(number)") then Some (types.Map elements.Number)
+    else (if bytes_eq text (codes "map(bool)") then Some (types.Map elements.Bool) else None)))))))))))

@@ -3,8 +3,14 @@ ghost use Rattle.tf_config.specs.Configuration.{whole_file};
 ghost use Rattle.tf_refusal.specs.Refusal.{bare, told, detail_of};
 ghost use Rattle.tf_json_path.specs.Check.{demanded};
 ghost use Rattle.tf_json_path.specs.Place.{dotted, place_of};
+ghost use Rattle.serde_json.specs.View.{number_view, view};
+ghost use Rattle.std.specs.Prelude.{codes};
+ghost use Rattle.tf_config.specs.Configuration.{has, repeats_once};
+ghost use Rattle.tf_config.specs.Demand.{holds, of_expression};
+ghost use Rattle.tf_expr.specs.Demand.{a_whole_number};
 
 use crate::words;
+use serde_json::{Number, Value};
 use std::alloc::Global;
 use tf_address::is_name;
 use tf_json_path::Path;
@@ -61,6 +67,42 @@ pub(crate) fn demand_type_name(alloc: Global, path: &Path<'_>, text: &str) -> Re
     ensures { Judges (demanded (place_of path.now) (a_type_name text.now)) result }
 {
     if words::is_type_name(text) {
+        Ok(())
+    } else {
+        Err(bad_shape(alloc, path))
+    }
+}
+
+/// The number is held as a whole number of 64 bits with a sign.
+pub(crate) fn demand_whole(alloc: Global, path: &Path<'_>, number: &Number) -> Result<(), Refusal>
+    ensures { Judges (demanded (place_of path.now) (of_expression (a_whole_number (number_view number.now)))) result }
+{
+    match number.as_i64() {
+        Some(_) => Ok(()),
+        None => Err(bad_shape(alloc, path)),
+    }
+}
+
+/// The body of a resource has no `count` beside a `for_each`.
+pub(crate) fn demand_one_repetition(
+    alloc: Global,
+    path: &Path<'_>,
+    body: &Value,
+) -> Result<(), Refusal>
+    ensures { Judges (demanded (place_of path.now) (holds (repeats_once (view body.now)))) result }
+{
+    if body.get("count").is_some() && body.get("for_each").is_some() {
+        Err(bad_shape(alloc, path))
+    } else {
+        Ok(())
+    }
+}
+
+/// The body of an output has a value.
+pub(crate) fn demand_value(alloc: Global, path: &Path<'_>, body: &Value) -> Result<(), Refusal>
+    ensures { Judges (demanded (place_of path.now) (holds (has (codes "value") (view body.now)))) result }
+{
+    if body.get("value").is_some() {
         Ok(())
     } else {
         Err(bad_shape(alloc, path))

@@ -2,24 +2,24 @@
 
 ghost use Rattle.std.specs.List.{AllByRecursion};
 ghost use Rattle.std.specs.Prelude.{◌↔◌, IfOk, IsTrue, map, string_bytes};
-ghost use Rattle.tf_config.specs.Config.{blocks_of};
+ghost use Rattle.tf_config_data.specs.Config.{blocks_of};
 ghost use Rattle.tf_config.specs.KnownNames.{block_name_checks, entry_name_checks, item_name_checks, name_checks, only_known_names, IsFunction, JudgesNames, KnowsNames};
-ghost use Rattle.tf_expr.specs.Tree.{entries_view, tree_of, trees_view};
-ghost use Rattle.tf_expr.specs.TemplateTree.{template_view};
+ghost use Rattle.tf_syntax.specs.ExprTree.{entries_view, tree_of, trees_view};
+ghost use Rattle.tf_syntax.specs.TemplateTree.{template_view};
 ghost use Rattle.tf_json_path.specs.Check.{demanded};
 ghost use Rattle.tf_json_path.specs.Place.{place_of};
 
-use crate::config::Config;
 use crate::demand::names_unknown;
 use std::alloc::{AllocError, Global};
 use std::collections::BTreeMap;
+use tf_config_data::Config;
 use tf_expr::{Expr, Function, Template, functions, references};
 use tf_json_path::Path;
 use tf_refusal::Refusal;
 
 /// No text in the blocks names anything, since nothing can be declared, or calls what is no function.
 pub(crate) fn demand_known_names(alloc: Global, config: &Config) -> Result<(), Refusal>
-    ensures { JudgesNames (block_name_checks (blocks_of config.now)) result }
+    ensures { JudgesNames (block_name_checks (blocks_of config.now.resources.entries)) result }
 {
     let resource = Path::Member(&Path::Root, "resource");
     for (label, block) in config.resources.iter() {

@@ -1,6 +1,6 @@
-ghost use Rattle.tf_config.specs.Laws.{StandingIsFaultless, FaultlessStands, StandsForOne, BlocksAreInOrder, BlocksHaveNames, KnownNamesAreNone, NoNamesAreKnown, RefusedOnce, RefusedIsNotRead};
+ghost use Rattle.tf_config.specs.Laws.{StandingIsFaultless, FaultlessStands, StandsForOne, BlocksAreInOrder, BlocksHaveNames, KnownNamesAreNone, NoNamesAreKnown, PlannedHasBlocksAlone, RefusedOnce, RefusedIsNotRead, WholeRefusedIsNotRead, WholeRefusedOnce};
 
-/// A JSON tree stands for blocks exactly where all checks of it are met, and for one list of blocks at most.
+/// A JSON tree stands for a configuration exactly where all checks of it are met, and for one at most.
 pub fn faultless_trees_stand()
     ensures faultless { StandingIsFaultless }
     ensures stands { FaultlessStands }
@@ -24,10 +24,17 @@ pub fn known_names_are_none()
     ensures known { NoNamesAreKnown }
 {}
 
+/// A configuration that planning knows declares nothing but blocks with arguments alone.
+pub fn planned_have_blocks_alone()
+    ensures { PlannedHasBlocksAlone }
+{}
+
 /// One fault is told of a text at most, but that of a text in it which spells no template an offset is told
-/// or that it is too deep. None is told of a text that is a configuration within the limits, all names of
-/// which are known.
+/// or that it is too deep. None is told of a text that is a configuration within the limits, and for planning
+/// one that it knows, all names of which are known.
 pub fn refusals_are_one()
     ensures once { RefusedOnce }
     ensures not_read { RefusedIsNotRead }
+    ensures whole_once { WholeRefusedOnce }
+    ensures whole_not_read { WholeRefusedIsNotRead }
 {}

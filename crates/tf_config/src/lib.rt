@@ -1,22 +1,27 @@
 //! Reading a configuration.
 //!
-//! A configuration is one JSON object in Terraform's JSON syntax. `read` gives its resource blocks in
-//! address order, or the first fault in the order of tests: the file's size, JSON, the walk over the
-//! properties in byte order, the limit on blocks, the names in expressions.
+//! A configuration is one JSON object in Terraform's JSON syntax. `read_whole` gives what it declares, or the first
+//! fault in the order of tests: the file's size, JSON, the walk over the properties in byte order, the limits on
+//! variables, locals, outputs and resource blocks. `read` refuses after these what planning doesn't know yet, and
+//! then names in expressions.
 #![tactic(auto)]
 
-mod body;
-pub mod config;
+mod arrays;
+mod blocks;
 mod demand;
 mod known_names;
 mod laws;
+mod literals;
+mod outputs;
 mod reading;
+mod unplanned;
+mod variables;
 mod words;
 
-pub use config::{Block, Config};
 pub use laws::{
     blocks_are_in_order, blocks_have_names, faultless_trees_stand, known_names_are_none,
-    refusals_are_one,
+    planned_have_blocks_alone, refusals_are_one,
 };
-pub use reading::read;
+pub use reading::{read, read_whole};
+pub use tf_config_data::{Block, Config, Element, Lifecycle, Repetition, Variable, VariableType};
 pub use tf_refusal::{Detail, EvalFault, Refusal};

@@ -1,24 +1,29 @@
 ghost use Rattle.serde_json.specs.View.{view, members_view};
 ghost use Rattle.serde_json.specs.Data.{Data};
-ghost use Rattle.std.specs.Prelude.{[], ◌≤◌, length, IfErr, IfOk, OnOk};
-ghost use Rattle.tf_config.specs.Config.{blocks_of};
-ghost use Rattle.tf_config.specs.Configuration.{below, configuration_checks, object_checks, resource_checks, section_checks, type_checks, AddsResource, AddsSection, AddsType, BuildsFrom, IsConfiguration};
-ghost use Rattle.tf_config.specs.Demand.{Refuses};
+ghost use Rattle.std.specs.Prelude.{◌<◌, ◌≤◌, length, IfErr, IfOk, OnOk};
+ghost use Rattle.tf_config.specs.Config.{plain_config};
+ghost use Rattle.tf_config.specs.Configuration.{below, configuration_checks, section_checks, whole_file, AddsSection, IsConfiguration};
+ghost use Rattle.tf_config.specs.Demand.{Refuses, TellsAt};
 ghost use Rattle.tf_config.specs.KnownNames.{KnownBlocks};
-ghost use Rattle.tf_config.specs.Reading.{max_blocks, max_bytes, IsRefused, IsTree, TellsNotJson};
-ghost use Rattle.tf_refusal.specs.Refusal.{told};
-ghost use Rattle.tf_json_path.specs.Place.{place_of};
+ghost use Rattle.tf_config.specs.Reading.{max_bytes, max_declared, IsRefused, IsRefusedWhole, IsTree, IsWithinCounts, TellsNotJson};
+ghost use Rattle.tf_config.specs.Unplanned.{HasBlocksAlone, IsPlanned};
+ghost use Rattle.tf_config_data.specs.Config.{config_of};
+ghost use Rattle.tf_json_path.specs.Place.{dotted, place_of};
 ghost use Rattle.tf_json_path.specs.Walk.{each, Builds};
+ghost use Rattle.tf_refusal.specs.Refusal.{bare, told};
+ghost use Rattle.tf_refusal.specs.Code.{limit};
 
-use crate::body::read_body;
-use crate::config::Config;
-use crate::demand::{bad_shape, demand_name, demand_type_name, whole_file_fault};
+use crate::blocks::add_types;
+use crate::demand::{bad_shape, whole_file_fault};
 use crate::known_names::demand_known_names;
+use crate::outputs::{add_locals, add_outputs};
+use crate::unplanned::demand_planned;
+use crate::variables::add_variables;
 use crate::words::{Section, section_named};
 use serde_json::{Map, Value};
 use std::alloc::Global;
 use std::collections::BTreeMap;
-use tf_address::Label;
+use tf_config_data::Config;
 use tf_json_path::Path;
 use tf_refusal::Refusal;
 use tf_refusal::code::{BAD_SHAPE, LIMIT, NOT_JSON};
@@ -26,12 +31,12 @@ use tf_refusal::code::{BAD_SHAPE, LIMIT, NOT_JSON};
 /// The longest configuration that is read, in bytes.
 const MAX_BYTES: usize = 4_194_304;
 
-/// How many resource blocks a configuration may have.
-const MAX_BLOCKS: usize = 2_000;
+/// How many variables, locals, outputs and resource blocks a configuration may have, of each.
+const MAX_DECLARED: usize = 2_000;
 
-/// Reads a configuration: the bytes of one JSON object, whose property `resource` has types, below them
-/// names, and below those bodies. A body's properties are arguments, each an expression: texts are
-/// templates. `//` is ignored at the top and in a body.
+/// Reads a configuration: the bytes of one JSON object with the properties `variable`, `locals`, `output` and
+/// `resource`, as Terraform's JSON syntax has them. In an expression texts are templates; a variable's default is
+/// literal.
 ///
 /// # Errors
 ///
@@ -41,35 +46,99 @@ const MAX_BLOCKS: usize = 2_000;
 /// - 2, 3 or 14, at the first fault in a walk that takes properties in byte order, depth first, and a block's
 ///   own shape before its parts. The place is the path of names and positions, joined by dots, or
 ///   `configuration` where the top is no object. 2 is a property, a block, a name or a number that the format
-///   doesn't allow. 3 is a text that is no template, with a byte offset. 14 is a template that is too deep.
-/// - 14 at `configuration`: more than 2,000 resource blocks.
-/// - 4, at the first text in the same walk that names anything, since nothing can be declared, or that calls
-///   what is no function.
-pub fn read(alloc: Global, bytes: &[u8]) -> Result<Config, Refusal>
-    // The text is a tree, and the tree stands for these blocks.
+///   doesn't allow, and a default beyond the limits of weight and depth. 3 is a text that is no template, with a
+///   byte offset. 14 is a template that is too deep.
+/// - 14 at `configuration`: more than 2,000 variables, locals, outputs or resource blocks.
+pub fn read_whole(alloc: Global, bytes: &[u8]) -> Result<Config, Refusal>
+    // The text is a tree, and the tree stands for this configuration.
     ensures ok { IfOk result (λ config. (tree : Data) × IsTree bytes.now tree
-        × IsConfiguration tree (blocks_of config)) }
+        × IsConfiguration tree (config_of config)) }
 
     // No limit is passed.
     ensures small { IfOk result (λ config. (length bytes.now ≤ max_bytes)
-        × (length (blocks_of config) ≤ max_blocks)) }
+        × IsWithinCounts (config_of config)) }
+
+    // What is told is the first fault, or that there was no memory.
+    ensures fault { IfErr result (λ refusal. IsRefusedWhole bytes.now (told refusal)) }
+{
+    let (_, config) = read_both(alloc, bytes)?;
+    Ok(config)
+}
+
+/// Reads a configuration for planning, which doesn't know yet what variables, locals and outputs are, nor `count`,
+/// `for_each`, `depends_on` and `lifecycle`, nor what names in expressions refer to.
+///
+/// # Errors
+///
+/// As those of `read_whole`, and after these, or `OutOfMemory`:
+/// - 2, at the first in the same walk of a property `variable`, `locals` or `output`, or, in a resource body,
+///   `count`, `for_each`, `depends_on` or `lifecycle`.
+/// - 4, at the first text in the same walk that names anything, since nothing can be declared, or that calls
+///   what is no function.
+pub fn read(alloc: Global, bytes: &[u8]) -> Result<Config, Refusal>
+    // The text is a tree, and the tree stands for this configuration; planning knows all that it has.
+    ensures ok { IfOk result (λ config. (tree : Data) × IsTree bytes.now tree
+        × IsConfiguration tree (config_of config) × IsPlanned tree) }
+
+    // No limit is passed.
+    ensures small { IfOk result (λ config. (length bytes.now ≤ max_bytes)
+        × IsWithinCounts (config_of config)) }
 
     // All names are known, so that the arguments name nothing.
-    ensures names { IfOk result (λ config. KnownBlocks (blocks_of config)) }
+    ensures names { IfOk result (λ config. KnownBlocks (config_of config).blocks) }
+
+    // Nothing but blocks with arguments alone is declared.
+    ensures alone { IfOk result (λ config. HasBlocksAlone (config_of config)) }
 
     // What is told is the first fault, or that there was no memory.
     ensures fault { IfErr result (λ refusal. IsRefused bytes.now (told refusal)) }
+{
+    let (tree, config) = read_both(alloc, bytes)?;
+    demand_planned(alloc, &tree)?;
+    demand_known_names(alloc, &config)?;
+    Ok(config)
+}
+
+/// The tree that the text is, and the configuration that it stands for.
+fn read_both(alloc: Global, bytes: &[u8]) -> Result<(Value, Config), Refusal>
+    ensures ok { IfOk result (λ both. IsTree bytes.now (view both.0)
+        × IsConfiguration (view both.0) (config_of both.1)) }
+    ensures small { IfOk result (λ both. (length bytes.now ≤ max_bytes)
+        × IsWithinCounts (config_of both.1)) }
+    ensures fault { IfErr result (λ refusal. IsRefusedWhole bytes.now (told refusal)) }
 {
     if bytes.len() > MAX_BYTES {
         return Err(whole_file_fault(alloc, LIMIT));
     }
     let tree = read_tree(alloc, bytes)?;
     let config = read_configuration(alloc, &tree)?;
-    if config.resources.len() > MAX_BLOCKS {
-        return Err(whole_file_fault(alloc, LIMIT));
+    demand_counts(alloc, &config)?;
+    Ok((tree, config))
+}
+
+/// There are no more variables, locals, outputs and blocks than there may be.
+fn demand_counts(alloc: Global, config: &Config) -> Result<(), Refusal>
+    ensures ok { OnOk result (IsWithinCounts (config_of config.now)) }
+    ensures fault { IfErr result (λ refusal. (¬ IsWithinCounts (config_of config.now))
+        × TellsAt (dotted whole_file) (limit, bare) (told refusal)) }
+{
+    demand_count(alloc, config.variables.len())?;
+    demand_count(alloc, config.locals.len())?;
+    demand_count(alloc, config.outputs.len())?;
+    demand_count(alloc, config.resources.len())?;
+    Ok(())
+}
+
+fn demand_count(alloc: Global, count: usize) -> Result<(), Refusal>
+    ensures ok { OnOk result (count ≤ max_declared) }
+    ensures fault { IfErr result (λ refusal. (max_declared < count)
+        × TellsAt (dotted whole_file) (limit, bare) (told refusal)) }
+{
+    if count > MAX_DECLARED {
+        Err(whole_file_fault(alloc, LIMIT))
+    } else {
+        Ok(())
     }
-    demand_known_names(alloc, &config)?;
-    Ok(config)
 }
 
 fn read_tree(alloc: Global, bytes: &[u8]) -> Result<Value, Refusal>
@@ -84,7 +153,7 @@ fn read_tree(alloc: Global, bytes: &[u8]) -> Result<Value, Refusal>
 }
 
 fn read_configuration(alloc: Global, tree: &Value) -> Result<Config, Refusal>
-    ensures ok { IfOk result (λ config. IsConfiguration (view tree.now) (blocks_of config)) }
+    ensures ok { IfOk result (λ config. IsConfiguration (view tree.now) (config_of config)) }
     ensures fault { IfErr result (λ refusal.
         Refuses (configuration_checks (view tree.now)) (told refusal)) }
 {
@@ -100,12 +169,15 @@ fn read_sections<'a>(
     members: &'a Map<String, Value>,
 ) -> Result<Config, Refusal>
     ensures ok { IfOk result (λ config.
-        Builds AddsSection (members_view members.now.entries) [] (blocks_of config)) }
+        Builds AddsSection (members_view members.now.entries) plain_config (config_of config)) }
     ensures fault { IfErr result (λ refusal.
         Refuses (each (below section_checks (place_of path.now)) (members_view members.now.entries))
         (told refusal)) }
 {
     let mut config = Config {
+        variables: BTreeMap::new(alloc),
+        locals: BTreeMap::new(alloc),
+        outputs: BTreeMap::new(alloc),
         resources: BTreeMap::new(alloc),
     };
     for (key, member) in members.iter() {
@@ -123,126 +195,16 @@ fn add_section<'a>(
     config: &mut Config,
 ) -> Result<(), Refusal>
     ensures ok { OnOk result
-        (AddsSection name.now (view value.now) (blocks_of config.old) (blocks_of config.new)) }
+        (AddsSection name.now (view value.now) (config_of config.old) (config_of config.new)) }
     ensures fault { IfErr result (λ refusal.
         Refuses (section_checks (place_of path.now) name.now (view value.now)) (told refusal)) }
 {
     match section_named(name) {
         Section::Comment => Ok(()),
-        Section::Resource => add_types(alloc, path, value, config),
+        Section::Variables => add_variables(alloc, path, value, &mut config.variables),
+        Section::Locals => add_locals(alloc, path, value, &mut config.locals),
+        Section::Outputs => add_outputs(alloc, path, value, &mut config.outputs),
+        Section::Resources => add_types(alloc, path, value, &mut config.resources),
         Section::Other => Err(bad_shape(alloc, path)),
     }
-}
-
-fn add_types<'a>(
-    alloc: Global,
-    path: &'a Path<'a>,
-    value: &'a Value,
-    config: &mut Config,
-) -> Result<(), Refusal>
-    ensures ok { OnOk result
-        (BuildsFrom AddsType (view value.now) (blocks_of config.old) (blocks_of config.new)) }
-    ensures fault { IfErr result (λ refusal.
-        Refuses (object_checks type_checks (place_of path.now) (view value.now)) (told refusal)) }
-{
-    match value {
-        Value::Object(members) => add_each_type(alloc, path, members, config),
-        _ => Err(bad_shape(alloc, path)),
-    }
-}
-
-fn add_each_type<'a>(
-    alloc: Global,
-    path: &'a Path<'a>,
-    members: &'a Map<String, Value>,
-    config: &mut Config,
-) -> Result<(), Refusal>
-    ensures ok { OnOk result (Builds AddsType (members_view members.now.entries)
-        (blocks_of config.old) (blocks_of config.new)) }
-    ensures fault { IfErr result (λ refusal.
-        Refuses (each (below type_checks (place_of path.now)) (members_view members.now.entries))
-        (told refusal)) }
-{
-    for (key, member) in members.iter() {
-        let kind = key.as_str();
-        add_type(alloc, &Path::Member(path, kind), kind, member, config)?;
-    }
-    Ok(())
-}
-
-fn add_type<'a>(
-    alloc: Global,
-    path: &'a Path<'a>,
-    kind: &'a str,
-    value: &'a Value,
-    config: &mut Config,
-) -> Result<(), Refusal>
-    ensures ok { OnOk result
-        (AddsType kind.now (view value.now) (blocks_of config.old) (blocks_of config.new)) }
-    ensures fault { IfErr result (λ refusal.
-        Refuses (type_checks (place_of path.now) kind.now (view value.now)) (told refusal)) }
-{
-    demand_type_name(alloc, path, kind)?;
-    add_resources(alloc, path, kind, value, config)
-}
-
-fn add_resources<'a>(
-    alloc: Global,
-    path: &'a Path<'a>,
-    kind: &'a str,
-    value: &'a Value,
-    config: &mut Config,
-) -> Result<(), Refusal>
-    ensures ok { OnOk result
-        (BuildsFrom (AddsResource kind.now) (view value.now)
-        (blocks_of config.old) (blocks_of config.new)) }
-    ensures fault { IfErr result (λ refusal.
-        Refuses (object_checks resource_checks (place_of path.now) (view value.now)) (told refusal)) }
-{
-    match value {
-        Value::Object(members) => add_each_resource(alloc, path, kind, members, config),
-        _ => Err(bad_shape(alloc, path)),
-    }
-}
-
-fn add_each_resource<'a>(
-    alloc: Global,
-    path: &'a Path<'a>,
-    kind: &'a str,
-    members: &'a Map<String, Value>,
-    config: &mut Config,
-) -> Result<(), Refusal>
-    ensures ok { OnOk result (Builds (AddsResource kind.now) (members_view members.now.entries)
-        (blocks_of config.old) (blocks_of config.new)) }
-    ensures fault { IfErr result (λ refusal.
-        Refuses (each (below resource_checks (place_of path.now)) (members_view members.now.entries))
-        (told refusal)) }
-{
-    for (key, member) in members.iter() {
-        let name = key.as_str();
-        add_resource(alloc, &Path::Member(path, name), kind, name, member, config)?;
-    }
-    Ok(())
-}
-
-fn add_resource<'a>(
-    alloc: Global,
-    path: &'a Path<'a>,
-    kind: &'a str,
-    name: &'a str,
-    value: &'a Value,
-    config: &mut Config,
-) -> Result<(), Refusal>
-    ensures ok { OnOk result
-        (AddsResource kind.now name.now (view value.now)
-        (blocks_of config.old) (blocks_of config.new)) }
-    ensures fault { IfErr result (λ refusal.
-        Refuses (resource_checks (place_of path.now) name.now (view value.now)) (told refusal)) }
-{
-    demand_name(alloc, path, name)?;
-    let block = read_body(alloc, path, value)?;
-    let type_name = String::from_str(alloc, kind)?;
-    let name = String::from_str(alloc, name)?;
-    drop(config.resources.insert(Label { type_name, name }, block)?);
-    Ok(())
 }

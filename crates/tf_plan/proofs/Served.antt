@@ -7,7 +7,8 @@ use Rattle.std.specs.Str.{bytes_eq}
 use Rattle.std.proofs.lemmas.Slice.Eq.{bytes_eq-Decides}
 use Rattle.tf_expr.specs.Tree as expr
 use Rattle.tf_address.specs.Label.{label_text}
-use Rattle.tf_config.specs.Config.{BlockView, Blocks}
+use Rattle.tf_config.specs.Config.{Blocks}
+use Rattle.tf_config_data.specs.Config.{BlockView}
 use Rattle.tf_refusal.specs.Refusal.{Told, fault, bare}
 use Rattle.tf_protocol.specs.Meaning.{Meaning, schema_in}
 use Rattle.tf_protocol.specs.Schema.{AttributeView, SchemaView, is_below}
@@ -67,7 +68,7 @@ none_mapped f (Some a) h = absurd (cc)
 served_at : (ms : List Meaning) (b : BlockView) (a : ActionView) (schema : Option SchemaView) (refused : Bool)
     → refused ≡ is_some (option_map_or (λ s. option_map (argument_refusal (block_label b)) (first_fault s b.arguments)) schema (Some (fault 11 (label_text (block_label b)) bare)))
     → cond refused None (option_map (planned_action b) schema) ≡ Some a
-    → (a.label.type_name ≡ b.kind) × IsSomeAnd schema (λ s. IsTrue (has_attributes s a.object))
+    → (a.label.type_name ≡ b.label.type_name) × IsSomeAnd schema (λ s. IsTrue (has_attributes s a.object))
 served_at ms b a schema true e h = absurd (cc)
 served_at ms b a None false e h = absurd (cc)
 served_at ms b a (Some s) false e h =
@@ -78,7 +79,7 @@ served_at ms b a (Some s) false e h =
 -- each action that is planned is served
 pub block-served : (ms : List Meaning) (b : BlockView) (a : ActionView) → block_action ms b ≡ Some a → IsServedBy ms a
 block-served ms b a h =
-    let at = served_at ms b a (schema_in b.kind ms) (is_some (block_refusal ms b)) refl h in
+    let at = served_at ms b a (schema_in b.label.type_name ms) (is_some (block_refusal ms b)) refl h in
     rw at.0 at.1
 
 kept : (ms : List Meaning) (o : Option ActionView) (rest : List ActionView) → ((a : ActionView) → o ≡ Some a → IsServedBy ms a) → AreServed ms rest → AreServed ms (cons_option o rest)

@@ -1,6 +1,7 @@
 -- What an argument gives the attribute that it names.
 use Rattle.std.specs.Prelude.{ℕ, Bool, if◌then◌else◌, ℤ, List, [], codes, Option, Some, None, Result, Ok, Err}
 use Rattle.std.specs.Fmt.{signed_decimal}
+use Rattle.tf_value.specs.Sets.{with_lists}
 use Rattle.tf_value.specs.Tree.{Tree, null, boolean, whole, text, list, map, unknown}
 use Rattle.tf_protocol.specs.Schema.{AttributeView}
 use Rattle.tf_protocol.specs.declared.schema.Kind.{Kind}
@@ -25,9 +26,9 @@ abbrev pub argument_value : expr.Tree → Result Tree ArgumentFault
 argument_value e = evaluated (meaning (constant_in []) e)
 
 -- An attribute takes values of its kind, and a value that isn't known yet. One of kind String takes whole
--- numbers and truth values too, as their texts.
+-- numbers and truth values too, as their texts, and one of kind Any a set, at any depth, as the list of its texts.
 abbrev pub converted : Kind → Tree → Option Tree
-converted kinds.Any t = Some t
+converted kinds.Any t = Some (with_lists t)
 converted kinds.String unknown = Some unknown
 converted kinds.String (text s) = Some (text s)
 converted kinds.String (whole z) = Some (text (signed_decimal z))

@@ -6,7 +6,8 @@ use Rattle.tf_value.specs.Tree as tree
 use Rattle.tf_graph.specs.Digraph.{Digraph}
 use Rattle.tf_protocol.specs.Meaning.{Meaning, schema_in}
 use Rattle.tf_protocol.specs.Schema.{SchemaView}
-use Rattle.tf_config.specs.Config.{BlockView, Blocks}
+use Rattle.tf_config.specs.Config.{Blocks}
+use Rattle.tf_config_data.specs.Config.{BlockView}
 use Rattle.tf_plan.specs.Planned.{planned_entries}
 use Rattle.tf_plan.specs.Refused.{block_label, block_refusal}
 use Rattle.tf_plan.specs.Shown.{shown}
@@ -39,7 +40,7 @@ planned_action b schema = record { label = block_label b; object = tree.map (pla
 
 -- a block that isn't refused is a create
 abbrev pub block_action : List Meaning → BlockView → Option ActionView
-block_action ms b = if is_some (block_refusal ms b) then None else option_map (planned_action b) (schema_in b.kind ms)
+block_action ms b = if is_some (block_refusal ms b) then None else option_map (planned_action b) (schema_in b.label.type_name ms)
 
 -- one create for each block that isn't refused
 abbrev pub planned_actions : List Meaning → Blocks → List ActionView

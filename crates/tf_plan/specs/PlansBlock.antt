@@ -1,7 +1,7 @@
 -- What comes of planning a block.
 use Rattle.std.specs.Prelude.{◌≡◌, List, Some, None}
 use Rattle.tf_protocol.specs.Meaning.{Meaning}
-use Rattle.tf_config.specs.Config.{BlockView}
+use Rattle.tf_config_data.specs.Config.{BlockView}
 use Rattle.tf_refusal.specs.Refusal.{told}
 use Rattle.tf_plan.specs.Plan.{action_of, block_action}
 use Rattle.tf_plan.specs.Refused.{block_refusal}

@@ -4,7 +4,8 @@ use Rattle.std.specs.Option.{option_map_or}
 use Rattle.std.specs.List.{filter_map}
 use Rattle.tf_address.specs.Label.{LabelView, label_text}
 use Rattle.tf_protocol.specs.Meaning.{Meaning, schema_in}
-use Rattle.tf_config.specs.Config.{BlockView, Blocks}
+use Rattle.tf_config.specs.Config.{Blocks}
+use Rattle.tf_config_data.specs.Config.{BlockView}
 use Rattle.tf_refusal.specs.Code.{evaluate, bad_argument, no_provider}
 use Rattle.tf_refusal.specs.Refusal.{Told, fault, bare, kind, told}
 use Rattle.tf_plan.specs.Planned.{NamedFault, first_fault}
@@ -15,7 +16,7 @@ use Rattle.tf_plan.specs.declared.refused.Refused.TheVariants.{NoMemory, These}
 
 -- the address of a block
 abbrev pub block_label : BlockView → LabelView
-block_label b = record { type_name = b.kind; name = b.name }
+block_label b = b.label
 
 -- where an attribute's fault is told: at the block's address, a dot and the attribute
 abbrev pub attribute_place : LabelView → List ℕ → List ℕ
@@ -33,7 +34,7 @@ argument_refusal label named = told_at (attribute_place label named.0) named.1
 -- is wrong with its arguments.
 abbrev pub block_refusal : List Meaning → BlockView → Option Told
 block_refusal ms b =
-    option_map_or (λ schema. option_map (argument_refusal (block_label b)) (first_fault schema b.arguments)) (schema_in b.kind ms) (Some (fault no_provider (label_text (block_label b)) bare))
+    option_map_or (λ schema. option_map (argument_refusal (block_label b)) (first_fault schema b.arguments)) (schema_in b.label.type_name ms) (Some (fault no_provider (label_text (block_label b)) bare))
 
 -- all that a plan refuses, in address order: one refusal for each block that is refused
 abbrev pub plan_refusals : List Meaning → Blocks → List Told

@@ -3,7 +3,12 @@ use Rattle.std.specs.Prelude.{ℕ, Bool, true, false, if◌then◌else◌, List,
 use Rattle.std.specs.Fmt.{signed_decimal}
 use Rattle.json.specs.Print.{quoted}
 use Rattle.serde_json.specs.Written.{comma_if}
-use Rattle.tf_value.specs.Tree.{Tree, null, boolean, whole, text, list, map, unknown, Items, no_items, item, Entries, no_entries, entry}
+use Rattle.tf_value.specs.Tree.{Tree, null, boolean, whole, text, list, map, set, unknown, Items, no_items, item, Entries, no_entries, entry}
+
+-- the texts of a set, as an array's
+abbrev pub shown_texts : Bool → List (List ℕ) → List ℕ
+shown_texts later [] = 93 ∷ []
+shown_texts later (s ∷ ss) = comma_if later ++ (quoted s ++ shown_texts true ss)
 
 -- A value's compact JSON text, with `(known after apply)` where a part isn't known yet. The texts of items and
 -- entries end with the closing bracket.
@@ -15,6 +20,7 @@ abbrev mutual
   shown (text s) = quoted s
   shown (list ts) = 91 ∷ shown_items false ts
   shown (map es) = 123 ∷ shown_entries false es
+  shown (set ss) = 91 ∷ shown_texts false ss
   shown unknown = codes "(known after apply)"
 
   pub shown_items : Bool → Items → List ℕ

@@ -4,6 +4,7 @@ ghost use Rattle.std.specs.Fmt.{signed_decimal};
 ghost use Rattle.std.specs.Prelude.{◌≡◌, true, IfOk, option_map, string_bytes};
 ghost use Rattle.tf_expr.specs.Tree.{tree_of as expr_of};
 ghost use Rattle.tf_value.specs.Measure.{is_within};
+ghost use Rattle.tf_value.specs.Stored.{may_be_planned};
 ghost use Rattle.tf_value.specs.Tree.{text, tree_of};
 ghost use Rattle.tf_plan.specs.Argument.{argument_value, unset_value, set_value, given_value, attribute_value, converted, or_bad_argument};
 ghost use Rattle.tf_protocol.specs.declared.schema.Kind.TheVariants as kinds;
@@ -14,7 +15,7 @@ ghost use Rattle.tf_protocol.specs.Schema.{attribute_of};
 use std::alloc::{AllocError, AllocFailed, Global};
 use tf_expr::{Constants, EvalFault, Expr, eval_expr, values_are_within_limits};
 use tf_protocol::{Attribute, Kind, Mode};
-use tf_value::Value;
+use tf_value::{Value, with_lists};
 
 /// What is wrong with an argument, or with an attribute that no argument sets.
 #[derive(Clone, Copy, Debug, PartialEq, Eq)]
@@ -50,7 +51,7 @@ pub fn attribute_value(
 ) -> Result<Value, ValueFault>
     ensures gives { Gives tree_of result
         (attribute_value (attribute_of attribute.now) (option_map (λ e. expr_of e.now) argument.entry)) }
-    ensures within { IfOk result (λ v. is_within (tree_of v) ≡ true) }
+    ensures within { IfOk result (λ v. may_be_planned (tree_of v) ≡ true) }
 {
     match argument {
         None => unset_value(attribute.mode),
@@ -78,7 +79,7 @@ fn argument_value(alloc: Global, expr: &Expr) -> Result<Value, ValueFault>
 /// The value of an attribute that isn't set.
 fn unset_value(mode: Mode) -> Result<Value, ValueFault>
     ensures gives { Gives tree_of result (unset_value mode) }
-    ensures within { IfOk result (λ v. is_within (tree_of v) ≡ true) }
+    ensures within { IfOk result (λ v. may_be_planned (tree_of v) ≡ true) }
 {
     match mode {
         Mode::Required => Err(BAD_ARGUMENT),
@@ -90,7 +91,7 @@ fn unset_value(mode: Mode) -> Result<Value, ValueFault>
 /// The value of an attribute whose argument has this value; null means that it isn't set.
 fn given_value(alloc: Global, mode: Mode, kind: Kind, value: Value) -> Result<Value, ValueFault>
     ensures gives { Gives tree_of result (given_value mode kind (tree_of value)) }
-    ensures within { is_within (tree_of value) ≡ true → IfOk result (λ v. is_within (tree_of v) ≡ true) }
+    ensures within { is_within (tree_of value) ≡ true → IfOk result (λ v. may_be_planned (tree_of v) ≡ true) }
 {
     match value {
         Value::Null => unset_value(mode),
@@ -101,7 +102,7 @@ fn given_value(alloc: Global, mode: Mode, kind: Kind, value: Value) -> Result<Va
 /// The value of an attribute that is set.
 fn set_value(alloc: Global, mode: Mode, kind: Kind, value: Value) -> Result<Value, ValueFault>
     ensures gives { Gives tree_of result (set_value mode kind (tree_of value)) }
-    ensures within { is_within (tree_of value) ≡ true → IfOk result (λ v. is_within (tree_of v) ≡ true) }
+    ensures within { is_within (tree_of value) ≡ true → IfOk result (λ v. may_be_planned (tree_of v) ≡ true) }
 {
     match mode {
         Mode::Computed => Err(BAD_ARGUMENT),
@@ -110,22 +111,24 @@ fn set_value(alloc: Global, mode: Mode, kind: Kind, value: Value) -> Result<Valu
     }
 }
 
-/// A value as one of this kind.
+/// A value as one of this kind; of kind `Any`, with the list of its texts for each set.
+#[tactic(auto, using(crate::proofs::Within::lists_planned))]
 fn converted(alloc: Global, kind: Kind, value: Value) -> Result<Value, ValueFault>
     ensures gives { Gives tree_of result (or_bad_argument (converted kind (tree_of value))) }
-    ensures within { is_within (tree_of value) ≡ true → IfOk result (λ v. is_within (tree_of v) ≡ true) }
+    ensures within { is_within (tree_of value) ≡ true → IfOk result (λ v. may_be_planned (tree_of v) ≡ true) }
 {
     match kind {
-        Kind::Any => Ok(value),
+        Kind::Any => Ok(with_lists(alloc, value)?),
         Kind::String => as_text(alloc, value),
         Kind::Number => as_number(value),
         Kind::Bool => as_truth_value(value),
     }
 }
 
+#[tactic(auto, using(crate::proofs::Within::text_planned))]
 fn as_text(alloc: Global, value: Value) -> Result<Value, ValueFault>
     ensures gives { Gives tree_of result (or_bad_argument (converted kinds.String (tree_of value))) }
-    ensures within { is_within (tree_of value) ≡ true → IfOk result (λ v. is_within (tree_of v) ≡ true) }
+    ensures within { is_within (tree_of value) ≡ true → IfOk result (λ v. may_be_planned (tree_of v) ≡ true) }
 {
     match value {
         Value::Unknown => Ok(Value::Unknown),
@@ -136,12 +139,13 @@ fn as_text(alloc: Global, value: Value) -> Result<Value, ValueFault>
         Value::Null => Err(BAD_ARGUMENT),
         Value::List(_) => Err(BAD_ARGUMENT),
         Value::Map(_) => Err(BAD_ARGUMENT),
+        Value::Set(_) => Err(BAD_ARGUMENT),
     }
 }
 
 fn decimal(alloc: Global, number: i64) -> Result<String, AllocError>
     ensures text { IfOk result (λ s. string_bytes s ≡ signed_decimal number) }
-    ensures within { IfOk result (λ s. is_within (text (string_bytes s)) ≡ true) }
+    ensures within { IfOk result (λ s. may_be_planned (text (string_bytes s)) ≡ true) }
 {
     let text = number.to_string(alloc)?;
     Ok(text)
@@ -149,7 +153,7 @@ fn decimal(alloc: Global, number: i64) -> Result<String, AllocError>
 
 fn as_number(value: Value) -> Result<Value, ValueFault>
     ensures gives { Gives tree_of result (or_bad_argument (converted kinds.Number (tree_of value))) }
-    ensures within { is_within (tree_of value) ≡ true → IfOk result (λ v. is_within (tree_of v) ≡ true) }
+    ensures within { is_within (tree_of value) ≡ true → IfOk result (λ v. may_be_planned (tree_of v) ≡ true) }
 {
     match value {
         Value::Unknown => Ok(Value::Unknown),
@@ -160,7 +164,7 @@ fn as_number(value: Value) -> Result<Value, ValueFault>
 
 fn as_truth_value(value: Value) -> Result<Value, ValueFault>
     ensures gives { Gives tree_of result (or_bad_argument (converted kinds.Bool (tree_of value))) }
-    ensures within { is_within (tree_of value) ≡ true → IfOk result (λ v. is_within (tree_of v) ≡ true) }
+    ensures within { is_within (tree_of value) ≡ true → IfOk result (λ v. may_be_planned (tree_of v) ≡ true) }
 {
     match value {
         Value::Unknown => Ok(Value::Unknown),

@@ -3,10 +3,10 @@
 ghost use Rattle.std.specs.Prelude.{◌≡◌, true, Result, IfOk, fold, map, option_map};
 ghost use Rattle.tf_expr.specs.Tree.{get, tree_of as expr_of, entries_view as arguments_view};
 ghost use Rattle.tf_protocol.specs.Schema.{ascends, attribute_of};
-ghost use Rattle.tf_value.specs.Measure.{is_within};
+ghost use Rattle.tf_value.specs.Stored.{may_be_planned};
 ghost use Rattle.tf_value.specs.Tree.{Tree, tree_of, entries_view};
 ghost use Rattle.tf_plan.specs.declared.argument.ArgumentFault.{ArgumentFault};
-ghost use Rattle.tf_plan.specs.Bounded.{IsObjectWithin, each_within};
+ghost use Rattle.tf_plan.specs.Bounded.{IsObjectWithin, each_may_be_planned};
 ghost use Rattle.tf_plan.specs.Gives.{Gives};
 ghost use Rattle.tf_plan.specs.Stepped.{put_value};
 ghost use Rattle.tf_plan.specs.Object.{Plans, named_of};
@@ -68,7 +68,7 @@ fn try_attributes(
     requires { ascends (map attribute_of attributes.now) ≡ true }
     ensures object { IfOk result (λ t. entries_view t.object.entries
         ≡ planned_entries (map attribute_of attributes.now) (arguments_view arguments.now.entries)) }
-    ensures within { IfOk result (λ t. each_within (entries_view t.object.entries) ≡ true) }
+    ensures within { IfOk result (λ t. each_may_be_planned (entries_view t.object.entries) ≡ true) }
     ensures fault { IfOk result (λ t. option_map named_of t.fault
         ≡ first_of_faults (attribute_faults (map attribute_of attributes.now) (arguments_view arguments.now.entries))) }
 {
@@ -101,8 +101,8 @@ fn add_value(
     ensures adds { IfOk result (λ t. (planned : Result Tree ArgumentFault) → Gives tree_of value planned →
         (entries_view t.object.entries ≡ put_value name.now planned (entries_view tried.object.entries))
         × (option_map named_of t.fault ≡ fold sooner (option_map named_of tried.fault) (fault_at name.now planned))) }
-    ensures within { IfOk value (λ v. is_within (tree_of v) ≡ true) → each_within (entries_view tried.object.entries) ≡ true
-        → IfOk result (λ t. each_within (entries_view t.object.entries) ≡ true) }
+    ensures within { IfOk value (λ v. may_be_planned (tree_of v) ≡ true) → each_may_be_planned (entries_view tried.object.entries) ≡ true
+        → IfOk result (λ t. each_may_be_planned (entries_view t.object.entries) ≡ true) }
 {
     let Tried { mut object, fault } = tried;
     match value {

@@ -2,7 +2,7 @@
 
 ghost use Rattle.std.specs.Prelude.{◌≡◌, ◌≤◌, [], None, Some, length, map, IfOk, IfErr, string_bytes};
 ghost use Rattle.tf_address.specs.Label.{label_of, label_text};
-ghost use Rattle.tf_config.specs.Config.{block_of, blocks_of};
+ghost use Rattle.tf_config_data.specs.Config.{block_of, blocks_of};
 ghost use Rattle.tf_refusal.specs.Refusal.{told, fault, bare};
 ghost use Rattle.tf_plan.specs.Bounded.{AreWithin, IsCreateWithin};
 ghost use Rattle.tf_plan.specs.Plan.{action_of, plan_of, planned, planned_actions};
@@ -35,13 +35,13 @@ pub fn plan_for(
     lineage: &str,
     providers: &[Box<dyn Provider + Sync>],
 ) -> Result<Plan, Refused>
-    requires { length (blocks_of config.now) ≤ 8000 }
+    requires { length (blocks_of config.now.resources.entries) ≤ 8000 }
     ensures planned { IfOk result (λ plan. plan_of plan
-        ≡ planned (map (λ b. meaning b) providers.now) (blocks_of config.now) lineage.now) }
-    ensures nothing { IfOk result (λ _. plan_refusals (map (λ b. meaning b) providers.now) (blocks_of config.now) ≡ []) }
+        ≡ planned (map (λ b. meaning b) providers.now) (blocks_of config.now.resources.entries) lineage.now) }
+    ensures nothing { IfOk result (λ _. plan_refusals (map (λ b. meaning b) providers.now) (blocks_of config.now.resources.entries) ≡ []) }
     ensures served { IfOk result (λ plan. AreServed (map (λ b. meaning b) providers.now) (map action_of plan.actions.items)) }
     ensures within { IfOk result (λ plan. AreWithin (map action_of plan.actions.items)) }
-    ensures refused { IfErr result (Tells (plan_refusals (map (λ b. meaning b) providers.now) (blocks_of config.now))) }
+    ensures refused { IfErr result (Tells (plan_refusals (map (λ b. meaning b) providers.now) (blocks_of config.now.resources.entries))) }
 {
     let planned = plan_blocks(alloc, config, providers)?;
     let PlannedBlocks { actions, refusals } = planned;
@@ -70,11 +70,11 @@ fn plan_blocks(
     providers: &[Box<dyn Provider + Sync>],
 ) -> Result<PlannedBlocks, AllocError>
     ensures actions { IfOk result (λ p. map action_of p.actions.items
-        ≡ planned_actions (map (λ b. meaning b) providers.now) (blocks_of config.now)) }
+        ≡ planned_actions (map (λ b. meaning b) providers.now) (blocks_of config.now.resources.entries)) }
     ensures within { IfOk result (λ p. AreWithin (map action_of p.actions.items)) }
-    ensures few { IfOk result (λ p. length p.actions.items ≤ length (blocks_of config.now)) }
+    ensures few { IfOk result (λ p. length p.actions.items ≤ length (blocks_of config.now.resources.entries)) }
     ensures refusals { IfOk result (λ p. map told p.refusals.items
-        ≡ plan_refusals (map (λ b. meaning b) providers.now) (blocks_of config.now)) }
+        ≡ plan_refusals (map (λ b. meaning b) providers.now) (blocks_of config.now.resources.entries)) }
 {
     let mut planned = PlannedBlocks {
         actions: Vec::new(alloc),

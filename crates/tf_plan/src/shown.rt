@@ -3,12 +3,12 @@
 ghost use Rattle.std.specs.Prelude.{◌≡◌, ◌++◌, ◌∷◌, false, OnOk, string_bytes};
 ghost use Rattle.json.specs.Print.{quoted};
 ghost use Rattle.serde_json.specs.Written.{comma_if};
-ghost use Rattle.tf_plan.specs.Shown.{shown, shown_items, shown_entries};
-ghost use Rattle.tf_value.specs.Tree.{tree_of, items_view, entries_view, boolean, unknown};
+ghost use Rattle.tf_plan.specs.Shown.{shown, shown_items, shown_entries, shown_texts};
+ghost use Rattle.tf_value.specs.Tree.{tree_of, items_view, entries_view, texts_view, boolean, unknown};
 
 use serde_json::Value as Json;
 use std::alloc::{AllocError, Global};
-use std::collections::BTreeMap;
+use std::collections::{BTreeMap, BTreeSet};
 use tf_value::Value;
 
 /// Writes a value's compact JSON text at the end of a text, with `(known after apply)` for each part that
@@ -24,6 +24,7 @@ pub fn show_value(alloc: Global, text: &mut String, value: &Value) -> Result<(),
         Value::Text(content) => show_text(alloc, text, content.as_str()),
         Value::List(items) => show_items(alloc, text, items),
         Value::Map(entries) => show_entries(alloc, text, entries),
+        Value::Set(texts) => show_texts(alloc, text, texts),
         Value::Unknown => show_unknown(text),
     }
 }
@@ -60,6 +61,23 @@ fn show_entries(
         later = true;
     }
     text.push('}')
+}
+
+fn show_texts(
+    alloc: Global,
+    text: &mut String,
+    contents: &BTreeSet<String>,
+) -> Result<(), AllocError>
+    ensures { OnOk result (string_bytes text.new ≡ string_bytes text.old ++ 91 ∷ shown_texts false (texts_view contents.now.keys)) }
+{
+    text.push('[')?;
+    let mut later = false;
+    for content in contents.iter() {
+        comma(text, later)?;
+        show_text(alloc, text, content.as_str())?;
+        later = true;
+    }
+    text.push(']')
 }
 
 fn show_truth(text: &mut String, truth: bool) -> Result<(), AllocError>

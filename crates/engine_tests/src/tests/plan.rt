@@ -71,7 +71,7 @@ fn answer(alloc: Global, resources: &str) -> Result<String, Fail> {
     }
 }
 
-static ANSWERS: [(&str, &str); 15] = [
+static ANSWERS: [(&str, &str); 18] = [
     ("{}", "No changes.\n"),
     (
         "{\"net\": {\"a\": {\"cidr\": \"x\"}}}",
@@ -124,6 +124,18 @@ static ANSWERS: [(&str, &str); 15] = [
     (
         "{\"net\": {\"a\": {\"aa\": 1, \"more\": [], \"size\": \"7\"}}}",
         "error 10 at net.a.aa: BadArgument\n",
+    ),
+    (
+        "{\"net\": {\"a\": {\"cidr\": \"x\", \"more\": {\"k\": [\"${toset([\\\"b\\\", \\\"a\\\"])}\"]}}}}",
+        "+ net.a\n    cidr = \"x\"\n    id = (known after apply)\n    more = {\"k\":[[\"a\",\"b\"]]}\nPlan: 1 to add, 0 to change, 0 to destroy.\n",
+    ),
+    (
+        "{\"net\": {\"a\": {\"cidr\": \"${toset([\\\"x\\\"])}\"}}}",
+        "error 10 at net.a.cidr: BadArgument\n",
+    ),
+    (
+        "{\"net\": {\"a\": {\"cidr\": \"x\", \"on\": \"${toset([])}\"}}}",
+        "error 10 at net.a.on: BadArgument\n",
     ),
     (
         "{\"net\": {\"b\": {\"cidr\": \"x\"}, \"a\": {}}, \"host\": {\"z\": {}}}",

@@ -4,7 +4,7 @@ ghost use Rattle.std.specs.Prelude.{◌≡◌, IsTrue, MatchResult};
 ghost use Rattle.tf_claim.specs.Ledger.{is_taken, stage_in};
 
 use std::alloc::{AllocError, Global};
-use std::collections::BTreeMap;
+use std::collections::{BTreeMap, BTreeSet};
 use std::test::Fail;
 use tf_claim::{Book, Finished, Permit, waive};
 use tf_graph::Graph;
@@ -162,6 +162,59 @@ fn replies_are_judged(rt: HostRuntime) -> Result<(), Fail> {
     }
     assert!(rt; well_formed(&net(rt.alloc(), "x", "", "")?, &schema));
     assert!(rt; !well_formed(&net(rt.alloc(), "", "", "")?, &schema));
+    Ok(())
+}
+
+/// An object whose only attribute, `more`, may have any value.
+fn with_more(alloc: Global, more: Value) -> Result<Value, AllocError> {
+    let mut entries = BTreeMap::new(alloc);
+    drop(entries.insert(String::from_str(alloc, "more")?, more)?);
+    Ok(Value::Map(entries))
+}
+
+/// The verdict on an object where one with any value for `more` was asked for.
+fn verdict_on_more(
+    alloc: Global,
+    schema: &Schema,
+    more: Value,
+) -> Result<Option<Verdict>, AllocError> {
+    let mut request = request(alloc, Op::Create)?;
+    request.object = Some(with_more(alloc, Value::Unknown)?);
+    let reply = Reply::Object(with_more(alloc, more)?);
+    if asks_fully(&request, schema) {
+        Ok(Some(judge(&request, &reply, schema)))
+    } else {
+        Ok(None)
+    }
+}
+
+/// The set of one text.
+fn set_of(alloc: Global, text: &str) -> Result<Value, AllocError> {
+    let mut texts = BTreeSet::new(alloc);
+    texts.insert(String::from_str(alloc, text)?)?;
+    Ok(Value::Set(texts))
+}
+
+#[test]
+fn replies_with_sets_are_malformed(rt: HostRuntime) -> Result<(), Fail> {
+    let alloc = rt.alloc();
+    let mut attributes = Vec::new(alloc);
+    attributes.push(attribute(alloc, "more", Kind::Any, Mode::Optional)?)?;
+    let schema = Schema::new(alloc, 0, attributes)?;
+    for (more, verdict) in [
+        (value(alloc, "x")?, Verdict::Good),
+        (
+            Value::List(vec![in alloc; value(alloc, "x")?]?),
+            Verdict::Good,
+        ),
+        (set_of(alloc, "x")?, Verdict::Malformed),
+        (
+            Value::List(vec![in alloc; set_of(alloc, "x")?]?),
+            Verdict::Malformed,
+        ),
+    ] {
+        assert_eq!(rt; verdict_on_more(alloc, &schema, more)?, Some(verdict));
+    }
     Ok(())
 }
 

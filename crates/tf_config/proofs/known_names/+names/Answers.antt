@@ -2,10 +2,10 @@ use Rattle.std.proofs.Common.{◌+◌, ◌∷◌, string_bytes, drop}
 use Rattle.std.proofs.lemmas.Result.{err_from_is_err_and}
 use Rattle.std.specs.Fmt.{decimal}
 use Rattle.tf_config.proofs.Functions.{drop_next}
-use Rattle.tf_config.proofs.NameWalks.{left_more, left_refused}
-use Rattle.tf_config.specs.KnownNames.{name_checks, item_name_checks, entry_name_checks}
-use Rattle.tf_expr.proofs.Views.{Entry}
-use Rattle.tf_expr.specs.Tree.{tree_of, trees_view, entries_view}
+use Rattle.tf_config.proofs.Walks.{left_more, left_refused}
+use Rattle.tf_config.specs.KnownNames.{AreNamesMet, AreNamesWrong, name_checks, item_name_checks, entry_name_checks}
+use Rattle.tf_syntax.proofs.ExprViews.{Entry}
+use Rattle.tf_syntax.specs.ExprTree.{tree_of, trees_view, entries_view}
 use Rattle.tf_json_path.proofs.Places.{place_of-Member, place_of-Item}
 use Rattle.tf_json_path.specs.Place.{place_of}
 use Rattle.tf_config.proofs.known_names.+names.Goals as goal
@@ -16,7 +16,7 @@ demand_items-loop-position-preserved t c =
     let all = c.deref-expr-items.result.now in
     let i = c.loop-position.position in
     let left = rw (drop_next all i c.expr-item.result c.loop-position-test.true c.expr-item.is) at c.loop-position.invariant in
-    left_more (item_name_checks place 0 (trees_view all)) (name_checks (decimal i ∷ place) (tree_of c.expr-item.result)) (item_name_checks place (i + 1) (trees_view (drop (i + 1) all))) left
+    left_more AreNamesMet (item_name_checks place 0 (trees_view all)) (name_checks (decimal i ∷ place) (tree_of c.expr-item.result)) (item_name_checks place (i + 1) (trees_view (drop (i + 1) all))) left
     (rw place_of-Item at c.in_ok-demand_expr.ensures)
 
 pub demand_items-returns-in_err-demand_expr : goal.demand_items-returns-in_err-demand_expr
@@ -28,7 +28,7 @@ demand_items-returns-in_err-demand_expr t c =
     let left = rw (drop_next all i c.expr-item.result c.loop-position-test.true c.expr-item.is) at c.loop-position.invariant in
     let first = rw place_of-Item at c.in_err-demand_expr.ensures in
     rw (p.1, p.2, ← c.deref-expr-items.ensures.value)
-    (left_refused (item_name_checks place 0 (trees_view all)) (name_checks (decimal i ∷ place) (tree_of c.expr-item.result)) (item_name_checks place (i + 1) (trees_view (drop (i + 1) all))) _ left first)
+    (left_refused AreNamesMet AreNamesWrong (item_name_checks place 0 (trees_view all)) (name_checks (decimal i ∷ place) (tree_of c.expr-item.result)) (item_name_checks place (i + 1) (trees_view (drop (i + 1) all))) _ left first)
 
 pub demand_entries-loop-key-preserved : goal.demand_entries-loop-key-preserved
 demand_entries-loop-key-preserved t c =
@@ -36,7 +36,7 @@ demand_entries-loop-key-preserved t c =
     let e : Entry = (c.in-Some.key.now, c.in-Some.expr.now) in
     let left = rw c.in-Some.ensures.steps at c.loop-key.invariant in
     let known = rw (place_of-Member, c.as_str.ensures.value) at c.in_ok-demand_expr.ensures in
-    left_more (entry_name_checks place (entries_view c.args.entries.now.entries)) (name_checks (string_bytes e.0 ∷ place) (tree_of e.1)) (entry_name_checks place (entries_view c.next.new.self)) left known
+    left_more AreNamesMet (entry_name_checks place (entries_view c.args.entries.now.entries)) (name_checks (string_bytes e.0 ∷ place) (tree_of e.1)) (entry_name_checks place (entries_view c.next.new.self)) left known
 
 pub demand_entries-returns-in_err-demand_expr : goal.demand_entries-returns-in_err-demand_expr
 demand_entries-returns-in_err-demand_expr t c =
@@ -46,4 +46,4 @@ demand_entries-returns-in_err-demand_expr t c =
     let left = rw c.in-Some.ensures.steps at c.loop-key.invariant in
     let first = rw (place_of-Member, c.as_str.ensures.value) at c.in_err-demand_expr.ensures in
     rw (p.1, p.2)
-    (left_refused (entry_name_checks place (entries_view c.args.entries.now.entries)) (name_checks (string_bytes e.0 ∷ place) (tree_of e.1)) (entry_name_checks place (entries_view c.next.new.self)) _ left first)
+    (left_refused AreNamesMet AreNamesWrong (entry_name_checks place (entries_view c.args.entries.now.entries)) (name_checks (string_bytes e.0 ∷ place) (tree_of e.1)) (entry_name_checks place (entries_view c.next.new.self)) _ left first)

@@ -1,6 +1,5 @@
 use Rattle.std.proofs.Common.{rules}
 use Rattle.tf_config.proofs.Functions.{this_one, isnt_none}
-use Rattle.tf_expr.specs.Functions.{function_named}
 use Rattle.tf_config.proofs.known_names.are_functions.Goals as goal
 
 pub returns-then-is_none : goal.returns-then-is_none

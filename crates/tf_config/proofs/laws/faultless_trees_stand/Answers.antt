@@ -1,4 +1,4 @@
-use Rattle.tf_config.proofs.ConfigurationLaws.{configuration_met, configuration_from_met, configuration_same}
+use Rattle.tf_config.proofs.ConfigurationFits.{configuration_met, configuration_from_met, configuration_same}
 use Rattle.tf_config.proofs.laws.faultless_trees_stand.Goals as goal
 
 pub returns-clause-faultless : goal.returns-clause-faultless

@@ -1,12 +1,10 @@
-use Rattle.std.proofs.Common.{◌≡◌, List, ◌++◌, []}
-use Rattle.serde_json.proofs.Views.{Entry}
-use Rattle.serde_json.specs.View.{members_view}
-use Rattle.tf_config.specs.Config.{blocks_of}
-use Rattle.tf_config.specs.Configuration.{AddsSection}
-use Rattle.tf_json_path.specs.Walk.{Builds}
+use Rattle.tf_config.proofs.ConfigurationFits.{section_fits}
+use Rattle.tf_config.proofs.Members.{AreRead}
+use Rattle.tf_config.specs.Configuration.{AddsSection, section_checks}
+use Rattle.tf_config.specs.Config.{plain_config}
+use Rattle.tf_config_data.specs.Config.{ConfigView, config_of}
 use Rattle.tf_config.proofs.reading.read_sections.Given as goal
 
--- the members so far lead to the blocks so far
+-- the members so far are read
 abbrev pub invariant-loop-key : goal.invariant-loop-key
-invariant-loop-key l =
-    (done : List Entry) × (l.members.entries ≡ done ++ l.key-iterator) × Builds AddsSection (members_view done) [] (blocks_of l.config)
+invariant-loop-key l = AreRead ConfigView section_checks AddsSection section_fits plain_config l.members.entries l.key-iterator (config_of l.config)

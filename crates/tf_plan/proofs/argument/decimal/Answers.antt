@@ -3,7 +3,7 @@ use Rattle.std.proofs.lemmas.Fmt.{length_signed_le}
 use Rattle.std.proofs.lemmas.Int.{to_z-of_z}
 use Rattle.std.specs.Fmt.{signed_decimal}
 use Rattle.std.specs.Int.Signed.{mag}
-use Rattle.tf_plan.proofs.Within.{short_within}
+use Rattle.tf_plan.proofs.Within.{short_planned}
 use Rattle.tf_plan.proofs.argument.decimal.Goals as goal
 
 pub returns-clause-within : goal.returns-clause-within
@@ -12,4 +12,4 @@ returns-clause-within c =
     let small : mag n < 2 ^ 63 = c.ranges.number.sfits in
     let short : length (signed_decimal n) ≤ 20 = length_signed_le 19 n (omega (arith, small)) small in
     let is : string_bytes c.in_ok-text.text ≡ signed_decimal n = c.in_ok-text.ensures.ok ∙ ap signed_decimal (to_z-of_z w64 n c.ranges.number) in
-    short_within (string_bytes c.in_ok-text.text) (subst (λ s. length s ≤ 20) (sym is) short)
+    short_planned (string_bytes c.in_ok-text.text) (subst (λ s. length s ≤ 20) (sym is) short)

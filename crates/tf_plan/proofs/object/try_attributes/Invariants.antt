@@ -3,7 +3,7 @@ use Rattle.std.proofs.Common.{◌≡◌, true, map, drop, option_map}
 use Rattle.tf_expr.specs.Tree.{entries_view as arguments_view}
 use Rattle.tf_protocol.specs.Schema.{attribute_of}
 use Rattle.tf_value.specs.Tree.{entries_view}
-use Rattle.tf_plan.specs.Bounded.{each_within}
+use Rattle.tf_plan.specs.Bounded.{each_may_be_planned}
 use Rattle.tf_plan.specs.Object.{named_of}
 use Rattle.tf_plan.proofs.Attributes.{IsSoFar}
 use Rattle.tf_plan.proofs.object.try_attributes.Given as goal
@@ -11,4 +11,4 @@ use Rattle.tf_plan.proofs.object.try_attributes.Given as goal
 abbrev pub invariant-loop-attribute : goal.invariant-loop-attribute
 invariant-loop-attribute l =
     IsSoFar (entries_view l.tried.object.entries) (option_map named_of l.tried.fault) (map attribute_of (drop l.attribute-index l.attributes)) (map attribute_of l.attributes) (arguments_view l.arguments.entries)
-    × (each_within (entries_view l.tried.object.entries) ≡ true)
+    × (each_may_be_planned (entries_view l.tried.object.entries) ≡ true)

@@ -1,0 +1,140 @@
+//! Texts, truth values, types, expressions and literal values, as they stand at a property.
+
+ghost use Rattle.serde_json.specs.View.{items_view, members_view, view};
+ghost use Rattle.std.specs.Prelude.{IfErr, IfOk, List, OnOk, ℕ};
+ghost use Rattle.tf_config.specs.Demand.{Judges, Refuses};
+ghost use Rattle.tf_config.specs.Parts.{expression_checks, flag_checks, item_number_checks, literal_checks, member_number_checks, number_checks, text_checks, type_text_checks, IsFlag, IsLiteral, IsText, NamesType};
+ghost use Rattle.tf_expr.specs.Reading.{IsExpr};
+ghost use Rattle.tf_json_path.specs.Place.{place_of};
+ghost use Rattle.tf_refusal.specs.Refusal.{told};
+ghost use Rattle.tf_syntax.specs.ExprTree.{tree_of};
+ghost use Rattle.tf_value.specs.Tree as values;
+
+use crate::demand::{bad_shape, demand_whole};
+use crate::words::type_named;
+use serde_json::{Map, Value as Json};
+use std::alloc::Global;
+use tf_config_data::VariableType;
+use tf_expr::read_expr_at;
+use tf_json_path::Path;
+use tf_refusal::Refusal;
+use tf_syntax::Expr;
+use tf_value::{JsonFault, Value, from_json};
+
+/// An expression.
+pub(crate) fn read_expression<'a>(
+    alloc: Global,
+    path: &'a Path<'a>,
+    json: &'a Json,
+) -> Result<Expr, Refusal>
+    ensures ok { IfOk result (λ e. IsExpr (view json.now) (tree_of e)) }
+    ensures fault { IfErr result (λ refusal.
+        Refuses (expression_checks (place_of path.now) (view json.now)) (told refusal)) }
+{
+    let expr = read_expr_at(alloc, path, json)?;
+    Ok(expr)
+}
+
+/// Any text, which says nothing to the engine.
+pub(crate) fn demand_text(alloc: Global, path: &Path<'_>, json: &Json) -> Result<(), Refusal>
+    ensures ok { OnOk result ((text : List ℕ) × IsText (view json.now) text) }
+    ensures fault { IfErr result (λ refusal.
+        Refuses (text_checks (place_of path.now) (view json.now)) (told refusal)) }
+{
+    match json {
+        Json::String(_) => Ok(()),
+        _ => Err(bad_shape(alloc, path)),
+    }
+}
+
+/// A truth value.
+pub(crate) fn read_flag(alloc: Global, path: &Path<'_>, json: &Json) -> Result<bool, Refusal>
+    ensures ok { IfOk result (λ flag. IsFlag (view json.now) flag) }
+    ensures fault { IfErr result (λ refusal.
+        Refuses (flag_checks (place_of path.now) (view json.now)) (told refusal)) }
+{
+    match json {
+        Json::Bool(flag) => Ok(*flag),
+        _ => Err(bad_shape(alloc, path)),
+    }
+}
+
+/// The type of a variable.
+pub(crate) fn read_type(
+    alloc: Global,
+    path: &Path<'_>,
+    json: &Json,
+) -> Result<VariableType, Refusal>
+    ensures ok { IfOk result (λ value_type. NamesType (view json.now) value_type) }
+    ensures fault { IfErr result (λ refusal.
+        Refuses (type_text_checks (place_of path.now) (view json.now)) (told refusal)) }
+{
+    match json {
+        Json::String(text) => match type_named(text.as_str()) {
+            Some(value_type) => Ok(value_type),
+            None => Err(bad_shape(alloc, path)),
+        },
+        _ => Err(bad_shape(alloc, path)),
+    }
+}
+
+/// A literal value: its texts are no templates, and it is within the limits of weight and depth.
+pub(crate) fn read_literal<'a>(
+    alloc: Global,
+    path: &'a Path<'a>,
+    json: &'a Json,
+) -> Result<Value, Refusal>
+    ensures ok { IfOk result (λ value. IsLiteral (view json.now) (values.tree_of value)) }
+    ensures fault { IfErr result (λ refusal.
+        Refuses (literal_checks (place_of path.now) (view json.now)) (told refusal)) }
+{
+    demand_numbers(alloc, path, json)?;
+    match from_json(alloc, json) {
+        Ok(value) => Ok(value),
+        Err(JsonFault::OutOfMemory) => Err(Refusal::OutOfMemory),
+        Err(JsonFault::TooLarge) => Err(bad_shape(alloc, path)),
+        Err(JsonFault::NotWhole) => Err(bad_shape(alloc, path)),
+        Err(JsonFault::UnknownInside) => Err(bad_shape(alloc, path)),
+    }
+}
+
+/// Each number is held as a whole number of 64 bits with a sign.
+#[cycle(numbers)]
+fn demand_numbers<'a>(alloc: Global, path: &'a Path<'a>, json: &'a Json) -> Result<(), Refusal>
+    ensures { Judges (number_checks (place_of path.now) (view json.now)) result }
+{
+    match json {
+        Json::Number(number) => demand_whole(alloc, path, number),
+        Json::Array(items) => demand_each_number(alloc, path, items),
+        Json::Object(members) => demand_member_numbers(alloc, path, members),
+        _ => Ok(()),
+    }
+}
+
+#[cycle(numbers)]
+fn demand_each_number<'a>(
+    alloc: Global,
+    path: &'a Path<'a>,
+    items: &'a Vec<Json>,
+) -> Result<(), Refusal>
+    ensures { Judges (item_number_checks (place_of path.now) 0 (items_view items.now.items)) result }
+{
+    for (position, item) in items.iter().enumerate() {
+        demand_numbers(alloc, &Path::Item(path, position), item)?;
+    }
+    Ok(())
+}
+
+#[cycle(numbers)]
+fn demand_member_numbers<'a>(
+    alloc: Global,
+    path: &'a Path<'a>,
+    members: &'a Map<String, Json>,
+) -> Result<(), Refusal>
+    ensures { Judges (member_number_checks (place_of path.now) (members_view members.now.entries)) result }
+{
+    for (key, member) in members.iter() {
+        demand_numbers(alloc, &Path::Member(path, key.as_str()), member)?;
+    }
+    Ok(())
+}
