@@ -1,6 +1,6 @@
 -- Each attribute of an object that is well formed may be stored, so that none has an unknown part.
 use Rattle.std.proofs.Common.{◌≡◌, ℕ, Bool, true, false, ◌&&◌, List, [], ◌∷◌, map as each, refl, sym, ap, ◌∙◌, Ordering, Less, Equal, Greater}
-use Rattle.std.specs.Prelude.{nat_le, Option, Some, if◌then◌else◌}
+use Rattle.std.specs.Prelude.{Option, Some, if◌then◌else◌}
 use Rattle.std.specs.List.{list_all}
 use Rattle.std.specs.Option.{option_map_or}
 use Rattle.std.specs.Ordering.{nat_cmp, is_lt, is_eq, ordering_reverse}
@@ -13,18 +13,11 @@ use Rattle.tf_value.specs.Tree.{keys_of, Tree, map, Entries, no_entries, entry, 
 use Rattle.tf_protocol.specs.Verdict.{same_names, is_allowed, fits, fits_in, well_formed}
 use Rattle.tf_value.proofs.Conjunction.{and-first, and-second, and-both}
 use Rattle.tf_value.specs.Known.{known, known_entries}
-use Rattle.tf_value.specs.Measure.{weight, depth, max_weight, max_depth}
 use Rattle.tf_value.specs.Stored.{may_be_stored, each_may_be_stored}
 use Rattle.tf_walk.specs.Savable.{has_stored_attributes}
 
-first_three : (b c d e : Bool) → (b && c && d && e) ≡ true → (b && (c && d)) ≡ true
-first_three true true true e h = refl
-first_three true true false e h = h
-first_three true false d e h = h
-first_three false c d e h = h
-
 fits-stored : (a : AttributeView) (t : Tree) → fits a t ≡ true → may_be_stored t ≡ true
-fits-stored a t h = first_three (known t) (nat_le (weight t) max_weight) (nat_le (depth t) max_depth) (is_allowed a t) h
+fits-stored a t h = and-first (may_be_stored t) (is_allowed a t) h
 
 greater : (o : Ordering) → is_lt (ordering_reverse o) ≡ true → is_eq o ≡ false
 greater Less h = cc

@@ -12,7 +12,7 @@ use Rattle.tf_walk.specs.Addition.{IsJudged}
 use Rattle.tf_walk.specs.After.{Saved, saved, saved_by}
 use Rattle.tf_walk.specs.Ends.{IsEnd, IsRun}
 use Rattle.tf_walk.specs.Outcome.{Done, skipped, excused, called, call_of, call_of_provider, call_at, all_good, request_of}
-use Rattle.tf_walk.specs.Savable.{AsksWithin, MayBeSaved, has_attributes_within}
+use Rattle.tf_walk.specs.Savable.{AsksWithin, MayBeSaved, has_planned_attributes}
 
 -- what holds of each holds of what is read, if anything is
 all_there : {A : Type 0} (P : A → Type 0) (xs : List A) (n : ℕ) → AllByRecursion P xs → IfSome (slice_get xs n) P
@@ -50,7 +50,7 @@ ended-judged ms actions n seen (called q a v) h = judged_where ms actions n (all
 asked_within : (ms : List Meaning) (o : Option ActionView) (q : Asked) (a : Option Answer) (v : Verdict) → IfSome o MayBeSaved → called q a v ≡ option_map_or (λ b. call_of ms (request_of b)) o skipped → AsksWithin (called q a v)
 asked_within ms None q a v h e = absurd (cc)
 asked_within ms (Some b) q a v h e =
-    subst (λ (r : Asked). option_map_or has_attributes_within r.object false ≡ true) (asked_by (first_with b.label.type_name ms) (request_of b) q a v (sym e)) h.attributes
+    subst (λ (r : Asked). option_map_or has_planned_attributes r.object false ≡ true) (asked_by (first_with b.label.type_name ms) (request_of b) q a v (sym e)) h.attributes
 
 within_where : (ms : List Meaning) (actions : List ActionView) (n : ℕ) (b : Bool) (q : Asked) (a : Option Answer) (v : Verdict) → AllByRecursion MayBeSaved actions
     → MatchBool b (IsRun (call_at ms actions n) (called q a v)) (called q a v ≡ skipped) → AsksWithin (called q a v)

@@ -16,7 +16,7 @@ ghost use Rattle.tf_walk.specs.Diagnostics.{diagnostic_of, diagnostics_of_verdic
 ghost use Rattle.tf_walk.specs.Ended.{done_or_skipped};
 ghost use Rattle.tf_walk.specs.Room.{message_fits};
 ghost use Rattle.tf_walk.specs.RoomHead.{room_head};
-ghost use Rattle.tf_walk.specs.Savable.{HasRecords, has_attributes_within, has_stored_attributes};
+ghost use Rattle.tf_walk.specs.Savable.{HasRecords, has_planned_attributes, has_stored_attributes};
 
 use crate::addition::Addition;
 use crate::asking::Asking;
@@ -92,7 +92,7 @@ fn conclude_call(room: Room, judged: Judged, schema: &Schema) -> Addition
     requires { judged.verdict ≡ verdict_on (asked judged.asking.request) (answered judged.reply) schema.now }
     ensures saves { option_map resource_of result.resource
         ≡ option_map (resource_after (room_head room)) (saved_by schema.now (asked judged.asking.request) (answered judged.reply) judged.verdict) }
-    ensures records { option_map_or has_attributes_within (asked judged.asking.request).object false ≡ true
+    ensures records { option_map_or has_planned_attributes (asked judged.asking.request).object false ≡ true
         → IfSome result.resource (λ r. HasRecords (resource_of r)) }
     ensures tells { listed (option_map diagnostic_of result.diagnostic)
         ≡ diagnostics_of_verdict (room_head room) (asked judged.asking.request) (answered judged.reply) judged.verdict }
