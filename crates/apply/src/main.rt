@@ -4,29 +4,24 @@
 use std::fs::OpenFile;
 use std::process::ExitCode;
 use std::{fs, io};
-use tf_cli::program::{Given, end, read_given};
+use tf_cli::program::{Given, run};
 use tf_cli::{Applied, Refused, Report, SaveFault, apply_text, save, show};
 use tf_provider::Provider;
 use tf_sim::Sim;
 
 fn main(rt: HostRuntime) -> io::Result<ExitCode> {
-    let answer = match read_given(&rt) {
-        Ok(Ok(given)) => run(&rt, &given),
-        Ok(Err(status)) => Ok(status),
-        Err(error) => Err(error),
-    };
-    end(&rt, answer)
+    run(&rt, carry_out)
 }
 
-fn run(rt: &HostRuntime, given: &Given) -> io::Result<ExitCode> {
-    let state = given.state.as_ref().map(|state| state.as_slice());
+/// Carries the plan out, shows what came of it, and writes the state where that has changed.
+fn carry_out(rt: &HostRuntime, given: &Given) -> io::Result<ExitCode> {
     let mut providers: Vec<Box<dyn Provider + Sync>> = Vec::new(rt.alloc());
     providers.push(Box::new(rt.alloc(), Sim::new(rt.alloc())?)?)?;
     let answer = apply_text(
         rt.alloc(),
         given.config.as_slice(),
         None,
-        state,
+        given.state_bytes(),
         given.options.lineage.as_str(),
         providers.as_slice(),
     );

@@ -1,3 +1,4 @@
+mod Alone
 mod Writes
 mod Carried
 mod Savable

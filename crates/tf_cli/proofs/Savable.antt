@@ -1,8 +1,9 @@
 -- What is planned of a configuration may be saved.
-use Rattle.std.proofs.Common.{◌≡◌, Bool, true, false, cond, List, [], ◌∷◌, Option, Some, None, option_map, refl, ap, sym}
+use Rattle.std.proofs.Common.{◌≡◌, Bool, true, false, cond, List, [], ◌∷◌, Option, Some, None, option_map, refl}
 use Rattle.std.specs.Prelude.{is_some}
 use Rattle.std.specs.List.{AllByRecursion, cons_option}
-use Rattle.tf_config.specs.Config.{BlockView, Blocks}
+use Rattle.tf_config.specs.Config.{Blocks}
+use Rattle.tf_config_data.specs.Config.{BlockView}
 use Rattle.tf_config.specs.Laws.{HasNames}
 use Rattle.tf_protocol.specs.Meaning.{Meaning, schema_in}
 use Rattle.tf_protocol.specs.Schema.{SchemaView}
@@ -27,4 +28,4 @@ kept (Some a) rest one more h = (one a refl h.0, more h.1)
 pub all_saved : (ms : List Meaning) (blocks : Blocks) → AllByRecursion HasNames blocks → AreWithin (planned_actions ms blocks) → AllByRecursion MayBeSaved (planned_actions ms blocks)
 all_saved ms [] named within = tt
 all_saved ms (b ∷ blocks) named within =
-    kept (block_action ms b) (planned_actions ms blocks) (λ a is h. saved_at b (is_some (block_refusal ms b)) (schema_in b.kind ms) a named.0 h is) (all_saved ms blocks named.1) within
+    kept (block_action ms b) (planned_actions ms blocks) (λ a is h. saved_at b (is_some (block_refusal ms b)) (schema_in b.label.type_name ms) a named.0 h is) (all_saved ms blocks named.1) within

@@ -5,25 +5,34 @@ use Rattle.tf_protocol.specs.Meaning.{Meaning}
 use Rattle.tf_config.specs.Config.{Blocks}
 use Rattle.tf_config.specs.Configuration.{IsConfiguration}
 use Rattle.tf_config.specs.KnownNames.{KnownBlocks}
-use Rattle.tf_config.specs.Reading.{IsTree, IsRefused, max_bytes, max_blocks}
+use Rattle.tf_refusal.specs.Code.{bad_state}
+use Rattle.tf_config.specs.Reading.{IsTree, IsRefused, max_bytes, max_declared}
+use Rattle.tf_config.specs.Unplanned.{IsPlanned}
+use Rattle.tf_config_data.specs.Config.{ConfigView}
+use Rattle.tf_syntax.specs.ExprTree.{no_entries}
 use Rattle.tf_refusal.specs.Refusal.{Told, no_memory, fault, bare, told}
 use Rattle.tf_plan.specs.Refused.{plan_refusals}
 use Rattle.tf_plan.specs.declared.refused.Refused.{Refused}
 use Rattle.tf_plan.specs.declared.refused.Refused.TheVariants.{NoMemory, These}
 
--- the text is a configuration of these blocks, within the limits, and all names in it are known
+-- a configuration that declares these blocks and nothing else
+abbrev pub of_blocks : Blocks → ConfigView
+of_blocks blocks = record { variables = []; locals = no_entries; outputs = no_entries; blocks = blocks }
+
+-- the text is a configuration of these blocks, within the limits; planning knows all that it has, and all names in it
+-- are known
 abbrev pub IsRead : List ℕ → Blocks → Type 0
 IsRead bytes blocks =
-    (tree : Data) × IsTree bytes tree × IsConfiguration tree blocks × (length bytes ≤ max_bytes) × (length blocks ≤ max_blocks) × KnownBlocks blocks
+    (tree : Data) × IsTree bytes tree × IsConfiguration tree (of_blocks blocks) × IsPlanned tree × (length bytes ≤ max_bytes) × (length blocks ≤ max_declared) × KnownBlocks blocks
 
 -- The first test: the configuration is refused, which is the one refusal.
 abbrev pub ConfigurationIsRefused : List ℕ → List Told → Type 0
 ConfigurationIsRefused bytes tolds = (t : Told) × IsRefused bytes t × (t ≢ no_memory) × (tolds ≡ t ∷ [])
 
--- The second test: no prior state can be read yet, so one that is given is refused with 13.
+-- The second test: no prior state can be read yet, so one that is given is refused as no state.
 abbrev pub StateIsRefused : List ℕ → Option (List ℕ) → List Told → Type 0
 StateIsRefused bytes state tolds =
-    (blocks : Blocks) × IsRead bytes blocks × (is_some state ≡ true) × (tolds ≡ fault 13 (codes "state") bare ∷ [])
+    (blocks : Blocks) × IsRead bytes blocks × (is_some state ≡ true) × (tolds ≡ fault bad_state (codes "state") bare ∷ [])
 
 -- The third test: the plan refuses blocks, and tells of each.
 abbrev pub PlanIsRefused : List ℕ → Option (List ℕ) → List Meaning → List Told → Type 0

@@ -2,3 +2,4 @@ pub mod Accepted
 pub mod Applies
 pub mod Shown
 pub mod Saved
+pub mod Program

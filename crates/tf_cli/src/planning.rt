@@ -2,8 +2,10 @@
 
 ghost use Rattle.std.specs.Prelude.{◌≡◌, ◌≤◌, None, length, map, option_map, codes, IfOk, IfErr, string_bytes};
 ghost use Rattle.tf_cli.specs.Accepted.{IsAccepted, IsRead, Refuses, RefusesBy};
-ghost use Rattle.tf_config.specs.Config.{Blocks, blocks_of};
-ghost use Rattle.tf_config.specs.Reading.{IsRefused};
+ghost use Rattle.tf_config.specs.Config.{Blocks};
+ghost use Rattle.tf_config_data.specs.Config.{blocks_of};
+ghost use Rattle.tf_config.specs.Reading.{IsRefused, max_declared};
+ghost use Rattle.tf_refusal.specs.Code.{bad_state};
 ghost use Rattle.tf_refusal.specs.Refusal.{Told, bare, fault, told};
 ghost use Rattle.tf_plan.specs.Bounded.{AreWithin};
 ghost use Rattle.tf_plan.specs.Plan.{action_of, plan_of, plan_text, planned, planned_actions};
@@ -13,6 +15,7 @@ use std::alloc::{AllocError, Global};
 use tf_config::{Config, read};
 use tf_plan::{Plan, Refused, plan_for};
 use tf_provider::Provider;
+use tf_refusal::code::BAD_STATE;
 use tf_refusal::{Detail, Refusal};
 
 /// The text that `plan` prints, for a configuration. There are no variables yet, and a prior state is refused.
@@ -56,8 +59,8 @@ pub fn plan_of_texts(
 }
 
 fn read_text(alloc: Global, config: &[u8]) -> Result<Config, Refused>
-    ensures read { IfOk result (λ c. IsRead config.now (blocks_of c)) }
-    ensures small { IfOk result (λ c. length (blocks_of c) ≤ 8000) }
+    ensures read { IfOk result (λ c. IsRead config.now (blocks_of c.resources.entries)) }
+    ensures small { IfOk result (λ c. length (blocks_of c.resources.entries) ≤ max_declared) }
     ensures refused { IfErr result (λ r. (t : Told) × IsRefused config.now t × RefusesBy t r) }
 {
     match read(alloc, config) {
@@ -68,10 +71,10 @@ fn read_text(alloc: Global, config: &[u8]) -> Result<Config, Refused>
 
 /// No prior state can be read yet.
 fn prior_state_fault(alloc: Global) -> Result<Refusal, AllocError>
-    ensures { IfOk result (λ r. told r ≡ fault 13 (codes "state") bare) }
+    ensures { IfOk result (λ r. told r ≡ fault bad_state (codes "state") bare) }
 {
     Ok(Refusal::Fault {
-        code: 13,
+        code: BAD_STATE,
         place: String::from_str(alloc, "state")?,
         detail: Detail::Bare,
     })

@@ -1,6 +1,14 @@
-//! What both programs do around their work: they read their words and files, and tell want of memory.
+//! What both programs do around their work: they read their words and files, and tell what they can't read and that
+//! there is no memory.
+
+ghost use Rattle.std.specs.Prelude.{◌≡◌, ◌≤◌, ◌⊎◌, IfErr, IfOk, option_map};
+ghost use Rattle.std.specs.IoError.{error_kind};
+ghost use Rattle.std.specs.Process.{exit_status};
+ghost use Rattle.tf_cli.specs.Program.{Ends, GoesOn, IsEarly, IsOptional, TellsEnd, TellsUnread};
 
 use crate::printing::print_refused;
+use crate::saving::save_all;
+use std::io::{ErrorKind, Write};
 use std::process::ExitCode;
 use std::{env, fs, io};
 use tf_options::{Options, options};
@@ -17,43 +25,109 @@ pub struct Given {
     pub state: Option<Vec<u8>>,
 }
 
-/// Reads a program's words and the files that they name. Where that can't be done, or help is asked for, it has been
-/// told when this returns, and what is answered in place is the program's status. The only `Err` of the call itself is
-/// that memory or the standard error stream failed.
-pub fn read_given(rt: &HostRuntime) -> io::Result<Result<Given, ExitCode>> {
+impl Given {
+    /// The bytes of the state file, where there is one.
+    pub fn state_bytes(&self) -> Option<&[u8]>
+        ensures { option_map (λ bytes. bytes.now) result ≡ option_map (λ bytes. bytes.items) self.now.state }
+    {
+        self.state.as_ref().map(|state| state.as_slice())
+    }
+}
+
+/// Runs a program: reads its words and the files that they name, the configuration and then the state, and does its
+/// work. Where the words are refused, help is asked for or a file can't be read, that is told in place of the work,
+/// and so is want of memory, whatever had none of it.
+///
+/// # Errors
+///
+/// That a word isn't UTF-8, and those of the work.
+pub fn run<F: FnOnce(&HostRuntime, &Given) -> io::Result<ExitCode>>(
+    rt: &HostRuntime,
+    work: F,
+) -> io::Result<ExitCode>
+    requires { F.IsAlwaysCallable work }
+    ensures { (answer : _) × Ends (λ e. error_kind e ≡ ErrorKind.OutOfMemory) answer result × (IsEarly answer ⊎ ((given : _) × F.post work rt.entry given answer)) }
+{
+    end(answer_of(rt, work), &mut rt.stderr())
+}
+
+fn answer_of<F: FnOnce(&HostRuntime, &Given) -> io::Result<ExitCode>>(
+    rt: &HostRuntime,
+    work: F,
+) -> io::Result<ExitCode>
+    requires { F.IsAlwaysCallable work }
+    ensures { IsEarly result ⊎ ((given : _) × F.post work rt.entry given result) }
+{
     let words: Vec<String> = env::args(rt)?.collect(rt.alloc())?;
-    let options = match options(rt.alloc(), words.as_slice()) {
-        Ok(options) => options,
-        Err(error) => {
-            let _ = error.print(rt);
-            return Ok(Err(ExitCode::from(u8::from(error.use_stderr()))));
-        }
-    };
-    let Ok(config) = fs::read(rt, options.config.as_str()) else {
-        return unread(rt, options.config.as_str());
-    };
-    let state = match fs::read(rt, options.state.as_str()) {
-        Ok(state) => Some(state),
-        Err(error) if error.kind() == io::ErrorKind::NotFound => None,
-        Err(_) => return unread(rt, options.state.as_str()),
-    };
-    Ok(Ok(Given {
+    match read_given(rt, words.as_slice()) {
+        Ok(given) => work(rt, &given),
+        Err(status) => Ok(status),
+    }
+}
+
+/// Reads the files that a program's words name. Where it is not to go on, that has been told, and this is its status.
+fn read_given(rt: &HostRuntime, words: &[String]) -> Result<Given, ExitCode>
+    ensures { IfErr result (λ status. exit_status status ≤ 1) }
+{
+    let options = read_options(rt, words)?;
+    let config = fs::read(rt, options.config.as_str());
+    let config = or_told(config, options.config.as_str(), &mut rt.stderr())?;
+    let state = optional(fs::read(rt, options.state.as_str()));
+    let state = or_told(state, options.state.as_str(), &mut rt.stderr())?;
+    Ok(Given {
         options,
         config,
         state,
-    }))
+    })
 }
 
-fn unread(rt: &HostRuntime, file: &str) -> io::Result<Result<Given, ExitCode>> {
-    eprintln!(rt; "error: cannot read {file}")?;
-    Ok(Err(ExitCode::FAILURE))
+/// The options that words say. Where they are refused, or ask for help, that has been told.
+fn read_options(rt: &HostRuntime, words: &[String]) -> Result<Options, ExitCode>
+    ensures workers { IfOk result (λ o. (1 ≤ o.parallelism) × (o.parallelism ≤ 64)) }
+    ensures status { IfErr result (λ status. exit_status status ≤ 1) }
+{
+    match options(rt.alloc(), words) {
+        Ok(options) => Ok(options),
+        Err(error) => {
+            let _ = error.print(rt);
+            Err(ExitCode::from(u8::from(error.use_stderr())))
+        }
+    }
 }
 
-/// How a program ends. Want of memory before its work was done is told as the refusal that it is.
-pub fn end(rt: &HostRuntime, answer: io::Result<ExitCode>) -> io::Result<ExitCode> {
+/// What was read of a file that needn't be there.
+fn optional<T: Drop>(read: io::Result<T>) -> io::Result<Option<T>>
+    ensures { IsOptional (λ e. error_kind e ≡ ErrorKind.NotFound) read result }
+{
+    match read {
+        Ok(bytes) => Ok(Some(bytes)),
+        Err(error) if error.kind() == ErrorKind::NotFound => Ok(None),
+        Err(error) => Err(error),
+    }
+}
+
+/// What was read of a file. Where it can't be read that is told, and this is the program's status.
+fn or_told<T: Drop, E: Write>(read: io::Result<T>, file: &str, err: &mut E) -> Result<T, ExitCode>
+    ensures read { GoesOn read result }
+    ensures told { TellsUnread read file.now (E.contents err.old) (E.contents err.new) }
+{
+    match read {
+        Ok(bytes) => Ok(bytes),
+        Err(_) => {
+            let _ = save_all(err, &["error: cannot read ", file, "\n"]);
+            Err(ExitCode::FAILURE)
+        }
+    }
+}
+
+/// How a program ends. Want of memory is told as the refusal that it is.
+fn end<E: Write>(answer: io::Result<ExitCode>, err: &mut E) -> io::Result<ExitCode>
+    ensures status { Ends (λ e. error_kind e ≡ ErrorKind.OutOfMemory) answer result }
+    ensures told { TellsEnd (λ e. error_kind e ≡ ErrorKind.OutOfMemory) answer (E.contents err.old) (E.contents err.new) }
+{
     match answer {
-        Err(error) if error.kind() == io::ErrorKind::OutOfMemory => {
-            let _ = print_refused(&Refused::NoMemory, &mut rt.stderr());
+        Err(error) if error.kind() == ErrorKind::OutOfMemory => {
+            let _ = print_refused(&Refused::NoMemory, err);
             Ok(ExitCode::FAILURE)
         }
         answered => answered,

@@ -3,6 +3,7 @@ use Rattle.std.specs.List.{AllByRecursion}
 use Rattle.tf_plan.specs.Bounded.{AreWithin}
 use Rattle.tf_plan.specs.Plan.{PlanView, plan_of, planned_actions}
 use Rattle.tf_walk.specs.Savable.{MayBeSaved}
+use Rattle.tf_cli.specs.Accepted.{of_blocks}
 use Rattle.tf_cli.proofs.Carried.{is_applied}
 use Rattle.tf_cli.proofs.Savable.{all_saved}
 use Rattle.tf_cli.proofs.applying.apply_text.Goals as goal
@@ -14,7 +15,7 @@ returns-in-Ok-clause-applied g c =
     let plan = plan_of c.in_ok-plan.plan in
     let read = planned.1.0 in
     let actions : plan.actions ≡ planned_actions ms planned.0 = ap (λ (p : PlanView). p.actions) planned.2 in
-    let named = c.blocks_have_names.ensures read.0 planned.0 read.2 in
+    let named = c.blocks_have_names.ensures read.0 (of_blocks planned.0) read.2 in
     let saved : AllByRecursion MayBeSaved plan.actions = subst (AllByRecursion MayBeSaved) (sym actions) (all_saved ms planned.0 named (subst AreWithin actions c.in_ok-plan.ensures.within)) in (
       planned.0,
       planned.1,
