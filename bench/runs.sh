@@ -1,0 +1,29 @@
+#!/usr/bin/env bash
+# Times whole plans and applies by the provider sim, from text to text, beside serde_json's parse of the same
+# configuration and print of the same state in the same run, for configurations of several sizes. Prints the best of
+# three times each and the ratio. Wants `rt` and `python3`; works in a copy of the repository, of which what is proved
+# and built is taken over, and the rest proved and built first.
+set -euo pipefail
+here="$(cd "$(dirname "$0")" && pwd)"
+work="$(mktemp -d)"
+trap 'rm -rf "$work"' EXIT
+cp -r "$here/.." "$work/repo"
+mkdir -p "$work/repo/crates/bench_runs/src"
+cp "$here/runs/main.rt.txt" "$work/repo/crates/bench_runs/src/main.rt"
+echo 'bench_runs: tf_cli tf_provider tf_sim serde_json anyhow' >> "$work/repo/crates.txt"
+"$work/repo/tools/prove" bench_runs > "$work/log" 2>&1 || { tail -20 "$work/log"; exit 1; }
+program="$work/repo/crates/bench_runs/out/bench_runs"
+python3 "$here/runs/make.py" independent 1 > "$work/config"
+(cd "$work/repo/crates/bench_runs" && rt run < "$work/config") > "$work/log" 2>&1 || { tail -20 "$work/log"; exit 1; }
+printf '%-12s %6s %8s %8s %10s %10s %10s %7s\n' shape blocks bytes state 'json (us)' 'plan (us)' 'apply (us)' ratio
+for shape in independent; do
+    for blocks in 500 1000 2000; do
+        python3 "$here/runs/make.py" "$shape" "$blocks" > "$work/config"
+        "$program" < "$work/config" > "$work/times"
+        awk -v shape="$shape" -v blocks="$blocks" '
+            !($1 in best) || $2 < best[$1] { best[$1] = $2 }
+            END {
+                printf "%-12s %6d %8d %8d %10d %10d %10d %7.2f\n", shape, blocks, best["bytes"], best["state"], best["json"], best["plan"], best["apply"], best["apply"] / best["json"]
+            }' "$work/times"
+    done
+done
