@@ -68,7 +68,7 @@ declared (n ∷ ns) p = elim (cases_Bool (same_pair n.name p)) [
   ]
 ]
 
-none_contained : {A : Type 0} (x : A) → Contains [] x → ⊥
+pub none_contained : {A : Type 0} (x : A) → Contains [] x → ⊥
 none_contained x c = absurd (omega (arith, c.1))
 
 pub refers-declared : (names : List NameView) (p q : Pair) → RefersTo names p q → (k : ℕ) × (place_of names p ≡ Some k)

@@ -11,8 +11,8 @@ use Rattle.std.specs.Prelude.{Contains, slice_get}
 use Rattle.tf_config_data.specs.Names.{NameView, same_pair, place_of}
 use Rattle.tf_graph.proofs.Edges.{contains_head, contains_tail, contains_cases}
 use Rattle.tf_names.proofs.Edging.{place_of-below}
-use Rattle.tf_names.proofs.Needing.{bytes_eq-same, same_pair-same, needs-declared, place_cases}
-use Rattle.tf_names.specs.Needs.{pair_text, name_at, needs_in, AreCyclic, IsDependence}
+use Rattle.tf_names.proofs.Needing.{bytes_eq-same, same_pair-same, needs-declared, none_contained, place_cases}
+use Rattle.tf_names.specs.Needs.{pair_text, name_at, needs_in, AreCyclic, IsAcyclic, IsDependence, Needs}
 use Rattle.tf_names.specs.Texts.{put_text}
 use Rattle.tf_names.specs.declared.dependence.Dependence.{Dependence}
 use Rattle.tf_syntax.specs.TemplateNames.{Pair}
@@ -96,7 +96,7 @@ pub record AreNoted (names : List NameView) (d : Dependence) (upto : ℕ) (texts
   pub led : (text : List ℕ) → Contains texts text → (k : ℕ) × (needs_in d k k ≡ true) × (pair_text (name_at names k) ≡ text)
 
 pub noted-none : (names : List NameView) (d : Dependence) → AreNoted names d 0 []
-noted-none names d = record { found = λ k h. absurd (omega arith); led = λ text c. absurd (omega (arith, c.1)) }
+noted-none names d = record { found = λ k h. absurd (omega arith); led = λ text c. absurd (none_contained text c) }
 
 pub noted-more : (names : List NameView) (d : Dependence) (upto : ℕ) (texts next : List (List ℕ)) (n : NameView) → slice_get names upto ≡ Some n
     → next ≡ cond (needs_in d upto upto) (put_text texts (pair_text n.name)) texts → AreNoted names d upto texts → AreNoted names d (upto + 1) next
@@ -132,3 +132,20 @@ noted-cyclic names d upto keys list all is h same sorted = subst (λ ks. AreCycl
       let n = is.named k.0 k.0 k.1 in
       (n.0, (is.needed n.0 n.0 k.0 k.0 n.1 n.1).0 k.1, ap pair_text (sym (name_at-place names n.0 k.0 n.1)) ∙ k.2);
 })
+
+-- where no name needs itself, no place does
+pub places-acyclic : (names : List NameView) (d : Dependence) → IsDependence names d → ((pair : Pair) → Needs names pair pair → ⊥) → IsAcyclic d
+places-acyclic names d is none n = by_test (needs_in d n n) refl
+  where
+    by_test : (b : Bool) → needs_in d n n ≡ b → b ≡ false
+    by_test false e = refl
+    by_test true e = let named = is.named n n e in absurd (none named.0 ((is.needed named.0 named.0 n n named.1 named.1).0 e))
+
+-- where no texts are found, no place needs itself
+pub acyclic-no_texts : (names : List NameView) (d : Dependence) (keys : List (String Global)) → IsDependence names d → AreCyclic names (map string_bytes keys) → length keys ≡ 0 → IsAcyclic d
+acyclic-no_texts names d [] is cyclic h = places-acyclic names d is (λ pair needs. none_contained (pair_text pair) (cyclic.found pair needs))
+acyclic-no_texts names d (k ∷ keys) is cyclic h = absurd (omega (arith, h))
+
+pub some_texts : (keys : List (String Global)) → (length keys ≡ 0 → ⊥) → map string_bytes keys ≡ [] → ⊥
+some_texts [] h e = h refl
+some_texts (k ∷ keys) h e = absurd (cc)

@@ -1,9 +1,9 @@
 -- The table of names: what is looked up in it, and what is found on the way through lists and maps.
-use Rattle.std.proofs.Common.{◌≡◌, ℕ, zero, suc, ◌+◌, ◌<◌, ◌≤◌, true, false, List, [], ◌∷◌, ◌++◌, Option, None, Some, option_map, length, get_or, drop, drop-cons, map, refl, sym, ap, ◌∙◌, add-one, arith, append_assoc}
+use Rattle.std.proofs.Common.{◌≡◌, ℕ, zero, suc, ◌+◌, ◌<◌, ◌≤◌, Bool, true, false, cond, List, [], ◌∷◌, ◌++◌, Option, None, Some, option_map, length, get_or, drop, drop-cons, map, refl, sym, ap, ◌∙◌, add-one, arith, append_assoc}
 use Rattle.tf_config_data.specs.Names.{NameView, meant_at, place_of, same_pair, place_before, places}
 use Rattle.tf_syntax.specs.TemplateNames.{Pair}
 use Rattle.tf_names.specs.Table.{named_view}
-use Rattle.tf_names.specs.declared.table.Named.{Named}
+use Rattle.tf_names.specs.declared.named.Named.{Named}
 
 -- what is left of a list, one element further on
 pub drop_next : {A : Type 0} → (all : List A) (i : ℕ) (x : A) → i < length all → x ≡ get_or all i x → drop i all ≡ x ∷ drop (i + 1) all
@@ -24,29 +24,29 @@ meant_at-map [] i n h is = absurd (omega arith)
 meant_at-map (x ∷ ns) zero n h is = ap (λ y. Some (named_view y).meant) (sym is)
 meant_at-map (x ∷ ns) (suc i) n h is = meant_at-map ns i n (omega arith) is
 
--- none of the names before a place is the one that is looked for
-abbrev pub IsPassed : List Named → ℕ → Pair → Type 0
-IsPassed all i pair = place_of (map named_view all) pair ≡ option_map (λ k. k + i) (place_of (map named_view (drop i all)) pair)
+-- the place of a name among those from a position on
+abbrev pub place_from : List Named → ℕ → Pair → Option ℕ
+place_from all i pair = option_map (λ k. k + i) (place_of (map named_view (drop i all)) pair)
 
-add_none : (o : Option ℕ) → o ≡ option_map (λ k. k + 0) o
-add_none None = refl
-add_none (Some k) = ap Some (omega arith)
+pub place_from-first : (all : List Named) (pair : Pair) → place_from all 0 pair ≡ place_of (map named_view all) pair
+place_from-first all pair = add_none (place_of (map named_view all) pair)
+  where
+    add_none : (o : Option ℕ) → option_map (λ k. k + 0) o ≡ o
+    add_none None = refl
+    add_none (Some k) = ap Some (omega arith)
 
-add_next : (i : ℕ) (o : Option ℕ) → option_map (λ k. k + i) (option_map suc o) ≡ option_map (λ k. k + (i + 1)) o
-add_next i None = refl
-add_next i (Some k) = ap Some (omega arith)
+pub place_from-past : (all : List Named) (i : ℕ) (pair : Pair) → length all ≤ i → place_from all i pair ≡ None
+place_from-past all i pair h = rw (drop_all all i h) refl
 
-pub passed_none : (all : List Named) (pair : Pair) → IsPassed all 0 pair
-passed_none all pair = add_none (place_of (map named_view all) pair)
-
-pub passed_here : (all : List Named) (i : ℕ) (n : Named) (rest : List Named) (pair : Pair) → drop i all ≡ n ∷ rest → same_pair (named_view n).name pair ≡ true → IsPassed all i pair → Some i ≡ place_of (map named_view all) pair
-passed_here all i n rest pair step same passed = sym (passed ∙ rw (step, same) (ap Some (omega arith)))
-
-pub passed_more : (all : List Named) (i : ℕ) (n : Named) (pair : Pair) → drop i all ≡ n ∷ drop (i + 1) all → same_pair (named_view n).name pair ≡ false → IsPassed all i pair → IsPassed all (i + 1) pair
-passed_more all i n pair step other passed = passed ∙ rw (step, other) (add_next i (place_of (map named_view (drop (i + 1) all)) pair))
-
-pub passed_all : (all : List Named) (i : ℕ) (pair : Pair) → length all ≤ i → IsPassed all i pair → None ≡ place_of (map named_view all) pair
-passed_all all i pair h passed = sym (passed ∙ rw (drop_all all i h) refl)
+-- one position further to the front
+pub place_from-step : (all : List Named) (i : ℕ) (n : Named) (pair : Pair) → i < length all → n ≡ get_or all i n
+    → place_from all i pair ≡ cond (same_pair (named_view n).name pair) (Some i) (place_from all (i + 1) pair)
+place_from-step all i n pair h is = rw (drop_next all i n h is) (by_test (same_pair (named_view n).name pair) (place_of (map named_view (drop (i + 1) all)) pair))
+  where
+    by_test : (b : Bool) (o : Option ℕ) → option_map (λ k. k + i) (cond b (Some 0) (option_map suc o)) ≡ cond b (Some i) (option_map (λ k. k + (i + 1)) o)
+    by_test true o = ap Some (omega arith)
+    by_test false None = refl
+    by_test false (Some k) = ap Some (omega arith)
 
 -- the places of names one after another
 place_before-append : (o : Option ℕ) (xs ys : List ℕ) → place_before o (xs ++ ys) ≡ place_before o xs ++ ys

@@ -1,7 +1,10 @@
 pub mod Cyclic
 pub mod Edges
+pub mod Judging
 pub mod KnownNames
+pub mod Named
 pub mod Needs
+pub mod Places
 pub mod Properties
 pub mod Table
 pub mod Tells

@@ -46,6 +46,10 @@ pub record AreCyclic (names : List NameView) (texts : List (List ℕ)) : Type 0 
 abbrev pub needs_in : Dependence → ℕ → ℕ → Bool
 needs_in d a b = reaches d.table b a
 
+-- by a table of dependence no name needs itself
+abbrev pub IsAcyclic : Dependence → Type 0
+IsAcyclic d = (n : ℕ) → needs_in d n n ≡ false
+
 -- the order of a table of dependence
 abbrev pub order_in : Dependence → List ℕ
 order_in d = d.order.items
@@ -65,6 +69,6 @@ pub record IsDependence (names : List NameView) (d : Dependence) : Type 0 where
   pub closed : (a b c : ℕ) → needs_in d a b ≡ true → Contains (directly_before names b) c → needs_in d a c ≡ true
   pub in_order : IsInOrder (directly_before names) (order_in d)
   pub within : (n : ℕ) → Contains (order_in d) n → n < length names
-  pub whole : ((n : ℕ) → needs_in d n n ≡ false) → (n : ℕ) → n < length names → Contains (order_in d) n
-  pub ranked : ((n : ℕ) → needs_in d n n ≡ false) → Ranked (directly_before names)
+  pub whole : IsAcyclic d → (n : ℕ) → n < length names → Contains (order_in d) n
+  pub ranked : IsAcyclic d → Ranked (directly_before names)
   pub stays : StaysBelow (length names) (directly_before names)

@@ -1,17 +1,8 @@
 -- The names of a configuration, without where they lie in memory.
-use Rattle.std.specs.Prelude.{List, map, string_bytes}
-use Rattle.tf_address.specs.Label.{label_of}
-use Rattle.tf_config_data.specs.Config.{block_at}
-use Rattle.tf_config_data.specs.Names.{NameView, local_pair, label_pair, a_local, a_block}
-use Rattle.tf_syntax.specs.ExprTree.{tree_of}
-use Rattle.tf_names.specs.declared.table.Named.{Named}
+use Rattle.std.specs.Prelude.{List, map}
+use Rattle.tf_config_data.specs.Names.{NameView}
+pub use Rattle.tf_names.specs.Named.{named_view}
 use Rattle.tf_names.specs.declared.table.Names.{Names}
-use Rattle.tf_names.specs.declared.table.Named.TheVariants.{Local, Resource}
-
--- a name with what it stands for
-abbrev pub named_view : Named → NameView
-named_view (Local name expr) = record { name = local_pair (string_bytes name.now); meant = a_local (tree_of expr.now) }
-named_view (Resource label block) = record { name = label_pair (label_of label.now); meant = a_block (block_at (label_of label.now) block.now) }
 
 -- the names of a table
 abbrev pub names_in : Names → List NameView

@@ -3,12 +3,13 @@
 ghost use Rattle.std.specs.List.Sorted.{IsStrictlySortedBy};
 ghost use Rattle.std.specs.Prelude.{◌≡◌, IfOk, OnOk, map, string_bytes, string_cmp, if◌then◌else◌};
 ghost use Rattle.tf_names.specs.Cyclic.{JudgesCycles};
-ghost use Rattle.tf_names.specs.Needs.{pair_text, AreCyclic, IsDependence};
+ghost use Rattle.tf_names.specs.Needs.{pair_text, AreCyclic, IsAcyclic, IsDependence};
 ghost use Rattle.tf_names.specs.Table.{named_view, names_in};
 ghost use Rattle.tf_names.specs.Texts.{put_text};
 
 use crate::dependence::Dependence;
-use crate::table::{Named, Names};
+use crate::named::Named;
+use crate::table::Names;
 use std::alloc::{AllocError, Global};
 use std::collections::BTreeSet;
 use tf_refusal::code::CYCLE;
@@ -33,7 +34,8 @@ impl Dependence {
     }
 }
 
-/// Judges that no name of a configuration needs itself. `dependence` is that of the same names.
+/// Judges that no name of a configuration needs itself. `dependence` is that of the same names, and then has no place
+/// that needs itself.
 ///
 /// # Errors
 ///
@@ -45,7 +47,8 @@ pub fn demand_acyclic(
     dependence: &Dependence,
 ) -> Result<(), Refusal>
     requires { IsDependence (names_in names.now) dependence.now }
-    ensures { JudgesCycles (names_in names.now) result }
+    ensures judged { JudgesCycles (names_in names.now) result }
+    ensures acyclic { OnOk result (IsAcyclic dependence.now) }
 {
     let texts = dependence.cyclic(alloc, names)?;
     if texts.is_empty() {

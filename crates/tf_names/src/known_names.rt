@@ -55,12 +55,12 @@ impl Context {
 
 /// What a configuration declares.
 #[derive(Clone, Copy)]
-struct Known<'a> {
+struct Known<'a, 'n> {
     config: &'a Config,
-    names: &'a Names<'a>,
+    names: &'a Names<'n>,
 }
 
-impl Known<'_> {
+impl Known<'_, '_> {
     /// Whether a name is known in a context, by the two texts around its dot.
     fn knows(&self, context: Context, first: &str, name: &str) -> bool
         ensures { result ≡ knows (declared_of self.now) context (first.now, name.now) }
@@ -145,11 +145,7 @@ fn names_unknown(alloc: Global, path: &Path<'_>) -> Refusal
 /// # Errors
 ///
 /// `UnknownName` at the first place in walk order where this isn't so; or there was no memory.
-pub fn demand_known_names<'a>(
-    alloc: Global,
-    config: &'a Config,
-    names: &'a Names<'a>,
-) -> Result<(), Refusal>
+pub fn demand_known_names(alloc: Global, config: &Config, names: &Names<'_>) -> Result<(), Refusal>
     requires { names_in names.now ≡ names_of (config_of config.now) }
     ensures { JudgesNames (declared_in (config_of config.now)) (config_checks (config_of config.now)) result }
 {
@@ -163,7 +159,7 @@ pub fn demand_known_names<'a>(
 
 fn demand_outputs(
     alloc: Global,
-    known: Known<'_>,
+    known: Known<'_, '_>,
     outputs: &BTreeMap<String, Expr>,
 ) -> Result<(), Refusal>
     ensures { JudgesNames (declared_of known.entry) (output_checks (entries_view outputs.now.entries)) result }
@@ -184,7 +180,7 @@ fn demand_outputs(
 
 fn demand_blocks(
     alloc: Global,
-    known: Known<'_>,
+    known: Known<'_, '_>,
     blocks: &BTreeMap<Label, Block>,
 ) -> Result<(), Refusal>
     ensures { JudgesNames (declared_of known.entry) (block_checks (blocks_of blocks.now.entries)) result }
@@ -200,7 +196,7 @@ fn demand_blocks(
 
 fn demand_block<'a>(
     alloc: Global,
-    known: Known<'_>,
+    known: Known<'_, '_>,
     path: &'a Path<'a>,
     block: &'a Block,
 ) -> Result<(), Refusal>
@@ -213,7 +209,7 @@ fn demand_block<'a>(
 
 fn demand_properties<'a>(
     alloc: Global,
-    known: Known<'_>,
+    known: Known<'_, '_>,
     path: &'a Path<'a>,
     properties: &'a [Property<'a>],
 ) -> Result<(), Refusal>
@@ -232,7 +228,7 @@ fn demand_properties<'a>(
 
 fn demand_value<'a>(
     alloc: Global,
-    known: Known<'_>,
+    known: Known<'_, '_>,
     path: &'a Path<'a>,
     value: &'a Value<'a>,
 ) -> Result<(), Refusal>
@@ -246,7 +242,7 @@ fn demand_value<'a>(
 
 fn demand_labels<'a>(
     alloc: Global,
-    known: Known<'_>,
+    known: Known<'_, '_>,
     path: &'a Path<'a>,
     labels: &'a [Label],
 ) -> Result<(), Refusal>
@@ -260,7 +256,7 @@ fn demand_labels<'a>(
 
 fn demand_label(
     alloc: Global,
-    known: Known<'_>,
+    known: Known<'_, '_>,
     path: &Path<'_>,
     label: &Label,
 ) -> Result<(), Refusal>
@@ -280,7 +276,7 @@ fn demand_label(
 #[cycle(names)]
 fn demand_expr<'a>(
     alloc: Global,
-    known: Known<'_>,
+    known: Known<'_, '_>,
     context: Context,
     path: &'a Path<'a>,
     expr: &'a Expr,
@@ -298,7 +294,7 @@ fn demand_expr<'a>(
 #[cycle(names)]
 fn demand_items<'a>(
     alloc: Global,
-    known: Known<'_>,
+    known: Known<'_, '_>,
     context: Context,
     path: &'a Path<'a>,
     exprs: &'a Vec<Expr>,
@@ -314,7 +310,7 @@ fn demand_items<'a>(
 #[cycle(names)]
 fn demand_entries<'a>(
     alloc: Global,
-    known: Known<'_>,
+    known: Known<'_, '_>,
     context: Context,
     path: &'a Path<'a>,
     entries: &'a BTreeMap<String, Expr>,
@@ -335,7 +331,7 @@ fn demand_entries<'a>(
 
 fn demand_template<'a>(
     alloc: Global,
-    known: Known<'_>,
+    known: Known<'_, '_>,
     context: Context,
     path: &'a Path<'a>,
     template: &'a Template,

@@ -6,11 +6,16 @@
 
 mod cycles;
 mod dependence;
+mod judging;
 mod known_names;
+mod named;
+mod places;
 mod properties;
 mod table;
 
 pub use cycles::demand_acyclic;
 pub use dependence::Dependence;
+pub use judging::judge;
 pub use known_names::{Context, demand_known_names};
-pub use table::{Named, Names};
+pub use named::Named;
+pub use table::Names;

@@ -2,49 +2,34 @@
 
 ghost use Rattle.std.specs.Prelude.{◌≡◌, ◌<◌, ◌++◌, ◌∷◌, [], Some, IfOk, OnOk, length, map, slice_get};
 ghost use Rattle.tf_config_data.specs.Config.{block_at, config_of, repetition_of};
-ghost use Rattle.tf_config_data.specs.Names.{block_refers, directly_before, label_pair, meant_at, named_in_repetition, names_of, place_of, places, refers, same_pair};
+ghost use Rattle.tf_config_data.specs.Names.{block_refers, directly_before, label_pair, meant_at, named_in_repetition, names_of, place_of, places, refers};
 ghost use Rattle.tf_address.specs.Label.{LabelView, label_of};
 ghost use Rattle.tf_syntax.specs.ExprNames.{named_below, named_by};
 ghost use Rattle.tf_syntax.specs.ExprTree.{entries_view, tree_of};
-ghost use Rattle.tf_names.specs.Table.{named_view, names_in};
+ghost use Rattle.tf_names.specs.Named.{named_view};
+ghost use Rattle.tf_names.specs.Places.{found_in};
+ghost use Rattle.tf_syntax.specs.TemplateNames.{Pair};
 
+use crate::named::Named;
+use crate::places::Places;
 use std::alloc::{AllocError, Global};
 use std::collections::BTreeMap;
 use tf_address::Label;
 use tf_config_data::{Block, Config, Repetition};
 use tf_syntax::Expr;
 
-/// A name of a configuration, with what it stands for.
-#[derive(Clone, Copy)]
-pub enum Named<'a> {
-    /// `local.NAME`: the name, and the expression that it stands for.
-    Local(&'a String, &'a Expr),
-    /// `TYPE.NAME`: the resource's type and name, and its block.
-    Resource(&'a Label, &'a Block),
-}
-
-impl Named<'_> {
-    /// Whether these are the two texts around the name's dot.
-    fn is_named(&self, first: &str, name: &str) -> bool
-        ensures { result ≡ same_pair (named_view self.now).name (first.now, name.now) }
-    {
-        match self {
-            Named::Local(own, _) => "local" == first && own.as_str() == name,
-            Named::Resource(label, _) => {
-                label.type_name.as_str() == first && label.name.as_str() == name
-            }
-        }
-    }
-}
-
 /// The names of a configuration that need and can be needed: its locals in byte order, then its resources in
 /// address order. Each stands at a place, from 0 on.
 #[derive(Drop)]
 pub struct Names<'a> {
     entries: Vec<Named<'a>>,
+    places: Places,
+    ghost placed: { (pair : Pair) → found_in places pair ≡ place_of (map named_view entries.items) pair },
 }
 
 impl<'a> Names<'a> {
+    ghost use Rattle.tf_names.specs.Table.{names_in};
+
     /// The names of a configuration.
     ///
     /// # Errors
@@ -60,7 +45,8 @@ impl<'a> Names<'a> {
         for (label, block) in config.resources.iter() {
             entries.push(Named::Resource(label, block))?;
         }
-        Ok(Names { entries })
+        let places = Places::of(alloc, entries.as_slice())?;
+        Ok(Names { entries, places })
     }
 
     /// How many names there are.
@@ -83,12 +69,7 @@ impl<'a> Names<'a> {
     pub fn place(&self, first: &str, name: &str) -> Option<usize>
         ensures { result ≡ place_of (names_in self.now) (first.now, name.now) }
     {
-        for (place, named) in self.entries.iter().enumerate() {
-            if named.is_named(first, name) {
-                return Some(place);
-            }
-        }
-        None
+        self.places.find(first, name)
     }
 
     /// The places of all names that the one at a place refers to directly, as often as it does: in its expressions,
