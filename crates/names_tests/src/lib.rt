@@ -1,0 +1,7 @@
+//! Tests over public calls.
+#![tactic(auto)]
+
+#[cfg(test)]
+mod names;
+#[cfg(test)]
+mod reading;
