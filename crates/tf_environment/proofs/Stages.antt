@@ -4,7 +4,7 @@ use Rattle.std.specs.Str.{bytes_eq}
 use Rattle.tf_address.specs.ObjectId as keys
 use Rattle.tf_address.specs.ObjectId.{InstanceKeyView}
 use Rattle.tf_config_data.specs.Config.{RepetitionView, single, count, for_each}
-use Rattle.tf_value.specs.Tree.{Tree, Entries, null, boolean, whole, text, list, map, set, unknown, keys_of, get}
+use Rattle.tf_value.specs.Tree.{Tree, Entries, whole, text, map, set, unknown, keys_of, get}
 use Rattle.tf_value.specs.Refinement.{Refines}
 use Rattle.tf_operators.specs.Answer.{Answer, present_value, whole_value}
 use Rattle.tf_operators.specs.declared.fault.EvalFault.{EvalFault}
@@ -48,21 +48,9 @@ whole_stays y z shape later e p q = let f : counted (Ok (whole y)) ≡ counted (
 
 -- a count that has a value keeps it
 count_stays : (t u : Tree) (shape later : ShapeView) → Refines t u → counted (Ok t) ≡ Ok shape → counted (Ok u) ≡ Ok later → shape ≡ later
-count_stays null u shape later h p q = absurd (cc)
-count_stays (boolean b) u shape later h p q = absurd (cc)
-count_stays (text b) u shape later h p q = absurd (cc)
-count_stays (list b) u shape later h p q = absurd (cc)
-count_stays (map b) u shape later h p q = absurd (cc)
-count_stays (set b) u shape later h p q = absurd (cc)
-count_stays unknown u shape later h p q = absurd (cc)
-count_stays (whole y) null shape later h p q = absurd h
-count_stays (whole y) (boolean b) shape later h p q = absurd h
-count_stays (whole y) (text b) shape later h p q = absurd h
-count_stays (whole y) (list b) shape later h p q = absurd h
-count_stays (whole y) (map b) shape later h p q = absurd h
-count_stays (whole y) (set b) shape later h p q = absurd h
-count_stays (whole y) unknown shape later h p q = absurd h
 count_stays (whole y) (whole z) shape later h p q = whole_stays y z shape later h p q
+count_stays (whole y) _ shape later h p q = absurd (assumption)
+count_stays _ u shape later h p q = absurd (cc)
 
 named_stays : (es fs : Entries) (shape later : ShapeView) → keys_of es ≡ keys_of fs → keyed (Ok (map es)) ≡ Ok shape → keyed (Ok (map fs)) ≡ Ok later → shape ≡ later
 named_stays es fs shape later e p q = let f : keyed (Ok (map es)) ≡ keyed (Ok (map fs)) = ap (λ (ks : List (List ℕ)). or_bad_for_each (Some ks)) e in cc
@@ -72,28 +60,11 @@ texts_stay ss ts shape later e p q = let f : keyed (Ok (set ss)) ≡ keyed (Ok (
 
 -- keys that have a value keep it
 keys_stay : (t u : Tree) (shape later : ShapeView) → Refines t u → keyed (Ok t) ≡ Ok shape → keyed (Ok u) ≡ Ok later → shape ≡ later
-keys_stay null u shape later h p q = absurd (cc)
-keys_stay (boolean b) u shape later h p q = absurd (cc)
-keys_stay (text b) u shape later h p q = absurd (cc)
-keys_stay (list b) u shape later h p q = absurd (cc)
-keys_stay (whole b) u shape later h p q = absurd (cc)
-keys_stay unknown u shape later h p q = absurd (cc)
-keys_stay (set ss) null shape later h p q = absurd h
-keys_stay (set ss) (boolean b) shape later h p q = absurd h
-keys_stay (set ss) (text b) shape later h p q = absurd h
-keys_stay (set ss) (list b) shape later h p q = absurd h
-keys_stay (set ss) (map b) shape later h p q = absurd h
-keys_stay (set ss) (whole b) shape later h p q = absurd h
-keys_stay (set ss) unknown shape later h p q = absurd h
 keys_stay (set ss) (set ts) shape later h p q = texts_stay ss ts shape later h p q
-keys_stay (map es) null shape later h p q = absurd h
-keys_stay (map es) (set b) shape later h p q = absurd h
-keys_stay (map es) (boolean b) shape later h p q = absurd h
-keys_stay (map es) (text b) shape later h p q = absurd h
-keys_stay (map es) (list b) shape later h p q = absurd h
-keys_stay (map es) (whole b) shape later h p q = absurd h
-keys_stay (map es) unknown shape later h p q = absurd h
 keys_stay (map es) (map fs) shape later h p q = named_stays es fs shape later (same_keys es fs h) p q
+keys_stay (set ss) _ shape later h p q = absurd (assumption)
+keys_stay (map es) _ shape later h p q = absurd (assumption)
+keys_stay _ u shape later h p q = absurd (cc)
 
 counted_value : (a : Answer) (shape : ShapeView) → counted a ≡ Ok shape → (t : Tree) × (a ≡ Ok t) × (counted (Ok t) ≡ Ok shape)
 counted_value (Ok t) shape h = (t, refl, h)
@@ -138,32 +109,15 @@ empty_refine cs ds p q = let x : [] ≡ cs = (cc) in let y : [] ≡ ds = (cc) in
 
 -- what stands under a key refines
 value_refines : (key : List ℕ) (a b v w : Tree) → Refines a b → value_under key a ≡ Ok v → value_under key b ≡ Ok w → Refines v w
-value_refines key null b v w h p q = absurd (cc)
-value_refines key (boolean x) b v w h p q = absurd (cc)
-value_refines key (whole x) b v w h p q = absurd (cc)
-value_refines key (text x) b v w h p q = absurd (cc)
-value_refines key (list x) b v w h p q = absurd (cc)
-value_refines key unknown b v w h p q = absurd (cc)
-value_refines key (set ss) null v w h p q = absurd h
-value_refines key (set ss) (boolean x) v w h p q = absurd h
-value_refines key (set ss) (whole x) v w h p q = absurd h
-value_refines key (set ss) (text x) v w h p q = absurd h
-value_refines key (set ss) (list x) v w h p q = absurd h
-value_refines key (set ss) (map x) v w h p q = absurd h
-value_refines key (set ss) unknown v w h p q = absurd h
 value_refines key (set ss) (set ts) v w h p q = let e : text key ≡ v = (cc) in let f : text key ≡ w = (cc) in rw (← e, ← f) refl
-value_refines key (map es) null v w h p q = absurd h
-value_refines key (map es) (set x) v w h p q = absurd h
-value_refines key (map es) (boolean x) v w h p q = absurd h
-value_refines key (map es) (whole x) v w h p q = absurd h
-value_refines key (map es) (text x) v w h p q = absurd h
-value_refines key (map es) (list x) v w h p q = absurd h
-value_refines key (map es) unknown v w h p q = absurd h
+value_refines key (set ss) _ v w h p q = absurd (assumption)
 value_refines key (map es) (map fs) v w h p q = get_refines key es fs v w h (present_is (get key es) v p) (present_is (get key fs) w q)
   where
     present_is : (o : Option Tree) (t : Tree) → present_value o ≡ Ok t → o ≡ Some t
     present_is None t e = absurd (cc)
     present_is (Some u) t e = cc
+value_refines key (map es) _ v w h p q = absurd (assumption)
+value_refines key _ b v w h p q = absurd (cc)
 
 constants_refine : (known : Known) (repetition : RepetitionView) (key : InstanceKeyView) (e f : Environment) → RefinesTo e f → (cs ds : List ConstantView)
     → instance_constants repetition key e ≡ Ok cs → instance_constants repetition key f ≡ Ok ds → ConstantsRefine cs ds

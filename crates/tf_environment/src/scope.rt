@@ -16,16 +16,16 @@ use tf_value::{Value, find};
 
 /// What references stand for: variables for their values, locals and resources for what they stand for.
 #[derive(Drop)]
-pub struct NamesScope<'a> {
+pub struct NamesScope<'a, 'n> {
     /// The variables' values by name.
     pub variables: &'a BTreeMap<String, Value>,
     /// The names of locals and resources.
-    pub names: &'a Names<'a>,
+    pub names: &'a Names<'n>,
     /// What stands at the place of each name.
     pub standings: &'a [Standing],
 }
 
-impl Scope for NamesScope<'_> {
+impl Scope for NamesScope<'_, '_> {
     ghost environment = { λ s. environment (entries_view s.variables.now.entries) (names_in s.names.now) (standings_of s.standings.now) };
 
     fn look_up(&self, alloc: Global, reference: &Reference) -> Result<Value, EvalFault> {

@@ -22,11 +22,24 @@ use tf_eval::Scope;
 use tf_operators::EvalFault;
 use tf_value::Value;
 
+/// A resource, and what references stand for where it is looked at.
+#[derive(Drop)]
+pub struct Resource<'a, S> {
+    /// The place of its name.
+    pub place: usize,
+    /// Its address.
+    pub label: &'a Label,
+    /// Its block.
+    pub block: &'a Block,
+    /// What references stand for.
+    pub scope: &'a S,
+}
+
 /// A stage of the engine: what a resource stands for.
 pub trait Stage {
     ghost stage: { Self → StageView };
 
-    /// What a resource stands for, by the place of its name, its block, and what references stand for.
+    /// What a resource stands for.
     ///
     /// # Errors
     ///
@@ -34,13 +47,10 @@ pub trait Stage {
     fn stand<S: Scope>(
         &self,
         alloc: Global,
-        place: usize,
-        label: &Label,
-        block: &Block,
-        scope: &S,
+        resource: &Resource<'_, S>,
     ) -> Result<Standing, AllocError>
         ensures { IfOk result (λ standing. standing_of standing
-            ≡ stands (stage self.now) place (a_block (block_at (label_of label.now) block.now)) (S.environment scope.now)) };
+            ≡ stands (stage self.now) resource.now.place (a_block (block_at (label_of resource.now.label.now) resource.now.block.now)) (S.environment resource.now.scope.now)) };
 }
 
 /// The expansion: the instances are worked out, and no object is known.
@@ -67,12 +77,9 @@ impl Stage for Expansion {
     fn stand<S: Scope>(
         &self,
         alloc: Global,
-        _place: usize,
-        _label: &Label,
-        block: &Block,
-        scope: &S,
+        resource: &Resource<'_, S>,
     ) -> Result<Standing, AllocError> {
-        match instances(alloc, &block.repetition, scope)? {
+        match instances(alloc, &resource.block.repetition, resource.scope)? {
             Ok(shape) => unknown_objects(alloc, &shape),
             Err(_) => Ok(Standing::Nothing),
         }
@@ -109,19 +116,6 @@ pub trait Objects {
             ≡ planned self.now resource.now.place (block_at (label_of resource.now.label.now) resource.now.block.now) (S.environment resource.now.scope.now) (instance_key_of key.now)) };
 }
 
-/// A resource, and what references stand for where it is looked at.
-#[derive(Drop)]
-pub struct Resource<'a, S> {
-    /// The place of its name.
-    pub place: usize,
-    /// Its address.
-    pub label: &'a Label,
-    /// Its block.
-    pub block: &'a Block,
-    /// What references stand for.
-    pub scope: &'a S,
-}
-
 /// The plan and the apply: each resource has the instances that the expansion gave it, and their objects.
 #[derive(Drop)]
 pub struct Instanced<'a, O> {
@@ -133,16 +127,16 @@ pub struct Instanced<'a, O> {
 
 /// The objects of one resource.
 #[derive(Drop)]
-struct Of<'a, O, S> {
-    objects: &'a O,
-    resource: Resource<'a, S>,
+struct Of<'o, 'r, 'a, O, S> {
+    objects: &'o O,
+    resource: &'r Resource<'a, S>,
 }
 
-impl<O: Objects, S: Scope> Keyed for Of<'_, O, S> {
-    ghost object = { λ k. O.planned k.objects.now k.resource.place (block_at (label_of k.resource.label.now) k.resource.block.now) (S.environment k.resource.scope.now) };
+impl<O: Objects, S: Scope> Keyed for Of<'_, '_, '_, O, S> {
+    ghost object = { λ k. O.planned k.objects.now k.resource.now.place (block_at (label_of k.resource.now.label.now) k.resource.now.block.now) (S.environment k.resource.now.scope.now) };
 
     fn object(&self, alloc: Global, key: &InstanceKey) -> Result<Option<Value>, AllocError> {
-        self.objects.object(alloc, &self.resource, key)
+        self.objects.object(alloc, self.resource, key)
     }
 }
 
@@ -152,22 +146,13 @@ impl<O: Objects> Stage for Instanced<'_, O> {
     fn stand<S: Scope>(
         &self,
         alloc: Global,
-        place: usize,
-        label: &Label,
-        block: &Block,
-        scope: &S,
+        resource: &Resource<'_, S>,
     ) -> Result<Standing, AllocError> {
-        let resource = Resource {
-            place,
-            label,
-            block,
-            scope,
-        };
         let keyed = Of {
             objects: self.objects,
             resource,
         };
-        match self.shapes.get(place) {
+        match self.shapes.get(resource.place) {
             Some(shape) => lay_out(alloc, shape, &keyed),
             None => lay_out(alloc, &Shape::One, &keyed),
         }

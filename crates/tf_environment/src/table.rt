@@ -14,7 +14,7 @@ ghost use Rattle.tf_environment.specs.Standing.{StandingView, all_stand as all_t
 ghost use Rattle.tf_environment.specs.Views.{standing_of, standings_of};
 
 use crate::scope::NamesScope;
-use crate::stage::Stage;
+use crate::stage::{Resource, Stage};
 use crate::standing::{Standing, evaluated};
 use std::alloc::{AllocError, Global};
 use std::collections::BTreeMap;
@@ -23,11 +23,11 @@ use tf_value::Value;
 
 /// What a configuration declares, and the values of its variables.
 #[derive(Drop)]
-pub struct Declarations<'a> {
+pub struct Declarations<'a, 'n> {
     /// The variables' values by name.
     pub variables: &'a BTreeMap<String, Value>,
     /// The names of locals and resources.
-    pub names: &'a Names<'a>,
+    pub names: &'a Names<'n>,
     /// Which of them needs which.
     pub dependence: &'a Dependence,
 }
@@ -127,7 +127,15 @@ fn stand_at<T: Stage>(
     };
     match declared.names.at(place) {
         Named::Local(_, expr) => evaluated(alloc, expr, &scope),
-        Named::Resource(label, block) => stage.stand(alloc, place, label, block, &scope),
+        Named::Resource(label, block) => {
+            let resource = Resource {
+                place,
+                label,
+                block,
+                scope: &scope,
+            };
+            stage.stand(alloc, &resource)
+        }
     }
 }
 
