@@ -1,12 +1,8 @@
-pub mod Argument
 pub mod Bounded
-pub mod Gives
-pub mod Object
+pub mod Literal
 pub mod Order
 pub mod Plan
-pub mod Planned
 pub mod PlansBlock
 pub mod Refused
 pub mod Served
 pub mod Shown
-pub mod Stepped

@@ -8,7 +8,8 @@ use Rattle.tf_protocol.specs.Meaning.{Meaning, schema_in}
 use Rattle.tf_protocol.specs.Schema.{SchemaView}
 use Rattle.tf_config.specs.Config.{Blocks}
 use Rattle.tf_config_data.specs.Config.{BlockView}
-use Rattle.tf_plan.specs.Planned.{planned_entries}
+use Rattle.tf_change.specs.Planned.{planned_entries}
+use Rattle.tf_plan.specs.Literal.{nothing_stands}
 use Rattle.tf_plan.specs.Refused.{block_label, block_refusal}
 use Rattle.tf_plan.specs.Shown.{shown}
 use Rattle.tf_plan.specs.declared.plan.Action.{Action}
@@ -36,7 +37,7 @@ plan_of p = record { lineage = string_bytes p.lineage; actions = map action_of p
 
 -- a block's object is to be created, with its attributes as planned by the schema
 abbrev pub planned_action : BlockView → SchemaView → ActionView
-planned_action b schema = record { label = block_label b; object = tree.map (planned_entries schema.attributes b.arguments); version = schema.version }
+planned_action b schema = record { label = block_label b; object = tree.map (planned_entries schema.attributes nothing_stands b.arguments); version = schema.version }
 
 -- a block that isn't refused is a create
 abbrev pub block_action : List Meaning → BlockView → Option ActionView

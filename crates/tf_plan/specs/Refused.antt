@@ -1,5 +1,5 @@
 -- Why nothing is planned.
-use Rattle.std.specs.Prelude.{◌≡◌, ◌≢◌, ℕ, List, [], ◌∷◌, ◌++◌, map, Option, Some, None, option_map}
+use Rattle.std.specs.Prelude.{◌≡◌, ◌≢◌, ℕ, List, [], ◌∷◌, ◌++◌, map, Option, Some, option_map}
 use Rattle.std.specs.Option.{option_map_or}
 use Rattle.std.specs.List.{filter_map}
 use Rattle.tf_address.specs.Label.{LabelView, label_text}
@@ -8,9 +8,10 @@ use Rattle.tf_config.specs.Config.{Blocks}
 use Rattle.tf_config_data.specs.Config.{BlockView}
 use Rattle.tf_refusal.specs.Code.{evaluate, bad_argument, no_provider}
 use Rattle.tf_refusal.specs.Refusal.{Told, fault, bare, kind, told}
-use Rattle.tf_plan.specs.Planned.{NamedFault, first_fault}
-use Rattle.tf_plan.specs.declared.argument.ArgumentFault.{ArgumentFault}
-use Rattle.tf_plan.specs.declared.argument.ArgumentFault.TheVariants.{Evaluation, BadArgument}
+use Rattle.tf_change.specs.Planned.{NamedFaultView, first_fault}
+use Rattle.tf_change.specs.declared.argument.ArgumentFault.{ArgumentFault}
+use Rattle.tf_change.specs.declared.argument.ArgumentFault.TheVariants.{Evaluation, BadArgument}
+use Rattle.tf_plan.specs.Literal.{nothing_stands}
 use Rattle.tf_plan.specs.declared.refused.Refused.{Refused}
 use Rattle.tf_plan.specs.declared.refused.Refused.TheVariants.{NoMemory, These}
 
@@ -27,14 +28,14 @@ abbrev pub told_at : List ℕ → ArgumentFault → Told
 told_at place (Evaluation f) = fault evaluate place (kind f)
 told_at place BadArgument = fault bad_argument place bare
 
-abbrev pub argument_refusal : LabelView → NamedFault → Told
+abbrev pub argument_refusal : LabelView → NamedFaultView → Told
 argument_refusal label named = told_at (attribute_place label named.0) named.1
 
 -- A block is refused with 11 at its address where no provider has its type, and else for the first thing that
 -- is wrong with its arguments.
 abbrev pub block_refusal : List Meaning → BlockView → Option Told
 block_refusal ms b =
-    option_map_or (λ schema. option_map (argument_refusal (block_label b)) (first_fault schema b.arguments)) (schema_in b.label.type_name ms) (Some (fault no_provider (label_text (block_label b)) bare))
+    option_map_or (λ schema. option_map (argument_refusal (block_label b)) (first_fault schema nothing_stands b.arguments)) (schema_in b.label.type_name ms) (Some (fault no_provider (label_text (block_label b)) bare))
 
 -- all that a plan refuses, in address order: one refusal for each block that is refused
 abbrev pub plan_refusals : List Meaning → Blocks → List Told

@@ -1,8 +1,6 @@
 //! The planner: what is to be created for a configuration, in which order, and the text that tells the user.
 #![tactic(auto)]
 
-pub mod argument;
-pub mod object;
 pub mod order;
 pub mod plan;
 pub mod planner;
@@ -10,7 +8,6 @@ pub mod refused;
 mod shown;
 mod text;
 
-pub use argument::{ArgumentFault, ValueFault};
 pub use order::Order;
 pub use plan::{Action, Plan};
 pub use planner::plan_for;

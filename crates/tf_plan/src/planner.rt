@@ -4,21 +4,21 @@ ghost use Rattle.std.specs.Prelude.{◌≡◌, ◌≤◌, [], None, Some, length
 ghost use Rattle.tf_address.specs.Label.{label_of, label_text};
 ghost use Rattle.tf_config_data.specs.Config.{block_of, blocks_of};
 ghost use Rattle.tf_refusal.specs.Refusal.{told, fault, bare};
+ghost use Rattle.tf_change.specs.Object.{named_fault_of};
 ghost use Rattle.tf_plan.specs.Bounded.{AreWithin, IsCreateWithin};
 ghost use Rattle.tf_plan.specs.Plan.{action_of, plan_of, planned, planned_actions};
 ghost use Rattle.tf_plan.specs.PlansBlock.{PlansBlock};
 ghost use Rattle.tf_plan.specs.Served.{AreServed};
 ghost use Rattle.tf_plan.specs.Refused.{Tells, argument_refusal, block_refusal, plan_refusals};
-ghost use Rattle.tf_plan.specs.Object.{named_of};
 
-use crate::argument::ArgumentFault;
-use crate::object::{Named, Planned, plan_object};
 use crate::order::Order;
 use crate::plan::{Action, Plan};
 use crate::refused::Refused;
 use std::alloc::{AllocError, Global};
 use tf_address::Label;
+use tf_change::{ArgumentFault, NamedFault, plan_object};
 use tf_config::{Block, Config};
+use tf_expr::Constants;
 use tf_protocol::{Provider, schema_for};
 use tf_refusal::code::{BAD_ARGUMENT, EVALUATE, NO_PROVIDER};
 use tf_refusal::{Detail, Refusal};
@@ -109,21 +109,24 @@ fn plan_block(
         let place = label.to_string(alloc)?;
         return Ok(PlannedBlock::Refuse(bare(NO_PROVIDER, place)));
     };
-    match plan_object(alloc, schema, &block.arguments)? {
-        Planned::Object(object) => Ok(PlannedBlock::Create(Action {
+    let nothing = Constants {
+        constants: Vec::new(alloc),
+    };
+    match plan_object(alloc, schema, &block.arguments, &nothing)? {
+        Ok(object) => Ok(PlannedBlock::Create(Action {
             label: label.clone()?,
             object,
             version: schema.version(),
         })),
-        Planned::Fault(named) => Ok(PlannedBlock::Refuse(refusal_of(alloc, label, named)?)),
+        Err(named) => Ok(PlannedBlock::Refuse(refusal_of(alloc, label, named)?)),
     }
 }
 
 /// The refusal that a fault of an argument gives.
-fn refusal_of(alloc: Global, label: &Label, named: Named) -> Result<Refusal, AllocError>
-    ensures { IfOk result (λ refusal. told refusal ≡ argument_refusal (label_of label.now) (named_of named)) }
+fn refusal_of(alloc: Global, label: &Label, named: NamedFault) -> Result<Refusal, AllocError>
+    ensures { IfOk result (λ refusal. told refusal ≡ argument_refusal (label_of label.now) (named_fault_of named)) }
 {
-    let Named { name, fault } = named;
+    let NamedFault { name, fault } = named;
     let place = format!(in alloc; "{label}.{name}")?;
     match fault {
         ArgumentFault::Evaluation(kind) => Ok(Refusal::Fault {

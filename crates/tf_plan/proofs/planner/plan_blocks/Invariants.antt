@@ -1,6 +1,5 @@
 -- what is planned and refused so far, with what is of the blocks that are left
 use Rattle.std.proofs.Common.{◌≡◌, ◌+◌, ◌≤◌, ◌++◌, length, map}
-use Rattle.std.specs.List.{filter_map}
 use Rattle.tf_config_data.specs.Config.{block_of}
 use Rattle.tf_refusal.specs.Refusal.{told}
 use Rattle.tf_plan.specs.Bounded.{AreWithin}
