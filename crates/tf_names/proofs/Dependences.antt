@@ -1,10 +1,10 @@
 -- A table of dependence, from its graph, order and closure.
-use Rattle.std.proofs.Common.{◌≡◌, ◌<◌, ℕ, List, length, take, sym, subst}
+use Rattle.std.proofs.Common.{◌≡◌, ◌∙◌, ◌<◌, ℕ, List, length, take, sym, subst}
 use Rattle.std.proofs.lemmas.Bool.{both_ways}
 use Rattle.std.specs.List.{AllByRecursion}
 use Rattle.std.specs.Prelude.{Contains, slice_index}
 use Rattle.tf_config_data.specs.Names.{NameView, meant_at, refers_at, directly_before}
-use Rattle.tf_graph.proofs.GraphLaws.{acyclic-ranked, reached-closed, whole_order-all}
+use Rattle.tf_graph.proofs.GraphLaws.{acyclic-ranked, closure-least, reached-closed, whole_order-all}
 use Rattle.tf_graph.specs.Closure.{reaches, IsClosure}
 use Rattle.tf_graph.specs.Digraph.{IsWithin, predecessors_of}
 use Rattle.tf_graph.specs.Path.{direct}
@@ -21,10 +21,12 @@ dependence names d count are before order closure =
     let within = subst (λ k. IsWithin k d.graph.edges) (sym count) (are-within (length names) d.graph.edges are) in
     record {
       count = count;
+      table = closure.nodes ∙ count;
       before = before;
       needed = λ p q a b h i. (λ led. needs-from_reaches names g before b a (closure.led b a led) p q h i, λ n. closure.found b a (reaches-from_needs names g before p q a b h i n));
       named = λ a b led. reaching-named names g before b a (closure.led b a led);
       direct = λ a b c. closure.found b a (direct b a (edge-from_before names g before a b c));
+      transitive = λ a b c p q. (closure-least g d.table closure).0.transitive c b a q p;
       closed = λ a b c led k. (reached-closed g d.table closure c b a).1 (edge-from_before names g before b c k) led;
       in_order = record {
         once = order.in_order.once;

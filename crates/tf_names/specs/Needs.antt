@@ -58,14 +58,16 @@ order_in d = d.order.items
 abbrev pub before_in : Dependence → ℕ → List ℕ
 before_in d n = predecessors_of d.graph n
 
--- A table says which of these names needs which. Its order has each name once and after all that it refers to, and
--- where none needs itself it has all names.
+-- A table says which of these names needs which. What is needed by what is needed is needed. Its order has each name
+-- once and after all that it refers to, and where none needs itself it has all names.
 pub record IsDependence (names : List NameView) (d : Dependence) : Type 0 where
   pub count : d.graph.nodes ≡ length names
+  pub table : d.table.nodes ≡ length names
   pub before : (n : ℕ) → before_in d n ≡ directly_before names n
   pub needed : (p q : Pair) (a b : ℕ) → place_of names p ≡ Some a → place_of names q ≡ Some b → (needs_in d a b ≡ true) ↔ Needs names p q
   pub named : (a b : ℕ) → needs_in d a b ≡ true → (q : Pair) × (place_of names q ≡ Some b)
   pub direct : (a b : ℕ) → Contains (directly_before names a) b → needs_in d a b ≡ true
+  pub transitive : (a b c : ℕ) → needs_in d a b ≡ true → needs_in d b c ≡ true → needs_in d a c ≡ true
   pub closed : (a b c : ℕ) → needs_in d a b ≡ true → Contains (directly_before names b) c → needs_in d a c ≡ true
   pub in_order : IsInOrder (directly_before names) (order_in d)
   pub within : (n : ℕ) → Contains (order_in d) n → n < length names
