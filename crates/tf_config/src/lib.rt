@@ -12,6 +12,7 @@ mod demand;
 mod known_names;
 mod laws;
 mod literals;
+mod objects;
 mod outputs;
 mod reading;
 mod unplanned;
