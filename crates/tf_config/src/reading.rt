@@ -1,6 +1,6 @@
 ghost use Rattle.serde_json.specs.View.{view, members_view};
 ghost use Rattle.serde_json.specs.Data.{Data};
-ghost use Rattle.std.specs.Prelude.{◌<◌, ◌≤◌, length, IfErr, IfOk, OnOk};
+ghost use Rattle.std.specs.Prelude.{◌<◌, ◌≤◌, ◌∷◌, [], length, IfErr, IfOk, OnOk};
 ghost use Rattle.tf_config.specs.Config.{plain_config};
 ghost use Rattle.tf_config.specs.Configuration.{below, configuration_checks, section_checks, whole_file, AddsSection, IsConfiguration};
 ghost use Rattle.tf_config.specs.Demand.{Refuses, TellsAt};
@@ -14,7 +14,7 @@ ghost use Rattle.tf_refusal.specs.Refusal.{bare, told};
 ghost use Rattle.tf_refusal.specs.Code.{limit};
 
 use crate::blocks::Types;
-use crate::demand::{bad_shape, whole_file_fault};
+use crate::demand::{CONFIGURATION, bad_shape, file_fault, whole_file_fault};
 use crate::known_names::demand_known_names;
 use crate::objects::{Members, add_each_member, add_members};
 use crate::outputs::{Locals, Outputs};
@@ -111,7 +111,7 @@ fn read_both(alloc: Global, bytes: &[u8]) -> Result<(Value, Config), Refusal>
     if bytes.len() > MAX_BYTES {
         return Err(whole_file_fault(alloc, LIMIT));
     }
-    let tree = read_tree(alloc, bytes)?;
+    let tree = read_tree(alloc, bytes, CONFIGURATION)?;
     let config = read_configuration(alloc, &tree)?;
     demand_counts(alloc, &config)?;
     Ok((tree, config))
@@ -142,14 +142,19 @@ fn demand_count(alloc: Global, count: usize) -> Result<(), Refusal>
     }
 }
 
-fn read_tree(alloc: Global, bytes: &[u8]) -> Result<Value, Refusal>
+/// The JSON tree that a file's text is. The file is called by this name in a refusal.
+///
+/// # Errors
+///
+/// 1 at the file where the text is no JSON as `serde_json` reads it, which takes UTF-8 alone, or `OutOfMemory`.
+pub fn read_tree(alloc: Global, bytes: &[u8], file: &str) -> Result<Value, Refusal>
     ensures ok { IfOk result (λ tree. IsTree bytes.now (view tree)) }
-    ensures fault { IfErr result (λ refusal. TellsNotJson bytes.now (told refusal)) }
+    ensures fault { IfErr result (λ refusal. TellsNotJson (file.now ∷ []) bytes.now (told refusal)) }
 {
     match Value::from_slice(alloc, bytes) {
         Ok(tree) => Ok(tree),
         Err(error) if error.is_memory() => Err(Refusal::OutOfMemory),
-        Err(_) => Err(whole_file_fault(alloc, NOT_JSON)),
+        Err(_) => Err(file_fault(alloc, file, NOT_JSON)),
     }
 }
 
