@@ -1,7 +1,7 @@
 -- What is told of a file and declared variables.
-use Rattle.std.proofs.Common.{◌≡◌, ℕ, Bool, false, Option, Some, List, [], ◌∷◌, inl, inr, subst}
+use Rattle.std.proofs.Common.{◌≡◌, ℕ, Bool, false, Option, Some, List, [], ◌∷◌, inl, subst}
 use Rattle.serde_json.specs.Data.{Data}
-use Rattle.tf_config.specs.Demand.{AreMet, Refuses, TellsAt}
+use Rattle.tf_config.specs.Demand.{Refuses, TellsAt}
 use Rattle.tf_config.specs.Parts.{literal_checks}
 use Rattle.tf_config_data.specs.Config.{VariableView}
 use Rattle.tf_json_path.specs.Check.{demanded}
@@ -9,7 +9,7 @@ use Rattle.tf_json_path.specs.Place.{dotted}
 use Rattle.tf_refusal.specs.Code.{bad_argument}
 use Rattle.tf_refusal.specs.Refusal.{Told, no_memory, workers, fault, bare}
 use Rattle.tf_variables.specs.Reading.{TellsFaulty}
-use Rattle.tf_variables.specs.Values.{literal_at, file_checks, value_checks, RefusesValues}
+use Rattle.tf_variables.specs.Values.{literal_at, file_checks, RefusesValues}
 
 pub refuses_none : (place : List (List ℕ)) (has : Bool) (t : Told) → has ≡ false → TellsAt (dotted place) (bad_argument, bare) t → RefusesValues (demanded place has) t
 refuses_none place has no_memory none h = tt
@@ -21,11 +21,6 @@ module _ (file : Option Data) (vs : List VariableView) where
   file_faulty no_memory h = tt
   file_faulty workers h = absurd h
   file_faulty (fault code place detail) h = inl h
-
-  pub value_faulty : (t : Told) → AreMet (file_checks file vs) → RefusesValues (value_checks file vs) t → TellsFaulty file vs t
-  value_faulty no_memory met h = tt
-  value_faulty workers met h = absurd h
-  value_faulty (fault code place detail) met h = inr (met, h)
 
 -- what the file gives a name is refused, or a literal
 pub literal_refused : (name : List ℕ) (value : Data) (found : Option Data) (t : Told) → Some value ≡ found → Refuses (literal_checks (name ∷ []) value) t → Refuses (literal_at name found) t

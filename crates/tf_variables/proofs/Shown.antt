@@ -3,7 +3,6 @@ use Rattle.std.proofs.Common.{◌≡◌, List, [], ◌∷◌, ◌++◌, Option, 
 use Rattle.std.proofs.lemmas.Cmp.{nat_list_cmp_total}
 use Rattle.std.specs.Cmp.Lexicographic.{slice_cmp}
 use Rattle.std.specs.List.Sorted.{IsStrictlySortedBy}
-use Rattle.std.proofs.lemmas.List.{append-nil}
 use Rattle.std.specs.Map.{keys_of}
 use Rattle.std.specs.Prelude.{IsTrue, MatchResult, Result}
 use Rattle.std.specs.Ordering.{ordering_reverse}
@@ -13,7 +12,7 @@ use Rattle.tf_config_data.specs.declared.variable.Variable.{Variable}
 use Rattle.tf_value.proofs.Views.{below_middle}
 use Rattle.tf_value.specs.Tree.{Tree, Entries, no_entries, entry, put, entries_view}
 use Rattle.tf_value.specs.declared.value.Value.{Value}
-use Rattle.tf_config.proofs.Walks.{IsLeft, left_more, left_none, left_refused}
+use Rattle.tf_config.proofs.Walks.{IsLeft, left_more, left_refused}
 use Rattle.tf_config.specs.Demand.{AreMet, IsMet, Fails, Refuses}
 use Rattle.tf_refusal.specs.Refusal.{Told, told}
 use Rattle.tf_refusal.specs.declared.refusal.Refusal.{Refusal}
@@ -39,9 +38,6 @@ values_more file (first ∷ done) e more t (entry name u es) sorted is values =
 abbrev pub AreShown : Option Data → (all left : List Entry) → Entries → Type 0
 AreShown file all left values = (done : List Entry) × (all ≡ done ++ left) × AreValues file (variables_of done) values
 
-pub shown_first : (file : Option Data) (all : List Entry) → AreShown file all all no_entries
-shown_first file all = ([], refl, tt)
-
 pub shown_next : (file : Option Data) (all left : List Entry) (e : Entry) (more : List Entry) (t : Tree) (values now : Entries) → IsStrictlySortedBy string_cmp (keys_of all) → left ≡ e ∷ more
     → value_for file (variable_of e) ≡ Some t → now ≡ put (string_bytes e.0) t values → AreShown file all left values → AreShown file all more now
 shown_next file all left e more t values now sorted steps is puts (done, before, values_are) =
@@ -50,9 +46,6 @@ shown_next file all left e more t values now sorted steps is puts (done, before,
       whole ∙ sym (append_assoc done (e ∷ []) more),
       rw puts (values_more file done e more t values (subst (λ es. IsStrictlySortedBy string_cmp (keys_of es)) whole sorted) is values_are),
     )
-
-pub shown_whole : (file : Option Data) (all : List Entry) (values : Entries) → AreShown file all [] values → AreValues file (variables_of all) values
-shown_whole file all values (done, before, values_are) = rw (before ∙ append-nil done) values_are
 
 -- where the values so far are known, so is it that the checks before are met
 abbrev pub IsAnswer : Option Data → (all left : List Entry) → Result (BTreeMap (String Global) Value) Refusal → Type 0
@@ -97,10 +90,3 @@ pub refused_next : (file : Option Data) (all left : List Entry) (e : Entry) (mor
     → AreRead file all left answer → Refuses (literal_at (string_bytes e.0) (given file (string_bytes e.0))) t → Refuses (file_checks file (variables_of all)) t
 refused_next file all left e more answer t steps (checks, so_far) first =
     left_refused IsMet Fails (file_checks file (variables_of all)) (literal_at (string_bytes e.0) (given file (string_bytes e.0))) (file_checks file (variables_of more)) t (rw steps at checks) first
-
--- all variables were gone through
-pub read_whole : (file : Option Data) (all left : List Entry) (answer : Result (BTreeMap (String Global) Value) Refusal) → left ≡ [] → AreRead file all left answer
-    → AreMet (file_checks file (variables_of all))
-    × MatchResult answer (λ values. AreValues file (variables_of all) (entries_view values.entries)) (λ refusal. RefusesValues (value_checks file (variables_of all)) (told refusal))
-read_whole file all left (Ok values) none (checks, so_far) = (left_none IsMet (file_checks file (variables_of all)) (rw none at checks), shown_whole file all (entries_view values.entries) (rw none at so_far.1))
-read_whole file all left (Err refusal) none (checks, so_far) = (left_none IsMet (file_checks file (variables_of all)) (rw none at checks), so_far)
