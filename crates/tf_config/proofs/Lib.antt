@@ -14,3 +14,4 @@ pub mod PlannedLaws
 pub mod Puts
 pub mod RefusalLaws
 pub mod Refusals
+pub mod Sound

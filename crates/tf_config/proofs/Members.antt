@@ -7,9 +7,9 @@ use Rattle.serde_json.specs.View.{view, items_view, members_view}
 use Rattle.serde_json.specs.declared.value.Value.{Value}
 use Rattle.tf_json_path.proofs.Walks.{Builds-met, builds_more, met_more}
 use Rattle.tf_json_path.specs.Walk.{each, each_item, Builds}
-use Rattle.tf_config.proofs.Fits.{Fits, FitsAdds, items_met}
+use Rattle.tf_config.proofs.Fits.{Fits, items_met}
 use Rattle.tf_config.proofs.Refusals.{Refuses-at, Refuses-at_item}
-use Rattle.tf_config.specs.Configuration.{PropertyChecks, below}
+use Rattle.tf_config.specs.Configuration.{PropertyChecks, below, IsSound}
 use Rattle.tf_config.specs.Demand.{AreMet, IsMet, Refuses}
 use Rattle.tf_config.specs.Parts.{PartChecks, element_checks, EachSays}
 use Rattle.tf_refusal.specs.Refusal.{Told}
@@ -22,17 +22,17 @@ append_none (x ∷ xs) = ap (λ ys. x ∷ ys) (append_none xs)
 abbrev pub ArePassed : (List Entry → Type 0) → (all left : List Entry) → Type 0
 ArePassed Holds all left = (done : List Entry) × (all ≡ done ++ left) × Holds done
 
-module _ (B : Type 0) (checks : PropertyChecks) (Step : List ℕ → Data → B → B → Type 0) (fits : FitsAdds B checks Step) (a : B) where
+module _ (B : Type 0) (Step : List ℕ → Data → B → B → Type 0) (a : B) where
   -- some members were read
   abbrev pub AreRead : (all left : List Entry) (b : B) → Type 0
   AreRead all left b = ArePassed (λ done. Builds Step (members_view done) a b) all left
 
   -- the first fault of an object is that of the next member, where that can't be read
-  pub refused_next : (place : List (List ℕ)) (all left : List Entry) (e : Entry) (more : List Entry) (b : B) (t : Told) → AreRead all left b → left ≡ e ∷ more
-      → Refuses (checks (string_bytes e.0 ∷ place) (string_bytes e.0) (view e.1)) t → Refuses (each (below checks place) (members_view all)) t
-  refused_next place all left e more b t (done, is, builds) steps first =
+  pub refused_next : (checks : PropertyChecks) → IsSound Step checks → (place : List (List ℕ)) (all left : List Entry) (e : Entry) (more : List Entry) (b : B) (t : Told)
+      → AreRead all left b → left ≡ e ∷ more → Refuses (checks (string_bytes e.0 ∷ place) (string_bytes e.0) (view e.1)) t → Refuses (each (below checks place) (members_view all)) t
+  refused_next checks sound place all left e more b t (done, is, builds) steps first =
       rw (is ∙ ap (λ es. done ++ es) steps)
-      (Refuses-at (below checks place) done e more t (Builds-met Step IsMet (below checks place) (λ k d a b. (fits k).met (k ∷ place) d a b) (members_view done) a b builds) first)
+      (Refuses-at (below checks place) done e more t (Builds-met Step IsMet (below checks place) (λ k d a b. sound k (k ∷ place) d a b) (members_view done) a b builds) first)
 
   -- one member more was read
   pub read_next : (all left : List Entry) (e : Entry) (more : List Entry) (b c : B) → AreRead all left b → left ≡ e ∷ more → Step (string_bytes e.0) (view e.1) b c → AreRead all more c

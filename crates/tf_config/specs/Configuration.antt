@@ -9,7 +9,7 @@ use Rattle.tf_json_path.specs.Check.{demanded}
 use Rattle.tf_json_path.specs.Walk.{each, Builds}
 use Rattle.tf_syntax.specs.ExprTree.{Tree, Entries, put}
 use Rattle.tf_config.specs.Config.{VariableBody, plain_variable, variable_with, put_variable, Blocks, plain_lifecycle, BlockBody, plain_block, block_with, put_block, plain_config}
-use Rattle.tf_config.specs.Demand.{Checks, holds, a_name, a_type_name}
+use Rattle.tf_config.specs.Demand.{Checks, AreMet, holds, a_name, a_type_name}
 use Rattle.tf_config.specs.Parts.{wrong, PartChecks, expression_checks, text_checks, IsText, flag_checks, IsFlag, type_text_checks, NamesType, literal_checks, IsLiteral, array_checks, SaysList, name_checks, IsNameText, address_checks, IsAddressText}
 use Rattle.tf_config.specs.Words.{section_of, variable_property_of, locals_property_of, output_property_of, block_property_of, lifecycle_property_of, is_type_name}
 use Rattle.tf_config.specs.declared.words.BlockProperty.{BlockProperty}
@@ -44,6 +44,10 @@ object_checks checks place _ = wrong place
 abbrev pub BuildsFrom : {B : Type 0} → (List ℕ → Data → B → B → Type 0) → Data → B → B → Type 0
 BuildsFrom Adds (object members) before after = Builds Adds members before after
 BuildsFrom Adds _ before after = ⊥
+
+-- A member that adds what it says has no fault.
+abbrev pub IsSound : {B : Type 0} → (List ℕ → Data → B → B → Type 0) → PropertyChecks → Type 0
+IsSound {B} Adds checks = (name : List ℕ) (place : List (List ℕ)) (value : Data) (before after : B) → Adds name value before after → AreMet (checks place name value)
 
 -- What a property says is told with what was said before it.
 abbrev pub Adds : {A B : Type 0} → (Data → A → Type 0) → Data → (A → B) → B → Type 0

@@ -33,15 +33,19 @@ IsWithinCounts c =
 abbrev pub whole_fault : ℕ → Told
 whole_fault code = fault code (dotted whole_file) bare
 
--- The text is no tree: 1, NotJson.
-abbrev pub IsNotJson : List ℕ → Told → Type 0
-IsNotJson bytes refusal = ((tree : Data) → ¬ IsTree bytes tree) × (refusal ≡ whole_fault not_json)
+-- A file's text is no tree: 1, NotJson.
+abbrev pub IsNotJsonAt : List (List ℕ) → List ℕ → Told → Type 0
+IsNotJsonAt file bytes refusal = ((tree : Data) → ¬ IsTree bytes tree) × (refusal ≡ fault not_json (dotted file) bare)
 
 -- That is told, or that there was no memory.
-abbrev pub TellsNotJson : List ℕ → Told → Type 0
-TellsNotJson bytes no_memory = Unit {0}
-TellsNotJson bytes workers = ⊥
-TellsNotJson bytes (fault code place detail) = IsNotJson bytes (fault code place detail)
+abbrev pub TellsNotJson : List (List ℕ) → List ℕ → Told → Type 0
+TellsNotJson file bytes no_memory = Unit {0}
+TellsNotJson file bytes workers = ⊥
+TellsNotJson file bytes (fault code place detail) = IsNotJsonAt file bytes (fault code place detail)
+
+-- the same of a configuration
+abbrev pub IsNotJson : List ℕ → Told → Type 0
+IsNotJson = IsNotJsonAt whole_file
 
 -- The text has a fault in its shape, and this is the first in walk order.
 abbrev pub IsMisshapen : List ℕ → Told → Type 0

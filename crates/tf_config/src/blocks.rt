@@ -1,23 +1,23 @@
 //! Resource blocks, as they are read.
 
-ghost use Rattle.serde_json.specs.View.{members_view, view};
-ghost use Rattle.std.specs.Prelude.{IfErr, IfOk, OnOk};
+ghost use Rattle.serde_json.specs.View.{view};
+ghost use Rattle.std.specs.Prelude.{◌≡◌, IfErr, IfOk};
+ghost use Rattle.tf_config.specs.Config.{block_body, plain_lifecycle, BlockBody, Blocks};
+ghost use Rattle.tf_config.specs.Configuration.{block_body_checks, block_property_checks, lifecycle_property_checks, object_checks, resource_checks, type_checks, AddsBlockProperty, AddsLifecycleProperty, AddsResource, AddsType, IsBlockBody, IsLifecycle};
 ghost use Rattle.tf_config.specs.Demand.{Refuses};
+ghost use Rattle.tf_config_data.specs.Config.{blocks_of, lifecycle_of, LifecycleView};
 ghost use Rattle.tf_json_path.specs.Place.{place_of};
-ghost use Rattle.tf_json_path.specs.Walk.{each, Builds};
 ghost use Rattle.tf_refusal.specs.Refusal.{told};
-ghost use Rattle.tf_config.specs.Config.{block_body, plain_block, plain_lifecycle};
-ghost use Rattle.tf_config.specs.Configuration.{below, block_body_checks, block_property_checks, lifecycle_property_checks, object_checks, resource_checks, type_checks, AddsBlockProperty, AddsLifecycleProperty, AddsResource, AddsType, BuildsFrom, IsBlockBody, IsLifecycle};
-ghost use Rattle.tf_config_data.specs.Config.{blocks_of, lifecycle_of};
 
 use crate::arrays::{read_addresses, read_names};
 use crate::demand::{bad_shape, demand_name, demand_one_repetition, demand_type_name};
 use crate::literals::{read_expression, read_flag};
+use crate::objects::{Members, add_members};
 use crate::outputs::add_expression;
 use crate::words::{
     BlockProperty, LifecycleProperty, block_property_named, lifecycle_property_named,
 };
-use serde_json::{Map, Value};
+use serde_json::Value;
 use std::alloc::Global;
 use std::collections::BTreeMap;
 use tf_address::Label;
@@ -25,212 +25,143 @@ use tf_config_data::{Block, Lifecycle, Repetition};
 use tf_json_path::Path;
 use tf_refusal::Refusal;
 
-/// The object at `resource`: below types names, and below those bodies.
-pub(crate) fn add_types<'a>(
-    alloc: Global,
-    path: &'a Path<'a>,
-    value: &'a Value,
-    resources: &mut BTreeMap<Label, Block>,
-) -> Result<(), Refusal>
-    ensures ok { OnOk result
-        (BuildsFrom AddsType (view value.now) (blocks_of resources.old.entries) (blocks_of resources.new.entries)) }
-    ensures fault { IfErr result (λ refusal.
-        Refuses (object_checks type_checks (place_of path.now) (view value.now)) (told refusal)) }
-{
-    match value {
-        Value::Object(members) => add_each_type(alloc, path, members, resources),
-        _ => Err(bad_shape(alloc, path)),
-    }
-}
+/// The members at `resource`: below types names, and below those bodies.
+#[derive(Drop)]
+pub(crate) struct Types;
 
-fn add_each_type<'a>(
-    alloc: Global,
-    path: &'a Path<'a>,
-    members: &'a Map<String, Value>,
-    resources: &mut BTreeMap<Label, Block>,
-) -> Result<(), Refusal>
-    ensures ok { OnOk result (Builds AddsType (members_view members.now.entries)
-        (blocks_of resources.old.entries) (blocks_of resources.new.entries)) }
-    ensures fault { IfErr result (λ refusal.
-        Refuses (each (below type_checks (place_of path.now)) (members_view members.now.entries))
-        (told refusal)) }
-{
-    for (key, member) in members.iter() {
-        let name = key.as_str();
-        add_type(alloc, &Path::Member(path, name), name, member, resources)?;
-    }
-    Ok(())
-}
+impl Members for Types {
+    type Said = BTreeMap<Label, Block>;
 
-fn add_type<'a>(
-    alloc: Global,
-    path: &'a Path<'a>,
-    name: &'a str,
-    value: &'a Value,
-    resources: &mut BTreeMap<Label, Block>,
-) -> Result<(), Refusal>
-    ensures ok { OnOk result
-        (AddsType name.now (view value.now) (blocks_of resources.old.entries) (blocks_of resources.new.entries)) }
-    ensures fault { IfErr result (λ refusal.
-        Refuses (type_checks (place_of path.now) name.now (view value.now)) (told refusal)) }
-{
-    demand_type_name(alloc, path, name)?;
-    add_resources(alloc, path, name, value, resources)
-}
+    ghost Told = { Blocks };
 
-fn add_resources<'a>(
-    alloc: Global,
-    path: &'a Path<'a>,
-    type_name: &'a str,
-    value: &'a Value,
-    resources: &mut BTreeMap<Label, Block>,
-) -> Result<(), Refusal>
-    ensures ok { OnOk result
-        (BuildsFrom (AddsResource type_name.now) (view value.now) (blocks_of resources.old.entries) (blocks_of resources.new.entries)) }
-    ensures fault { IfErr result (λ refusal.
-        Refuses (object_checks resource_checks (place_of path.now) (view value.now)) (told refusal)) }
-{
-    match value {
-        Value::Object(members) => add_each_resource(alloc, path, type_name, members, resources),
-        _ => Err(bad_shape(alloc, path)),
-    }
-}
+    ghost told_by = { λ resources. blocks_of resources.entries };
 
-fn add_each_resource<'a>(
-    alloc: Global,
-    path: &'a Path<'a>,
-    type_name: &'a str,
-    members: &'a Map<String, Value>,
-    resources: &mut BTreeMap<Label, Block>,
-) -> Result<(), Refusal>
-    ensures ok { OnOk result (Builds (AddsResource type_name.now) (members_view members.now.entries)
-        (blocks_of resources.old.entries) (blocks_of resources.new.entries)) }
-    ensures fault { IfErr result (λ refusal.
-        Refuses (each (below resource_checks (place_of path.now)) (members_view members.now.entries))
-        (told refusal)) }
-{
-    for (key, member) in members.iter() {
-        let name = key.as_str();
-        add_resource(
+    ghost adds = { λ _. AddsType };
+
+    ghost checks = { λ _. type_checks };
+
+    fn add<'a>(
+        &self,
+        alloc: Global,
+        path: &'a Path<'a>,
+        name: &'a str,
+        value: &'a Value,
+        resources: &mut BTreeMap<Label, Block>,
+    ) -> Result<(), Refusal> {
+        demand_type_name(alloc, path, name)?;
+        add_members(
+            &Resources { type_name: name },
             alloc,
-            &Path::Member(path, name),
-            type_name,
-            name,
-            member,
+            path,
+            value,
             resources,
-        )?;
+        )
     }
-    Ok(())
 }
 
-fn add_resource<'a>(
-    alloc: Global,
-    path: &'a Path<'a>,
+/// The members of a type: bodies below their names.
+#[derive(Drop)]
+struct Resources<'a> {
     type_name: &'a str,
-    name: &'a str,
-    value: &'a Value,
-    resources: &mut BTreeMap<Label, Block>,
-) -> Result<(), Refusal>
-    ensures ok { OnOk result
-        (AddsResource type_name.now name.now (view value.now) (blocks_of resources.old.entries) (blocks_of resources.new.entries)) }
-    ensures fault { IfErr result (λ refusal.
-        Refuses (resource_checks (place_of path.now) name.now (view value.now)) (told refusal)) }
-{
-    demand_name(alloc, path, name)?;
-    let block = read_body(alloc, path, value)?;
-    let type_name = String::from_str(alloc, type_name)?;
-    let name = String::from_str(alloc, name)?;
-    drop(resources.insert(Label { type_name, name }, block)?);
-    Ok(())
+}
+
+impl Members for Resources<'_> {
+    type Said = BTreeMap<Label, Block>;
+
+    ghost Told = { Blocks };
+
+    ghost told_by = { λ resources. blocks_of resources.entries };
+
+    ghost adds = { λ members. AddsResource members.type_name.now };
+
+    ghost checks = { λ _. resource_checks };
+
+    fn add<'a>(
+        &self,
+        alloc: Global,
+        path: &'a Path<'a>,
+        name: &'a str,
+        value: &'a Value,
+        resources: &mut BTreeMap<Label, Block>,
+    ) -> Result<(), Refusal> {
+        demand_name(alloc, path, name)?;
+        let block = read_body(alloc, path, value)?;
+        let type_name = String::from_str(alloc, self.type_name)?;
+        let name = String::from_str(alloc, name)?;
+        drop(resources.insert(Label { type_name, name }, block)?);
+        Ok(())
+    }
 }
 
 /// The body of a resource, which has no `count` beside a `for_each`.
+#[tactic(auto, using(crate::proofs::Sound::block_properties_sound))]
 fn read_body<'a>(alloc: Global, path: &'a Path<'a>, value: &'a Value) -> Result<Block, Refusal>
     ensures ok { IfOk result (λ block. IsBlockBody (view value.now) (block_body block)) }
     ensures fault { IfErr result (λ refusal.
         Refuses (block_body_checks (place_of path.now) (view value.now)) (told refusal)) }
 {
     demand_one_repetition(alloc, path, value)?;
-    read_object(alloc, path, value)
-}
-
-fn read_object<'a>(alloc: Global, path: &'a Path<'a>, value: &'a Value) -> Result<Block, Refusal>
-    ensures ok { IfOk result (λ block. BuildsFrom AddsBlockProperty (view value.now) plain_block (block_body block)) }
-    ensures fault { IfErr result (λ refusal.
-        Refuses (object_checks block_property_checks (place_of path.now) (view value.now)) (told refusal)) }
-{
-    match value {
-        Value::Object(members) => read_properties(alloc, path, members),
-        _ => Err(bad_shape(alloc, path)),
-    }
-}
-
-fn read_properties<'a>(
-    alloc: Global,
-    path: &'a Path<'a>,
-    members: &'a Map<String, Value>,
-) -> Result<Block, Refusal>
-    ensures ok { IfOk result (λ block.
-        Builds AddsBlockProperty (members_view members.now.entries) plain_block (block_body block)) }
-    ensures fault { IfErr result (λ refusal.
-        Refuses (each (below block_property_checks (place_of path.now)) (members_view members.now.entries))
-        (told refusal)) }
-{
     let mut block = Block {
         repetition: Repetition::Single,
         depends_on: Vec::new(alloc),
-        lifecycle: Lifecycle {
-            create_before_destroy: false,
-            prevent_destroy: false,
-            ignore_changes: Vec::new(alloc),
-        },
+        lifecycle: plain_lifecycle(alloc),
         arguments: BTreeMap::new(alloc),
     };
-    for (key, member) in members.iter() {
-        let name = key.as_str();
-        add_property(alloc, &Path::Member(path, name), name, member, &mut block)?;
-    }
+    add_members(&BlockProperties, alloc, path, value, &mut block)?;
     Ok(block)
 }
 
-fn add_property<'a>(
-    alloc: Global,
-    path: &'a Path<'a>,
-    name: &'a str,
-    value: &'a Value,
-    block: &mut Block,
-) -> Result<(), Refusal>
-    ensures ok { OnOk result
-        (AddsBlockProperty name.now (view value.now) (block_body block.old) (block_body block.new)) }
-    ensures fault { IfErr result (λ refusal.
-        Refuses (block_property_checks (place_of path.now) name.now (view value.now)) (told refusal)) }
-{
-    match block_property_named(name) {
-        BlockProperty::Comment => Ok(()),
-        BlockProperty::Count => {
-            block.repetition = Repetition::Count(read_expression(alloc, path, value)?);
-            Ok(())
-        }
-        BlockProperty::ForEach => {
-            block.repetition = Repetition::ForEach(read_expression(alloc, path, value)?);
-            Ok(())
-        }
-        BlockProperty::DependsOn => {
-            block.depends_on = read_addresses(alloc, path, value)?;
-            Ok(())
-        }
-        BlockProperty::Lifecycle => {
-            block.lifecycle = read_lifecycle(alloc, path, value)?;
-            Ok(())
-        }
-        BlockProperty::Refused => Err(bad_shape(alloc, path)),
-        BlockProperty::Argument => {
-            add_expression(alloc, path, name, value, &mut block.arguments)
+/// The properties in the body of a resource.
+#[derive(Drop)]
+struct BlockProperties;
+
+impl Members for BlockProperties {
+    type Said = Block;
+
+    ghost Told = { BlockBody };
+
+    ghost told_by = { λ block. block_body block };
+
+    ghost adds = { λ _. AddsBlockProperty };
+
+    ghost checks = { λ _. block_property_checks };
+
+    fn add<'a>(
+        &self,
+        alloc: Global,
+        path: &'a Path<'a>,
+        name: &'a str,
+        value: &'a Value,
+        block: &mut Block,
+    ) -> Result<(), Refusal> {
+        match block_property_named(name) {
+            BlockProperty::Comment => Ok(()),
+            BlockProperty::Count => {
+                block.repetition = Repetition::Count(read_expression(alloc, path, value)?);
+                Ok(())
+            }
+            BlockProperty::ForEach => {
+                block.repetition = Repetition::ForEach(read_expression(alloc, path, value)?);
+                Ok(())
+            }
+            BlockProperty::DependsOn => {
+                block.depends_on = read_addresses(alloc, path, value)?;
+                Ok(())
+            }
+            BlockProperty::Lifecycle => {
+                block.lifecycle = read_lifecycle(alloc, path, value)?;
+                Ok(())
+            }
+            BlockProperty::Refused => Err(bad_shape(alloc, path)),
+            BlockProperty::Argument => {
+                add_expression(alloc, path, name, value, &mut block.arguments)
+            }
         }
     }
 }
 
 /// What stands at `lifecycle`.
+#[tactic(auto, using(crate::proofs::Sound::lifecycle_properties_sound))]
 fn read_lifecycle<'a>(
     alloc: Global,
     path: &'a Path<'a>,
@@ -240,67 +171,60 @@ fn read_lifecycle<'a>(
     ensures fault { IfErr result (λ refusal.
         Refuses (object_checks lifecycle_property_checks (place_of path.now) (view value.now)) (told refusal)) }
 {
-    match value {
-        Value::Object(members) => read_lifecycle_properties(alloc, path, members),
-        _ => Err(bad_shape(alloc, path)),
-    }
-}
-
-fn read_lifecycle_properties<'a>(
-    alloc: Global,
-    path: &'a Path<'a>,
-    members: &'a Map<String, Value>,
-) -> Result<Lifecycle, Refusal>
-    ensures ok { IfOk result (λ lifecycle.
-        Builds AddsLifecycleProperty (members_view members.now.entries) plain_lifecycle (lifecycle_of lifecycle)) }
-    ensures fault { IfErr result (λ refusal.
-        Refuses (each (below lifecycle_property_checks (place_of path.now)) (members_view members.now.entries))
-        (told refusal)) }
-{
-    let mut lifecycle = Lifecycle {
-        create_before_destroy: false,
-        prevent_destroy: false,
-        ignore_changes: Vec::new(alloc),
-    };
-    for (key, member) in members.iter() {
-        let name = key.as_str();
-        add_lifecycle_property(
-            alloc,
-            &Path::Member(path, name),
-            name,
-            member,
-            &mut lifecycle,
-        )?;
-    }
+    let mut lifecycle = plain_lifecycle(alloc);
+    add_members(&LifecycleProperties, alloc, path, value, &mut lifecycle)?;
     Ok(lifecycle)
 }
 
-fn add_lifecycle_property<'a>(
-    alloc: Global,
-    path: &'a Path<'a>,
-    name: &'a str,
-    value: &'a Value,
-    lifecycle: &mut Lifecycle,
-) -> Result<(), Refusal>
-    ensures ok { OnOk result
-        (AddsLifecycleProperty name.now (view value.now) (lifecycle_of lifecycle.old) (lifecycle_of lifecycle.new)) }
-    ensures fault { IfErr result (λ refusal.
-        Refuses (lifecycle_property_checks (place_of path.now) name.now (view value.now)) (told refusal)) }
+/// Where `lifecycle` says nothing, nothing is asked for.
+fn plain_lifecycle(alloc: Global) -> Lifecycle
+    ensures { lifecycle_of result ≡ plain_lifecycle }
 {
-    match lifecycle_property_named(name) {
-        LifecycleProperty::Comment => Ok(()),
-        LifecycleProperty::CreateBeforeDestroy => {
-            lifecycle.create_before_destroy = read_flag(alloc, path, value)?;
-            Ok(())
+    Lifecycle {
+        create_before_destroy: false,
+        prevent_destroy: false,
+        ignore_changes: Vec::new(alloc),
+    }
+}
+
+/// The properties of `lifecycle`.
+#[derive(Drop)]
+struct LifecycleProperties;
+
+impl Members for LifecycleProperties {
+    type Said = Lifecycle;
+
+    ghost Told = { LifecycleView };
+
+    ghost told_by = { λ lifecycle. lifecycle_of lifecycle };
+
+    ghost adds = { λ _. AddsLifecycleProperty };
+
+    ghost checks = { λ _. lifecycle_property_checks };
+
+    fn add<'a>(
+        &self,
+        alloc: Global,
+        path: &'a Path<'a>,
+        name: &'a str,
+        value: &'a Value,
+        lifecycle: &mut Lifecycle,
+    ) -> Result<(), Refusal> {
+        match lifecycle_property_named(name) {
+            LifecycleProperty::Comment => Ok(()),
+            LifecycleProperty::CreateBeforeDestroy => {
+                lifecycle.create_before_destroy = read_flag(alloc, path, value)?;
+                Ok(())
+            }
+            LifecycleProperty::PreventDestroy => {
+                lifecycle.prevent_destroy = read_flag(alloc, path, value)?;
+                Ok(())
+            }
+            LifecycleProperty::IgnoreChanges => {
+                lifecycle.ignore_changes = read_names(alloc, path, value)?;
+                Ok(())
+            }
+            LifecycleProperty::Other => Err(bad_shape(alloc, path)),
         }
-        LifecycleProperty::PreventDestroy => {
-            lifecycle.prevent_destroy = read_flag(alloc, path, value)?;
-            Ok(())
-        }
-        LifecycleProperty::IgnoreChanges => {
-            lifecycle.ignore_changes = read_names(alloc, path, value)?;
-            Ok(())
-        }
-        LifecycleProperty::Other => Err(bad_shape(alloc, path)),
     }
 }

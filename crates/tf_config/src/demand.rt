@@ -4,7 +4,7 @@ ghost use Rattle.tf_refusal.specs.Refusal.{bare, told, detail_of};
 ghost use Rattle.tf_json_path.specs.Check.{demanded};
 ghost use Rattle.tf_json_path.specs.Place.{dotted, place_of};
 ghost use Rattle.serde_json.specs.View.{number_view, view};
-ghost use Rattle.std.specs.Prelude.{codes};
+ghost use Rattle.std.specs.Prelude.{◌∷◌, [], codes};
 ghost use Rattle.tf_config.specs.Configuration.{has, repeats_once};
 ghost use Rattle.tf_config.specs.Demand.{holds, of_expression};
 ghost use Rattle.tf_expr.specs.Demand.{a_whole_number};
@@ -17,8 +17,11 @@ use tf_json_path::Path;
 use tf_refusal::code::{BAD_SHAPE, UNKNOWN_NAME};
 use tf_refusal::{Detail, Refusal};
 
+/// What a configuration is called as a file.
+pub(crate) const CONFIGURATION: &str = "configuration";
+
 /// A fault at a place, or that there is no memory to write the place out.
-fn fault(alloc: Global, path: &Path<'_>, code: u8, detail: Detail) -> Refusal
+pub fn fault_at(alloc: Global, path: &Path<'_>, code: u8, detail: Detail) -> Refusal
     ensures { TellsAt (dotted (place_of path.now)) (code, detail_of detail) (told result) }
 {
     match path.text(alloc) {
@@ -31,26 +34,33 @@ fn fault(alloc: Global, path: &Path<'_>, code: u8, detail: Detail) -> Refusal
     }
 }
 
-/// A fault of the whole file, which has nothing behind its name.
+/// A fault of a whole file, by what it is called, which has nothing behind its name.
+pub fn file_fault(alloc: Global, file: &str, code: u8) -> Refusal
+    ensures { TellsAt (dotted (file.now ∷ [])) (code, bare) (told result) }
+{
+    let path = Path::Member(&Path::Root, file);
+    fault_at(alloc, &path, code, Detail::Bare)
+}
+
+/// A fault of the whole configuration.
 pub(crate) fn whole_file_fault(alloc: Global, code: u8) -> Refusal
     ensures { TellsAt (dotted whole_file) (code, bare) (told result) }
 {
-    let path = Path::Member(&Path::Root, "configuration");
-    fault(alloc, &path, code, Detail::Bare)
+    file_fault(alloc, CONFIGURATION, code)
 }
 
 /// Nothing is allowed at the place.
 pub(crate) fn bad_shape(alloc: Global, path: &Path<'_>) -> Refusal
     ensures { TellsAt (dotted (place_of path.now)) bad_shape (told result) }
 {
-    fault(alloc, path, BAD_SHAPE, Detail::Bare)
+    fault_at(alloc, path, BAD_SHAPE, Detail::Bare)
 }
 
 /// The text at the place names or calls something that isn't known.
 pub(crate) fn names_unknown(alloc: Global, path: &Path<'_>) -> Refusal
     ensures { TellsAt (dotted (place_of path.now)) unknown_name (told result) }
 {
-    fault(alloc, path, UNKNOWN_NAME, Detail::Bare)
+    fault_at(alloc, path, UNKNOWN_NAME, Detail::Bare)
 }
 
 pub(crate) fn demand_name(alloc: Global, path: &Path<'_>, text: &str) -> Result<(), Refusal>

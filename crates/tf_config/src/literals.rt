@@ -79,11 +79,12 @@ pub(crate) fn read_type(
 }
 
 /// A literal value: its texts are no templates, and it is within the limits of weight and depth.
-pub(crate) fn read_literal<'a>(
-    alloc: Global,
-    path: &'a Path<'a>,
-    json: &'a Json,
-) -> Result<Value, Refusal>
+///
+/// # Errors
+///
+/// 2 at the first number, in walk order, that isn't held as a whole number of 64 bits with a sign; else at the
+/// value itself, where it is beyond the limits; or `OutOfMemory`.
+pub fn read_literal<'a>(alloc: Global, path: &'a Path<'a>, json: &'a Json) -> Result<Value, Refusal>
     ensures ok { IfOk result (λ value. IsLiteral (view json.now) (values.tree_of value)) }
     ensures fault { IfErr result (λ refusal.
         Refuses (literal_checks (place_of path.now) (view json.now)) (told refusal)) }

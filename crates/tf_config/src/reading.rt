@@ -1,24 +1,25 @@
 ghost use Rattle.serde_json.specs.View.{view, members_view};
 ghost use Rattle.serde_json.specs.Data.{Data};
-ghost use Rattle.std.specs.Prelude.{◌<◌, ◌≤◌, length, IfErr, IfOk, OnOk};
+ghost use Rattle.std.specs.Prelude.{◌<◌, ◌≤◌, ◌∷◌, [], length, IfErr, IfOk, OnOk};
 ghost use Rattle.tf_config.specs.Config.{plain_config};
 ghost use Rattle.tf_config.specs.Configuration.{below, configuration_checks, section_checks, whole_file, AddsSection, IsConfiguration};
 ghost use Rattle.tf_config.specs.Demand.{Refuses, TellsAt};
 ghost use Rattle.tf_config.specs.KnownNames.{KnownBlocks};
 ghost use Rattle.tf_config.specs.Reading.{max_bytes, max_declared, IsRefused, IsRefusedWhole, IsTree, IsWithinCounts, TellsNotJson};
 ghost use Rattle.tf_config.specs.Unplanned.{HasBlocksAlone, IsPlanned};
-ghost use Rattle.tf_config_data.specs.Config.{config_of};
+ghost use Rattle.tf_config_data.specs.Config.{config_of, ConfigView};
 ghost use Rattle.tf_json_path.specs.Place.{dotted, place_of};
 ghost use Rattle.tf_json_path.specs.Walk.{each, Builds};
 ghost use Rattle.tf_refusal.specs.Refusal.{bare, told};
 ghost use Rattle.tf_refusal.specs.Code.{limit};
 
-use crate::blocks::add_types;
-use crate::demand::{bad_shape, whole_file_fault};
+use crate::blocks::Types;
+use crate::demand::{CONFIGURATION, bad_shape, file_fault, whole_file_fault};
 use crate::known_names::demand_known_names;
-use crate::outputs::{add_locals, add_outputs};
+use crate::objects::{Members, add_each_member, add_members};
+use crate::outputs::{Locals, Outputs};
 use crate::unplanned::demand_planned;
-use crate::variables::add_variables;
+use crate::variables::Variables;
 use crate::words::{Section, section_named};
 use serde_json::{Map, Value};
 use std::alloc::Global;
@@ -110,7 +111,7 @@ fn read_both(alloc: Global, bytes: &[u8]) -> Result<(Value, Config), Refusal>
     if bytes.len() > MAX_BYTES {
         return Err(whole_file_fault(alloc, LIMIT));
     }
-    let tree = read_tree(alloc, bytes)?;
+    let tree = read_tree(alloc, bytes, CONFIGURATION)?;
     let config = read_configuration(alloc, &tree)?;
     demand_counts(alloc, &config)?;
     Ok((tree, config))
@@ -141,14 +142,19 @@ fn demand_count(alloc: Global, count: usize) -> Result<(), Refusal>
     }
 }
 
-fn read_tree(alloc: Global, bytes: &[u8]) -> Result<Value, Refusal>
+/// The JSON tree that a file's text is. The file is called by this name in a refusal.
+///
+/// # Errors
+///
+/// 1 at the file where the text is no JSON as `serde_json` reads it, which takes UTF-8 alone, or `OutOfMemory`.
+pub fn read_tree(alloc: Global, bytes: &[u8], file: &str) -> Result<Value, Refusal>
     ensures ok { IfOk result (λ tree. IsTree bytes.now (view tree)) }
-    ensures fault { IfErr result (λ refusal. TellsNotJson bytes.now (told refusal)) }
+    ensures fault { IfErr result (λ refusal. TellsNotJson (file.now ∷ []) bytes.now (told refusal)) }
 {
     match Value::from_slice(alloc, bytes) {
         Ok(tree) => Ok(tree),
         Err(error) if error.is_memory() => Err(Refusal::OutOfMemory),
-        Err(_) => Err(whole_file_fault(alloc, NOT_JSON)),
+        Err(_) => Err(file_fault(alloc, file, NOT_JSON)),
     }
 }
 
@@ -163,6 +169,7 @@ fn read_configuration(alloc: Global, tree: &Value) -> Result<Config, Refusal>
     }
 }
 
+#[tactic(auto, using(crate::proofs::Sound::sections_sound))]
 fn read_sections<'a>(
     alloc: Global,
     path: &'a Path<'a>,
@@ -180,31 +187,42 @@ fn read_sections<'a>(
         outputs: BTreeMap::new(alloc),
         resources: BTreeMap::new(alloc),
     };
-    for (key, member) in members.iter() {
-        let name = key.as_str();
-        add_section(alloc, &Path::Member(path, name), name, member, &mut config)?;
-    }
+    add_each_member(&Sections, alloc, path, members, &mut config)?;
     Ok(config)
 }
 
-fn add_section<'a>(
-    alloc: Global,
-    path: &'a Path<'a>,
-    name: &'a str,
-    value: &'a Value,
-    config: &mut Config,
-) -> Result<(), Refusal>
-    ensures ok { OnOk result
-        (AddsSection name.now (view value.now) (config_of config.old) (config_of config.new)) }
-    ensures fault { IfErr result (λ refusal.
-        Refuses (section_checks (place_of path.now) name.now (view value.now)) (told refusal)) }
-{
-    match section_named(name) {
-        Section::Comment => Ok(()),
-        Section::Variables => add_variables(alloc, path, value, &mut config.variables),
-        Section::Locals => add_locals(alloc, path, value, &mut config.locals),
-        Section::Outputs => add_outputs(alloc, path, value, &mut config.outputs),
-        Section::Resources => add_types(alloc, path, value, &mut config.resources),
-        Section::Other => Err(bad_shape(alloc, path)),
+/// The properties at the top of a configuration.
+#[derive(Drop)]
+struct Sections;
+
+impl Members for Sections {
+    type Said = Config;
+
+    ghost Told = { ConfigView };
+
+    ghost told_by = { λ config. config_of config };
+
+    ghost adds = { λ _. AddsSection };
+
+    ghost checks = { λ _. section_checks };
+
+    fn add<'a>(
+        &self,
+        alloc: Global,
+        path: &'a Path<'a>,
+        name: &'a str,
+        value: &'a Value,
+        config: &mut Config,
+    ) -> Result<(), Refusal> {
+        match section_named(name) {
+            Section::Comment => Ok(()),
+            Section::Variables => {
+                add_members(&Variables, alloc, path, value, &mut config.variables)
+            }
+            Section::Locals => add_members(&Locals, alloc, path, value, &mut config.locals),
+            Section::Outputs => add_members(&Outputs, alloc, path, value, &mut config.outputs),
+            Section::Resources => add_members(&Types, alloc, path, value, &mut config.resources),
+            Section::Other => Err(bad_shape(alloc, path)),
+        }
     }
 }

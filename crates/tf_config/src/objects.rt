@@ -1,0 +1,89 @@
+//! The members of an object, read one after another.
+
+ghost use Rattle.serde_json.specs.Data.{Data};
+ghost use Rattle.serde_json.specs.View.{members_view, view};
+ghost use Rattle.std.specs.Prelude.{IfErr, List, OnOk, ℕ};
+ghost use Rattle.tf_config.specs.Configuration.{below, object_checks, BuildsFrom, IsSound, PropertyChecks};
+ghost use Rattle.tf_config.specs.Demand.{Refuses};
+ghost use Rattle.tf_json_path.specs.Place.{place_of};
+ghost use Rattle.tf_json_path.specs.Walk.{each, Builds};
+ghost use Rattle.tf_refusal.specs.Refusal.{told};
+
+use crate::demand::bad_shape;
+use serde_json::{Map, Value};
+use std::alloc::Global;
+use tf_json_path::Path;
+use tf_refusal::Refusal;
+
+/// What the members of one kind of object say, and what is demanded of them.
+pub(crate) trait Members {
+    /// What they say together.
+    type Said;
+
+    ghost Told: { Type 0 };
+
+    ghost told_by: { Self.Said → Told };
+
+    ghost adds: { Self → List ℕ → Data → Told → Told → Type 0 };
+
+    ghost checks: { Self → PropertyChecks };
+
+    /// Adds what one member says.
+    ///
+    /// # Errors
+    ///
+    /// The first fault in it, in walk order, or `OutOfMemory`.
+    fn add<'a>(
+        &self,
+        alloc: Global,
+        path: &'a Path<'a>,
+        name: &'a str,
+        value: &'a Value,
+        said: &mut Self::Said,
+    ) -> Result<(), Refusal>
+        ensures ok { OnOk result (adds self.now name.now (view value.now) (told_by said.old) (told_by said.new)) }
+        ensures fault { IfErr result (λ refusal.
+            Refuses (checks self.now (place_of path.now) name.now (view value.now)) (told refusal)) };
+}
+
+/// Adds what the members of an object say, in byte order of their names. Anything but an object is refused with 2.
+pub(crate) fn add_members<'a, M: Members>(
+    members: &M,
+    alloc: Global,
+    path: &'a Path<'a>,
+    value: &'a Value,
+    said: &mut M::Said,
+) -> Result<(), Refusal>
+    requires sound { IsSound (M.adds members.now) (M.checks members.now) }
+    ensures ok { OnOk result
+        (BuildsFrom (M.adds members.now) (view value.now) (M.told_by said.old) (M.told_by said.new)) }
+    ensures fault { IfErr result (λ refusal.
+        Refuses (object_checks (M.checks members.now) (place_of path.now) (view value.now)) (told refusal)) }
+{
+    match value {
+        Value::Object(object) => add_each_member(members, alloc, path, object, said),
+        _ => Err(bad_shape(alloc, path)),
+    }
+}
+
+/// The same of an object's map.
+pub(crate) fn add_each_member<'a, M: Members>(
+    members: &M,
+    alloc: Global,
+    path: &'a Path<'a>,
+    object: &'a Map<String, Value>,
+    said: &mut M::Said,
+) -> Result<(), Refusal>
+    requires sound { IsSound (M.adds members.now) (M.checks members.now) }
+    ensures ok { OnOk result
+        (Builds (M.adds members.now) (members_view object.now.entries) (M.told_by said.old) (M.told_by said.new)) }
+    ensures fault { IfErr result (λ refusal.
+        Refuses (each (below (M.checks members.now) (place_of path.now)) (members_view object.now.entries))
+        (told refusal)) }
+{
+    for (key, value) in object.iter() {
+        let name = key.as_str();
+        members.add(alloc, &Path::Member(path, name), name, value, said)?;
+    }
+    Ok(())
+}
