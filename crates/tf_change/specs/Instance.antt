@@ -14,7 +14,7 @@ use Rattle.tf_change.specs.Planned.{NamedFaultView, planned_object}
 use Rattle.tf_change.specs.declared.instance.InstanceFault.{InstanceFault}
 use Rattle.tf_change.specs.declared.instance.InstanceFault.TheVariants.{ForEach, Argument}
 
--- What is wrong with an instance: its `for_each` can't be evaluated, or an argument is bad.
+-- What is wrong with an instance: `for_each` gives it no value, or an argument is bad.
 pub data InstanceFaultView : Type 0 where
   for_each_fault : EvalFault → InstanceFaultView
   argument_fault : NamedFaultView → InstanceFaultView

@@ -20,7 +20,8 @@ use tf_value::Value;
 /// What is wrong with an instance.
 #[derive(Debug, Drop)]
 pub enum InstanceFault {
-    /// `for_each`, which is evaluated again for each instance, has no value, or none under the instance's key.
+    /// `for_each`, which is evaluated again for each instance, has no value, or none under the instance's key; or a
+    /// `count` numbers the instance beyond the whole numbers.
     ForEach(EvalFault),
     /// The attribute whose name is first in byte order among those with a fault.
     Argument(NamedFault),
