@@ -1,0 +1,4 @@
+pub mod Before
+pub mod Dependencies
+pub mod Lateness
+pub mod Order
