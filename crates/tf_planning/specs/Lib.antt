@@ -1,0 +1,4 @@
+pub mod Action
+pub mod Address
+pub mod Planning
+pub mod Plans

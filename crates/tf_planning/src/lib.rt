@@ -1,0 +1,16 @@
+//! What is planned for a configuration before anything exists: a create for each instance, or all that is refused.
+//!
+//! Each instance is planned where names stand for what is planned (`tf_environment`), by the schema of its type
+//! (`tf_change`). `specs/Planning.antt` says what is planned and what is refused.
+#![tactic(auto)]
+
+mod action;
+mod addresses;
+mod instances;
+mod outputs;
+mod planner;
+
+pub use action::Action;
+pub use addresses::address_text;
+pub use instances::Planned;
+pub use planner::plan_creates;
