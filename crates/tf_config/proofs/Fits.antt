@@ -7,7 +7,7 @@ use Rattle.tf_json_path.proofs.Walks.{Builds-met, Builds-from_met, Builds-same}
 use Rattle.tf_json_path.specs.Walk.{each_item}
 use Rattle.tf_config.specs.Configuration.{PropertyChecks, below, object_checks, BuildsFrom, Adds, named_checks, AddsNamed}
 use Rattle.tf_config.specs.Demand.{AreMet, IsMet}
-use Rattle.tf_config.specs.Parts.{PartChecks, wrong, element_checks, array_checks, EachSays, SaysList}
+use Rattle.tf_config.specs.Parts.{PartChecks, IsPartSound, wrong, element_checks, array_checks, EachSays, SaysList}
 
 -- what stands at a place
 pub record Fits (A : Type 0) (checks : PartChecks) (Says : Data → A → Type 0) : Type 0 where
@@ -100,14 +100,15 @@ module _ (B : Type 0) (checks : PropertyChecks) (Step : List ℕ → Data → B 
 
 -- ---- arrays
 
-module _ (A : Type 0) (checks : PartChecks) (Says : Data → A → Type 0) (fits : Fits A checks Says) where
+module _ (A : Type 0) (checks : PartChecks) (Says : Data → A → Type 0) (sound : IsPartSound Says checks) where
   pub items_met : (place : List (List ℕ)) (n : ℕ) (ds : Items) (xs : List A) → EachSays Says ds xs → AreMet (each_item (element_checks checks place) n ds)
   items_met place n no_items [] h = tt
   items_met place n no_items (x ∷ xs) h = absurd h
   items_met place n (item d ds) [] h = absurd h
   items_met place n (item d ds) (x ∷ xs) h =
-      AllMet-append IsMet (element_checks checks place n d) (each_item (element_checks checks place) (n + 1) ds) (fits.met _ d x h.0) (items_met place (n + 1) ds xs h.1)
+      AllMet-append IsMet (element_checks checks place n d) (each_item (element_checks checks place) (n + 1) ds) (sound _ d x h.0) (items_met place (n + 1) ds xs h.1)
 
+module _ (A : Type 0) (checks : PartChecks) (Says : Data → A → Type 0) (fits : Fits A checks Says) where
   items_from_met : (place : List (List ℕ)) (n : ℕ) (ds : Items) → AreMet (each_item (element_checks checks place) n ds) → (xs : List A) × EachSays Says ds xs
   items_from_met place n no_items h = ([], tt)
   items_from_met place n (item d ds) h =
@@ -130,7 +131,7 @@ module _ (A : Type 0) (checks : PartChecks) (Says : Data → A → Type 0) (fits
   list_met place (boolean x) xs h = absurd h
   list_met place (number x) xs h = absurd h
   list_met place (string x) xs h = absurd h
-  list_met place (array ds) xs h = items_met place 0 ds xs h
+  list_met place (array ds) xs h = items_met A checks Says fits.met place 0 ds xs h
   list_met place (object x) xs h = absurd h
 
   list_from_met : (place : List (List ℕ)) (d : Data) → AreMet (array_checks checks place d) → (xs : List A) × SaysList Says d xs

@@ -7,11 +7,11 @@ use Rattle.serde_json.specs.View.{view, items_view, members_view}
 use Rattle.serde_json.specs.declared.value.Value.{Value}
 use Rattle.tf_json_path.proofs.Walks.{Builds-met, builds_more, met_more}
 use Rattle.tf_json_path.specs.Walk.{each, each_item, Builds}
-use Rattle.tf_config.proofs.Fits.{Fits, items_met}
+use Rattle.tf_config.proofs.Fits.{items_met}
 use Rattle.tf_config.proofs.Refusals.{Refuses-at, Refuses-at_item}
 use Rattle.tf_config.specs.Configuration.{PropertyChecks, below, IsSound}
 use Rattle.tf_config.specs.Demand.{AreMet, IsMet, Refuses}
-use Rattle.tf_config.specs.Parts.{PartChecks, element_checks, EachSays}
+use Rattle.tf_config.specs.Parts.{PartChecks, IsPartSound, element_checks, EachSays}
 use Rattle.tf_refusal.specs.Refusal.{Told}
 
 append_none : {A : Type 0} (xs : List A) → xs ++ [] ≡ xs
@@ -71,15 +71,15 @@ says_more : {A : Type 0} (Says : Data → A → Type 0) (vs : List Value) (xs : 
     → EachSays Says (items_view (take i vs)) xs → Says (view v) x → EachSays Says (items_view (take (i + 1) vs)) (xs ++ x ∷ [])
 says_more Says vs xs i v x within is h more = rw add-one (says_more_at Says vs xs i v x within is h more)
 
-module _ (A : Type 0) (checks : PartChecks) (Says : Data → A → Type 0) (fits : Fits A checks Says)
+module _ (A : Type 0) (checks : PartChecks) (Says : Data → A → Type 0)
     (vs : List Value) (xs : List A) (i : ℕ) (v : Value) (within : i < length vs) (is : v ≡ get_or vs i v) (read : EachSays Says (items_view (take i vs)) xs) where
   -- one element more was read
   pub element_more : (x : A) → Says (view v) x → EachSays Says (items_view (take (i + 1) vs)) (xs ++ x ∷ [])
   element_more x more = says_more Says vs xs i v x within is read more
 
   -- the first fault of an array is that of the next element, where that can't be read
-  pub element_refused : (place : List (List ℕ)) (t : Told) → Refuses (checks (decimal i ∷ place) (view v)) t → Refuses (each_item (element_checks checks place) 0 (items_view vs)) t
-  element_refused place t first =
+  pub element_refused : IsPartSound Says checks → (place : List (List ℕ)) (t : Told) → Refuses (checks (decimal i ∷ place) (view v)) t → Refuses (each_item (element_checks checks place) 0 (items_view vs)) t
+  element_refused sound place t first =
       let here : 0 + i ≡ i = omega arith in
       let at_place : element_checks checks place i (view v) ≡ element_checks checks place (0 + i) (view (get_or vs i v)) = rw (here, ← is) refl in
-      Refuses-at_item (element_checks checks place) vs 0 i v t within (items_met A checks Says fits place 0 (items_view (take i vs)) xs read) (subst (λ cs. Refuses cs t) at_place first)
+      Refuses-at_item (element_checks checks place) vs 0 i v t within (items_met A checks Says sound place 0 (items_view (take i vs)) xs read) (subst (λ cs. Refuses cs t) at_place first)

@@ -13,7 +13,7 @@ use Rattle.tf_json_path.specs.Walk.{each_item}
 use Rattle.tf_value.specs.Json.{tree_from, value_from}
 use Rattle.tf_value.specs.Measure.{is_within, IsWithinLimits}
 use Rattle.tf_value.specs.Tree as values
-use Rattle.tf_config.specs.Demand.{Checks, nothing_fits, holds, a_name, of_expression}
+use Rattle.tf_config.specs.Demand.{Checks, AreMet, nothing_fits, holds, a_name, of_expression}
 use Rattle.tf_config.specs.Words.{label_in, type_in}
 
 -- nothing is allowed here
@@ -23,6 +23,10 @@ wrong place = demanded place nothing_fits
 -- what is demanded of what stands at a place
 abbrev pub PartChecks : Type 0
 PartChecks = List (List ℕ) → Data → Checks
+
+-- What says something has no fault.
+abbrev pub IsPartSound : {A : Type 0} → (Data → A → Type 0) → PartChecks → Type 0
+IsPartSound {A} Says checks = (place : List (List ℕ)) (value : Data) (said : A) → Says value said → AreMet (checks place value)
 
 -- ---- scalars
 

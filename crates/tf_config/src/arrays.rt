@@ -1,10 +1,11 @@
 //! Arrays of names and of addresses.
 
+ghost use Rattle.serde_json.specs.Data.{Data};
 ghost use Rattle.serde_json.specs.View.{items_view, view};
-ghost use Rattle.std.specs.Prelude.{◌≡◌, IfErr, IfOk, map, option_map, string_bytes};
-ghost use Rattle.tf_address.specs.Label.{label_of};
+ghost use Rattle.std.specs.Prelude.{◌≡◌, IfErr, IfOk, List, ℕ, map, option_map, string_bytes};
+ghost use Rattle.tf_address.specs.Label.{label_of, LabelView};
 ghost use Rattle.tf_config.specs.Demand.{Refuses};
-ghost use Rattle.tf_config.specs.Parts.{address_checks, array_checks, element_checks, name_checks, EachSays, IsAddressText, IsNameText, SaysList};
+ghost use Rattle.tf_config.specs.Parts.{address_checks, array_checks, element_checks, name_checks, EachSays, IsAddressText, IsNameText, IsPartSound, PartChecks, SaysList};
 ghost use Rattle.tf_config.specs.Words.{label_in, label_of_names};
 ghost use Rattle.tf_json_path.specs.Place.{place_of};
 ghost use Rattle.tf_json_path.specs.Walk.{each_item};
@@ -18,7 +19,71 @@ use tf_address::{Label, is_name};
 use tf_json_path::Path;
 use tf_refusal::Refusal;
 
+/// What the elements of one kind of array say, and what is demanded of each.
+trait Elements {
+    /// What one says.
+    type Said: Drop;
+
+    ghost Told: { Type 0 };
+
+    ghost told_by: { Self.Said → Told };
+
+    ghost says: { Data → Told → Type 0 };
+
+    ghost checks: { PartChecks };
+
+    /// What an element says.
+    ///
+    /// # Errors
+    ///
+    /// The first fault in it, in walk order, or `OutOfMemory`.
+    fn read(&self, alloc: Global, path: &Path<'_>, value: &Value) -> Result<Self::Said, Refusal>
+        ensures ok { IfOk result (λ said. says (view value.now) (told_by said)) }
+        ensures fault { IfErr result (λ refusal.
+            Refuses (checks (place_of path.now) (view value.now)) (told refusal)) };
+}
+
+/// What the elements of an array say, in order. Anything but an array is refused with 2.
+fn read_array<'a, E: Elements>(
+    elements: &E,
+    alloc: Global,
+    path: &'a Path<'a>,
+    value: &'a Value,
+) -> Result<Vec<E::Said>, Refusal>
+    requires sound { IsPartSound E.says E.checks }
+    ensures ok { IfOk result (λ all. SaysList E.says (view value.now) (map E.told_by all.items)) }
+    ensures fault { IfErr result (λ refusal.
+        Refuses (array_checks E.checks (place_of path.now) (view value.now)) (told refusal)) }
+{
+    match value {
+        Value::Array(items) => read_each(elements, alloc, path, items),
+        _ => Err(bad_shape(alloc, path)),
+    }
+}
+
+fn read_each<'a, E: Elements>(
+    elements: &E,
+    alloc: Global,
+    path: &'a Path<'a>,
+    items: &'a Vec<Value>,
+) -> Result<Vec<E::Said>, Refusal>
+    requires sound { IsPartSound E.says E.checks }
+    ensures ok { IfOk result (λ all.
+        EachSays E.says (items_view items.now.items) (map E.told_by all.items)) }
+    ensures fault { IfErr result (λ refusal.
+        Refuses (each_item (element_checks E.checks (place_of path.now)) 0 (items_view items.now.items))
+        (told refusal)) }
+{
+    let mut all = Vec::with_capacity(alloc, items.len())?;
+    for (position, item) in items.iter().enumerate() {
+        let said = elements.read(alloc, &Path::Item(path, position), item)?;
+        all.push(said)?;
+    }
+    Ok(all)
+}
+
 /// An array of names.
+#[tactic(auto, using(crate::proofs::Sound::names_sound))]
 pub(crate) fn read_names<'a>(
     alloc: Global,
     path: &'a Path<'a>,
@@ -28,46 +93,36 @@ pub(crate) fn read_names<'a>(
     ensures fault { IfErr result (λ refusal.
         Refuses (array_checks name_checks (place_of path.now) (view value.now)) (told refusal)) }
 {
-    match value {
-        Value::Array(items) => read_each_name(alloc, path, items),
-        _ => Err(bad_shape(alloc, path)),
-    }
+    read_array(&Names, alloc, path, value)
 }
 
-fn read_each_name<'a>(
-    alloc: Global,
-    path: &'a Path<'a>,
-    items: &'a Vec<Value>,
-) -> Result<Vec<String>, Refusal>
-    ensures ok { IfOk result (λ names.
-        EachSays IsNameText (items_view items.now.items) (map string_bytes names.items)) }
-    ensures fault { IfErr result (λ refusal.
-        Refuses (each_item (element_checks name_checks (place_of path.now)) 0 (items_view items.now.items))
-        (told refusal)) }
-{
-    let mut names = Vec::with_capacity(alloc, items.len())?;
-    for (position, item) in items.iter().enumerate() {
-        let name = read_name(alloc, &Path::Item(path, position), item)?;
-        names.push(name)?;
-    }
-    Ok(names)
-}
+#[derive(Drop)]
+struct Names;
 
-fn read_name(alloc: Global, path: &Path<'_>, value: &Value) -> Result<String, Refusal>
-    ensures ok { IfOk result (λ name. IsNameText (view value.now) (string_bytes name)) }
-    ensures fault { IfErr result (λ refusal.
-        Refuses (name_checks (place_of path.now) (view value.now)) (told refusal)) }
-{
-    match value {
-        Value::String(text) => {
-            demand_name(alloc, path, text.as_str())?;
-            Ok(String::from_str(alloc, text.as_str())?)
+impl Elements for Names {
+    type Said = String;
+
+    ghost Told = { List ℕ };
+
+    ghost told_by = { λ name. string_bytes name };
+
+    ghost says = { IsNameText };
+
+    ghost checks = { name_checks };
+
+    fn read(&self, alloc: Global, path: &Path<'_>, value: &Value) -> Result<String, Refusal> {
+        match value {
+            Value::String(text) => {
+                demand_name(alloc, path, text.as_str())?;
+                Ok(String::from_str(alloc, text.as_str())?)
+            }
+            _ => Err(bad_shape(alloc, path)),
         }
-        _ => Err(bad_shape(alloc, path)),
     }
 }
 
 /// An array of the addresses of resources.
+#[tactic(auto, using(crate::proofs::Sound::addresses_sound))]
 pub(crate) fn read_addresses<'a>(
     alloc: Global,
     path: &'a Path<'a>,
@@ -77,42 +132,31 @@ pub(crate) fn read_addresses<'a>(
     ensures fault { IfErr result (λ refusal.
         Refuses (array_checks address_checks (place_of path.now) (view value.now)) (told refusal)) }
 {
-    match value {
-        Value::Array(items) => read_each_address(alloc, path, items),
-        _ => Err(bad_shape(alloc, path)),
-    }
+    read_array(&Addresses, alloc, path, value)
 }
 
-fn read_each_address<'a>(
-    alloc: Global,
-    path: &'a Path<'a>,
-    items: &'a Vec<Value>,
-) -> Result<Vec<Label>, Refusal>
-    ensures ok { IfOk result (λ labels.
-        EachSays IsAddressText (items_view items.now.items) (map label_of labels.items)) }
-    ensures fault { IfErr result (λ refusal.
-        Refuses (each_item (element_checks address_checks (place_of path.now)) 0 (items_view items.now.items))
-        (told refusal)) }
-{
-    let mut labels = Vec::with_capacity(alloc, items.len())?;
-    for (position, item) in items.iter().enumerate() {
-        let label = read_address(alloc, &Path::Item(path, position), item)?;
-        labels.push(label)?;
-    }
-    Ok(labels)
-}
+#[derive(Drop)]
+struct Addresses;
 
-fn read_address(alloc: Global, path: &Path<'_>, value: &Value) -> Result<Label, Refusal>
-    ensures ok { IfOk result (λ label. IsAddressText (view value.now) (label_of label)) }
-    ensures fault { IfErr result (λ refusal.
-        Refuses (address_checks (place_of path.now) (view value.now)) (told refusal)) }
-{
-    match value {
-        Value::String(text) => match label_named(alloc, text.as_str())? {
-            Some(label) => Ok(label),
-            None => Err(bad_shape(alloc, path)),
-        },
-        _ => Err(bad_shape(alloc, path)),
+impl Elements for Addresses {
+    type Said = Label;
+
+    ghost Told = { LabelView };
+
+    ghost told_by = { λ label. label_of label };
+
+    ghost says = { IsAddressText };
+
+    ghost checks = { address_checks };
+
+    fn read(&self, alloc: Global, path: &Path<'_>, value: &Value) -> Result<Label, Refusal> {
+        match value {
+            Value::String(text) => match label_named(alloc, text.as_str())? {
+                Some(label) => Ok(label),
+                None => Err(bad_shape(alloc, path)),
+            },
+            _ => Err(bad_shape(alloc, path)),
+        }
     }
 }
 

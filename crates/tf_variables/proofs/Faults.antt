@@ -1,15 +1,14 @@
 -- What is told of a file and declared variables.
-use Rattle.std.proofs.Common.{◌≡◌, ℕ, Bool, false, Option, Some, List, [], ◌∷◌, inl, subst}
+use Rattle.std.proofs.Common.{◌≡◌, ℕ, Bool, false, Option, List, inl}
 use Rattle.serde_json.specs.Data.{Data}
 use Rattle.tf_config.specs.Demand.{Refuses, TellsAt}
-use Rattle.tf_config.specs.Parts.{literal_checks}
 use Rattle.tf_config_data.specs.Config.{VariableView}
 use Rattle.tf_json_path.specs.Check.{demanded}
 use Rattle.tf_json_path.specs.Place.{dotted}
 use Rattle.tf_refusal.specs.Code.{bad_argument}
 use Rattle.tf_refusal.specs.Refusal.{Told, no_memory, workers, fault, bare}
 use Rattle.tf_variables.specs.Reading.{TellsFaulty}
-use Rattle.tf_variables.specs.Values.{literal_at, file_checks, RefusesValues}
+use Rattle.tf_variables.specs.Values.{file_checks, RefusesValues}
 
 pub refuses_none : (place : List (List ℕ)) (has : Bool) (t : Told) → has ≡ false → TellsAt (dotted place) (bad_argument, bare) t → RefusesValues (demanded place has) t
 refuses_none place has no_memory none h = tt
@@ -21,7 +20,3 @@ module _ (file : Option Data) (vs : List VariableView) where
   file_faulty no_memory h = tt
   file_faulty workers h = absurd h
   file_faulty (fault code place detail) h = inl h
-
--- what the file gives a name is refused, or a literal
-pub literal_refused : (name : List ℕ) (value : Data) (found : Option Data) (t : Told) → Some value ≡ found → Refuses (literal_checks (name ∷ []) value) t → Refuses (literal_at name found) t
-literal_refused name value found t is h = subst (λ o. Refuses (literal_at name o) t) is h

@@ -1,3 +1,4 @@
 pub mod Faults
 pub mod Made
 pub mod Shown
+pub mod ValueLaws

@@ -5,8 +5,10 @@
 //! in byte order of names, the first variable without a value that fits.
 #![tactic(auto)]
 
+mod laws;
 mod reading;
 mod types;
 mod values;
 
+pub use laws::values_are_one;
 pub use reading::read_vars;

@@ -1,11 +1,13 @@
 //! The values of declared variables.
 
 ghost use Rattle.serde_json.specs.View.{view};
-ghost use Rattle.std.specs.Prelude.{◌≡◌, Err, IfErr, IfOk, MatchResult, Option, Some, is_some, option_and_then, option_map, string_bytes};
+ghost use Rattle.std.specs.Prelude.{◌≡◌, ◌∷◌, [], Err, IfErr, IfOk, MatchResult, Option, Some, is_some, option_and_then, option_map, string_bytes};
 ghost use Rattle.tf_config.specs.Demand.{AreMet, Refuses};
+ghost use Rattle.tf_config.specs.Parts.{literal_checks};
 ghost use Rattle.tf_config_data.specs.Config.{variables_of};
 ghost use Rattle.tf_json_path.specs.Check.{demanded};
 ghost use Rattle.tf_refusal.specs.Refusal.{no_memory, told};
+ghost use Rattle.tf_value.specs.Json.{value_from};
 ghost use Rattle.tf_value.specs.Tree.{entries_view, put, tree_of, Tree};
 ghost use Rattle.tf_variables.specs.Reading.{TellsFaulty};
 ghost use Rattle.tf_variables.specs.Types.{fitted};
@@ -55,12 +57,20 @@ fn read_taken(
         Refuses (literal_at name.now (given (option_map (λ tree. view tree.now) file.entry) name.now)) (told refusal)) }
 {
     match given(file, name) {
-        Some(json) => {
-            let value = read_literal(alloc, &Path::Member(&Path::Root, name), json)?;
-            Ok(Some(value))
-        }
+        Some(json) => Ok(Some(read_given(alloc, name, json)?)),
         None => Ok(variable.default.clone()?),
     }
+}
+
+/// The literal that a file gives a name.
+fn read_given(alloc: Global, name: &str, json: &Json) -> Result<Value, Refusal>
+    ensures literal { IfOk result (λ _. AreMet (literal_checks (name.now ∷ []) (view json.now))) }
+    ensures ok { IfOk result (λ value. value_from (view json.now) ≡ Some (tree_of value)) }
+    ensures fault { IfErr result (λ refusal.
+        Refuses (literal_checks (name.now ∷ []) (view json.now)) (told refusal)) }
+{
+    let value = read_literal(alloc, &Path::Member(&Path::Root, name), json)?;
+    Ok(value)
 }
 
 fn given<'a>(file: Option<&'a Json>, name: &str) -> Option<&'a Json>

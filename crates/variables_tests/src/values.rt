@@ -5,7 +5,7 @@ use std::process::Abort;
 use std::test::Fail;
 use tf_config::read_whole;
 use tf_value::{Value, to_json};
-use tf_variables::read_vars;
+use tf_variables::{read_vars, values_are_one};
 
 // The values as JSON, or the refusal's text. The configuration declares these variables.
 fn answer(alloc: Global, variables: &str, file: Option<&[u8]>) -> Result<String, Fail> {
@@ -320,6 +320,7 @@ fn takes_defaults(rt: HostRuntime) -> Result<(), Fail> {
         let seen = answer(rt.alloc(), variables, None)?;
         assert_eq!(rt; seen.as_str(), *want, "{variables}");
     }
+    values_are_one();
     Ok(())
 }
 

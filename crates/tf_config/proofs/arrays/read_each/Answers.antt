@@ -1,0 +1,21 @@
+use Rattle.std.proofs.Common.{map}
+use Rattle.std.proofs.lemmas.List.{map-append}
+use Rattle.std.proofs.lemmas.Result.{err_from_is_err_and}
+use Rattle.tf_config.proofs.Members.{element_more, element_refused}
+use Rattle.tf_json_path.proofs.Places.{place_of-Item}
+use Rattle.tf_json_path.specs.Place.{place_of}
+use Rattle.tf_config.proofs.arrays.read_each.Goals as goal
+
+pub returns-in_err-said-clause-fault : goal.returns-in_err-said-clause-fault
+returns-in_err-said-clause-fault g c =
+    let p = err_from_is_err_and c.from_residual-in_err-said.result c.from_residual-in_err-said.ensures.1 in
+    let first = rw place_of-Item at c.in_err-said.ensures.fault in
+    rw (p.1, p.2, ← c.deref-item-items.ensures.value)
+    (element_refused g.E.Elements.Told g.E.Elements.checks g.E.Elements.says c.deref-item-items.result.now (map g.E.Elements.told_by c.loop-position.all.items) c.loop-position.position c.item-item.result c.loop-position-test.true c.item-item.is c.loop-position.invariant
+    c.requires.sound (place_of c.args.path.now) _ first)
+
+pub loop-position-preserved : goal.loop-position-preserved
+loop-position-preserved g c =
+    rw (c.in_ok-push.ensures.items, map-append)
+    (element_more g.E.Elements.Told g.E.Elements.checks g.E.Elements.says c.deref-item-items.result.now (map g.E.Elements.told_by c.loop-position.all.items) c.loop-position.position c.item-item.result c.loop-position-test.true c.item-item.is c.loop-position.invariant
+    (g.E.Elements.told_by c.in_ok-said.said) c.in_ok-said.ensures.ok)

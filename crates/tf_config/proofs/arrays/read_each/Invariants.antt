@@ -1,0 +1,8 @@
+use Rattle.std.proofs.Common.{map, take}
+use Rattle.serde_json.specs.View.{items_view}
+use Rattle.tf_config.specs.Parts.{EachSays}
+use Rattle.tf_config.proofs.arrays.read_each.Given as goal
+
+-- the elements so far are read
+abbrev pub invariant-loop-position : goal.invariant-loop-position
+invariant-loop-position g l = EachSays g.E.Elements.says (items_view (take l.position l.item-items)) (map g.E.Elements.told_by l.all.items)
