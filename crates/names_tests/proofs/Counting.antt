@@ -1,5 +1,5 @@
 -- How many names a configuration has.
-use Rattle.std.proofs.Common.{◌≡◌, ◌≤◌, ◌+◌, ℕ, suc, length, map, refl, ap, arith}
+use Rattle.std.proofs.Common.{◌≡◌, ◌≤◌, ◌+◌, suc, length, map, refl, ap, arith}
 use Rattle.std.proofs.lemmas.List.{length-append, length-map}
 use Rattle.tf_config.specs.Config.{names_in}
 use Rattle.tf_config.specs.Reading.{IsWithinCounts}

@@ -2,6 +2,8 @@
 #![tactic(auto)]
 
 #[cfg(test)]
+mod instances;
+#[cfg(test)]
 mod names;
 #[cfg(test)]
 mod reading;

@@ -1,2 +1,3 @@
 pub mod Expanding
+pub mod Laws
 pub mod Told

@@ -1,15 +1,15 @@
 //! The expansion of a configuration.
 
-ghost use Rattle.std.specs.Prelude.{◌≡◌, ◌<◌, ℕ, IfOk, Some, false, length, min};
+ghost use Rattle.std.specs.Prelude.{◌≡◌, ◌<◌, ℕ, IfOk, Some, length, min};
 ghost use Rattle.tf_config_data.specs.Names.{directly_before, meant_at};
-ghost use Rattle.tf_names.specs.Needs.{IsDependence, needs_in};
+ghost use Rattle.tf_names.specs.Needs.{IsAcyclic, IsDependence};
 ghost use Rattle.tf_names.specs.Table.{named_view, names_in};
 ghost use Rattle.tf_value.specs.Tree.{entries_view};
 ghost use Rattle.tf_environment.specs.Stages.{expansion};
 ghost use Rattle.tf_environment.specs.Standing.{StandingView, AreStandings};
 ghost use Rattle.tf_environment.specs.Views.{shape_of, shapes_of, standings_of, worked_out};
 ghost use Rattle.tf_expand.specs.Expanding.{expanded, instance_count, instances_before};
-ghost use Rattle.tf_expand.specs.Told.{Shapes, Tells};
+ghost use Rattle.tf_expand.specs.Told.{AreReferredStandings, Shapes, Tells};
 ghost use Rattle.tf_expand.specs.declared.expansion.ExpansionFault.TheVariants.{OutOfMemory};
 
 use std::alloc::{AllocError, AllocFailed, Global};
@@ -57,12 +57,12 @@ impl<T: Drop> From<AllocFailed<T>> for ExpansionFault {
 /// `TooMany` where there are more instances than `MAX_INSTANCES`; and `OutOfMemory`.
 pub fn expand(alloc: Global, declared: &Declarations) -> Result<Vec<Shape>, ExpansionFault>
     requires dependence { IsDependence (names_in declared.now.names.now) declared.now.dependence.now }
-    requires acyclic { (n : ℕ) → needs_in declared.now.dependence.now n n ≡ false }
+    requires acyclic { IsAcyclic declared.now.dependence.now }
     ensures { (standings : ℕ → StandingView)
         → AreStandings expansion (entries_view declared.now.variables.now.entries) (names_in declared.now.names.now) standings
         → Tells (λ shapes. shapes.items) (entries_view declared.now.variables.now.entries) (names_in declared.now.names.now) standings result }
 {
-    let kept = all_standings(alloc, declared)?;
+    let kept = referred_standings(alloc, declared)?;
     let shapes = shapes_by(alloc, declared, kept.as_slice())?;
     if count(declared.names, shapes.as_slice()) > MAX_INSTANCES {
         return Err(ExpansionFault::TooMany);
@@ -70,19 +70,19 @@ pub fn expand(alloc: Global, declared: &Declarations) -> Result<Vec<Shape>, Expa
     Ok(shapes)
 }
 
-/// What each name stands for in the expansion.
-fn all_standings(alloc: Global, declared: &Declarations) -> Result<Vec<Standing>, AllocError>
+/// What the names to which others refer stand for in the expansion. At any other place nothing stands: no value is made
+/// of the objects of a resource to which no name refers.
+fn referred_standings(alloc: Global, declared: &Declarations) -> Result<Vec<Standing>, AllocError>
     requires dependence { IsDependence (names_in declared.now.names.now) declared.now.dependence.now }
-    requires acyclic { (n : ℕ) → needs_in declared.now.dependence.now n n ≡ false }
-    ensures { IfOk result (λ kept. (standings : ℕ → StandingView)
-        → AreStandings expansion (entries_view declared.now.variables.now.entries) (names_in declared.now.names.now) standings
-        → (n : ℕ) → n < length (names_in declared.now.names.now) → standings_of kept.items n ≡ standings n) }
+    requires acyclic { IsAcyclic declared.now.dependence.now }
+    ensures { IfOk result (λ kept. AreReferredStandings (entries_view declared.now.variables.now.entries) (names_in declared.now.names.now) (standings_of kept.items)) }
 {
-    let wanted = vec![in alloc; true; declared.names.len()]?;
-    standings(alloc, &Expansion, declared, wanted.as_slice())
+    let wanted = declared.dependence.referred_to(alloc)?;
+    let kept = standings(alloc, &Expansion, declared, wanted.as_slice())?;
+    Ok(kept)
 }
 
-/// The shape of each name, by what all names stand for; or the first that is refused.
+/// The shape of each name, by what those that it refers to stand for; or the first that is refused.
 fn shapes_by(
     alloc: Global,
     declared: &Declarations,

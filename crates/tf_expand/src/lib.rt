@@ -5,5 +5,6 @@
 #![tactic(auto)]
 
 mod expansion;
+pub mod laws;
 
 pub use expansion::{ExpansionFault, MAX_INSTANCES, expand};

@@ -4,13 +4,18 @@ use Rattle.std.proofs.lemmas.Bool.{both_ways}
 use Rattle.std.specs.List.{AllByRecursion}
 use Rattle.std.specs.Prelude.{Contains, slice_index}
 use Rattle.tf_config_data.specs.Names.{NameView, meant_at, refers_at, directly_before}
+<<<<<<< HEAD
 use Rattle.tf_graph.proofs.GraphLaws.{acyclic-ranked, closure-least, reached-closed, whole_order-all}
+=======
+use Rattle.tf_graph.proofs.Edges.{edge-from_target, target-from_edge}
+use Rattle.tf_graph.proofs.GraphLaws.{acyclic-ranked, reached-closed, whole_order-all}
+>>>>>>> 353477197ddcc35b24cb67e5f46f5f3ae78b543b
 use Rattle.tf_graph.specs.Closure.{reaches, IsClosure}
-use Rattle.tf_graph.specs.Digraph.{IsWithin, predecessors_of}
+use Rattle.tf_graph.specs.Digraph.{IsWithin, predecessors_of, successors_of}
 use Rattle.tf_graph.specs.Path.{direct}
 use Rattle.tf_graph.specs.Strip.{IsWholeOrder}
 use Rattle.tf_names.proofs.Edging.{AreWithin, are-within, places-below}
-use Rattle.tf_names.proofs.Needing.{reaching-named, reaches-from_needs, needs-from_reaches, edge-from_before}
+use Rattle.tf_names.proofs.Needing.{reaching-named, reaches-from_needs, needs-from_reaches, edge-from_before, before-from_edge, filled_some, some_filled}
 use Rattle.tf_names.specs.Needs.{IsDependence}
 use Rattle.tf_names.specs.declared.dependence.Dependence.{Dependence}
 
@@ -28,6 +33,10 @@ dependence names d count are before order closure =
       direct = λ a b c. closure.found b a (direct b a (edge-from_before names g before a b c));
       transitive = λ a b c p q. (closure-least g d.table closure).0.transitive c b a q p;
       closed = λ a b c led k. (reached-closed g d.table closure c b a).1 (edge-from_before names g before b c k) led;
+      referred = λ b. (
+        λ filled. let target = filled_some (successors_of g b) filled in (target.0, before-from_edge names g before target.0 b (edge-from_target g.edges b target.0 target.1)),
+        λ held. some_filled (successors_of g b) held.0 (target-from_edge g.edges b held.0 (edge-from_before names g before held.0 b held.1)),
+      );
       in_order = record {
         once = order.in_order.once;
         after = λ i h. subst (AllByRecursion (λ a. Contains (take i d.order.items) a)) (before (slice_index d.order.items i)) (order.in_order.after i h);

@@ -8,7 +8,7 @@ use Rattle.tf_config_data.specs.Names.{NameView, same_pair, place_of, place_befo
 use Rattle.tf_graph.proofs.Edges.{contains_head, contains_tail, contains_cases, edge-from_source, source-from_edge}
 use Rattle.tf_graph.specs.Digraph.{Digraph, predecessors_of}
 use Rattle.tf_graph.specs.Path.{direct, onward, HasEdge, Reaches, joined}
-use Rattle.tf_names.specs.Needs.{meant_by, RefersTo, Needs}
+use Rattle.tf_names.specs.Needs.{meant_by, RefersTo, Needs, is_filled}
 use Rattle.tf_syntax.specs.TemplateNames.{Pair}
 
 pub bytes_eq-same : (xs ys : List ℕ) → bytes_eq xs ys ≡ true → xs ≡ ys
@@ -128,7 +128,7 @@ module _ (names : List NameView) (g : Digraph) (before : (n : ℕ) → predecess
   pub edge-from_before : (a b : ℕ) → Contains (directly_before names a) b → HasEdge g b a
   edge-from_before a b c = edge-from_source g.edges a b (subst (λ xs. Contains xs b) (sym (before a)) c)
 
-  before-from_edge : (a b : ℕ) → HasEdge g b a → Contains (directly_before names a) b
+  pub before-from_edge : (a b : ℕ) → HasEdge g b a → Contains (directly_before names a) b
   before-from_edge a b e = subst (λ xs. Contains xs b) (before a) (source-from_edge g.edges a b e)
 
   -- what reaches something is the place of a name
@@ -147,3 +147,11 @@ module _ (names : List NameView) (g : Digraph) (before : (n : ℕ) → predecess
   needs-from_reaches _ _ (onward b k a e path) p q h i =
       let middle = reaching-named k a path in
       joined p middle.0 q (needs-from_reaches k a path p middle.0 h middle.1) (direct middle.0 q (refers-from_before names middle.0 q k b middle.1 i (before-from_edge k b e)))
+
+pub filled_some : (xs : List ℕ) → is_filled xs ≡ true → (x : ℕ) × Contains xs x
+filled_some [] h = absurd (cc)
+filled_some (x ∷ xs) h = (x, contains_head x x xs refl)
+
+pub some_filled : (xs : List ℕ) (x : ℕ) → Contains xs x → is_filled xs ≡ true
+some_filled [] x c = absurd (none_contained x c)
+some_filled (y ∷ xs) x c = refl

@@ -5,7 +5,7 @@ use Rattle.std.specs.List.Sorted.{IsStrictlySortedBy}
 use Rattle.std.specs.Ordering.{nat_cmp}
 use Rattle.tf_config_data.specs.Names.{NameView, Meant, same_pair, place_of, refers_at, directly_before}
 use Rattle.tf_graph.specs.Closure.{reaches}
-use Rattle.tf_graph.specs.Digraph.{predecessors_of}
+use Rattle.tf_graph.specs.Digraph.{predecessors_of, successors_of}
 use Rattle.tf_graph.specs.Order.{IsInOrder}
 use Rattle.tf_graph.specs.Path.{Path}
 use Rattle.tf_graph.specs.Solutions.{Ranked, StaysBelow}
@@ -58,8 +58,25 @@ order_in d = d.order.items
 abbrev pub before_in : Dependence → ℕ → List ℕ
 before_in d n = predecessors_of d.graph n
 
+<<<<<<< HEAD
 -- A table says which of these names needs which. What is needed by what is needed is needed. Its order has each name
 -- once and after all that it refers to, and where none needs itself it has all names.
+=======
+-- some name refers directly to the one at a place
+abbrev pub IsReferredTo : List NameView → ℕ → Type 0
+IsReferredTo names b = (a : ℕ) × Contains (directly_before names a) b
+
+abbrev pub is_filled : List ℕ → Bool
+is_filled [] = false
+is_filled (x ∷ xs) = true
+
+-- the same by a table of dependence
+abbrev pub is_referred_to : Dependence → ℕ → Bool
+is_referred_to d b = is_filled (successors_of d.graph b)
+
+-- A table says which of these names needs which. Its order has each name once and after all that it refers to, and
+-- where none needs itself it has all names.
+>>>>>>> 353477197ddcc35b24cb67e5f46f5f3ae78b543b
 pub record IsDependence (names : List NameView) (d : Dependence) : Type 0 where
   pub count : d.graph.nodes ≡ length names
   pub table : d.table.nodes ≡ length names
@@ -69,6 +86,7 @@ pub record IsDependence (names : List NameView) (d : Dependence) : Type 0 where
   pub direct : (a b : ℕ) → Contains (directly_before names a) b → needs_in d a b ≡ true
   pub transitive : (a b c : ℕ) → needs_in d a b ≡ true → needs_in d b c ≡ true → needs_in d a c ≡ true
   pub closed : (a b c : ℕ) → needs_in d a b ≡ true → Contains (directly_before names b) c → needs_in d a c ≡ true
+  pub referred : (b : ℕ) → (is_referred_to d b ≡ true) ↔ IsReferredTo names b
   pub in_order : IsInOrder (directly_before names) (order_in d)
   pub within : (n : ℕ) → Contains (order_in d) n → n < length names
   pub whole : IsAcyclic d → (n : ℕ) → n < length names → Contains (order_in d) n

@@ -5,7 +5,7 @@ ghost use Rattle.std.specs.Prelude.{◌≡◌, ◌≤◌, ◌<◌, ◌++◌, ℕ
 ghost use Rattle.tf_config_data.specs.Names.{directly_before};
 ghost use Rattle.tf_graph.specs.Digraph.{sources_into};
 ghost use Rattle.tf_names.specs.Edges.{edges_into};
-ghost use Rattle.tf_names.specs.Needs.{before_in, needs_in, order_in, IsDependence};
+ghost use Rattle.tf_names.specs.Needs.{before_in, is_referred_to, needs_in, order_in, IsDependence};
 ghost use Rattle.tf_names.specs.Table.{names_in};
 
 use crate::table::Names;
@@ -78,6 +78,33 @@ impl Dependence {
             needed.push(self.needs(name, other))?;
         }
         Ok(needed)
+    }
+
+    /// For each place, whether a name refers directly to the one there.
+    ///
+    /// # Errors
+    ///
+    /// Only where memory runs out.
+    pub fn referred_to(&self, alloc: Global) -> Result<Vec<bool>, AllocError>
+        ensures { IfOk result (λ referred. (k : ℕ) → k < self.now.graph.nodes
+            → slice_index_or referred.items k false ≡ is_referred_to self.now k) }
+    {
+        let mut referred = Vec::with_capacity(alloc, self.graph.nodes())?;
+        for name in 0..self.graph.nodes() {
+            referred.push(is_referred_to(self, name))?;
+        }
+        Ok(referred)
+    }
+}
+
+/// Whether a name refers directly to the one at a place.
+fn is_referred_to(dependence: &Dependence, name: usize) -> bool
+    requires { name < dependence.now.graph.nodes }
+    ensures { result ≡ is_referred_to dependence.now name }
+{
+    match dependence.graph.successors(name) {
+        [] => false,
+        [_, ..] => true,
     }
 }
 

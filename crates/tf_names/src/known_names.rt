@@ -1,15 +1,16 @@
 //! Which names the expressions of a configuration may use.
 
 ghost use Rattle.std.specs.List.{list_all};
-ghost use Rattle.std.specs.Prelude.{◌≡◌, IfOk, map, string_bytes};
+ghost use Rattle.std.specs.Prelude.{◌≡◌, ◌∷◌, [], IfOk, codes, map, string_bytes};
 ghost use Rattle.tf_address.specs.Label.{LabelView, label_of};
 ghost use Rattle.tf_config_data.specs.Config.{block_at, blocks_of, config_of, variables_of};
 ghost use Rattle.tf_config_data.specs.Names.{names_of};
 ghost use Rattle.tf_json_path.specs.Check.{demanded};
 ghost use Rattle.tf_json_path.specs.Place.{dotted, place_of as place_at};
-ghost use Rattle.tf_names.specs.KnownNames.{a_resource, binds, block_checks, body_checks, body_of, config_checks, declared_in, declared_of, entry_name_checks, has_variable, is_function, is_variable, item_name_checks, knows, knows_names, label_checks, name_checks, only_known_names, output_checks, property_checks, unknown_name, JudgesNames};
+ghost use Rattle.tf_names.specs.KnownNames.{a_resource, binds, block_checks, block_place, body_checks, body_of, config_checks, declared_in, declared_of, entry_name_checks, has_variable, is_function, is_variable, item_name_checks, knows, knows_names, label_checks, name_checks, only_known_names, output_checks, property_checks, unknown_name, JudgesNames};
 ghost use Rattle.tf_names.specs.Properties.{property_view, value_view};
 ghost use Rattle.tf_names.specs.Table.{names_in};
+ghost use Rattle.tf_names.specs.declared.known_names.Context.TheVariants.{Plain};
 ghost use Rattle.tf_names.specs.Tells.{TellsAt};
 ghost use Rattle.tf_refusal.specs.Refusal.{told};
 ghost use Rattle.tf_syntax.specs.ExprTree.{entries_view, tree_of, trees_view};
@@ -164,18 +165,25 @@ fn demand_outputs(
 ) -> Result<(), Refusal>
     ensures { JudgesNames (declared_of known.entry) (output_checks (entries_view outputs.now.entries)) result }
 {
-    let output = Path::Member(&Path::Root, "output");
     for (name, expr) in outputs.iter() {
-        let body = Path::Member(&output, name.as_str());
-        demand_expr(
-            alloc,
-            known,
-            Context::Plain,
-            &Path::Member(&body, "value"),
-            expr,
-        )?;
+        demand_output(alloc, known, name.as_str(), expr)?;
     }
     Ok(())
+}
+
+/// The value of an output.
+fn demand_output(
+    alloc: Global,
+    known: Known<'_, '_>,
+    name: &str,
+    expr: &Expr,
+) -> Result<(), Refusal>
+    ensures { JudgesNames (declared_of known.entry) (name_checks Plain (codes "value" ∷ name.now ∷ codes "output" ∷ []) (tree_of expr.now)) result }
+{
+    let output = Path::Member(&Path::Root, "output");
+    let body = Path::Member(&output, name);
+    let value = Path::Member(&body, "value");
+    demand_expr(alloc, known, Context::Plain, &value, expr)
 }
 
 fn demand_blocks(
@@ -185,15 +193,28 @@ fn demand_blocks(
 ) -> Result<(), Refusal>
     ensures { JudgesNames (declared_of known.entry) (block_checks (blocks_of blocks.now.entries)) result }
 {
-    let resource = Path::Member(&Path::Root, "resource");
     for (label, block) in blocks.iter() {
-        let kind = Path::Member(&resource, label.type_name.as_str());
-        let name = Path::Member(&kind, label.name.as_str());
-        demand_block(alloc, known, &name, block)?;
+        demand_resource(alloc, known, label, block)?;
     }
     Ok(())
 }
 
+/// The block of a resource.
+fn demand_resource(
+    alloc: Global,
+    known: Known<'_, '_>,
+    label: &Label,
+    block: &Block,
+) -> Result<(), Refusal>
+    ensures { JudgesNames (declared_of known.entry) (body_checks (block_place (label_of label.now)) (body_of (block_at (label_of label.now) block.now))) result }
+{
+    let resource = Path::Member(&Path::Root, "resource");
+    let kind = Path::Member(&resource, label.type_name.as_str());
+    let name = Path::Member(&kind, label.name.as_str());
+    demand_block(alloc, known, &name, block)
+}
+
+/// The block stands at the path.
 fn demand_block<'a>(
     alloc: Global,
     known: Known<'_, '_>,

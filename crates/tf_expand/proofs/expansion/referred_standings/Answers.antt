@@ -1,0 +1,25 @@
+use Rattle.tf_names.specs.Table.{names_in}
+use Rattle.tf_value.specs.Tree.{entries_view}
+use Rattle.tf_eval.proofs.Locality.{expressions_local}
+use Rattle.tf_environment.specs.Views.{standings_of}
+use Rattle.tf_environment.proofs.Locals.{expansion_local}
+use Rattle.tf_expand.proofs.Shaping.{marked_from, referred_closed, referred_kept}
+use Rattle.tf_expand.proofs.expansion.referred_standings.Goals as goal
+
+pub standings-requires-clause-local : goal.standings-requires-clause-local
+standings-requires-clause-local c = expansion_local expressions_local
+
+pub standings-requires-clause-closed : goal.standings-requires-clause-closed
+standings-requires-clause-closed c =
+    let names = names_in c.args.declared.now.names.now in
+    let d = c.args.declared.now.dependence.now in
+    let wanted = c.as_slice.result.now in
+    λ n h. referred_closed names d wanted c.requires.dependence (marked_from names d wanted c.in_ok-wanted.wanted.items c.requires.dependence c.as_slice.ensures.value c.in_ok-wanted.ensures) n
+
+pub returns : goal.returns
+returns c =
+    let names = names_in c.args.declared.now.names.now in
+    let d = c.args.declared.now.dependence.now in
+    let wanted = c.as_slice.result.now in
+    referred_kept (entries_view c.args.declared.now.variables.now.entries) names d wanted (standings_of c.in_ok-kept.kept.items) c.requires.dependence c.requires.acyclic
+    (marked_from names d wanted c.in_ok-wanted.wanted.items c.requires.dependence c.as_slice.ensures.value c.in_ok-wanted.ensures) c.in_ok-kept.ensures.standings c.in_ok-kept.ensures.only
