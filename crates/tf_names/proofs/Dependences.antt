@@ -4,12 +4,8 @@ use Rattle.std.proofs.lemmas.Bool.{both_ways}
 use Rattle.std.specs.List.{AllByRecursion}
 use Rattle.std.specs.Prelude.{Contains, slice_index}
 use Rattle.tf_config_data.specs.Names.{NameView, meant_at, refers_at, directly_before}
-<<<<<<< HEAD
-use Rattle.tf_graph.proofs.GraphLaws.{acyclic-ranked, closure-least, reached-closed, whole_order-all}
-=======
 use Rattle.tf_graph.proofs.Edges.{edge-from_target, target-from_edge}
-use Rattle.tf_graph.proofs.GraphLaws.{acyclic-ranked, reached-closed, whole_order-all}
->>>>>>> 353477197ddcc35b24cb67e5f46f5f3ae78b543b
+use Rattle.tf_graph.proofs.GraphLaws.{acyclic-ranked, closure-least, reached-closed, whole_order-all}
 use Rattle.tf_graph.specs.Closure.{reaches, IsClosure}
 use Rattle.tf_graph.specs.Digraph.{IsWithin, predecessors_of, successors_of}
 use Rattle.tf_graph.specs.Path.{direct}

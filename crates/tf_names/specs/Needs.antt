@@ -58,10 +58,6 @@ order_in d = d.order.items
 abbrev pub before_in : Dependence → ℕ → List ℕ
 before_in d n = predecessors_of d.graph n
 
-<<<<<<< HEAD
--- A table says which of these names needs which. What is needed by what is needed is needed. Its order has each name
--- once and after all that it refers to, and where none needs itself it has all names.
-=======
 -- some name refers directly to the one at a place
 abbrev pub IsReferredTo : List NameView → ℕ → Type 0
 IsReferredTo names b = (a : ℕ) × Contains (directly_before names a) b
@@ -74,9 +70,8 @@ is_filled (x ∷ xs) = true
 abbrev pub is_referred_to : Dependence → ℕ → Bool
 is_referred_to d b = is_filled (successors_of d.graph b)
 
--- A table says which of these names needs which. Its order has each name once and after all that it refers to, and
--- where none needs itself it has all names.
->>>>>>> 353477197ddcc35b24cb67e5f46f5f3ae78b543b
+-- A table says which of these names needs which. What is needed by what is needed is needed. Its order has each name
+-- once and after all that it refers to, and where none needs itself it has all names.
 pub record IsDependence (names : List NameView) (d : Dependence) : Type 0 where
   pub count : d.graph.nodes ≡ length names
   pub table : d.table.nodes ≡ length names
