@@ -1,0 +1,23 @@
+-- What an apply asks of providers, and what outputs are then.
+use Rattle.std.specs.Prelude.{◌≡◌, ℕ, Bool, true, false, List, Option, Some, Result}
+use Rattle.tf_address.specs.ObjectId.{InstanceKeyView}
+use Rattle.tf_config_data.specs.Config.{BlockView}
+use Rattle.tf_config_data.specs.Names.{NameView, Meant, a_block, meant_at}
+use Rattle.tf_protocol.specs.Schema.{SchemaView}
+use Rattle.tf_value.specs.Tree.{Tree, Entries}
+use Rattle.tf_environment.specs.Shape.{ShapeView}
+use Rattle.tf_environment.specs.Stages.{applying}
+use Rattle.tf_environment.specs.Standing.{StandingView, AreStandings, environment}
+use Rattle.tf_change.specs.Instance.{InstanceFaultView, instance_object}
+
+-- whether what stands at a place is a resource
+abbrev pub is_resource : Option Meant → Bool
+is_resource (Some (a_block b)) = true
+is_resource _ = false
+
+-- What is asked of a provider for the create of an instance, or what is wrong with it: the object that is planned for
+-- it where each name stands for what it does in the apply, resources for the objects that their providers answered.
+abbrev pub IsRequest : Entries → List NameView → (ℕ → ShapeView) → (ℕ → InstanceKeyView → Tree) → ℕ → InstanceKeyView → SchemaView → Result Tree InstanceFaultView → Type 0
+IsRequest variables names shapes objects place key schema request =
+    (standings : ℕ → StandingView) (block : BlockView) → AreStandings (applying shapes objects) variables names standings → meant_at names place ≡ Some (a_block block)
+    → request ≡ instance_object schema block key (environment variables names standings)

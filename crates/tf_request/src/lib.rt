@@ -1,0 +1,13 @@
+//! What an apply asks of providers.
+//!
+//! A plan is carried out in the order in which names need each other. What is asked of a provider for an instance is
+//! the object that is planned for it, valued again where each resource that it needs stands for what its providers
+//! answered (`specs/Requests.antt`).
+#![tactic(auto)]
+
+mod requests;
+mod results;
+mod standing;
+
+pub use requests::request;
+pub use results::Results;
