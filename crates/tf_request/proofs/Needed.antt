@@ -42,7 +42,7 @@ wanted_stand stage variables names order wanted (Ok kept) whole have = λ standi
 wanted_stand stage variables names order wanted (Err e) whole have = have
 
 -- a member is no place past the end
-member_below : (wanted : List Bool) (n : ℕ) → has wanted n ≡ true → n < length wanted
+pub member_below : (wanted : List Bool) (n : ℕ) → has wanted n ≡ true → n < length wanted
 member_below wanted n h = elim (cases_lt n (length wanted)) [
   | inl below ↦ below
   | inr past ↦ let none : has wanted n ≡ false = get_or_past wanted n false past in absurd (cc)

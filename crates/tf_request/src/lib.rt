@@ -5,9 +5,12 @@
 //! answered (`specs/Requests.antt`).
 #![tactic(auto)]
 
+mod outputs;
 mod requests;
 mod results;
 mod standing;
+mod wanted;
 
+pub use outputs::output_value;
 pub use requests::request;
 pub use results::Results;
