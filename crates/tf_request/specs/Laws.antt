@@ -27,25 +27,24 @@ pub record IsAnsweredPlan (ms : List Meaning) (variables : Entries) (names : Lis
   pub planned : AreStandings (planning shapes (planned_by ms)) variables names standings
   pub answered : AreAnswered variables names (planned_by ms) objects standings
 
--- What is planned for an instance refines to what is asked of the provider.
-abbrev pub RequestsRefine : Type 0
-RequestsRefine =
+-- What holds of an object that is planned for an instance and of the one that is asked for, where the providers answered
+-- what was planned.
+abbrev pub OfRequests : (Tree → Tree → Type 0) → Type 0
+OfRequests Holds =
     (ms : List Meaning) (variables : Entries) (names : List NameView) (shapes : ℕ → ShapeView) (objects : ℕ → InstanceKeyView → Tree) (standings : ℕ → StandingView)
     → IsAnsweredPlan ms variables names shapes objects standings
     → (place : ℕ) (block : BlockView) (key : InstanceKeyView) (schema : SchemaView) (t u : Tree) → meant_at names place ≡ Some (a_block block)
     → instance_object schema block key (environment variables names standings) ≡ Ok t
     → IsRequest variables names shapes objects place key schema (Ok u)
-    → Refines t u
+    → Holds t u
+
+-- The planned object refines to the one that is asked for.
+abbrev pub RequestsRefine : Type 0
+RequestsRefine = OfRequests Refines
 
 -- So an attribute that is known in the plan stands unchanged in the request.
 abbrev pub KnownAttributesStay : Type 0
-KnownAttributesStay =
-    (ms : List Meaning) (variables : Entries) (names : List NameView) (shapes : ℕ → ShapeView) (objects : ℕ → InstanceKeyView → Tree) (standings : ℕ → StandingView)
-    → IsAnsweredPlan ms variables names shapes objects standings
-    → (place : ℕ) (block : BlockView) (key : InstanceKeyView) (schema : SchemaView) (t u : Tree) → meant_at names place ≡ Some (a_block block)
-    → instance_object schema block key (environment variables names standings) ≡ Ok t
-    → IsRequest variables names shapes objects place key schema (Ok u)
-    → (name : List ℕ) (v : Tree) → part_at name t ≡ Some v → known v ≡ true → part_at name u ≡ Some v
+KnownAttributesStay = OfRequests (λ t u. (name : List ℕ) (v : Tree) → part_at name t ≡ Some v → known v ≡ true → part_at name u ≡ Some v)
 
 -- Where an instance's request succeeds, `for_each` has in the apply the keys that it has in the plan.
 abbrev pub KeysStay : Type 0
