@@ -3,7 +3,7 @@
 use std::alloc::{AllocError, Global};
 use std::process::Abort;
 use std::test::Fail;
-use tf_config::read_whole;
+use tf_config::{Refusal, read_whole};
 use tf_value::{Value, to_json};
 use tf_variables::{read_vars, values_are_one};
 
@@ -405,4 +405,18 @@ fn keeps_the_limit_of_a_file(rt: HostRuntime) -> Result<(), Fail> {
         &wide(alloc, 4_194_305)?,
         "error 14 at variables: Limit",
     )
+}
+
+// Nothing is read or told in place of a refused growth: run with each allocation failing in turn.
+#[test]
+fn says_when_memory_ran_out(rt: HostRuntime) {
+    let text = "{\"variable\": {\"a\": {\"default\": [1]}, \"b\": {\"type\": \"map(string)\"}}}";
+    let file = "{\"b\": {\"k\": 1}}";
+    match read_whole(rt.alloc(), text.as_bytes()) {
+        Ok(config) => match read_vars(rt.alloc(), Some(file.as_bytes()), &config) {
+            Ok(values) => assert_eq!(rt; values.len(), 2),
+            Err(refusal) => assert!(rt; matches!(refusal, Refusal::OutOfMemory)),
+        },
+        Err(refusal) => assert!(rt; matches!(refusal, Refusal::OutOfMemory)),
+    }
 }

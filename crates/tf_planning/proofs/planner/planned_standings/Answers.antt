@@ -5,11 +5,10 @@ use Rattle.tf_environment.proofs.Locals.{planning_local}
 use Rattle.tf_environment.specs.Stages.{planning}
 use Rattle.tf_environment.specs.Views.{shapes_of}
 use Rattle.tf_eval.proofs.Locality.{expressions_local}
-use Rattle.tf_expand.proofs.Shaping.{all_closed}
 use Rattle.tf_names.specs.Needs.{order_in}
 use Rattle.tf_names.specs.Table.{names_in}
 use Rattle.tf_value.specs.Tree.{entries_view}
-use Rattle.tf_planning.proofs.Wanting.{all_stand_planned}
+use Rattle.tf_planning.proofs.Wanting.{all_closed, all_stand_planned}
 use Rattle.tf_planning.proofs.planner.planned_standings.Goals as goal
 
 pub standings-requires-clause-local : goal.standings-requires-clause-local

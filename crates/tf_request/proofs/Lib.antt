@@ -1,0 +1,3 @@
+pub mod Needed
+pub mod Wanting
+pub mod Staying

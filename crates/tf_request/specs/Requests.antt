@@ -1,0 +1,48 @@
+-- What an apply asks of providers, and what outputs are then.
+use Rattle.std.specs.Prelude.{◌≡◌, ◌==◌, ◌||◌, ℕ, Bool, true, false, List, [], ◌∷◌, Option, Some, Result, Ok, Err}
+use Rattle.tf_address.specs.ObjectId.{InstanceKeyView}
+use Rattle.tf_config_data.specs.Config.{BlockView}
+use Rattle.tf_config_data.specs.Names.{NameView, Meant, a_block, meant_at}
+use Rattle.tf_names.specs.Needs.{needs_in}
+use Rattle.tf_names.specs.declared.dependence.Dependence.{Dependence}
+use Rattle.tf_operators.specs.Answer.{Answer, Answers}
+use Rattle.tf_operators.specs.declared.fault.EvalFault.{EvalFault}
+use Rattle.tf_protocol.specs.Schema.{SchemaView}
+use Rattle.tf_syntax.specs.ExprTree as expr
+use Rattle.tf_value.specs.Sets.{with_lists}
+use Rattle.tf_value.specs.Tree.{Tree, Entries}
+use Rattle.tf_value.specs.declared.value.Value.{Value}
+use Rattle.tf_eval.specs.ExprMeaning.{meaning}
+use Rattle.tf_environment.specs.Shape.{ShapeView}
+use Rattle.tf_environment.specs.Stages.{applying}
+use Rattle.tf_environment.specs.Standing.{StandingView, AreStandings, environment}
+use Rattle.tf_change.specs.Instance.{InstanceFaultView, instance_object}
+
+-- whether what stands at a place is a resource
+abbrev pub is_resource : Option Meant → Bool
+is_resource (Some (a_block b)) = true
+is_resource _ = false
+
+-- What is asked of a provider for the create of an instance, or what is wrong with it: the object that is planned for
+-- it where each name stands for what it does in the apply, resources for the objects that their providers answered.
+abbrev pub IsRequest : Entries → List NameView → (ℕ → ShapeView) → (ℕ → InstanceKeyView → Tree) → ℕ → InstanceKeyView → SchemaView → Result Tree InstanceFaultView → Type 0
+IsRequest variables names shapes objects place key schema request =
+    (standings : ℕ → StandingView) (block : BlockView) → AreStandings (applying shapes objects) variables names standings → meant_at names place ≡ Some (a_block block)
+    → request ≡ instance_object schema block key (environment variables names standings)
+
+-- a value with lists in place of sets, or the fault in its place
+abbrev pub without_sets : Answer → Answer
+without_sets (Ok t) = Ok (with_lists t)
+without_sets (Err why) = Err why
+
+-- What an output is after an apply, or the fault of its expression: what the expression means where each name stands
+-- for what it does in the apply, with the list of its texts in place of each set.
+abbrev pub IsOutput : Entries → List NameView → (ℕ → ShapeView) → (ℕ → InstanceKeyView → Tree) → expr.Tree → Result Value EvalFault → Type 0
+IsOutput variables names shapes objects e output =
+    (standings : ℕ → StandingView) → AreStandings (applying shapes objects) variables names standings
+    → Answers (without_sets (meaning (environment variables names standings) e)) output
+
+-- whether the name at a place is one of some others, or needed by one
+abbrev pub is_wanted : Dependence → List ℕ → ℕ → Bool
+is_wanted d [] n = false
+is_wanted d (place ∷ places) n = (place == n || needs_in d place n) || is_wanted d places n

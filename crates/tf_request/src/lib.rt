@@ -1,0 +1,18 @@
+//! What an apply asks of providers.
+//!
+//! A plan is carried out in the order in which names need each other. What is asked of a provider for an instance is
+//! the object that is planned for it, valued again where each resource that it needs stands for what its providers
+//! answered (`specs/Requests.antt`). An output is evaluated so too. What is known in the plan stands in the request
+//! (`laws`).
+#![tactic(auto)]
+
+pub mod laws;
+mod outputs;
+mod requests;
+mod results;
+mod standing;
+mod wanted;
+
+pub use outputs::output_value;
+pub use requests::request;
+pub use results::Results;

@@ -1,0 +1,58 @@
+//! What is asked of a provider for an instance.
+
+ghost use Rattle.std.specs.Prelude.{◌≡◌, true, IfOk};
+ghost use Rattle.tf_address.specs.ObjectId.{instance_key_of};
+ghost use Rattle.tf_change.specs.Bounded.{has_planned_attributes};
+ghost use Rattle.tf_change.specs.Instance.{instance_of};
+ghost use Rattle.tf_config_data.specs.Names.{meant_at};
+ghost use Rattle.tf_environment.specs.Views.{shapes_of};
+ghost use Rattle.tf_names.specs.Needs.{IsAcyclic, IsDependence};
+ghost use Rattle.tf_names.specs.Table.{names_in};
+ghost use Rattle.tf_value.specs.Tree.{entries_view, tree_of};
+ghost use Rattle.tf_request.specs.Requests.{IsRequest, is_resource};
+
+use crate::results::Results;
+use crate::standing::answered_standings;
+use std::alloc::{AllocError, Global};
+use tf_address::InstanceKey;
+use tf_change::{InstanceFault, plan_instance};
+use tf_environment::{Declarations, NamesScope, Shape};
+use tf_names::Named;
+use tf_protocol::Schema;
+use tf_value::Value;
+
+/// What is asked of a provider for the create of an instance of the resource at a place, or what is wrong with it: what
+/// is planned for it, where the resources that it needs stand for what their providers answered. `shapes` says of the
+/// place of each name how its instances stand together. No local is evaluated that isn't needed.
+///
+/// # Errors
+///
+/// Only where memory runs out.
+pub fn request<R: Results>(
+    alloc: Global,
+    declared: &Declarations,
+    shapes: &[Shape],
+    schema: &Schema,
+    place: usize,
+    key: &InstanceKey,
+    results: &R,
+) -> Result<Result<Value, InstanceFault>, AllocError>
+    requires dependence { IsDependence (names_in declared.now.names.now) declared.now.dependence.now }
+    requires acyclic { IsAcyclic declared.now.dependence.now }
+    requires resource { is_resource (meant_at (names_in declared.now.names.now) place) ≡ true }
+    ensures request { IfOk result (λ request. IsRequest (entries_view declared.now.variables.now.entries) (names_in declared.now.names.now)
+        (shapes_of shapes.now) (R.objects results.now) place (instance_key_of key.now) schema.now (instance_of request)) }
+    ensures within { IfOk result (λ request. IfOk request (λ v. has_planned_attributes (tree_of v) ≡ true)) }
+{
+    let wanted = declared.dependence.needed_by(alloc, place)?;
+    let kept = answered_standings(alloc, declared, shapes, results, wanted.as_slice())?;
+    let scope = NamesScope {
+        variables: declared.variables,
+        names: declared.names,
+        standings: kept.as_slice(),
+    };
+    match declared.names.at(place) {
+        Named::Local(_, _) => unreachable!(),
+        Named::Resource(_, block) => plan_instance(alloc, schema, block, key, &scope),
+    }
+}
