@@ -1,0 +1,7 @@
+//! Tests of what is planned for whole configurations, over public calls.
+#![tactic(auto)]
+
+#[cfg(test)]
+mod plans;
+#[cfg(test)]
+mod telling;
