@@ -2,6 +2,10 @@
 #![tactic(auto)]
 
 #[cfg(test)]
+mod door;
+#[cfg(test)]
 mod plans;
 #[cfg(test)]
 mod telling;
+#[cfg(test)]
+mod texts;

@@ -12,7 +12,8 @@ use tf_environment::{Declarations, RepetitionFault, Shape};
 use tf_expand::{ExpansionFault, expand};
 use tf_names::{Dependence, Named, Names, judge};
 use tf_order::{Order, OrderFault};
-use tf_planning::{Action, Planned, address_text, plan_creates};
+use tf_plan_data::{Action, address_text};
+use tf_planning::{Planned, plan_creates};
 use tf_protocol::Provider;
 use tf_refusal::code::{EVALUATE, LIMIT};
 use tf_refusal::{Detail, Refusal};
@@ -109,16 +110,9 @@ fn planned(
 fn shapes(alloc: Global, declared: &Declarations) -> Result<Vec<Shape>, Refusal>
     requires dependence { IsDependence (names_in declared.now.names.now) declared.now.dependence.now }
     requires acyclic { (n : ℕ) → needs_in declared.now.dependence.now n n ≡ false }
-    ensures { IfOk result (λ shapes. length shapes.items ≡ length (names_in declared.now.names.now)) }
 {
     match expand(alloc, declared) {
-        Ok(shapes) => {
-            if shapes.len() == declared.names.len() {
-                Ok(shapes)
-            } else {
-                Err(refusal_at(0, String::from_str(alloc, "shapes")?))
-            }
-        }
+        Ok(shapes) => Ok(shapes),
         Err(ExpansionFault::OutOfMemory) => Err(Refusal::OutOfMemory),
         Err(ExpansionFault::TooMany) => Err(beyond(alloc)?),
         Err(ExpansionFault::Resource(place, why)) => {

@@ -87,6 +87,20 @@ impl<'a> Names<'a> {
         Ok(found)
     }
 
+    /// The places of all names that an expression names, as often as it does, both branches of a conditional included.
+    /// What isn't declared is left out.
+    ///
+    /// # Errors
+    ///
+    /// Only where memory runs out.
+    pub fn named_in(&self, alloc: Global, expr: &Expr) -> Result<Vec<usize>, AllocError>
+        ensures { IfOk result (λ found. found.items ≡ places (names_in self.now) (named_by (tree_of expr.now))) }
+    {
+        let mut found = Vec::new(alloc);
+        self.add_named(alloc, expr, &mut found)?;
+        Ok(found)
+    }
+
     /// Adds the places of what a name refers to.
     fn add_meant(
         &self,

@@ -1,12 +1,8 @@
 -- What is planned for one instance after another, and what is refused of one output after another.
-use Rattle.std.proofs.Common.{◌≡◌, ◌∙◌, ◌&&◌, ℕ, Bool, true, false, Option, Some, None, is_some, Result, List, [], ◌∷◌, ◌++◌, refl, sym, ap, append_assoc}
+use Rattle.std.proofs.Common.{◌≡◌, ◌∙◌, Result, List, ◌++◌, sym, ap, append_assoc}
 use Rattle.std.proofs.lemmas.List.Elements.{filter_map-append}
-use Rattle.tf_config_data.specs.Names.{NameView, place_of, place_before, places}
-use Rattle.tf_graph.specs.Solutions.{seen_by}
 use Rattle.tf_refusal.specs.Refusal.{Told}
-use Rattle.tf_syntax.specs.TemplateNames.{Pair}
-use Rattle.tf_environment.specs.Standing.{StandingView, all_stand}
-use Rattle.tf_planning.specs.Action.{ActionView}
+use Rattle.tf_plan_data.specs.Action.{ActionView}
 use Rattle.tf_planning.specs.Planning.{actions_in, refusals_in, if_fine, if_refused}
 use Rattle.tf_planning.specs.Plans.{PlannedView, with_plans, with_refusals}
 
@@ -21,17 +17,3 @@ plans-append xs ys p =
 
 pub refused-append : (xs ys : List Told) (p : PlannedView) → with_refusals ys (with_refusals xs p) ≡ with_refusals (xs ++ ys) p
 refused-append xs ys p = ap (λ refusals. record { actions = p.actions; refusals = refusals }) (append_assoc p.refusals xs ys)
-
--- ---- references, one after another
-
-pub refer-cons : (standings : ℕ → StandingView) (names : List NameView) (pair : Pair) (pairs : List Pair)
-    → all_stand (seen_by standings (places names (pair ∷ pairs))) ≡ (all_stand (seen_by standings (places names (pair ∷ []))) && all_stand (seen_by standings (places names pairs)))
-refer-cons standings names pair pairs = by_place (place_of names pair)
-  where
-    both : (b c : Bool) → (b && c) ≡ ((b && true) && c)
-    both true c = refl
-    both false c = refl
-
-    by_place : (o : Option ℕ) → all_stand (seen_by standings (place_before o (places names pairs))) ≡ (all_stand (seen_by standings (place_before o [])) && all_stand (seen_by standings (places names pairs)))
-    by_place None = refl
-    by_place (Some n) = both (is_some (standings n)) (all_stand (seen_by standings (places names pairs)))

@@ -21,7 +21,7 @@ use Rattle.tf_environment.proofs.Seen.{agree_on}
 use Rattle.tf_environment.specs.Shape.{ShapeView, instance_keys}
 use Rattle.tf_environment.specs.Standing.{StandingView, all_stand, environment}
 use Rattle.tf_change.proofs.Locals.{instances_local}
-use Rattle.tf_planning.specs.Action.{ActionView}
+use Rattle.tf_plan_data.specs.Action.{ActionView}
 use Rattle.tf_planning.specs.Planning.{plan_by, planned_or_refused, plans_of, plans_at, instance_plans, output_fault, output_refusal, output_refusals, refusals_in, actions_in}
 use Rattle.tf_planning.specs.Plans.{all_plans}
 

@@ -1,4 +1,2 @@
-pub mod Action
-pub mod Address
 pub mod Planning
 pub mod Plans

@@ -21,8 +21,8 @@ use Rattle.tf_environment.specs.Standing.{StandingView, all_stand, environment}
 use Rattle.tf_change.specs.Instance.{InstanceFaultView, for_each_fault, argument_fault, instance_object}
 use Rattle.tf_change.specs.declared.argument.ArgumentFault.{ArgumentFault}
 use Rattle.tf_change.specs.declared.argument.ArgumentFault.TheVariants.{Evaluation, BadArgument}
-use Rattle.tf_planning.specs.Action.{ActionView}
-use Rattle.tf_planning.specs.Address.{address_text}
+use Rattle.tf_plan_data.specs.Action.{ActionView}
+use Rattle.tf_plan_data.specs.Address.{address_text}
 
 -- ---- one instance
 

@@ -8,9 +8,9 @@ use Rattle.tf_syntax.specs.ExprTree as expr
 use Rattle.tf_value.specs.Tree.{Entries}
 use Rattle.tf_environment.specs.Shape.{ShapeView}
 use Rattle.tf_environment.specs.Standing.{StandingView}
-use Rattle.tf_planning.specs.Action.{ActionView, action_of}
+use Rattle.tf_plan_data.specs.Action.{ActionView, action_of}
 use Rattle.tf_planning.specs.Planning.{actions_in, refusals_in, instance_plans, output_refusals}
-use Rattle.tf_planning.specs.declared.action.Action.{Action}
+use Rattle.tf_plan_data.specs.declared.action.Action.{Action}
 use Rattle.tf_planning.specs.declared.instances.Planned.{Planned}
 
 -- the actions that are planned, and all that is refused

@@ -16,14 +16,13 @@ ghost use Rattle.tf_value.specs.Tree.{entries_view};
 ghost use Rattle.tf_planning.specs.Planning.{fault_refusal, instance_plans, plan_by, planned_or_refused, plans_at, told_at};
 ghost use Rattle.tf_planning.specs.Plans.{plan_of, planned_of, with_plans};
 
-use crate::action::Action;
-use crate::addresses::address_text;
 use std::alloc::{AllocError, Global};
 use tf_address::{InstanceKey, Label};
 use tf_change::{ArgumentFault, InstanceFault, plan_instance};
 use tf_environment::{Declarations, NamesScope, Resource, Shape, Standing, all_stand};
 use tf_eval::{EvalFault, Scope};
 use tf_names::Named;
+use tf_plan_data::{Action, address_text};
 use tf_protocol::{Provider, Schema, schema_for};
 use tf_refusal::code::{BAD_ARGUMENT, EVALUATE, NO_PROVIDER};
 use tf_refusal::{Detail, Refusal};
@@ -48,7 +47,6 @@ pub(crate) fn add_instances(
     providers: &[Box<dyn Provider + Sync>],
 ) -> Result<(), AllocError>
     requires dependence { IsDependence (names_in declared.now.names.now) declared.now.dependence.now }
-    requires shapes { length shapes.now ≡ length (names_in declared.now.names.now) }
     ensures { OnOk result (planned_of planned.new ≡ with_plans
         (instance_plans (map (λ b. meaning b) providers.now) (entries_view declared.now.variables.now.entries) (names_in declared.now.names.now) (shapes_of shapes.now) (standings_of kept.now))
         (planned_of planned.old)) }
@@ -70,7 +68,6 @@ fn add_name(
     place: usize,
 ) -> Result<(), AllocError>
     requires dependence { IsDependence (names_in declared.now.names.now) declared.now.dependence.now }
-    requires shapes { length shapes.now ≡ length (names_in declared.now.names.now) }
     requires place { place < length (names_in declared.now.names.now) }
     ensures { OnOk result (planned_of planned.new ≡ with_plans
         (plans_at (map (λ b. meaning b) providers.now) (entries_view declared.now.variables.now.entries) (names_in declared.now.names.now) (shapes_of shapes.now) (standings_of kept.now) place)
@@ -93,7 +90,10 @@ fn add_name(
                 block,
                 scope: &scope,
             };
-            add_resource(alloc, planned, &resource, &shapes[place], providers)
+            match shapes.get(place) {
+                Some(shape) => add_resource(alloc, planned, &resource, shape, providers),
+                None => add_resource(alloc, planned, &resource, &Shape::One, providers),
+            }
         }
     }
 }

@@ -4,13 +4,9 @@
 //! (`tf_change`). `specs/Planning.antt` says what is planned and what is refused.
 #![tactic(auto)]
 
-mod action;
-mod addresses;
 mod instances;
 mod outputs;
 mod planner;
 
-pub use action::Action;
-pub use addresses::address_text;
 pub use instances::Planned;
 pub use planner::plan_creates;

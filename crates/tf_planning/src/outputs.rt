@@ -1,13 +1,9 @@
 //! What is refused of outputs.
 
-ghost use Rattle.std.specs.Prelude.{◌≡◌, ◌∷◌, [], OnOk, map};
-ghost use Rattle.tf_config_data.specs.Names.{places};
-ghost use Rattle.tf_environment.specs.Standing.{all_stand as all_that_stand};
+ghost use Rattle.std.specs.Prelude.{◌≡◌, OnOk};
 ghost use Rattle.tf_environment.specs.Views.{standings_of};
-ghost use Rattle.tf_graph.specs.Solutions.{seen_by};
 ghost use Rattle.tf_names.specs.Table.{names_in};
 ghost use Rattle.tf_syntax.specs.ExprTree.{entries_view as expressions_view, tree_of};
-ghost use Rattle.tf_syntax.specs.TemplateNames.{reference_of};
 ghost use Rattle.tf_value.specs.Tree.{entries_view};
 ghost use Rattle.tf_planning.specs.Planning.{output_refusal, output_refusals};
 ghost use Rattle.tf_planning.specs.Plans.{planned_of, with_refusals};
@@ -17,8 +13,7 @@ use std::alloc::{AllocError, Global};
 use std::collections::BTreeMap;
 use tf_environment::{Declarations, NamesScope, Standing, all_stand};
 use tf_eval::{EvalFault, eval_expr};
-use tf_names::Names;
-use tf_syntax::{Expr, Reference};
+use tf_syntax::Expr;
 
 /// Adds what is refused of outputs, where names stand for these standings.
 pub(crate) fn add_outputs(
@@ -51,8 +46,8 @@ fn add_output(
         (output_refusal (entries_view declared.now.variables.now.entries) (names_in declared.now.names.now) (standings_of kept.now) name.now (tree_of expr.now))
         (planned_of planned.old)) }
 {
-    let references = expr.references(alloc)?;
-    if !all_refer(declared.names, kept, references.as_slice()) {
+    let named = declared.names.named_in(alloc, expr)?;
+    if !all_stand(kept, named.as_slice()) {
         return Ok(());
     }
     let scope = NamesScope {
@@ -68,27 +63,5 @@ fn add_output(
             planned.refusals.push(evaluation(place, why))?;
             Ok(())
         }
-    }
-}
-
-/// Whether something stands at each place that these references are to.
-fn all_refer(names: &Names<'_>, kept: &[Standing], references: &[Reference]) -> bool
-    ensures { result ≡ all_that_stand (seen_by (standings_of kept.now) (places (names_in names.now) (map reference_of references.now))) }
-{
-    for reference in references {
-        if !refers(names, kept, reference) {
-            return false;
-        }
-    }
-    true
-}
-
-/// Whether something stands where a reference is to, if it is to a name.
-fn refers(names: &Names<'_>, kept: &[Standing], reference: &Reference) -> bool
-    ensures { result ≡ all_that_stand (seen_by (standings_of kept.now) (places (names_in names.now) (reference_of reference.now ∷ []))) }
-{
-    match names.place(reference.first.as_str(), reference.name.as_str()) {
-        Some(place) => all_stand(kept, &[place]),
-        None => true,
     }
 }

@@ -21,8 +21,8 @@ use tf_protocol::Provider;
 use tf_syntax::Expr;
 
 /// Plans a configuration before anything exists, whose resources have these instances: a create for each, and all that
-/// is refused. `shapes` says of the place of each name how its instances stand together. The provider of a type is the
-/// first in the list with a schema for it.
+/// is refused. `shapes` says of the place of each name how its instances stand together; past its end that is one
+/// object. The provider of a type is the first in the list with a schema for it.
 ///
 /// # Errors
 ///
@@ -36,7 +36,6 @@ pub fn plan_creates(
 ) -> Result<Planned, AllocError>
     requires dependence { IsDependence (names_in declared.now.names.now) declared.now.dependence.now }
     requires acyclic { (n : ℕ) → needs_in declared.now.dependence.now n n ≡ false }
-    requires shapes { length shapes.now ≡ length (names_in declared.now.names.now) }
     ensures { (standings : ℕ → StandingView)
         → AreStandings (planning (shapes_of shapes.now) (planned_by (map (λ b. meaning b) providers.now))) (entries_view declared.now.variables.now.entries) (names_in declared.now.names.now) standings
         → IfOk result (λ planned. planned_of planned

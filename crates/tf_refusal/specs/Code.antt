@@ -21,6 +21,18 @@ unknown_name = 4
 abbrev pub cycle : ℕ
 cycle = 5
 
+-- `count` isn't a whole number of 0 or more
+abbrev pub bad_count : ℕ
+bad_count = 6
+
+-- `for_each` is neither a map nor a set of texts
+abbrev pub bad_for_each : ℕ
+bad_for_each = 7
+
+-- `count` or `for_each` isn't known yet
+abbrev pub unknown_instances : ℕ
+unknown_instances = 8
+
 -- an evaluation has a fault
 abbrev pub evaluate : ℕ
 evaluate = 9

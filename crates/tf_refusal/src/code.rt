@@ -15,6 +15,15 @@ pub const UNKNOWN_NAME: u8 = 4;
 /// Locals or resources that need themselves.
 pub const CYCLE: u8 = 5;
 
+/// `count` isn't a whole number of 0 or more.
+pub const BAD_COUNT: u8 = 6;
+
+/// `for_each` is neither a map nor a set of texts.
+pub const BAD_FOR_EACH: u8 = 7;
+
+/// `count` or `for_each` isn't known yet.
+pub const UNKNOWN_INSTANCES: u8 = 8;
+
 /// An evaluation has a fault.
 pub const EVALUATE: u8 = 9;
 

@@ -10,7 +10,7 @@ ghost use Rattle.tf_request.specs.Requests.{is_wanted as is_one_or_needed};
 
 use std::alloc::{AllocError, Global};
 use tf_environment::Declarations;
-use tf_names::{Dependence, Names};
+use tf_names::Dependence;
 use tf_syntax::Expr;
 
 /// For each place, whether an expression names what is there, or something that it names needs it.
@@ -23,26 +23,12 @@ pub(crate) fn wanted_by(
     ensures each { IfOk result (λ wanted. (n : ℕ) → n < length (names_in declared.now.names.now)
         → has wanted.items n ≡ is_one_or_needed declared.now.dependence.now (places (names_in declared.now.names.now) (named_by (tree_of expr.now))) n) }
 {
-    let named = named_places(alloc, declared.names, expr)?;
+    let named = declared.names.named_in(alloc, expr)?;
     let mut wanted = Vec::with_capacity(alloc, declared.names.len())?;
     for place in 0..declared.names.len() {
         wanted.push(is_wanted(declared.dependence, named.as_slice(), place))?;
     }
     Ok(wanted)
-}
-
-/// The places of what an expression names.
-fn named_places(alloc: Global, names: &Names<'_>, expr: &Expr) -> Result<Vec<usize>, AllocError>
-    ensures { IfOk result (λ found. found.items ≡ places (names_in names.now) (named_by (tree_of expr.now))) }
-{
-    let references = expr.references(alloc)?;
-    let mut found = Vec::new(alloc);
-    for reference in &references {
-        if let Some(place) = names.place(reference.first.as_str(), reference.name.as_str()) {
-            found.push(place)?;
-        }
-    }
-    Ok(found)
 }
 
 /// Whether the name at a place is one of some others, or needed by one.

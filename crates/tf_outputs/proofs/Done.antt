@@ -1,0 +1,181 @@
+-- What comes of an output, and of one after another.
+use Rattle.std.proofs.Common.{◌≡◌, ℕ, Bool, true, false, if◌then◌else◌, List, [], ◌∷◌, ◌++◌, length, map, String, Ok, Err, Ordering, Less, Equal, Greater, MatchBool, string_bytes, string_cmp, inl, inr, refl, sym, ap, subst, ◌∙◌, append_assoc, ◌+◌, arith}
+use Rattle.std.proofs.lemmas.List.{append-nil, length_push}
+use Rattle.std.specs.BTreeMap.{insert_entry}
+use Rattle.std.specs.Ordering.{match_ordering}
+use Rattle.std.specs.declared.alloc.Global.{Global}
+use Rattle.tf_address.specs.ObjectId.{InstanceKeyView}
+use Rattle.tf_config_data.specs.Names.{NameView, places, directly_before}
+use Rattle.tf_environment.specs.Shape.{ShapeView}
+use Rattle.tf_environment.specs.Stages.{applying}
+use Rattle.tf_environment.specs.Standing.{StandingView, AreStandings, environment, rule}
+use Rattle.tf_eval.specs.ExprMeaning.{meaning}
+use Rattle.tf_graph.proofs.Solving.{solution-exists}
+use Rattle.tf_graph.specs.Solutions.{Ranked, seen_by}
+use Rattle.tf_operators.specs.Answer.{Answer}
+use Rattle.tf_operators.specs.declared.fault.EvalFault.{EvalFault}
+use Rattle.tf_operators.specs.declared.fault.EvalFault.TheVariants.{TooLarge}
+use Rattle.tf_outputs.specs.Keeping.{IsKept, IsSameOrExcused, MayBeSaved}
+use Rattle.tf_outputs.specs.Outputs.{OutputDone, not_evaluated, excused, valued, faulted, done_with, IsEvaluated, IsOutputDone, AreOutputsDone, AreOutputsEnded, end_of, is_null, with_output, with_outputs}
+use Rattle.tf_outputs.specs.Settled.{all_settled, names_are_settled}
+use Rattle.tf_outputs.specs.declared.ends.OutputEnd.{OutputEnd}
+use Rattle.tf_request.specs.Requests.{IsOutput, without_sets}
+use Rattle.tf_state_data.specs.State.{outputs_of}
+use Rattle.tf_state_data.specs.declared.object.Object.{Object}
+use Rattle.tf_syntax.specs.ExprNames.{named_by}
+use Rattle.tf_syntax.specs.ExprTree as expr
+use Rattle.tf_value.proofs.Tables.{table-put}
+use Rattle.tf_value.proofs.WithLists.{lists-no_set}
+use Rattle.tf_value.specs.Measure.{is_within}
+use Rattle.tf_value.specs.Nulls.{with_nulls}
+use Rattle.tf_value.specs.Sets.{has_no_set, with_lists}
+use Rattle.tf_value.specs.Stored.{IsTable}
+use Rattle.tf_value.specs.Tree.{Tree, Entries, no_entries, put, tree_of}
+use Rattle.tf_value.specs.declared.value.Value.{Value}
+
+outputs_of-match_ordering : (o : Ordering) (a b c : List (String Global × Object)) → outputs_of (match_ordering o a b c) ≡ match_ordering o (outputs_of a) (outputs_of b) (outputs_of c)
+outputs_of-match_ordering Less a b c = refl
+outputs_of-match_ordering Equal a b c = refl
+outputs_of-match_ordering Greater a b c = refl
+
+-- an output that is put into a map
+pub outputs_of-insert_entry : (es : List (String Global × Object)) (k : String Global) (o : Object) → outputs_of (insert_entry string_cmp es k o) ≡ put (string_bytes k) (tree_of o.value) (outputs_of es)
+outputs_of-insert_entry [] k o = refl
+outputs_of-insert_entry (e ∷ es) k o = outputs_of-match_ordering (string_cmp k e.0) _ _ _ ∙ rw (outputs_of-insert_entry es k o)
+
+null_left : (b : Bool) (es fs : Entries) → b ≡ true → ◌≡◌ {A = Entries} es (if b then es else fs)
+null_left true es fs h = refl
+null_left false es fs h = absurd (cc)
+
+other_put : (b : Bool) (es fs : Entries) → b ≡ false → ◌≡◌ {A = Entries} fs (if b then es else fs)
+other_put false es fs h = refl
+other_put true es fs h = absurd (cc)
+
+-- null isn't put, and any other value is
+pub kept_null : (name : List ℕ) (t : Tree) (end : OutputEnd) (before after : Entries) → is_null t ≡ true → end ≡ end_of (valued t) → after ≡ before → IsKept name (valued t) end before after
+kept_null name t end before after null told same =
+    record { kept = valued t; same = inl refl; told = told; saves = same ∙ null_left (is_null t) before (put name t before) null }
+
+pub kept_value : (name : List ℕ) (t : Tree) (end : OutputEnd) (before after : Entries) → is_null t ≡ false → end ≡ end_of (valued t) → after ≡ put name t before → IsKept name (valued t) end before after
+kept_value name t end before after other told put_in =
+    record { kept = valued t; same = inl refl; told = told; saves = put_in ∙ other_put (is_null t) before (put name t before) other }
+
+-- a value without sets
+pub listed_no_set : (a : Answer) (t : Tree) → without_sets a ≡ Ok t → has_no_set t ≡ true
+listed_no_set (Ok u) t h = let is : with_lists u ≡ t = (cc) in subst (λ v. has_no_set v ≡ true) is (lists-no_set u)
+listed_no_set (Err why) t h = absurd (cc)
+
+match_true : (b : Bool) (P Q : Type 0) → b ≡ true → P → MatchBool b P Q
+match_true true P Q h p = p
+match_true false P Q h p = absurd (cc)
+
+match_false : (b : Bool) (P Q : Type 0) → b ≡ false → Q → MatchBool b P Q
+match_false false P Q h q = q
+match_false true P Q h q = absurd (cc)
+
+module _ (variables : Entries) (names : List NameView) (shapes : ℕ → ShapeView) (objects : ℕ → InstanceKeyView → Tree) where
+  abbrev pub OutputMeans : expr.Tree → Answer → Type 0
+  OutputMeans e a = (standings : ℕ → StandingView) → AreStandings (applying shapes objects) variables names standings → without_sets (meaning (environment variables names standings) e) ≡ a
+
+  -- the value of an output has no set in it
+  pub output_no_set : Ranked (directly_before names) → (e : expr.Tree) (v : Value) → IsOutput variables names shapes objects e (Ok v) → has_no_set (tree_of v) ≡ true
+  output_no_set ranked e v output =
+      let there = solution-exists (length names) (directly_before names) (rule (applying shapes objects) variables names) ranked in
+      listed_no_set (meaning (environment variables names there.0) e) (tree_of v) (output there.0 there.1)
+
+  evaluated_value : (e : expr.Tree) (t : Tree) (b : Bool) (d : OutputDone) → is_within t ≡ b → OutputMeans e (Ok t)
+      → IsSameOrExcused (if b then valued (with_nulls t) else faulted TooLarge) d → IsEvaluated variables names shapes objects e d
+  evaluated_value e t true d within means (inl is) =
+      subst (IsEvaluated variables names shapes objects e) (sym is) (λ standings stand. rw (means standings stand, within) refl)
+  evaluated_value e t true d within means (inr is) = subst (IsEvaluated variables names shapes objects e) (sym is) tt
+  evaluated_value e t false d within means is =
+      subst (IsEvaluated variables names shapes objects e) (sym is) (λ standings stand. rw (means standings stand, within) refl)
+
+  module _ (settled : ℕ → Bool) (e : expr.Tree) where
+    pub done_unsettled : (ps : List ℕ) (b : Bool) → ps ≡ places names (named_by e) → b ≡ all_settled (seen_by settled ps) → b ≡ false → IsOutputDone variables names shapes objects settled e not_evaluated
+    done_unsettled ps b are is not =
+        match_false (names_are_settled names settled e) _ (not_evaluated ≡ not_evaluated) (ap (λ qs. all_settled (seen_by settled qs)) (sym are) ∙ sym is ∙ not) refl
+
+    done_settled : (ps : List ℕ) (b : Bool) (d : OutputDone) → ps ≡ places names (named_by e) → b ≡ all_settled (seen_by settled ps) → b ≡ true
+        → IsEvaluated variables names shapes objects e d → IsOutputDone variables names shapes objects settled e d
+    done_settled ps b d are is so evaluated =
+        match_true (names_are_settled names settled e) (IsEvaluated variables names shapes objects e d) (d ≡ not_evaluated) (ap (λ qs. all_settled (seen_by settled qs)) (sym are) ∙ sym is ∙ so) evaluated
+
+    -- memory is refused
+    pub done_refused : (ps : List ℕ) (b : Bool) → ps ≡ places names (named_by e) → b ≡ all_settled (seen_by settled ps) → b ≡ true → IsOutputDone variables names shapes objects settled e excused
+    done_refused ps b are is so = done_settled ps b excused are is so tt
+
+    -- a fault
+    pub done_faulted : (ps : List ℕ) (b : Bool) (why : EvalFault) → ps ≡ places names (named_by e) → b ≡ all_settled (seen_by settled ps) → b ≡ true
+        → IsOutput variables names shapes objects e (Err why) → IsOutputDone variables names shapes objects settled e (faulted why)
+    done_faulted ps b why are is so output = done_settled ps b (faulted why) are is so (λ standings stand. rw (output standings stand) refl)
+
+    -- a value
+    pub done_valued : (ps : List ℕ) (b : Bool) (v : Value) (d : OutputDone) → ps ≡ places names (named_by e) → b ≡ all_settled (seen_by settled ps) → b ≡ true
+        → IsOutput variables names shapes objects e (Ok v) → IsSameOrExcused (done_with (Ok (tree_of v))) d → IsOutputDone variables names shapes objects settled e d
+    done_valued ps b v d are is so output same = done_settled ps b d are is so (evaluated_value e (tree_of v) (is_within (tree_of v)) d refl output same)
+
+    -- an output whose entry found no memory is excused
+    done_kept : (d kept : OutputDone) → IsSameOrExcused d kept → IsOutputDone variables names shapes objects settled e d → IsOutputDone variables names shapes objects settled e kept
+    done_kept not_evaluated kept same done = subst (IsOutputDone variables names shapes objects settled e) (sym same) done
+    done_kept excused kept same done = subst (IsOutputDone variables names shapes objects settled e) (sym same) done
+    done_kept (faulted why) kept same done = subst (IsOutputDone variables names shapes objects settled e) (sym same) done
+    done_kept (valued t) kept (inl same) done = subst (IsOutputDone variables names shapes objects settled e) (sym same) done
+    done_kept (valued t) kept (inr same) done =
+        subst (IsOutputDone variables names shapes objects settled e) (sym same) (excused_too (names_are_settled names settled e) done)
+      where
+        excused_too : (b : Bool) → MatchBool b (IsEvaluated variables names shapes objects e (valued t)) (valued t ≡ not_evaluated)
+            → MatchBool b (IsEvaluated variables names shapes objects e excused) (excused ≡ not_evaluated)
+        excused_too true h = tt
+        excused_too false h = absurd (cc)
+
+  -- what is told and saved so far, whatever comes of those that are left
+  abbrev pub EndsWith : (ℕ → Bool) → expr.Entries → expr.Entries → List OutputEnd → Entries → Type 0
+  EndsWith settled all left ends saved =
+      (dones : List OutputDone) → AreOutputsDone variables names shapes objects settled left dones
+      → AreOutputsEnded variables names shapes objects settled all (ends ++ map end_of dones) (with_outputs left dones saved)
+
+  pub ends_start : (settled : ℕ → Bool) (all : expr.Entries) (ends : List OutputEnd) (saved : Entries) → ends ≡ [] → saved ≡ no_entries → EndsWith settled all all ends saved
+  ends_start settled all ends saved none empty dones each = rw (none, empty) (record { dones = dones; each = each; told = refl; saves = refl })
+
+  -- one output more
+  pub ends_more : (settled : ℕ → Bool) (all : expr.Entries) (name : List ℕ) (e : expr.Tree) (left : expr.Entries) (ends now : List OutputEnd) (saved after : Entries) (d : OutputDone) (end : OutputEnd)
+      → IsOutputDone variables names shapes objects settled e d → IsKept name d end saved after → now ≡ ends ++ end ∷ []
+      → EndsWith settled all (expr.entry name e left) ends saved → EndsWith settled all left now after
+  ends_more settled all name e left ends now saved after d end done k more before dones each =
+      let whole = before (k.kept ∷ dones) (done_kept settled e d k.kept k.same done, each) in
+      let told : now ++ map end_of dones ≡ ends ++ end_of k.kept ∷ map end_of dones =
+      ap (λ xs. xs ++ map end_of dones) (more ∙ ap (λ x. ends ++ x ∷ []) k.told) ∙ append_assoc ends (end_of k.kept ∷ []) (map end_of dones) in
+      rw (told, k.saves) whole
+
+  -- none is left
+  pub ends_all : (settled : ℕ → Bool) (all left : expr.Entries) (ends : List OutputEnd) (saved : Entries) → left ≡ expr.no_entries → EndsWith settled all left ends saved
+      → AreOutputsEnded variables names shapes objects settled all ends saved
+  ends_all settled all expr.no_entries ends saved none before =
+      subst (λ xs. AreOutputsEnded variables names shapes objects settled all xs saved) (append-nil ends) (before [] tt)
+  ends_all settled all (expr.entry name e es) ends saved none before = absurd (cc)
+
+-- the values that are saved may be stored
+kept_table : (name : List ℕ) (d kept : OutputDone) (found : Entries) → MayBeSaved d → IsSameOrExcused d kept → IsTable found → IsTable (with_output name kept found)
+kept_table name not_evaluated kept found may same table = rw same table
+kept_table name excused kept found may same table = rw same table
+kept_table name (faulted why) kept found may same table = rw same table
+kept_table name (valued t) kept found may (inr same) table = rw same table
+kept_table name (valued t) kept found may (inl same) table = rw same (by_null (is_null t))
+  where
+    by_null : (b : Bool) → IsTable (if b then found else put name t found)
+    by_null true = table
+    by_null false = table-put name t found may table
+
+pub table_more : (name : List ℕ) (d : OutputDone) (end : OutputEnd) (saved after : Entries) → MayBeSaved d → IsKept name d end saved after → IsTable saved → IsTable after
+table_more name d end saved after may k table = subst IsTable (sym k.saves) (kept_table name d k.kept saved may k.same table)
+
+pub none_listed : {A : Type 0} (xs : List A) → length xs ≡ 0 → xs ≡ []
+none_listed [] h = refl
+none_listed (x ∷ xs) h = absurd (omega (arith, h))
+
+pub rooms_less : {A : Type 0} (all left : List A) (x : A) → all ≡ x ∷ left → length all ≡ length left + 1
+rooms_less all left x h = ap length h ∙ omega arith
+
+pub one_longer : {A : Type 0} (all front : List A) (x : A) → all ≡ front ++ x ∷ [] → length all ≡ length front + 1
+one_longer all front x h = ap length h ∙ length_push front x

@@ -1,0 +1,4 @@
+pub mod Solved
+pub mod Filled
+pub mod Done
+pub mod Leading

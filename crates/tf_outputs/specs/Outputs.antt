@@ -1,0 +1,84 @@
+-- What becomes of the outputs after an apply.
+use Rattle.std.specs.Prelude.{◌≡◌, ℕ, Bool, true, false, if◌then◌else◌, List, [], ◌∷◌, map, Ok, Err, MatchBool, ⊤}
+use Rattle.tf_address.specs.ObjectId.{InstanceKeyView}
+use Rattle.tf_config_data.specs.Names.{NameView}
+use Rattle.tf_environment.specs.Shape.{ShapeView}
+use Rattle.tf_environment.specs.Stages.{applying}
+use Rattle.tf_environment.specs.Standing.{StandingView, AreStandings, environment}
+use Rattle.tf_eval.specs.ExprMeaning.{meaning}
+use Rattle.tf_operators.specs.Answer.{Answer}
+use Rattle.tf_operators.specs.declared.fault.EvalFault.{EvalFault}
+use Rattle.tf_operators.specs.declared.fault.EvalFault.TheVariants.{TooLarge}
+use Rattle.tf_outputs.specs.Settled.{names_are_settled}
+use Rattle.tf_outputs.specs.declared.ends.OutputEnd.{OutputEnd}
+use Rattle.tf_outputs.specs.declared.ends.OutputEnd.TheVariants.{NotEvaluated, NoMemory, Faulted, Valued}
+use Rattle.tf_request.specs.Requests.{without_sets}
+use Rattle.tf_syntax.specs.ExprTree as expr
+use Rattle.tf_value.specs.Measure.{is_within}
+use Rattle.tf_value.specs.Nulls.{with_nulls}
+use Rattle.tf_value.specs.Tree.{Tree, null, Entries, no_entries, put}
+
+-- What comes of an output: it isn't evaluated anew, memory is refused for it, it has a value, or a fault.
+pub data OutputDone : Type 0 where
+  not_evaluated : OutputDone
+  excused : OutputDone
+  valued : Tree → OutputDone
+  faulted : EvalFault → OutputDone
+
+-- What comes of an answer: a value beyond the limits is a fault, and null is saved for what isn't known.
+abbrev pub done_with : Answer → OutputDone
+done_with (Ok t) = if is_within t then valued (with_nulls t) else faulted TooLarge
+done_with (Err why) = faulted why
+
+-- What comes of an output that is evaluated anew: what its expression means where each name stands for what it does in
+-- the apply, with lists in place of sets; or memory is refused.
+abbrev pub IsEvaluated : Entries → List NameView → (ℕ → ShapeView) → (ℕ → InstanceKeyView → Tree) → expr.Tree → OutputDone → Type 0
+IsEvaluated variables names shapes objects e not_evaluated = ⊥
+IsEvaluated variables names shapes objects e excused = ⊤
+IsEvaluated variables names shapes objects e done =
+    (standings : ℕ → StandingView) → AreStandings (applying shapes objects) variables names standings
+    → done ≡ done_with (without_sets (meaning (environment variables names standings) e))
+
+-- An output is evaluated anew exactly where each name that it names is settled.
+abbrev pub IsOutputDone : Entries → List NameView → (ℕ → ShapeView) → (ℕ → InstanceKeyView → Tree) → (ℕ → Bool) → expr.Tree → OutputDone → Type 0
+IsOutputDone variables names shapes objects settled e done =
+    MatchBool (names_are_settled names settled e) (IsEvaluated variables names shapes objects e done) (done ≡ not_evaluated)
+
+-- what comes of each output, in byte order of their names
+abbrev pub AreOutputsDone : Entries → List NameView → (ℕ → ShapeView) → (ℕ → InstanceKeyView → Tree) → (ℕ → Bool) → expr.Entries → List OutputDone → Type 0
+AreOutputsDone variables names shapes objects settled expr.no_entries [] = ⊤
+AreOutputsDone variables names shapes objects settled expr.no_entries (d ∷ ds) = ⊥
+AreOutputsDone variables names shapes objects settled (expr.entry name e es) [] = ⊥
+AreOutputsDone variables names shapes objects settled (expr.entry name e es) (d ∷ ds) =
+    IsOutputDone variables names shapes objects settled e d × AreOutputsDone variables names shapes objects settled es ds
+
+abbrev pub is_null : Tree → Bool
+is_null null = true
+is_null _ = false
+
+-- A value is saved under the output's name, unless it is null.
+abbrev pub with_output : List ℕ → OutputDone → Entries → Entries
+with_output name (valued t) found = if is_null t then found else put name t found
+with_output name _ found = found
+
+abbrev pub with_outputs : expr.Entries → List OutputDone → Entries → Entries
+with_outputs (expr.entry name e es) (d ∷ ds) found = with_outputs es ds (with_output name d found)
+with_outputs _ _ found = found
+
+-- The outputs that are saved, in byte order of their names.
+abbrev pub saved_outputs : expr.Entries → List OutputDone → Entries
+saved_outputs es ds = with_outputs es ds no_entries
+
+-- what is told of an output
+abbrev pub end_of : OutputDone → OutputEnd
+end_of not_evaluated = NotEvaluated
+end_of excused = NoMemory
+end_of (valued t) = Valued
+end_of (faulted why) = Faulted why
+
+-- What comes of each output, with what is told of it and what is saved.
+pub record AreOutputsEnded (variables : Entries) (names : List NameView) (shapes : ℕ → ShapeView) (objects : ℕ → InstanceKeyView → Tree) (settled : ℕ → Bool) (outputs : expr.Entries) (ends : List OutputEnd) (saved : Entries) : Type 0 where
+  pub dones : List OutputDone
+  pub each : AreOutputsDone variables names shapes objects settled outputs dones
+  pub told : ends ≡ map end_of dones
+  pub saves : saved ≡ saved_outputs outputs dones

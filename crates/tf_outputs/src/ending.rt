@@ -1,0 +1,114 @@
+//! Outputs are worked out after an apply.
+
+ghost use Rattle.std.specs.Prelude.{◌≡◌, ◌≤◌, [], IfOk, Ok, length, true, vec_capacity};
+ghost use Rattle.tf_config_data.specs.Names.{places as places_of};
+ghost use Rattle.tf_environment.specs.Views.{shapes_of};
+ghost use Rattle.tf_graph.specs.NodeSet.{has};
+ghost use Rattle.tf_names.specs.Needs.{IsAcyclic, IsDependence};
+ghost use Rattle.tf_names.specs.Table.{names_in};
+ghost use Rattle.tf_outputs.specs.Keeping.{IsSameOrExcused, MayBeSaved, done_of};
+ghost use Rattle.tf_outputs.specs.Outputs.{AreOutputsEnded, IsOutputDone, done_with};
+ghost use Rattle.tf_outputs.specs.Rooms.{HavePlaces, outputs_in};
+ghost use Rattle.tf_state_data.specs.State.{outputs_of};
+ghost use Rattle.tf_syntax.specs.ExprNames.{named_by};
+ghost use Rattle.tf_syntax.specs.ExprTree.{tree_of as expr_of};
+ghost use Rattle.tf_value.specs.Nulls.{with_nulls};
+ghost use Rattle.tf_value.specs.Sets.{has_no_set};
+ghost use Rattle.tf_value.specs.Stored.{IsTable};
+ghost use Rattle.tf_value.specs.Tree.{entries_view, tree_of};
+
+use crate::ends::{Ended, OutputEnd};
+use crate::keeping::keep;
+use crate::rooms::OutputRoom;
+use crate::settling::all_settled;
+use std::alloc::{AllocError, Global};
+use std::collections::BTreeMap;
+use tf_environment::{Declarations, Shape};
+use tf_eval::EvalFault;
+use tf_request::{Results, output_value};
+use tf_state_data::Object;
+use tf_syntax::Expr;
+use tf_value::{Value, is_known, is_within_limits, with_nulls};
+
+/// What comes of all outputs: their values by name, without those that are null, and, in `ends`, what is told of each,
+/// in the order of `rooms`. `settled` says of the place of each name whether it is settled, `shapes` how its instances
+/// stand together. It can't fail: where memory is refused for an output, that is told of it.
+pub fn end_outputs<R: Results>(
+    alloc: Global,
+    declared: &Declarations,
+    shapes: &[Shape],
+    rooms: Vec<OutputRoom<'_>>,
+    settled: &[bool],
+    results: &R,
+    ends: &mut Vec<OutputEnd>,
+) -> BTreeMap<String, Object>
+    requires dependence { IsDependence (names_in declared.now.names.now) declared.now.dependence.now }
+    requires acyclic { IsAcyclic declared.now.dependence.now }
+    requires places { HavePlaces (names_in declared.now.names.now) rooms.items }
+    requires none { ends.old.items ≡ [] }
+    requires room { length rooms.items ≤ vec_capacity ends.old }
+    ensures ended { AreOutputsEnded (entries_view declared.now.variables.now.entries) (names_in declared.now.names.now)
+        (shapes_of shapes.now) (R.objects results.now) (has settled.now) (outputs_in rooms.entry.items) ends.new.items (outputs_of result.entries) }
+    ensures stored { IsTable (outputs_of result.entries) }
+{
+    let mut outputs = BTreeMap::new(alloc);
+    for room in rooms {
+        let OutputRoom { name, expr, places } = room;
+        let ended = end_output(alloc, declared, shapes, expr, &places, settled, results);
+        ends.push(keep(&mut outputs, name, ended)).unwrap();
+    }
+    outputs
+}
+
+/// What comes of one output, by the places of what it names.
+fn end_output<R: Results>(
+    alloc: Global,
+    declared: &Declarations,
+    shapes: &[Shape],
+    expr: &Expr,
+    places: &[usize],
+    settled: &[bool],
+    results: &R,
+) -> Ended
+    requires dependence { IsDependence (names_in declared.now.names.now) declared.now.dependence.now }
+    requires acyclic { IsAcyclic declared.now.dependence.now }
+    requires places { places.now ≡ places_of (names_in declared.now.names.now) (named_by (expr_of expr.now)) }
+    ensures done { IsOutputDone (entries_view declared.now.variables.now.entries) (names_in declared.now.names.now)
+        (shapes_of shapes.now) (R.objects results.now) (has settled.now) (expr_of expr.now) (done_of result) }
+    ensures stored { MayBeSaved (done_of result) }
+{
+    if !all_settled(settled, places) {
+        return Ended::NotEvaluated;
+    }
+    match output_value(alloc, declared, shapes, expr, results) {
+        Err(_) => Ended::NoMemory,
+        Ok(Err(fault)) => Ended::Faulted(fault),
+        Ok(Ok(value)) => within_limits(alloc, value),
+    }
+}
+
+/// What comes of an output with a value.
+fn within_limits(alloc: Global, value: Value) -> Ended
+    requires { has_no_set (tree_of value) ≡ true }
+    ensures done { IsSameOrExcused (done_with (Ok (tree_of value))) (done_of result) }
+    ensures stored { MayBeSaved (done_of result) }
+{
+    if !is_within_limits(&value) {
+        return Ended::Faulted(EvalFault::TooLarge);
+    }
+    match known_object(alloc, value) {
+        Ok(object) => Ended::Valued(object),
+        Err(_) => Ended::NoMemory,
+    }
+}
+
+/// A value with null for what isn't known.
+fn known_object(alloc: Global, value: Value) -> Result<Object, AllocError>
+    ensures { IfOk result (λ object. tree_of object.value ≡ with_nulls (tree_of value)) }
+{
+    if is_known(&value) {
+        return Ok(Object { value });
+    }
+    let value = with_nulls(alloc, &value)?;
+    Ok(Object { value })
+}

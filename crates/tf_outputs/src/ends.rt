@@ -1,0 +1,26 @@
+//! What is told of outputs.
+
+use tf_eval::EvalFault;
+use tf_state_data::Object;
+
+/// What came of one output.
+#[derive(Clone, Copy, Debug, PartialEq, Eq, Drop)]
+pub enum OutputEnd {
+    /// It wasn't evaluated anew, as a name that it names isn't settled.
+    NotEvaluated,
+    /// Memory was refused for its value or its entry.
+    NoMemory,
+    /// Its expression has a fault, or its value is beyond the limits.
+    Faulted(EvalFault),
+    /// It has a value, and an entry unless the value is null.
+    Valued,
+}
+
+/// What came of one output, with its value.
+#[derive(Drop)]
+pub(crate) enum Ended {
+    NotEvaluated,
+    NoMemory,
+    Faulted(EvalFault),
+    Valued(Object),
+}

@@ -1,0 +1,19 @@
+//! What becomes of a configuration's outputs after an apply.
+//!
+//! An output is evaluated anew exactly where each name that it names is settled: a resource is where all its actions
+//! are good, a local where each name that it refers to directly is (`specs/Settled.antt`). What comes of an output is
+//! then a value, which is saved unless it is null, or a fault, or memory was refused (`specs/Outputs.antt`). By then
+//! providers were called, so nothing here may fail.
+#![tactic(auto)]
+
+mod ending;
+mod ends;
+mod keeping;
+pub mod laws;
+mod rooms;
+mod settling;
+
+pub use ending::end_outputs;
+pub use ends::OutputEnd;
+pub use rooms::{OutputRoom, rooms_for_outputs};
+pub use settling::settle_names;

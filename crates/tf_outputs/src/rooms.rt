@@ -1,0 +1,64 @@
+//! Room for what comes of outputs.
+
+ghost use Rattle.std.specs.List.{AllByRecursion};
+ghost use Rattle.std.specs.Prelude.{◌≡◌, IfOk, string_bytes};
+ghost use Rattle.tf_config_data.specs.Names.{places};
+ghost use Rattle.tf_names.specs.Table.{names_in};
+ghost use Rattle.tf_outputs.specs.Rooms.{HavePlaces, HasPlaces, outputs_in};
+ghost use Rattle.tf_syntax.specs.ExprNames.{named_by};
+ghost use Rattle.tf_syntax.specs.ExprTree.{entries_view, tree_of};
+
+use std::alloc::{AllocError, Global};
+use std::collections::BTreeMap;
+use tf_names::Names;
+use tf_syntax::Expr;
+
+/// Room for what comes of one output: its name for the entry, and what it is worked out from. It has to be had before
+/// the first call of a provider.
+#[derive(Drop)]
+pub struct OutputRoom<'a> {
+    /// The output's name.
+    pub name: String,
+    /// What the output is.
+    pub expr: &'a Expr,
+    /// The places of the names that the expression names, as often as it does.
+    pub places: Vec<usize>,
+}
+
+/// Room for what comes of each output, in byte order of their names.
+///
+/// # Errors
+///
+/// Only where memory runs out.
+pub fn rooms_for_outputs<'a>(
+    alloc: Global,
+    names: &Names<'_>,
+    outputs: &'a BTreeMap<String, Expr>,
+) -> Result<Vec<OutputRoom<'a>>, AllocError>
+    ensures outputs { IfOk result (λ rooms. outputs_in rooms.items ≡ entries_view outputs.now.entries) }
+    ensures places { IfOk result (λ rooms. HavePlaces (names_in names.now) rooms.items) }
+{
+    let mut rooms = Vec::new(alloc);
+    for (name, expr) in outputs.iter() {
+        rooms.push(room_for_output(alloc, names, name, expr)?)?;
+    }
+    Ok(rooms)
+}
+
+/// Room for what comes of an output.
+fn room_for_output<'a>(
+    alloc: Global,
+    names: &Names<'_>,
+    name: &String,
+    expr: &'a Expr,
+) -> Result<OutputRoom<'a>, AllocError>
+    ensures name { IfOk result (λ room. string_bytes room.name ≡ string_bytes name.now) }
+    ensures expr { IfOk result (λ room. tree_of room.expr.now ≡ tree_of expr.now) }
+    ensures places { IfOk result (HasPlaces (names_in names.now)) }
+{
+    Ok(OutputRoom {
+        name: name.clone()?,
+        expr,
+        places: names.named_in(alloc, expr)?,
+    })
+}

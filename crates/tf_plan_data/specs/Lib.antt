@@ -1,0 +1,4 @@
+pub mod Action
+pub mod Address
+pub mod Plan
+pub mod Served

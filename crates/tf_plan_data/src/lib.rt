@@ -1,0 +1,10 @@
+//! Plans as data: the actions, what they are planned from, and their order.
+#![tactic(auto)]
+
+mod action;
+mod addresses;
+mod plan;
+
+pub use action::Action;
+pub use addresses::address_text;
+pub use plan::Plan;

@@ -1,0 +1,5 @@
+pub mod Creating
+pub mod Declaring
+pub mod Existing
+pub mod Fitting
+pub mod Refusing

@@ -1,0 +1,4 @@
+pub mod Plan
+pub mod Refused
+pub mod Shown
+pub mod Text

@@ -1,0 +1,13 @@
+pub mod Addition
+pub mod After
+pub mod Diagnostics
+pub mod Furnished
+pub mod Good
+pub mod Outcomes
+pub mod OutputsRoom
+pub mod OutputsTold
+pub mod Report
+pub mod Room
+pub mod RoomHead
+pub mod Savable
+pub mod Settling

@@ -1,0 +1,11 @@
+pub mod Asking
+pub mod Carried
+pub mod Ending
+pub mod Entered
+pub mod Excused
+pub mod Judged
+pub mod Judging
+pub mod Reported
+pub mod Seen
+pub mod SoFar
+pub mod Stages
