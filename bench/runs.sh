@@ -16,8 +16,10 @@ program="$work/repo/crates/bench_runs/out/bench_runs"
 python3 "$here/runs/make.py" independent 1 > "$work/config"
 (cd "$work/repo/crates/bench_runs" && rt run < "$work/config") > "$work/log" 2>&1 || { tail -20 "$work/log"; exit 1; }
 printf '%-12s %6s %8s %8s %10s %10s %10s %7s\n' shape blocks bytes state 'json (us)' 'plan (us)' 'apply (us)' ratio
-for shape in independent; do
-    for blocks in 500 1000 2000; do
+for shape in independent chains layers locals pairs indexed; do
+    # With 447 after 447 there are 199,809 pairs of which one is before the other, of 200,000 that there may be.
+    case "$shape" in pairs | indexed) sizes="224 447 894" ;; *) sizes="500 1000 2000" ;; esac
+    for blocks in $sizes; do
         python3 "$here/runs/make.py" "$shape" "$blocks" > "$work/config"
         "$program" < "$work/config" > "$work/times"
         awk -v shape="$shape" -v blocks="$blocks" '

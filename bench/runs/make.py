@@ -1,14 +1,66 @@
-"""Prints a configuration of so many resource blocks: SHAPE COUNT.
+"""Prints a configuration of so many instances: SHAPE COUNT.
 
 independent    hosts that refer to nothing, each with an argument that is worked out
+chains         chains of a hundred hosts, each of which names the one before it
+layers         eight layers of hosts, each of which names ten of the layer before it
+pairs          half of the hosts after all of the other half, by `depends_on`
+indexed        the same, where each names one of the other half by its index
+locals         hosts that name the last of 64 locals, each of which names the one before it twice
 """
 import json
 import sys
 
 
+def host(number, **more):
+    return {"name": f"host-{number}", "size": "${1 + %d}" % (number % 50), **more}
+
+
+def of_hosts(hosts, **more):
+    return {"resource": {"sim_host": hosts}, **more}
+
+
+def after(number, *others):
+    return host(number, net=" ".join("${sim_host.h%d.id}" % it for it in others))
+
+
 def independent(count):
-    return {f"h{i}": {"name": f"host-{i}", "size": "${1 + %d}" % (i % 50)} for i in range(count)}
+    return of_hosts({f"h{i}": host(i) for i in range(count)})
 
 
-SHAPES = {"independent": independent}
-json.dump({"resource": {"sim_host": SHAPES[sys.argv[1]](int(sys.argv[2]))}}, sys.stdout, indent=2)
+def chains(count):
+    return of_hosts({f"h{i}": after(i, i - 1) if i % 100 else host(i) for i in range(count)})
+
+
+def layers(count):
+    width = count // 8
+
+    def named(i):
+        layer, place = divmod(i, width)
+        return [(layer - 1) * width + (place + k) % width for k in range(10)]
+
+    return of_hosts({f"h{i}": after(i, *named(i)) if i >= width else host(i) for i in range(width * 8)})
+
+
+def halves(count, **second):
+    return of_hosts({
+        "first": {"count": count // 2, "name": "host-${count.index}", "size": 1},
+        "second": {"count": count // 2, "name": "host-${count.index}", "size": 2, **second},
+    })
+
+
+def pairs(count):
+    return halves(count, depends_on=["sim_host.first"])
+
+
+def indexed(count):
+    return halves(count, net="${sim_host.first[count.index].id}")
+
+
+def locals_that_double(count):
+    doubled = {f"l{i}": "${local.l%d + local.l%d}" % (i - 1, i - 1) for i in range(1, 64)}
+    hosts = {f"h{i}": host(i, net="${local.l63}") for i in range(count)}
+    return of_hosts(hosts, locals={"l0": -1, **doubled})
+
+
+SHAPES = {"independent": independent, "chains": chains, "layers": layers, "pairs": pairs, "indexed": indexed, "locals": locals_that_double}
+json.dump(SHAPES[sys.argv[1]](int(sys.argv[2])), sys.stdout, indent=2)

@@ -20,7 +20,7 @@ fn carry_out(rt: &HostRuntime, given: &Given) -> io::Result<ExitCode> {
     let answer = apply_text(
         rt.alloc(),
         given.config.as_slice(),
-        None,
+        given.vars_bytes(),
         given.state_bytes(),
         given.options.lineage.as_str(),
         providers.as_slice(),

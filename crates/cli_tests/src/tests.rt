@@ -1,6 +1,8 @@
 mod applies;
 mod applying;
 mod counted;
+mod large;
+mod names;
 mod plans;
 mod refusals;
 mod replies;

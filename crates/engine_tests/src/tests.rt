@@ -1,5 +1,4 @@
 mod journal;
 mod options;
-mod plan;
 mod provider;
 mod sim;

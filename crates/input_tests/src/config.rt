@@ -2,8 +2,8 @@ use std::alloc::{AllocError, Global};
 use std::process::Abort;
 use std::test::Fail;
 use tf_config::{
-    Detail, EvalFault, Refusal, blocks_are_in_order, faultless_trees_stand, known_names_are_none,
-    read, refusals_are_one,
+    Detail, EvalFault, Refusal, blocks_are_in_order, blocks_have_names, faultless_trees_stand,
+    names_are_few, read, refusals_are_one,
 };
 
 // The refusal's text, or how many blocks were read.
@@ -34,7 +34,7 @@ fn bodies_answer(rt: &impl Abort, alloc: Global, rows: &[(&str, &str)]) -> Resul
     Ok(())
 }
 
-static SHAPES: [(&str, &str); 23] = [
+static SHAPES: [(&str, &str); 22] = [
     ("{}", "0 blocks"),
     ("{\"//\": NaN}", "error 1 at configuration: NotJson"),
     ("", "error 1 at configuration: NotJson"),
@@ -46,10 +46,6 @@ static SHAPES: [(&str, &str); 23] = [
     ("null", "error 2 at configuration: BadShape"),
     ("{\"//\": 1.5, \"resource\": {}}", "0 blocks"),
     ("{\"resource\": []}", "error 2 at resource: BadShape"),
-    (
-        "{\"variable\": {}, \"output\": {}}",
-        "error 2 at output: BadShape",
-    ),
     ("{\"\": {}}", "error 2 at : BadShape"),
     (
         "{\"resource\": {\"var\": {}}}",
@@ -103,7 +99,7 @@ fn refuses_shapes(rt: HostRuntime) -> Result<(), Fail> {
     Ok(())
 }
 
-static BODIES: [(&str, &str); 20] = [
+static BODIES: [(&str, &str); 16] = [
     ("{}", "1 blocks"),
     (
         "{\"//\": \"${\", \"x\": null, \"y\": [true, {\"k.1\": -5}]}",
@@ -112,22 +108,6 @@ static BODIES: [(&str, &str); 20] = [
     (
         "{\"x\": 9223372036854775807, \"y\": -9223372036854775808}",
         "1 blocks",
-    ),
-    (
-        "{\"count\": 1}",
-        "error 2 at resource.sim_net.a.count: BadShape",
-    ),
-    (
-        "{\"for_each\": {}}",
-        "error 2 at resource.sim_net.a.for_each: BadShape",
-    ),
-    (
-        "{\"depends_on\": []}",
-        "error 2 at resource.sim_net.a.depends_on: BadShape",
-    ),
-    (
-        "{\"lifecycle\": {}}",
-        "error 2 at resource.sim_net.a.lifecycle: BadShape",
     ),
     (
         "{\"provider\": 1}",
@@ -192,19 +172,10 @@ static TEMPLATES: [(&str, &str); 16] = [
     ("$${x}", "1 blocks"),
     ("${1 + 2}", "1 blocks"),
     ("n-${length([1, \\\"a\\\"])}${null}", "1 blocks"),
-    ("${var.x}", "error 4 at resource.sim_net.a.x: UnknownName"),
-    (
-        "${sim_net.b.id}",
-        "error 4 at resource.sim_net.a.x: UnknownName",
-    ),
-    (
-        "${true ? 1 : keys(local.y)}",
-        "error 4 at resource.sim_net.a.x: UnknownName",
-    ),
-    (
-        "${upper(1)}",
-        "error 4 at resource.sim_net.a.x: UnknownName",
-    ),
+    ("${var.x}", "1 blocks"),
+    ("${sim_net.b.id}", "1 blocks"),
+    ("${true ? 1 : keys(local.y)}", "1 blocks"),
+    ("${upper(1)}", "1 blocks"),
     ("a${join(1, [toset([])])}", "1 blocks"),
 ];
 
@@ -222,23 +193,10 @@ fn refuses_templates(rt: HostRuntime) -> Result<(), Fail> {
     Ok(())
 }
 
-#[test]
-fn knows_each_function(rt: HostRuntime) -> Result<(), Fail> {
-    for name in ["length", "keys", "values", "merge", "concat", "join"] {
-        let body = format!(in rt.alloc(); "{{\"x\": [\"${{{name}()}}\"]}}")?;
-        answers(&rt, rt.alloc(), &with_body(rt.alloc(), &body)?, "1 blocks")?;
-    }
-    Ok(())
-}
-
-static FIRSTS: [(&str, &str); 8] = [
+static FIRSTS: [(&str, &str); 7] = [
     (
-        "{\"tags\": {\"j\": \"\", \"k\": [\"${var.x}\"]}}",
-        "error 4 at resource.sim_net.a.tags.k.0: UnknownName",
-    ),
-    (
-        "{\"x\": [\"a\", [0, \"${f()}\"], \"${g()}\"], \"y\": \"${h()}\"}",
-        "error 4 at resource.sim_net.a.x.1.1: UnknownName",
+        "{\"x\": [\"a\", [0, \"${1.5}\"], \"${\"], \"y\": \"%{\"}",
+        "error 3 at resource.sim_net.a.x.1.1: BadTemplate(3)",
     ),
     (
         "{\"x\": [0, [\"\", 1, {\"k\": [\"${\"]}]]}",
@@ -266,8 +224,8 @@ static FIRSTS: [(&str, &str); 8] = [
     ),
 ];
 
-static NAMING: &str =
-    "{\"resource\": {\"t\": {\"b\": {\"x\": \"${t.a}\"}, \"a-1\": {\"z\": \"${t.b}\"}}, \"s\": {\"c\": {}}}}";
+static FAULTY: &str =
+    "{\"resource\": {\"t\": {\"b\": {\"x\": \"%{\"}, \"a-1\": {\"z\": \"${\"}}, \"s\": {\"c\": {}}}}";
 
 #[test]
 fn tells_the_first_fault(rt: HostRuntime) -> Result<(), Fail> {
@@ -275,8 +233,8 @@ fn tells_the_first_fault(rt: HostRuntime) -> Result<(), Fail> {
     answers(
         &rt,
         rt.alloc(),
-        NAMING,
-        "error 4 at resource.t.a-1.z: UnknownName",
+        FAULTY,
+        "error 3 at resource.t.a-1.z: BadTemplate(2)",
     )
 }
 
@@ -322,7 +280,8 @@ fn reads_arguments(rt: HostRuntime) -> Result<(), Fail> {
     assert_eq!(rt; seen.as_str(), READ);
     faultless_trees_stand();
     blocks_are_in_order();
-    known_names_are_none();
+    blocks_have_names();
+    names_are_few();
     refusals_are_one();
     Ok(())
 }
@@ -355,7 +314,7 @@ fn keeps_the_limit_of_blocks(rt: HostRuntime) -> Result<(), Fail> {
     let misshapen = "{\"x\": \"${\"}";
     for (count, body, want) in [
         (2_000, "{}", "2000 blocks"),
-        (2_000, named, "error 4 at resource.t.a.x: UnknownName"),
+        (2_000, named, "2000 blocks"),
         (2_001, "{}", "error 14 at configuration: Limit"),
         (2_001, named, "error 14 at configuration: Limit"),
         (
@@ -483,12 +442,4 @@ fn says_when_memory_ran_out_in_a_template(rt: HostRuntime) {
     let text = b"{\"resource\": {\"t\": {\"a\": {\"x\": [\"${\"]}}}}";
     let detail = refused_at(&rt, rt.alloc(), text, 3, "resource.t.a.x.0");
     assert!(rt; matches!(detail, None | Some(Detail::At(2))));
-}
-
-// Nor while names are looked for.
-#[test]
-fn says_when_memory_ran_out_among_names(rt: HostRuntime) {
-    let text = b"{\"resource\": {\"t\": {\"a\": {\"x\": [1, \"${f(var.x)}\"]}}}}";
-    let detail = refused_at(&rt, rt.alloc(), text, 4, "resource.t.a.x.1");
-    assert!(rt; matches!(detail, None | Some(Detail::Bare)));
 }

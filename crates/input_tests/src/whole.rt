@@ -1,13 +1,13 @@
-//! The whole format, with what planning doesn't know yet.
+//! Variables, locals and outputs, and what a resource body has beside arguments.
 
 use std::alloc::{AllocError, Global};
 use std::process::Abort;
 use std::test::Fail;
-use tf_config::{Refusal, planned_have_blocks_alone, read, read_whole};
+use tf_config::{Refusal, read};
 
 // The refusal's text, or that the text was read.
 fn answer(alloc: Global, bytes: &[u8]) -> Result<String, AllocError> {
-    match read_whole(alloc, bytes) {
+    match read(alloc, bytes) {
         Ok(_) => String::from_str(alloc, "read"),
         Err(refusal) => format!(in alloc; "{refusal}"),
     }
@@ -315,10 +315,9 @@ static FULL: &str =
 
 #[test]
 fn reads_each_property(rt: HostRuntime) -> Result<(), Fail> {
-    let config = read_whole(rt.alloc(), FULL.as_bytes()).map_err(|_| "refused")?;
+    let config = read(rt.alloc(), FULL.as_bytes()).map_err(|_| "refused")?;
     let seen = format!(in rt.alloc(); "{config:?}")?;
     assert_eq!(rt; seen.as_str(), READ);
-    planned_have_blocks_alone();
     Ok(())
 }
 
@@ -391,52 +390,10 @@ fn keeps_the_limits_of_defaults(rt: HostRuntime) -> Result<(), Fail> {
     answers(&rt, rt.alloc(), &long(rt.alloc(), 1_000_000)?, limit)
 }
 
-static UNPLANNED: [(&str, &str); 6] = [
-    (
-        "{\"variable\": {}, \"locals\": {}}",
-        "error 2 at locals: BadShape",
-    ),
-    (
-        "{\"variable\": {}, \"resource\": {}}",
-        "error 2 at variable: BadShape",
-    ),
-    (
-        "{\"output\": {}, \"resource\": {\"t\": {\"a\": {\"count\": 1}}}}",
-        "error 2 at output: BadShape",
-    ),
-    (
-        "{\"resource\": {\"t\": {\"a\": {\"lifecycle\": {}, \"for_each\": 1}}}}",
-        "error 2 at resource.t.a.for_each: BadShape",
-    ),
-    (
-        "{\"resource\": {\"t\": {\"a\": {\"count\": 1, \"z\": \"${\"}}}}",
-        "error 3 at resource.t.a.z: BadTemplate(2)",
-    ),
-    (
-        "{\"resource\": {\"t\": {\"a\": {\"z\": \"${var.x}\"}, \"b\": {\"depends_on\": []}}}}",
-        "error 2 at resource.t.b.depends_on: BadShape",
-    ),
-];
-
-#[test]
-fn refuses_what_planning_doesnt_know(rt: HostRuntime) -> Result<(), Fail> {
-    for (text, want) in &UNPLANNED {
-        match read(rt.alloc(), text.as_bytes()) {
-            Ok(_) => assert!(rt; false, "{text}"),
-            Err(refusal) => assert_eq!(rt;
-                format!(in rt.alloc(); "{refusal}")?.as_str(),
-                *want,
-                "{text}"
-            ),
-        }
-    }
-    Ok(())
-}
-
 // Nothing is read or told in place of a refused growth: run with each allocation failing in turn.
 #[test]
 fn says_when_memory_ran_out(rt: HostRuntime) {
-    match read_whole(rt.alloc(), FULL.as_bytes()) {
+    match read(rt.alloc(), FULL.as_bytes()) {
         Ok(config) => {
             assert_eq!(rt; config.variables.len(), 1);
             assert_eq!(rt; config.resources.len(), 1);

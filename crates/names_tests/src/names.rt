@@ -4,6 +4,7 @@ use crate::reading::read_config;
 use std::alloc::{AllocError, Global};
 use std::process::Abort;
 use std::test::Fail;
+use tf_config::Refusal;
 use tf_names::judge;
 
 // That all names are known and none needs itself, or the refusal's text.
@@ -354,6 +355,15 @@ fn finds_the_first_name_that_is_not_known(rt: HostRuntime) -> Result<(), Fail> {
     Ok(())
 }
 
+#[test]
+fn knows_each_function(rt: HostRuntime) -> Result<(), Fail> {
+    for name in ["length", "keys", "values", "merge", "concat", "join"] {
+        let text = format!(in rt.alloc(); "{{\"locals\": {{\"x\": [\"${{{name}()}}\"]}}}}")?;
+        answers(&rt, rt.alloc(), &text, "known")?;
+    }
+    Ok(())
+}
+
 // As many resources, each of which refers to the ten before it.
 fn chained(alloc: Global, count: usize) -> Result<String, AllocError> {
     let mut text = String::from_str(alloc, "{\"resource\": {\"net\": {\"a0\": {}")?;
@@ -373,4 +383,22 @@ fn chained(alloc: Global, count: usize) -> Result<String, AllocError> {
 #[test]
 fn judges_many_references(rt: HostRuntime) -> Result<(), Fail> {
     answers(&rt, rt.alloc(), &chained(rt.alloc(), 2_000)?, "known")
+}
+
+// Nothing else is told in place of a refused growth: run with each allocation failing in turn.
+#[test]
+fn says_when_memory_ran_out(rt: HostRuntime) {
+    let text = "{\"resource\": {\"t\": {\"a\": {\"x\": [1, \"${length(var.x)}\"]}}}}";
+    match read_config(rt.alloc(), text) {
+        Ok(config) => match judge(rt.alloc(), &config) {
+            Ok(_) => assert!(rt; false, "known"),
+            Err(refusal) => assert!(rt;
+                matches!(
+                    refusal,
+                    Refusal::OutOfMemory | Refusal::Fault { code: 4, .. }
+                )
+            ),
+        },
+        Err(refusal) => assert!(rt; matches!(refusal, Refusal::OutOfMemory)),
+    }
 }

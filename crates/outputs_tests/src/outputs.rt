@@ -10,7 +10,7 @@ use std::alloc::{AllocError, Global};
 use std::collections::BTreeMap;
 use std::test::Fail;
 use tf_address::InstanceKey;
-use tf_config::{Config, read_whole};
+use tf_config::{Config, read};
 use tf_environment::{Declarations, Shape};
 use tf_expand::expand;
 use tf_names::{Named, Names, judge};
@@ -39,7 +39,7 @@ impl Results for Made {
 
 // What is told of each output, and what is saved.
 fn answer(alloc: Global, text: &str) -> Result<String, AllocError> {
-    let config = match read_whole(alloc, text.as_bytes()) {
+    let config = match read(alloc, text.as_bytes()) {
         Ok(config) => config,
         Err(refusal) => return format!(in alloc; "{refusal}"),
     };

@@ -18,7 +18,7 @@ fn print_plan(rt: &HostRuntime, given: &Given) -> io::Result<ExitCode> {
     match plan_text(
         rt.alloc(),
         given.config.as_slice(),
-        None,
+        given.vars_bytes(),
         given.state_bytes(),
         providers.as_slice(),
     ) {

@@ -6,9 +6,9 @@ ghost use Rattle.tf_config_data.specs.Names.{names_of};
 ghost use Rattle.tf_names.specs.Needs.{IsAcyclic, IsDependence};
 
 use std::alloc::{AllocError, Global};
-use tf_config::{Config, read_whole};
+use tf_config::{Config, read};
 use tf_names::{Dependence, Names, judge};
-use tf_plans::{Plan, Refused, plan, plan_text};
+use tf_plan::{Plan, Refused, plan, plan_text};
 use tf_protocol::Provider;
 use tf_refusal::code::LIMIT;
 use tf_refusal::{Detail, Refusal};
@@ -37,7 +37,7 @@ pub(crate) fn pairs_of(alloc: Global, text: &str) -> Result<String, AllocError> 
 }
 
 fn planned(alloc: Global, text: &str) -> Result<Plan, Refused> {
-    let config = match read_whole(alloc, text.as_bytes()) {
+    let config = match read(alloc, text.as_bytes()) {
         Ok(config) => config,
         Err(refusal) => return Err(these(alloc, refusal)?),
     };

@@ -6,6 +6,8 @@ mod door;
 #[cfg(test)]
 mod plans;
 #[cfg(test)]
+mod schemas;
+#[cfg(test)]
 mod telling;
 #[cfg(test)]
 mod texts;

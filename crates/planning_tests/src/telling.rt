@@ -7,7 +7,7 @@ ghost use Rattle.tf_order.specs.Before.{IsStrictOrder};
 
 use std::alloc::{AllocError, Global};
 use std::collections::BTreeMap;
-use tf_config::{Config, read_whole};
+use tf_config::{Config, read};
 use tf_environment::{Declarations, RepetitionFault, Shape};
 use tf_expand::{ExpansionFault, expand};
 use tf_names::{Dependence, Named, Names, judge};
@@ -52,7 +52,7 @@ fn answer(
     text: &str,
     file: Option<&str>,
 ) -> Result<String, Refusal> {
-    let config = read_whole(alloc, text.as_bytes())?;
+    let config = read(alloc, text.as_bytes())?;
     let variables = match file {
         Some(file) => read_vars(alloc, Some(file.as_bytes()), &config)?,
         None => read_vars(alloc, None, &config)?,

@@ -1,4 +1,4 @@
-mod Alone
-mod Writes
 mod Carried
-mod Savable
+mod Named
+mod Texts
+mod Writes

@@ -1,4 +1,5 @@
-pub mod Accepted
+pub mod Texts
+pub mod Refusals
 pub mod Applies
 pub mod Shown
 pub mod Saved

@@ -7,15 +7,15 @@ use Rattle.tf_protocol.specs.declared.request.Op.{Op}
 use Rattle.tf_protocol.specs.declared.request.Op.TheVariants as op
 use Rattle.tf_plan.specs.declared.refused.Refused.{Refused}
 use Rattle.tf_plan.specs.declared.refused.Refused.TheVariants.{NoMemory, These}
-use Rattle.tf_walk.specs.Diagnostics.{DiagnosticView, diagnostic_of}
-use Rattle.tf_walk.specs.Outcome.{is_good_verdict}
-use Rattle.tf_walk.specs.Report.{report_of}
-use Rattle.tf_walk.specs.declared.report.Diagnostic.{Diagnostic}
-use Rattle.tf_walk.specs.declared.report.Outcome.{Outcome}
-use Rattle.tf_walk.specs.declared.report.Outcome.TheVariants as outcome
-use Rattle.tf_walk.specs.declared.report.Report.{Report}
-use Rattle.tf_walk.specs.declared.report.Walked.{Walked}
-use Rattle.tf_walk.specs.declared.report.Walked.TheVariants.{Whole, Torn}
+use Rattle.tf_protocol.specs.Verdict.{is_good_verdict}
+use Rattle.tf_outcome.specs.declared.excuse.Outcome.{Outcome}
+use Rattle.tf_outcome.specs.declared.excuse.Outcome.TheVariants as outcome
+use Rattle.tf_report.specs.Diagnostics.{DiagnosticView, diagnostic_of}
+use Rattle.tf_report.specs.Report.{report_of}
+use Rattle.tf_report.specs.declared.report.Diagnostic.{Diagnostic}
+use Rattle.tf_report.specs.declared.report.Report.{Report}
+use Rattle.tf_report.specs.declared.report.Walked.{Walked}
+use Rattle.tf_report.specs.declared.report.Walked.TheVariants.{Whole, Torn}
 use Rattle.tf_cli.specs.Saved.{AppendsStart}
 use Rattle.tf_cli.specs.declared.applied.Applied.{Applied}
 
@@ -62,9 +62,13 @@ abbrev pub is_good_outcome : Outcome → Bool
 is_good_outcome (outcome.Judged v) = is_good_verdict v
 is_good_outcome _ = false
 
--- each action is good
+abbrev pub is_empty : List Diagnostic → Bool
+is_empty [] = true
+is_empty (d ∷ ds) = false
+
+-- Each action is good, and nothing is told of any output: where each action is good, whatever is told is of outputs.
 abbrev pub all_good : Report → Bool
-all_good report = list_all is_good_outcome report.outcomes.items
+all_good report = list_all is_good_outcome report.outcomes.items && is_empty report.diagnostics.items
 
 -- how the summary begins
 abbrev pub summary_opening : Bool → List ℕ
@@ -75,7 +79,7 @@ abbrev pub counts : List ℕ → ℕ → ℕ → ℕ → List ℕ
 counts opening added changed destroyed =
     opening ++ (decimal added ++ (codes " added, " ++ (decimal changed ++ (codes " changed, " ++ (decimal destroyed ++ codes " destroyed.\n")))))
 
--- the summary of a report: whether each action is good, and how many of each kind are
+-- the summary of a report: whether all is good, and how many actions of each kind are
 abbrev pub report_summary : Report → List ℕ
 report_summary report = counts (summary_opening (all_good report)) report.good.0 report.good.1 report.good.2
 
@@ -123,7 +127,7 @@ abbrev pub TellsStart : Option (List ℕ) → Option (List ℕ) → Result Appli
 TellsStart old new (Ok a) = AppendsStart old new (applied_errors a)
 TellsStart old new (Err refused) = RefusesStart old new refused
 
--- 3 where the state isn't written, else 2 where some action isn't good or the report is torn, else 0
+-- 3 where the state isn't written, else 2 where some action or output isn't good or the report is torn, else 0
 abbrev pub applied_status : Applied → ℕ
 applied_status a =
     if cant_write a then 3 else (if all_good (report_of a.walked) && not (is_torn a.walked) then 0 else 2)

@@ -1,25 +1,27 @@
 //! From the texts that the user gives to what came of carrying out their plan.
 
-ghost use Rattle.std.specs.Prelude.{◌≡◌, ◌==◌, None, not, map, option_map, IfOk, IfErr, string_bytes};
-ghost use Rattle.tf_cli.specs.Accepted.{IsAccepted, Refuses};
+ghost use Rattle.std.specs.Prelude.{◌≡◌, ◌==◌, not, map, option_map, IfOk, IfErr, string_bytes};
 ghost use Rattle.tf_cli.specs.Applies.{IsApplied};
-ghost use Rattle.tf_config.specs.Config.{Blocks};
+ghost use Rattle.tf_cli.specs.Refusals.{AreRefusals};
+ghost use Rattle.tf_cli.specs.Texts.{the_texts};
+ghost use Rattle.tf_plan.specs.Refused.{Tells};
+ghost use Rattle.tf_report.specs.Report.{report_of};
 ghost use Rattle.tf_state_data.specs.State.{state_of};
 ghost use Rattle.tf_state.specs.Text.{state_text};
-ghost use Rattle.tf_walk.specs.Report.{report_of};
 
 use crate::applied::Applied;
 use crate::planning::plan_of_texts;
 use std::alloc::Global;
 use tf_config::blocks_have_names;
-use tf_plan::Refused;
+use tf_outcome::laws::requests_exist;
+use tf_plan::{Refused, plan_text};
 use tf_provider::Provider;
 use tf_state::write;
 use tf_walk::{Walked, run_one};
 
-/// Plans a configuration, before anything exists, and carries the plan out by one thread, without waiting. The
-/// lineage is that of the new state. There are no variables yet, and a prior state is refused. Where it refuses,
-/// no provider was asked for anything but schemas.
+/// Plans a configuration, before anything exists, and carries the plan out by one thread, without waiting. Its
+/// variables have the values that the variables file and their defaults give; the lineage is that of the new state. A
+/// prior state is refused. Where it refuses, no provider was asked for anything but schemas.
 pub fn apply_text(
     alloc: Global,
     config: &[u8],
@@ -28,15 +30,13 @@ pub fn apply_text(
     lineage: &str,
     providers: &[Box<dyn Provider + Sync>],
 ) -> Result<Applied, Refused>
-    requires { vars ≡ None }
-    ensures applied { IfOk result (λ applied. (blocks : Blocks)
-        × IsAccepted config.now (option_map (λ s. s.now) state.entry) (map (λ b. meaning b) providers.now) blocks
-        × IsApplied (map (λ b. meaning b) providers.now) blocks lineage.now applied) }
-    ensures refused { IfErr result (Refuses config.now (option_map (λ s. s.now) state.entry) (map (λ b. meaning b) providers.now)) }
+    ensures applied { IfOk result (IsApplied (map (λ b. meaning b) providers.now) (the_texts config.now (option_map (λ s. s.now) vars.entry) (option_map (λ s. s.now) state.entry)) lineage.now) }
+    ensures refused { IfErr result (Tells (AreRefusals (map (λ b. meaning b) providers.now) (the_texts config.now (option_map (λ s. s.now) vars.entry) (option_map (λ s. s.now) state.entry)))) }
 {
     blocks_have_names();
-    let plan = plan_of_texts(alloc, config, state, lineage, providers)?;
-    let text = plan.text(alloc)?;
+    requests_exist();
+    let plan = plan_of_texts(alloc, config, vars, state, lineage, providers)?;
+    let text = plan_text(alloc, plan.actions.as_slice())?;
     match run_one(alloc, &plan, providers) {
         Ok(walked) => Ok(answer_of(alloc, text, walked)),
         Err(_) => Err(Refused::NoMemory),

@@ -7,6 +7,7 @@ mod lines;
 mod planning;
 mod printing;
 pub mod program;
+mod reading;
 pub mod saving;
 
 pub use applied::Applied;

@@ -1,24 +1,23 @@
 //! From the texts that the user gives to a plan.
 
-ghost use Rattle.std.specs.Prelude.{◌≡◌, ◌≤◌, None, length, map, option_map, codes, IfOk, IfErr, string_bytes};
-ghost use Rattle.tf_cli.specs.Accepted.{IsAccepted, IsRead, Refuses, RefusesBy};
-ghost use Rattle.tf_config.specs.Config.{Blocks};
-ghost use Rattle.tf_config_data.specs.Config.{blocks_of};
-ghost use Rattle.tf_config.specs.Reading.{IsRefused, max_declared};
-ghost use Rattle.tf_refusal.specs.Code.{bad_state};
-ghost use Rattle.tf_refusal.specs.Refusal.{Told, bare, fault, told};
-ghost use Rattle.tf_plan.specs.Bounded.{AreWithin};
-ghost use Rattle.tf_plan.specs.Plan.{action_of, plan_of, plan_text, planned, planned_actions};
-ghost use Rattle.tf_plan.specs.Served.{AreServed};
+ghost use Rattle.std.specs.Prelude.{map, option_map, IfOk, IfErr, string_bytes};
+ghost use Rattle.tf_cli.specs.Applies.{IsPlanOf, IsPlanText};
+ghost use Rattle.tf_cli.specs.Refusals.{AreRefusals, RefusesBy};
+ghost use Rattle.tf_cli.specs.Texts.{the_texts};
+ghost use Rattle.tf_plan.specs.Refused.{Tells};
+ghost use Rattle.tf_plan_data.specs.Action.{action_of};
+ghost use Rattle.tf_plan_data.specs.Plan.{FitsTogether, plan_of};
+ghost use Rattle.tf_plan_data.specs.Served.{AreServed};
+ghost use Rattle.tf_refusal.specs.Refusal.{told};
 
-use std::alloc::{AllocError, Global};
-use tf_config::{Config, read};
-use tf_plan::{Plan, Refused, plan_for};
+use crate::reading::{Inputs, read_texts};
+use std::alloc::Global;
+use tf_plan::{Plan, Refused, plan, plan_text as text_of_plan};
 use tf_provider::Provider;
-use tf_refusal::code::BAD_STATE;
-use tf_refusal::{Detail, Refusal};
+use tf_refusal::Refusal;
 
-/// The text that `plan` prints, for a configuration. There are no variables yet, and a prior state is refused.
+/// The text that `plan` prints for a configuration, whose variables have the values that the variables file and their
+/// defaults give. A prior state is refused.
 pub fn plan_text(
     alloc: Global,
     config: &[u8],
@@ -26,58 +25,39 @@ pub fn plan_text(
     state: Option<&[u8]>,
     providers: &[Box<dyn Provider + Sync>],
 ) -> Result<String, Refused>
-    requires { vars ≡ None }
-    ensures planned { IfOk result (λ text. (blocks : Blocks)
-        × IsAccepted config.now (option_map (λ s. s.now) state.entry) (map (λ b. meaning b) providers.now) blocks
-        × (string_bytes text ≡ plan_text (planned_actions (map (λ b. meaning b) providers.now) blocks))) }
-    ensures refused { IfErr result (Refuses config.now (option_map (λ s. s.now) state.entry) (map (λ b. meaning b) providers.now)) }
+    ensures planned { IfOk result (λ text. IsPlanText (map (λ b. meaning b) providers.now) (the_texts config.now (option_map (λ s. s.now) vars.entry) (option_map (λ s. s.now) state.entry)) (string_bytes text)) }
+    ensures refused { IfErr result (Tells (AreRefusals (map (λ b. meaning b) providers.now) (the_texts config.now (option_map (λ s. s.now) vars.entry) (option_map (λ s. s.now) state.entry)))) }
 {
-    let plan = plan_of_texts(alloc, config, state, "", providers)?;
-    Ok(plan.text(alloc)?)
+    let plan = plan_of_texts(alloc, config, vars, state, "", providers)?;
+    let text = text_of_plan(alloc, plan.actions.as_slice())?;
+    Ok(text)
 }
 
 /// The plan of a configuration, before anything exists.
 pub fn plan_of_texts(
     alloc: Global,
     config: &[u8],
+    vars: Option<&[u8]>,
     state: Option<&[u8]>,
     lineage: &str,
     providers: &[Box<dyn Provider + Sync>],
 ) -> Result<Plan, Refused>
-    ensures planned { IfOk result (λ plan. (blocks : Blocks)
-        × IsAccepted config.now (option_map (λ s. s.now) state.entry) (map (λ b. meaning b) providers.now) blocks
-        × (plan_of plan ≡ planned (map (λ b. meaning b) providers.now) blocks lineage.now)) }
+    ensures planned { IfOk result (λ plan. IsPlanOf (map (λ b. meaning b) providers.now) (the_texts config.now (option_map (λ s. s.now) vars.entry) (option_map (λ s. s.now) state.entry)) lineage.now (plan_of plan)) }
+    ensures fits { IfOk result FitsTogether }
     ensures served { IfOk result (λ plan. AreServed (map (λ b. meaning b) providers.now) (map action_of plan.actions.items)) }
-    ensures within { IfOk result (λ plan. AreWithin (map action_of plan.actions.items)) }
-    ensures refused { IfErr result (Refuses config.now (option_map (λ s. s.now) state.entry) (map (λ b. meaning b) providers.now)) }
+    ensures refused { IfErr result (Tells (AreRefusals (map (λ b. meaning b) providers.now) (the_texts config.now (option_map (λ s. s.now) vars.entry) (option_map (λ s. s.now) state.entry)))) }
 {
-    let config = read_text(alloc, config)?;
-    if state.is_some() {
-        return Err(one_refusal(alloc, prior_state_fault(alloc)?));
-    }
-    plan_for(alloc, &config, lineage, providers)
-}
-
-fn read_text(alloc: Global, config: &[u8]) -> Result<Config, Refused>
-    ensures read { IfOk result (λ c. IsRead config.now (blocks_of c.resources.entries)) }
-    ensures small { IfOk result (λ c. length (blocks_of c.resources.entries) ≤ max_declared) }
-    ensures refused { IfErr result (λ r. (t : Told) × IsRefused config.now t × RefusesBy t r) }
-{
-    match read(alloc, config) {
-        Ok(config) => Ok(config),
+    match read_texts(alloc, config, vars, state) {
+        Ok(inputs) => {
+            let Inputs {
+                config,
+                values,
+                dependence,
+            } = inputs;
+            plan(alloc, config, values, dependence, lineage, providers)
+        }
         Err(refusal) => Err(one_refusal(alloc, refusal)),
     }
-}
-
-/// No prior state can be read yet.
-fn prior_state_fault(alloc: Global) -> Result<Refusal, AllocError>
-    ensures { IfOk result (λ r. told r ≡ fault bad_state (codes "state") bare) }
-{
-    Ok(Refusal::Fault {
-        code: BAD_STATE,
-        place: String::from_str(alloc, "state")?,
-        detail: Detail::Bare,
-    })
 }
 
 /// The list of one refusal, or want of memory.

@@ -1,12 +1,12 @@
 //! What an apply prints, and its status.
 
 ghost use Rattle.std.specs.Io.KnownBytes.{Appends};
-ghost use Rattle.std.specs.List.{flat_map};
+ghost use Rattle.std.specs.List.{flat_map, list_all};
 ghost use Rattle.std.specs.Prelude.{◌≡◌, IsErr, MatchResult, OnOk};
 ghost use Rattle.tf_cli.specs.Saved.{AppendsStart};
 ghost use Rattle.tf_cli.specs.Shown.{RefusesStart, TellsStart, all_good, applied_errors, applied_output, applied_status, cant_write, counts, diagnostic_line, diagnostic_lines, error_line, errors_of, is_good_outcome, is_torn, output_of, refusal_line, refused_errors, report_summary, status_of, summary_opening, torn_warning, unwritten_error, warnings};
 ghost use Rattle.tf_refusal.specs.Refusal.{told};
-ghost use Rattle.tf_walk.specs.Diagnostics.{diagnostic_of};
+ghost use Rattle.tf_report.specs.Diagnostics.{diagnostic_of};
 
 use crate::applied::Applied;
 use crate::lines::{RefusalLine, verb_text};
@@ -19,8 +19,8 @@ use tf_refusal::Refusal;
 use tf_walk::{Diagnostic, Outcome, Report, Walked};
 
 /// Prints all that `apply` prints before it writes the state file, and answers the status so far: 1 where
-/// something is refused, 3 where the state has changed and there is no text of it, 2 where some action isn't
-/// good or the report is torn, else 0. Where a write to a writer fails, nothing more is written to it, and no
+/// something is refused, 3 where the state has changed and there is no text of it, 2 where some action or output
+/// isn't good or the report is torn, else 0. Where a write to a writer fails, nothing more is written to it, and no
 /// answer tells of that: `print` does.
 pub fn show<O: Write, E: Write>(answer: &Result<Applied, Refused>, out: &mut O, err: &mut E) -> u8
     ensures status { result ≡ status_of answer.now }
@@ -216,11 +216,17 @@ fn is_torn(walked: &Walked) -> bool
     matches!(walked, Walked::Torn(_))
 }
 
-/// Whether each action is good.
+/// Whether each action is good, and nothing is told of any output.
 fn is_complete(report: &Report) -> bool
     ensures { result ≡ all_good report.now }
 {
-    for outcome in &report.outcomes {
+    are_good(&report.outcomes) && report.diagnostics.is_empty()
+}
+
+fn are_good(outcomes: &[Outcome]) -> bool
+    ensures { result ≡ list_all is_good_outcome outcomes.now }
+{
+    for outcome in outcomes {
         if !is_good(*outcome) {
             return false;
         }

@@ -1,7 +1,7 @@
 //! What both programs do around their work: they read their words and files, and tell what they can't read and that
 //! there is no memory.
 
-ghost use Rattle.std.specs.Prelude.{◌≡◌, ◌≤◌, ◌⊎◌, IfErr, IfOk, option_map};
+ghost use Rattle.std.specs.Prelude.{◌≡◌, ◌≤◌, ◌⊎◌, IfErr, IfOk, is_some, option_map};
 ghost use Rattle.std.specs.IoError.{error_kind};
 ghost use Rattle.std.specs.Process.{exit_status};
 ghost use Rattle.tf_cli.specs.Program.{Ends, GoesOn, IsEarly, IsOptional, TellsEnd, TellsUnread};
@@ -21,11 +21,20 @@ pub struct Given {
     pub options: Options,
     /// The bytes of the configuration.
     pub config: Vec<u8>,
+    /// The bytes of the variables file, where one is named.
+    pub vars: Option<Vec<u8>>,
     /// The bytes of the state file, where there is one.
     pub state: Option<Vec<u8>>,
 }
 
 impl Given {
+    /// The bytes of the variables file, where one is named.
+    pub fn vars_bytes(&self) -> Option<&[u8]>
+        ensures { option_map (λ bytes. bytes.now) result ≡ option_map (λ bytes. bytes.items) self.now.vars }
+    {
+        self.vars.as_ref().map(|vars| vars.as_slice())
+    }
+
     /// The bytes of the state file, where there is one.
     pub fn state_bytes(&self) -> Option<&[u8]>
         ensures { option_map (λ bytes. bytes.now) result ≡ option_map (λ bytes. bytes.items) self.now.state }
@@ -34,8 +43,8 @@ impl Given {
     }
 }
 
-/// Runs a program: reads its words and the files that they name, the configuration and then the state, and does its
-/// work. Where the words are refused, help is asked for or a file can't be read, that is told in place of the work,
+/// Runs a program: reads its words and the files that they name, the configuration, the variables and then the state,
+/// and does its work. Where the words are refused, help is asked for or a file can't be read, that is told in place of the work,
 /// and so is want of memory, whatever had none of it.
 ///
 /// # Errors
@@ -72,13 +81,29 @@ fn read_given(rt: &HostRuntime, words: &[String]) -> Result<Given, ExitCode>
     let options = read_options(rt, words)?;
     let config = fs::read(rt, options.config.as_str());
     let config = or_told(config, options.config.as_str(), &mut rt.stderr())?;
+    let vars = read_vars_file(rt, &options.vars)?;
     let state = optional(fs::read(rt, options.state.as_str()));
     let state = or_told(state, options.state.as_str(), &mut rt.stderr())?;
     Ok(Given {
         options,
         config,
+        vars,
         state,
     })
+}
+
+/// Reads the variables file, where one is named. Where it can't be read, that has been told.
+fn read_vars_file(rt: &HostRuntime, file: &Option<String>) -> Result<Option<Vec<u8>>, ExitCode>
+    ensures status { IfErr result (λ status. exit_status status ≤ 1) }
+    ensures named { IfOk result (λ vars. is_some vars ≡ is_some file.now) }
+{
+    match file {
+        None => Ok(None),
+        Some(file) => {
+            let vars = fs::read(rt, file.as_str());
+            Ok(Some(or_told(vars, file.as_str(), &mut rt.stderr())?))
+        }
+    }
 }
 
 /// The options that words say. Where they are refused, or ask for help, that has been told.

@@ -4,13 +4,10 @@ pub mod ConfigurationFits
 pub mod Counts
 pub mod Fits
 pub mod Found
-pub mod Functions
 pub mod LiteralFaults
 pub mod Members
-pub mod NameLaws
 pub mod Walks
 pub mod PartFits
-pub mod PlannedLaws
 pub mod Puts
 pub mod RefusalLaws
 pub mod Refusals

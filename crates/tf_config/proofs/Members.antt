@@ -5,18 +5,14 @@ use Rattle.serde_json.proofs.Views.{Entry}
 use Rattle.serde_json.specs.Data.{Data}
 use Rattle.serde_json.specs.View.{view, items_view, members_view}
 use Rattle.serde_json.specs.declared.value.Value.{Value}
-use Rattle.tf_json_path.proofs.Walks.{Builds-met, builds_more, met_more}
+use Rattle.tf_json_path.proofs.Walks.{Builds-met, builds_more}
 use Rattle.tf_json_path.specs.Walk.{each, each_item, Builds}
 use Rattle.tf_config.proofs.Fits.{items_met}
 use Rattle.tf_config.proofs.Refusals.{Refuses-at, Refuses-at_item}
 use Rattle.tf_config.specs.Configuration.{PropertyChecks, below, IsSound}
-use Rattle.tf_config.specs.Demand.{AreMet, IsMet, Refuses}
+use Rattle.tf_config.specs.Demand.{IsMet, Refuses}
 use Rattle.tf_config.specs.Parts.{PartChecks, IsPartSound, element_checks, EachSays}
 use Rattle.tf_refusal.specs.Refusal.{Told}
-
-append_none : {A : Type 0} (xs : List A) → xs ++ [] ≡ xs
-append_none [] = refl
-append_none (x ∷ xs) = ap (λ ys. x ∷ ys) (append_none xs)
 
 -- some members were passed, left is what comes behind them, and this holds of those passed
 abbrev pub ArePassed : (List Entry → Type 0) → (all left : List Entry) → Type 0
@@ -38,25 +34,6 @@ module _ (B : Type 0) (Step : List ℕ → Data → B → B → Type 0) (a : B) 
   pub read_next : (all left : List Entry) (e : Entry) (more : List Entry) (b c : B) → AreRead all left b → left ≡ e ∷ more → Step (string_bytes e.0) (view e.1) b c → AreRead all more c
   read_next all left e more b c (done, is, builds) steps adds =
       (done ++ e ∷ [], is ∙ ap (λ es. done ++ es) steps ∙ sym (append_assoc done (e ∷ []) more), builds_more Step done e a b c builds adds)
-
-module _ (checks : PropertyChecks) (place : List (List ℕ)) where
-  -- some members were judged
-  abbrev pub AreJudged : (all left : List Entry) → Type 0
-  AreJudged all left = ArePassed (λ done. AreMet (each (below checks place) (members_view done))) all left
-
-  -- the first fault of an object is that of the next member, where that has one
-  pub faulty_next : (all left : List Entry) (e : Entry) (more : List Entry) (t : Told) → AreJudged all left → left ≡ e ∷ more
-      → Refuses (checks (string_bytes e.0 ∷ place) (string_bytes e.0) (view e.1)) t → Refuses (each (below checks place) (members_view all)) t
-  faulty_next all left e more t (done, is, met) steps first = rw (is ∙ ap (λ es. done ++ es) steps) (Refuses-at (below checks place) done e more t met first)
-
-  -- one member more was judged
-  pub judged_next : (all left : List Entry) (e : Entry) (more : List Entry) → AreJudged all left → left ≡ e ∷ more → AreMet (checks (string_bytes e.0 ∷ place) (string_bytes e.0) (view e.1)) → AreJudged all more
-  judged_next all left e more (done, is, met) steps here =
-      (done ++ e ∷ [], is ∙ ap (λ es. done ++ es) steps ∙ sym (append_assoc done (e ∷ []) more), met_more IsMet (below checks place) done e met here)
-
-  -- all members were judged
-  pub judged_all : (all : List Entry) → AreJudged all [] → AreMet (each (below checks place) (members_view all))
-  judged_all all (done, is, met) = rw (is ∙ append_none done) met
 
 -- one element more says what it says
 says_more_at : {A : Type 0} (Says : Data → A → Type 0) (vs : List Value) (xs : List A) (i : ℕ) (v : Value) (x : A) → i < length vs → v ≡ get_or vs i v

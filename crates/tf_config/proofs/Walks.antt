@@ -1,10 +1,14 @@
 -- Checking one thing after another: those so far are met, and the others are left.
-use Rattle.std.proofs.Common.{◌≡◌, ◌∙◌, List, [], ◌++◌, refl, sym, subst, append_assoc}
+use Rattle.std.proofs.Common.{◌≡◌, ◌∙◌, ◌+◌, ◌<◌, ℕ, suc, List, [], ◌∷◌, ◌++◌, length, get_or, drop, drop-cons, refl, sym, ap, subst, append_assoc, add-one}
 use Rattle.tf_json_path.proofs.Checks.{AllMet-append, IsFirst-left, IsFirst-right}
 use Rattle.tf_json_path.specs.Check.{Check, AllMet}
 use Rattle.tf_config.specs.Demand.{RefusesBy}
 use Rattle.tf_refusal.specs.OfExpression.{Way}
 use Rattle.tf_refusal.specs.Refusal.{Told, no_memory, workers, fault}
+
+-- what is left of a list, one element further on
+pub drop_next : {A : Type 0} → (all : List A) (i : ℕ) (x : A) → i < length all → x ≡ get_or all i x → drop i all ≡ x ∷ drop (i + 1) all
+drop_next all i x within is = rw add-one (drop-cons all i x within ∙ ap (λ y. y ∷ drop (suc i) all) (sym is))
 
 module _ {D : Type 0} (IsMet : D → Type 0) where
   -- of all checks these are left, and those before them are met

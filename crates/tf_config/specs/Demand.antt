@@ -35,10 +35,6 @@ IsMet (of_expression demand) = expr.IsMet demand
 abbrev pub bad_shape : Way
 bad_shape = (code.bad_shape, bare)
 
--- 4, UnknownName
-abbrev pub unknown_name : Way
-unknown_name = (code.unknown_name, bare)
-
 -- a demand fails in this way
 abbrev pub Fails : Demand → Way → Type 0
 Fails nothing_fits way = way ≡ bad_shape

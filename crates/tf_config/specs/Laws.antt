@@ -8,14 +8,13 @@ use Rattle.tf_expr.specs.Spelling.{SpellsTemplate}
 use Rattle.tf_syntax.specs.TemplateTree.{Woven}
 use Rattle.tf_json_path.specs.Check.{IsFirst}
 use Rattle.tf_address.specs.Name.{is_name}
-use Rattle.tf_config.specs.Config.{Blocks, address_cmp}
-use Rattle.tf_config.specs.Unplanned.{IsPlanned, HasBlocksAlone}
+use Rattle.tf_config.specs.Config.{address_cmp}
 use Rattle.tf_config_data.specs.Config.{BlockView, ConfigView}
+use Rattle.tf_config_data.specs.Names.{names_of}
 use Rattle.tf_config.specs.Configuration.{configuration_checks, IsConfiguration}
 use Rattle.tf_config.specs.Demand.{Demand, of_expression, AreMet, IsMet}
 use Rattle.tf_refusal.specs.OfExpression.{Way, bad_template, too_deep}
-use Rattle.tf_config.specs.KnownNames.{KnownBlocks, NamesNothing}
-use Rattle.tf_config.specs.Reading.{IsTree, IsRefused, IsRefusedWhole, max_bytes, IsWithinCounts}
+use Rattle.tf_config.specs.Reading.{IsTree, IsRefused, max_bytes, IsWithinCounts}
 use Rattle.tf_refusal.specs.Refusal.{DetailView, fault}
 
 -- All checks of a tree that stands for a configuration are met.
@@ -42,14 +41,9 @@ HasNames b = (is_name b.label.type_name ≡ true) × (is_name b.label.name ≡ t
 abbrev pub BlocksHaveNames : Type 0
 BlocksHaveNames = (tree : Data) (config : ConfigView) → IsConfiguration tree config → AllByRecursion HasNames config.blocks
 
--- Where all names of blocks are known, their arguments name nothing, and each function that they call is
--- one.
-abbrev pub KnownNamesAreNone : Type 0
-KnownNamesAreNone = (blocks : Blocks) → KnownBlocks blocks → AllByRecursion NamesNothing blocks
-
--- And where arguments name nothing and each function that they call is one, all names are known.
-abbrev pub NoNamesAreKnown : Type 0
-NoNamesAreKnown = (blocks : Blocks) → AllByRecursion NamesNothing blocks → KnownBlocks blocks
+-- Within the counts a configuration has 8,000 names at most.
+abbrev pub NamesAreFew : Type 0
+NamesAreFew = (config : ConfigView) → IsWithinCounts config → length (names_of config) ≤ 8000
 
 -- the demand is for a template, and its text spells none, however deep
 abbrev pub SpellsNone : Demand → Unit {0} → Type 0
@@ -71,23 +65,7 @@ RefusedOnce = (bytes : List ℕ) (code code' : ℕ) (place place' : List ℕ) (d
     → IsRefused bytes (fault code place detail) → IsRefused bytes (fault code' place' detail')
     → (place ≡ place') × ((fault code place detail ≡ fault code' place' detail') ⊎ (IsUnspelled bytes place × IsTemplateWay (code, detail) × IsTemplateWay (code', detail')))
 
--- The same of a text that is read whole.
-abbrev pub WholeRefusedOnce : Type 0
-WholeRefusedOnce = (bytes : List ℕ) (code code' : ℕ) (place place' : List ℕ) (detail detail' : DetailView)
-    → IsRefusedWhole bytes (fault code place detail) → IsRefusedWhole bytes (fault code' place' detail')
-    → (place ≡ place') × ((fault code place detail ≡ fault code' place' detail') ⊎ (IsUnspelled bytes place × IsTemplateWay (code, detail) × IsTemplateWay (code', detail')))
-
--- A text of which a fault is told isn't a configuration within the limits that planning knows, all names of which are
--- known.
+-- A text of which a fault is told isn't a configuration within the limits.
 abbrev pub RefusedIsNotRead : Type 0
 RefusedIsNotRead = (bytes : List ℕ) (code : ℕ) (place : List ℕ) (detail : DetailView) (tree : Data) (config : ConfigView) → IsRefused bytes (fault code place detail)
-    → length bytes ≤ max_bytes → IsTree bytes tree → IsConfiguration tree config → IsWithinCounts config → IsPlanned tree → KnownBlocks config.blocks → ⊥
-
--- A text of which a fault is told, read whole, isn't a configuration within the limits.
-abbrev pub WholeRefusedIsNotRead : Type 0
-WholeRefusedIsNotRead = (bytes : List ℕ) (code : ℕ) (place : List ℕ) (detail : DetailView) (tree : Data) (config : ConfigView) → IsRefusedWhole bytes (fault code place detail)
     → length bytes ≤ max_bytes → IsTree bytes tree → IsConfiguration tree config → IsWithinCounts config → ⊥
-
--- A configuration whose tree planning knows declares nothing but blocks with arguments alone.
-abbrev pub PlannedHasBlocksAlone : Type 0
-PlannedHasBlocksAlone = (tree : Data) (config : ConfigView) → IsConfiguration tree config → IsPlanned tree → HasBlocksAlone config

@@ -1,9 +1,7 @@
 pub mod Config
 pub mod Configuration
 pub mod Demand
-pub mod KnownNames
 pub mod Laws
 pub mod Parts
 pub mod Reading
-pub mod Unplanned
 pub mod Words

@@ -7,8 +7,6 @@ use Rattle.tf_json_path.specs.Place.{dotted}
 use Rattle.tf_config.specs.Config.{names_in}
 use Rattle.tf_config.specs.Configuration.{configuration_checks, whole_file, IsConfiguration}
 use Rattle.tf_config.specs.Demand.{Refuses}
-use Rattle.tf_config.specs.KnownNames.{block_name_checks, RefusesNames}
-use Rattle.tf_config.specs.Unplanned.{unplanned_checks, IsPlanned}
 use Rattle.tf_refusal.specs.Code.{not_json, limit}
 use Rattle.tf_refusal.specs.Refusal.{bare, Told, no_memory, workers, fault}
 
@@ -51,38 +49,17 @@ IsNotJson = IsNotJsonAt whole_file
 abbrev pub IsMisshapen : List ℕ → Told → Type 0
 IsMisshapen bytes refusal = (tree : Data) × IsTree bytes tree × Refuses (configuration_checks tree) refusal
 
--- what is told of a tree that stands for a configuration
-abbrev pub Judgement : Type 1
-Judgement = Data → ConfigView → Told → Type 0
-
--- The text stands for a configuration, and this is told of it.
-abbrev pub IsJudged : Judgement → List ℕ → Told → Type 0
-IsJudged Tells bytes refusal = (tree : Data) × IsTree bytes tree × (config : ConfigView) × IsConfiguration tree config × Tells tree config refusal
+-- The text stands for a configuration, and there are too many variables, locals, outputs or blocks: 14, Limit.
+abbrev pub HasTooMany : List ℕ → Told → Type 0
+HasTooMany bytes refusal =
+    (tree : Data) × IsTree bytes tree × (config : ConfigView) × IsConfiguration tree config × (¬ IsWithinCounts config) × (refusal ≡ whole_fault limit)
 
 -- What is told of a text, in the order of tests: it is longer than it may be, 14; it is no JSON; it has a fault in its
--- shape; what is told of what it stands for. That there was no memory may be told of any text.
-abbrev pub IsToldOf : Judgement → List ℕ → Told → Type 0
-IsToldOf Tells bytes no_memory = Unit {0}
-IsToldOf Tells bytes workers = ⊥
-IsToldOf Tells bytes (fault code place detail) =
+-- shape; there is too much of something in it. That there was no memory may be told of any text.
+abbrev pub IsRefused : List ℕ → Told → Type 0
+IsRefused bytes no_memory = Unit {0}
+IsRefused bytes workers = ⊥
+IsRefused bytes (fault code place detail) =
     let refusal = fault code place detail in
     ((max_bytes < length bytes) × (refusal ≡ whole_fault limit))
-    ⊎ ((length bytes ≤ max_bytes) × (IsNotJson bytes refusal ⊎ IsMisshapen bytes refusal ⊎ IsJudged Tells bytes refusal))
-
--- There are too many variables, locals, outputs or blocks: 14, Limit.
-abbrev pub TellsTooMany : Judgement
-TellsTooMany tree config refusal = (¬ IsWithinCounts config) × (refusal ≡ whole_fault limit)
-
--- After that: planning doesn't know something yet; a name isn't known.
-abbrev pub TellsUnplanned : Judgement
-TellsUnplanned tree config refusal =
-    TellsTooMany tree config refusal
-    ⊎ (IsWithinCounts config × (Refuses (unplanned_checks tree) refusal ⊎ (IsPlanned tree × RefusesNames (block_name_checks config.blocks) refusal)))
-
--- what is told of a text that is read whole
-abbrev pub IsRefusedWhole : List ℕ → Told → Type 0
-IsRefusedWhole = IsToldOf TellsTooMany
-
--- what is told of a text that is read for planning
-abbrev pub IsRefused : List ℕ → Told → Type 0
-IsRefused = IsToldOf TellsUnplanned
+    ⊎ ((length bytes ≤ max_bytes) × (IsNotJson bytes refusal ⊎ IsMisshapen bytes refusal ⊎ HasTooMany bytes refusal))

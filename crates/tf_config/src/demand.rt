@@ -1,4 +1,4 @@
-ghost use Rattle.tf_config.specs.Demand.{Judges, TellsAt, bad_shape, unknown_name, a_name, a_type_name};
+ghost use Rattle.tf_config.specs.Demand.{Judges, TellsAt, bad_shape, a_name, a_type_name};
 ghost use Rattle.tf_config.specs.Configuration.{whole_file};
 ghost use Rattle.tf_refusal.specs.Refusal.{bare, told, detail_of};
 ghost use Rattle.tf_json_path.specs.Check.{demanded};
@@ -14,7 +14,7 @@ use serde_json::{Number, Value};
 use std::alloc::Global;
 use tf_address::is_name;
 use tf_json_path::Path;
-use tf_refusal::code::{BAD_SHAPE, UNKNOWN_NAME};
+use tf_refusal::code::BAD_SHAPE;
 use tf_refusal::{Detail, Refusal};
 
 /// What a configuration is called as a file.
@@ -54,13 +54,6 @@ pub(crate) fn bad_shape(alloc: Global, path: &Path<'_>) -> Refusal
     ensures { TellsAt (dotted (place_of path.now)) bad_shape (told result) }
 {
     fault_at(alloc, path, BAD_SHAPE, Detail::Bare)
-}
-
-/// The text at the place names or calls something that isn't known.
-pub(crate) fn names_unknown(alloc: Global, path: &Path<'_>) -> Refusal
-    ensures { TellsAt (dotted (place_of path.now)) unknown_name (told result) }
-{
-    fault_at(alloc, path, UNKNOWN_NAME, Detail::Bare)
 }
 
 pub(crate) fn demand_name(alloc: Global, path: &Path<'_>, text: &str) -> Result<(), Refusal>

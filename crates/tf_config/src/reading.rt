@@ -4,9 +4,7 @@ ghost use Rattle.std.specs.Prelude.{◌<◌, ◌≤◌, ◌∷◌, [], length, I
 ghost use Rattle.tf_config.specs.Config.{plain_config};
 ghost use Rattle.tf_config.specs.Configuration.{below, configuration_checks, section_checks, whole_file, AddsSection, IsConfiguration};
 ghost use Rattle.tf_config.specs.Demand.{Refuses, TellsAt};
-ghost use Rattle.tf_config.specs.KnownNames.{KnownBlocks};
-ghost use Rattle.tf_config.specs.Reading.{max_bytes, max_declared, IsRefused, IsRefusedWhole, IsTree, IsWithinCounts, TellsNotJson};
-ghost use Rattle.tf_config.specs.Unplanned.{HasBlocksAlone, IsPlanned};
+ghost use Rattle.tf_config.specs.Reading.{max_bytes, max_declared, IsRefused, IsTree, IsWithinCounts, TellsNotJson};
 ghost use Rattle.tf_config_data.specs.Config.{config_of, ConfigView};
 ghost use Rattle.tf_json_path.specs.Place.{dotted, place_of};
 ghost use Rattle.tf_json_path.specs.Walk.{each, Builds};
@@ -15,10 +13,8 @@ ghost use Rattle.tf_refusal.specs.Code.{limit};
 
 use crate::blocks::Types;
 use crate::demand::{CONFIGURATION, bad_shape, file_fault, whole_file_fault};
-use crate::known_names::demand_known_names;
 use crate::objects::{Members, add_each_member, add_members};
 use crate::outputs::{Locals, Outputs};
-use crate::unplanned::demand_planned;
 use crate::variables::Variables;
 use crate::words::{Section, section_named};
 use serde_json::{Map, Value};
@@ -50,7 +46,7 @@ const MAX_DECLARED: usize = 2_000;
 ///   doesn't allow, and a default beyond the limits of weight and depth. 3 is a text that is no template, with a
 ///   byte offset. 14 is a template that is too deep.
 /// - 14 at `configuration`: more than 2,000 variables, locals, outputs or resource blocks.
-pub fn read_whole(alloc: Global, bytes: &[u8]) -> Result<Config, Refusal>
+pub fn read(alloc: Global, bytes: &[u8]) -> Result<Config, Refusal>
     // The text is a tree, and the tree stands for this configuration.
     ensures ok { IfOk result (λ config. (tree : Data) × IsTree bytes.now tree
         × IsConfiguration tree (config_of config)) }
@@ -60,53 +56,7 @@ pub fn read_whole(alloc: Global, bytes: &[u8]) -> Result<Config, Refusal>
         × IsWithinCounts (config_of config)) }
 
     // What is told is the first fault, or that there was no memory.
-    ensures fault { IfErr result (λ refusal. IsRefusedWhole bytes.now (told refusal)) }
-{
-    let (_, config) = read_both(alloc, bytes)?;
-    Ok(config)
-}
-
-/// Reads a configuration for planning, which doesn't know yet what variables, locals and outputs are, nor `count`,
-/// `for_each`, `depends_on` and `lifecycle`, nor what names in expressions refer to.
-///
-/// # Errors
-///
-/// As those of `read_whole`, and after these, or `OutOfMemory`:
-/// - 2, at the first in the same walk of a property `variable`, `locals` or `output`, or, in a resource body,
-///   `count`, `for_each`, `depends_on` or `lifecycle`.
-/// - 4, at the first text in the same walk that names anything, since nothing can be declared, or that calls
-///   what is no function.
-pub fn read(alloc: Global, bytes: &[u8]) -> Result<Config, Refusal>
-    // The text is a tree, and the tree stands for this configuration; planning knows all that it has.
-    ensures ok { IfOk result (λ config. (tree : Data) × IsTree bytes.now tree
-        × IsConfiguration tree (config_of config) × IsPlanned tree) }
-
-    // No limit is passed.
-    ensures small { IfOk result (λ config. (length bytes.now ≤ max_bytes)
-        × IsWithinCounts (config_of config)) }
-
-    // All names are known, so that the arguments name nothing.
-    ensures names { IfOk result (λ config. KnownBlocks (config_of config).blocks) }
-
-    // Nothing but blocks with arguments alone is declared.
-    ensures alone { IfOk result (λ config. HasBlocksAlone (config_of config)) }
-
-    // What is told is the first fault, or that there was no memory.
     ensures fault { IfErr result (λ refusal. IsRefused bytes.now (told refusal)) }
-{
-    let (tree, config) = read_both(alloc, bytes)?;
-    demand_planned(alloc, &tree)?;
-    demand_known_names(alloc, &config)?;
-    Ok(config)
-}
-
-/// The tree that the text is, and the configuration that it stands for.
-fn read_both(alloc: Global, bytes: &[u8]) -> Result<(Value, Config), Refusal>
-    ensures ok { IfOk result (λ both. IsTree bytes.now (view both.0)
-        × IsConfiguration (view both.0) (config_of both.1)) }
-    ensures small { IfOk result (λ both. (length bytes.now ≤ max_bytes)
-        × IsWithinCounts (config_of both.1)) }
-    ensures fault { IfErr result (λ refusal. IsRefusedWhole bytes.now (told refusal)) }
 {
     if bytes.len() > MAX_BYTES {
         return Err(whole_file_fault(alloc, LIMIT));
@@ -114,7 +64,7 @@ fn read_both(alloc: Global, bytes: &[u8]) -> Result<(Value, Config), Refusal>
     let tree = read_tree(alloc, bytes, CONFIGURATION)?;
     let config = read_configuration(alloc, &tree)?;
     demand_counts(alloc, &config)?;
-    Ok((tree, config))
+    Ok(config)
 }
 
 /// There are no more variables, locals, outputs and blocks than there may be.

@@ -24,5 +24,5 @@ pub use repetition::{RepetitionFault, instances};
 pub use scope::NamesScope;
 pub use shape::Shape;
 pub use stage::{Expansion, Instanced, Objects, Resource, Stage};
-pub use standing::Standing;
+pub use standing::{Standing, evaluated};
 pub use table::{Declarations, all_stand, standings};

@@ -3,20 +3,25 @@ use Rattle.std.specs.Prelude.{[], ◌∷◌, Some, codes}
 use Rattle.clap.specs.Words.{App, Rule, Text, new_app, new_rule, with_rule}
 use Rattle.clap.specs.declared.builder.value_parser.ValueParser.TheVariants as vp
 
--- an option `--NAME VALUE`, with the value that it has where it isn't given
-abbrev pub option_rule : Text → Text → Rule
-option_rule name default = record (new_rule name) { long = Some name; value_names = 1; defaults = default ∷ [] }
+-- an option `--NAME VALUE`, which needn't be given
+abbrev pub option_rule : Text → Rule
+option_rule name = record (new_rule name) { long = Some name; value_names = 1 }
+
+-- the same, with the value that it has where it isn't given
+abbrev pub default_rule : Text → Text → Rule
+default_rule name default = record (option_rule name) { defaults = default ∷ [] }
 
 -- the number of workers: a whole number of 1 to 64, and 10 where it isn't given
 abbrev pub workers_rule : Rule
-workers_rule = record (option_rule (codes "parallelism") (codes "10")) { parser = Some (vp.Unsigned 1 64) }
+workers_rule = record (default_rule (codes "parallelism") (codes "10")) { parser = Some (vp.Unsigned 1 64) }
 
--- where the configuration is read, where the state is read and written, the lineage of a new state, and the
--- number of workers
+-- where the configuration is read, where the variables' values are, where the state is read and written, the
+-- lineage of a new state, and the number of workers
 unfoldable pub options_app : App
 options_app =
-    with_rule (with_rule (with_rule (with_rule (new_app (codes "bixundor"))
-    (option_rule (codes "config") (codes "main.tf.json")))
-    (option_rule (codes "state") (codes "terraform.tfstate")))
-    (option_rule (codes "lineage") (codes "00000000-0000-0000-0000-000000000000")))
+    with_rule (with_rule (with_rule (with_rule (with_rule (new_app (codes "bixundor"))
+    (default_rule (codes "config") (codes "main.tf.json")))
+    (option_rule (codes "vars")))
+    (default_rule (codes "state") (codes "terraform.tfstate")))
+    (default_rule (codes "lineage") (codes "00000000-0000-0000-0000-000000000000")))
     workers_rule

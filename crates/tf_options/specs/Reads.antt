@@ -1,5 +1,5 @@
 -- What the options are, by what `clap` finds in the words.
-use Rattle.std.specs.Prelude.{◌≡◌, ℕ, List, Option, None, MatchOption, codes, unwrap_or, string_bytes}
+use Rattle.std.specs.Prelude.{◌≡◌, ℕ, List, Option, MatchOption, codes, option_map, unwrap_or, string_bytes}
 use Rattle.std.specs.Str.Parse.{digits_value, without_leading_plus}
 use Rattle.clap.specs.Words.{IsUnsignedIn, Row, Text, first_of, one_of}
 use Rattle.tf_options.specs.declared.words.Options.{Options}
@@ -13,10 +13,11 @@ given_or name default rows = unwrap_or (first_of name rows) default
 abbrev pub IsWorkers : Option Text → ℕ → Type 0
 IsWorkers given n = MatchOption given (n ≡ 10) (λ text. IsUnsignedIn 1 64 text → n ≡ digits_value 10 (without_leading_plus text))
 
--- Each option has the value that was given for it, or its default; a file of variables can't be given.
+-- Each option has the value that was given for it, or its default. For the variables' values there is no file
+-- where none is given.
 pub record Reads (o : Options) (rows : List Row) : Type 0 where
   pub config : string_bytes o.config ≡ given_or (codes "config") (codes "main.tf.json") rows
-  pub vars : o.vars ≡ None
+  pub vars : option_map (λ s. string_bytes s) o.vars ≡ first_of (codes "vars") rows
   pub state : string_bytes o.state ≡ given_or (codes "state") (codes "terraform.tfstate") rows
   pub lineage : string_bytes o.lineage ≡ given_or (codes "lineage") (codes "00000000-0000-0000-0000-000000000000") rows
   pub parallelism : IsWorkers (one_of (codes "parallelism") rows) o.parallelism

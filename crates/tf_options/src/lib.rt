@@ -3,6 +3,7 @@
 //! | Option | What it says | Default |
 //! |---|---|---|
 //! | `--config FILE` | the configuration | `main.tf.json` |
+//! | `--vars FILE` | the variables' values | none |
 //! | `--state FILE` | the state; a file that isn't there is no state | `terraform.tfstate` |
 //! | `--lineage TEXT` | the lineage of a new state | `00000000-0000-0000-0000-000000000000` |
 //! | `--parallelism N` | how many workers, 1 to 64 | 10 |

@@ -1,8 +1,8 @@
 //! Reading the words of a command line.
 
-ghost use Rattle.std.specs.Prelude.{◌≡◌, ◌≤◌, false, IfOk, codes, map, string_bytes};
-ghost use Rattle.clap.specs.Words.{FailsBy, app_of, fault_of, found_of, matches_of, one_of, rows_of, rule_of};
-ghost use Rattle.tf_options.specs.Command.{option_rule, options_app, workers_rule};
+ghost use Rattle.std.specs.Prelude.{◌≡◌, ◌≤◌, false, IfOk, codes, map, option_map, string_bytes};
+ghost use Rattle.clap.specs.Words.{FailsBy, app_of, fault_of, first_of, found_of, matches_of, one_of, rows_of, rule_of};
+ghost use Rattle.tf_options.specs.Command.{default_rule, option_rule, options_app, workers_rule};
 ghost use Rattle.tf_options.specs.Reads.{IsWorkers, Reads, given_or};
 
 use crate::words::Options;
@@ -38,9 +38,10 @@ fn command<'a>(alloc: Global) -> Result<Command<'a>, AllocError>
     ensures { IfOk result (λ c. app_of c ≡ options_app) }
 {
     Command::new(alloc, "bixundor")
-        .arg(option(alloc, "config", "FILE", CONFIG, "The configuration"))?
-        .arg(option(alloc, "state", "FILE", STATE, "The state"))?
-        .arg(option(
+        .arg(default_option(alloc, "config", "FILE", CONFIG, "The configuration"))?
+        .arg(option(alloc, "vars", "FILE", "The values of the variables"))?
+        .arg(default_option(alloc, "state", "FILE", STATE, "The state"))?
+        .arg(default_option(
             alloc,
             "lineage",
             "TEXT",
@@ -54,25 +55,31 @@ fn workers_option<'a>(alloc: Global) -> Arg<'a>
     ensures rule { rule_of result ≡ workers_rule }
     ensures local { result.global ≡ false }
 {
-    option(alloc, "parallelism", "N", "10", "How many workers, 1 to 64").value_parser(
+    default_option(alloc, "parallelism", "N", "10", "How many workers, 1 to 64").value_parser(
         clap::value_parser!(u64).range(1..=64),
     )
 }
 
-fn option<'a>(
+fn default_option<'a>(
     alloc: Global,
     name: &'a str,
     value: &'a str,
     default: &'a str,
     help: &'a str,
 ) -> Arg<'a>
-    ensures rule { rule_of result ≡ option_rule name.now default.now }
+    ensures rule { rule_of result ≡ default_rule name.now default.now }
+    ensures local { result.global ≡ false }
+{
+    option(alloc, name, value, help).default_value(default)
+}
+
+fn option<'a>(alloc: Global, name: &'a str, value: &'a str, help: &'a str) -> Arg<'a>
+    ensures rule { rule_of result ≡ option_rule name.now }
     ensures local { result.global ≡ false }
 {
     Arg::new(alloc, name)
         .long(name)
         .value_name(value)
-        .default_value(default)
         .help(help)
 }
 
@@ -82,7 +89,7 @@ fn options_in(alloc: Global, matches: &ArgMatches<'_>) -> Result<Options, AllocE
 {
     Ok(Options {
         config: value_or(alloc, matches, "config", CONFIG)?,
-        vars: None,
+        vars: value_of(alloc, matches, "vars")?,
         state: value_or(alloc, matches, "state", STATE)?,
         lineage: value_or(alloc, matches, "lineage", LINEAGE)?,
         parallelism: workers_in(matches),
@@ -98,6 +105,19 @@ fn value_or(
     ensures { IfOk result (λ text. string_bytes text ≡ given_or name.now default.now (rows_of (found_of matches.now))) }
 {
     String::from_str(alloc, matches.get_str(name).unwrap_or(default))
+}
+
+fn value_of(
+    alloc: Global,
+    matches: &ArgMatches<'_>,
+    name: &str,
+) -> Result<Option<String>, AllocError>
+    ensures { IfOk result (λ text. option_map (λ t. string_bytes t) text ≡ first_of name.now (rows_of (found_of matches.now))) }
+{
+    match matches.get_str(name) {
+        Some(value) => Ok(Some(String::from_str(alloc, value)?)),
+        None => Ok(None),
+    }
 }
 
 fn workers_in(matches: &ArgMatches<'_>) -> usize

@@ -5,7 +5,7 @@
 pub struct Options {
     /// The file of the configuration.
     pub config: String,
-    /// The file of the variables' values, which can't be given yet.
+    /// The file of the variables' values, where one is given.
     pub vars: Option<String>,
     /// The file of the state, which is read, and written where it changes.
     pub state: String,

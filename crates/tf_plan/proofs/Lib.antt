@@ -1,2 +1,5 @@
-pub mod Orders
-pub mod Served
+pub mod Creating
+pub mod Declaring
+pub mod Existing
+pub mod Fitting
+pub mod Refusing

@@ -1,8 +1,4 @@
-pub mod Bounded
-pub mod Literal
-pub mod Order
 pub mod Plan
-pub mod PlansBlock
 pub mod Refused
-pub mod Served
 pub mod Shown
+pub mod Text

@@ -1,81 +1,66 @@
--- A plan, as plain data, and its text.
-use Rattle.std.specs.Prelude.{ℕ, List, [], ◌∷◌, ◌++◌, length, map, codes, decimal, Option, None, option_map, is_some, if◌then◌else◌, string_bytes}
-use Rattle.std.specs.List.{flat_map, filter_map}
-use Rattle.tf_address.specs.Label.{LabelView, label_of, label_text}
-use Rattle.tf_value.specs.Tree as tree
+-- Which plan is made of a configuration, before anything exists.
+use Rattle.std.specs.Prelude.{◌≡◌, ◌≤◌, ℕ, Bool, List, [], length, map}
+use Rattle.std.specs.List.{AllByRecursion}
+use Rattle.tf_config_data.specs.Config.{ConfigView}
+use Rattle.tf_config_data.specs.Names.{NameView, names_of}
 use Rattle.tf_graph.specs.Digraph.{Digraph}
-use Rattle.tf_protocol.specs.Meaning.{Meaning, schema_in}
-use Rattle.tf_protocol.specs.Schema.{SchemaView}
-use Rattle.tf_config.specs.Config.{Blocks}
-use Rattle.tf_config_data.specs.Config.{BlockView}
-use Rattle.tf_change.specs.Planned.{planned_entries}
-use Rattle.tf_plan.specs.Literal.{nothing_stands}
-use Rattle.tf_plan.specs.Refused.{block_label, block_refusal}
-use Rattle.tf_plan.specs.Shown.{shown}
-use Rattle.tf_plan.specs.declared.plan.Action.{Action}
-use Rattle.tf_plan.specs.declared.plan.Plan.{Plan}
+use Rattle.tf_names.specs.Needs.{IsDependence, needs_in}
+use Rattle.tf_names.specs.declared.dependence.Dependence.{Dependence}
+use Rattle.tf_protocol.specs.Meaning.{Meaning}
+use Rattle.tf_syntax.specs.ExprTree as expr
+use Rattle.tf_value.specs.Tree.{Entries}
+use Rattle.tf_environment.specs.Shape.{ShapeView}
+use Rattle.tf_environment.specs.Stages.{expansion, planning}
+use Rattle.tf_environment.specs.Standing.{StandingView, AreStandings}
+use Rattle.tf_change.specs.Objects.{planned_by}
+use Rattle.tf_expand.specs.Expanding.{AreExpanded}
+use Rattle.tf_order.specs.Before.{pairs}
+use Rattle.tf_plan_data.specs.Action.{ActionView}
+use Rattle.tf_plan_data.specs.Plan.{PlanView, IsOfResource, IsNumbered}
+use Rattle.tf_plan_data.specs.Served.{AreServed}
+use Rattle.tf_planning.specs.Plans.{PlannedView, all_plans}
 
--- an action: the create of an object at an address, by a schema of some version
-pub record ActionView : Type 0 where
-  pub label : LabelView
-  pub object : tree.Tree
-  pub version : ℕ
+-- the most pairs of actions of which one is before the other that a plan may have
+abbrev pub max_pairs : ℕ
+max_pairs = 200000
 
--- a plan: the lineage of the state that it starts from, the actions in address order, and their order
-pub record PlanView : Type 0 where
-  pub lineage : List ℕ
-  pub actions : List ActionView
-  pub order : Digraph
+-- the pairs of actions of which the first is before the second
+abbrev pub action_pairs : (ℕ → ℕ → Bool) → List ActionView → List (ℕ × ℕ)
+action_pairs needs actions = pairs needs (map (λ a. a.place) actions)
 
-abbrev pub action_of : Action → ActionView
-action_of a = record { label = label_of a.label; object = tree.tree_of a.object; version = a.version }
+-- The instances of each resource are those of the expansion, and there aren't more of them than may be.
+abbrev pub AreInstances : Entries → List NameView → (ℕ → ShapeView) → Type 0
+AreInstances variables names shapes =
+    (standings : ℕ → StandingView) → AreStandings expansion variables names standings → AreExpanded variables names standings shapes
 
-abbrev pub plan_of : Plan → PlanView
-plan_of p = record { lineage = string_bytes p.lineage; actions = map action_of p.actions.items; order = p.order }
+-- What is planned, and what is refused, of these instances, where names stand for what is planned.
+abbrev pub IsPlanned : List Meaning → Entries → List NameView → expr.Entries → (ℕ → ShapeView) → PlannedView → Type 0
+IsPlanned ms variables names outputs shapes planned =
+    (standings : ℕ → StandingView) → AreStandings (planning shapes (planned_by ms)) variables names standings
+    → all_plans ms variables names shapes standings outputs ≡ planned
 
--- ---- what is planned
+-- These are the instances, what is planned of them, with nothing to refuse, and the order of it: an action for each
+-- node, and an edge for each pair of which the first is before the second.
+pub record ArePlanned (ms : List Meaning) (variables : Entries) (names : List NameView) (outputs : expr.Entries) (needs : ℕ → ℕ → Bool) (shapes : ℕ → ShapeView) (actions : List ActionView) (order : Digraph) : Type 0 where
+  pub instances : AreInstances variables names shapes
+  pub planned : IsPlanned ms variables names outputs shapes (record { actions = actions; refusals = [] })
+  pub nodes : order.nodes ≡ length actions
+  pub edges : order.edges ≡ action_pairs needs actions
+  pub few : length order.edges ≤ max_pairs
 
--- a block's object is to be created, with its attributes as planned by the schema
-abbrev pub planned_action : BlockView → SchemaView → ActionView
-planned_action b schema = record { label = block_label b; object = tree.map (planned_entries schema.attributes nothing_stands b.arguments); version = schema.version }
+-- The plan of a configuration, whose variables have these values, on a state of this lineage in which nothing exists.
+-- Which name needs which is what each table of the configuration's dependence says.
+pub record IsPlan (ms : List Meaning) (configured : ConfigView) (valued : Entries) (lineage_given : List ℕ) (plan : PlanView) : Type 0 where
+  pub lineage : plan.lineage ≡ lineage_given
+  pub config : plan.config ≡ configured
+  pub variables : plan.variables ≡ valued
+  pub needs : (d : Dependence) × IsDependence (names_of configured) d × (plan.needs ≡ needs_in d)
+  pub stages : ArePlanned ms valued (names_of configured) configured.outputs plan.needs plan.shapes plan.actions plan.order
 
--- a block that isn't refused is a create
-abbrev pub block_action : List Meaning → BlockView → Option ActionView
-block_action ms b = if is_some (block_refusal ms b) then None else option_map (planned_action b) (schema_in b.label.type_name ms)
-
--- one create for each block that isn't refused
-abbrev pub planned_actions : List Meaning → Blocks → List ActionView
-planned_actions ms blocks = filter_map (block_action ms) blocks
-
--- The plan of some blocks, before anything exists. A literal block needs no other, so no action is before another.
-abbrev pub planned : List Meaning → Blocks → List ℕ → PlanView
-planned ms blocks lineage =
-    record { lineage = lineage; actions = planned_actions ms blocks; order = record { nodes = length (planned_actions ms blocks); edges = [] } }
-
--- ---- the plan's text
-
--- four spaces, the name, ` = ` and the value; nothing for an attribute that is null
-abbrev pub attribute_line : List ℕ → tree.Tree → List ℕ
-attribute_line name tree.null = []
-attribute_line name t = codes "    " ++ name ++ codes " = " ++ shown t ++ 10 ∷ []
-
-abbrev pub attribute_lines : tree.Entries → List ℕ
-attribute_lines tree.no_entries = []
-attribute_lines (tree.entry name t es) = attribute_line name t ++ attribute_lines es
-
-abbrev pub object_lines : tree.Tree → List ℕ
-object_lines (tree.map es) = attribute_lines es
-object_lines _ = []
-
--- `+`, a space and the address, and below it the attributes of the new object
-abbrev pub action_lines : ActionView → List ℕ
-action_lines a = codes "+ " ++ label_text a.label ++ 10 ∷ object_lines a.object
-
-abbrev pub summary_line : ℕ → ℕ → ℕ → List ℕ
-summary_line add change destroy =
-    codes "Plan: " ++ decimal add ++ codes " to add, " ++ decimal change ++ codes " to change, " ++ decimal destroy ++ codes " to destroy.\n"
-
--- the lines of each action, and how many objects are added, changed and destroyed; or that nothing changes
-abbrev pub plan_text : List ActionView → List ℕ
-plan_text [] = codes "No changes.\n"
-plan_text (a ∷ others) = flat_map action_lines (a ∷ others) ++ summary_line (length (a ∷ others)) 0 0
+-- The actions of a plan are few, each is of the resource at its place, with a number of an instance that there may be,
+-- and its type has a provider.
+pub record AreFit (ms : List Meaning) (names : List NameView) (actions : List ActionView) : Type 0 where
+  pub few : length actions ≤ 2000
+  pub resources : AllByRecursion (IsOfResource names) actions
+  pub numbers : AllByRecursion (λ a. IsNumbered a.key) actions
+  pub served : AreServed ms actions

@@ -2,40 +2,43 @@
 
 ghost use Rattle.std.specs.Prelude.{◌≡◌, ◌++◌, map, length, OnOk, IfOk, string_bytes};
 ghost use Rattle.std.specs.List.{flat_map};
-ghost use Rattle.tf_plan.specs.Plan.{action_of, action_lines, attribute_line, attribute_lines, plan_text, summary_line};
+ghost use Rattle.tf_plan.specs.Text.{action_lines, attribute_line, attribute_lines, plan_text, summary_line};
+ghost use Rattle.tf_plan_data.specs.Action.{action_of};
 ghost use Rattle.tf_value.specs.Tree.{tree_of, entries_view};
 
-use crate::plan::{Action, Plan};
 use crate::shown::show_value;
 use std::alloc::{AllocError, Global};
 use std::collections::BTreeMap;
+use tf_plan_data::{Action, address_text};
 use tf_value::Value;
 
-impl Plan {
-    /// What the plan does, for the user: for each create a line with `+` and the address, and below it a line
-    /// for each attribute that isn't null; last, how many objects are added, changed and destroyed. Without
-    /// actions the text is `No changes.`. Refused only where there is no memory.
-    pub fn text(&self, alloc: Global) -> Result<String, AllocError>
-        ensures { IfOk result (λ text. string_bytes text ≡ plan_text (map action_of self.now.actions.items)) }
-    {
-        let actions = self.actions.as_slice();
-        if actions.is_empty() {
-            return String::from_str(alloc, "No changes.\n");
-        }
-        let mut text = String::new(alloc);
-        for action in actions {
-            show_action(alloc, &mut text, action)?;
-        }
-        summarize(&mut text, actions.len(), 0, 0)?;
-        Ok(text)
+/// What the actions of a plan do, for the user: for each create a line with `+` and the instance's address, and below
+/// it a line for each attribute that isn't null; last, how many objects are added, changed and destroyed. Without
+/// actions the text is `No changes.`.
+///
+/// # Errors
+///
+/// Only where memory runs out.
+pub fn plan_text(alloc: Global, actions: &[Action]) -> Result<String, AllocError>
+    ensures { IfOk result (λ text. string_bytes text ≡ plan_text (map action_of actions.now)) }
+{
+    if actions.is_empty() {
+        return String::from_str(alloc, "No changes.\n");
     }
+    let mut text = String::new(alloc);
+    for action in actions {
+        show_action(alloc, &mut text, action)?;
+    }
+    summarize(&mut text, actions.len(), 0, 0)?;
+    Ok(text)
 }
 
 fn show_action(alloc: Global, text: &mut String, action: &Action) -> Result<(), AllocError>
     ensures { OnOk result (string_bytes text.new ≡ string_bytes text.old ++ action_lines (action_of action.now)) }
 {
-    let label = &action.label;
-    write!(text, "+ {label}\n")?;
+    let address = address_text(alloc, &action.label, &action.key)?;
+    let address = address.as_str();
+    write!(text, "+ {address}\n")?;
     match &action.object {
         Value::Map(attributes) => show_attributes(alloc, text, attributes),
         _ => Ok(()),

@@ -1,3 +1,4 @@
-pub mod Needed
 pub mod Wanting
+pub mod Answering
+pub mod Requesting
 pub mod Staying

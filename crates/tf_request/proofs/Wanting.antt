@@ -1,77 +1,195 @@
--- What an expression names, and what that needs, has its standings; so the expression means what it does among all names.
-use Rattle.std.proofs.Common.{◌≡◌, ◌==◌, ◌||◌, ◌<◌, ℕ, Bool, true, List, [], ◌∷◌, length, Result, Ok, Err, IfOk, Contains, sym, ◌∙◌, inl, inr, arith}
-use Rattle.std.specs.declared.alloc.AllocError.{AllocError}
-use Rattle.std.proofs.lemmas.Bool.{eqb-true, eq-eqb, or_cases, or_left, or_right}
-use Rattle.std.specs.List.{AllByRecursion}
-use Rattle.tf_address.specs.ObjectId.{InstanceKeyView}
-use Rattle.tf_config_data.specs.Names.{NameView, directly_before, places}
-use Rattle.tf_graph.proofs.Edges.{all_by_contained, contains_cases}
+-- Which places are marked, and that these are the wanted ones.
+use Rattle.std.proofs.Common.{◌≡◌, ◌<◌, ◌≤◌, ◌+◌, ℕ, zero, suc, Bool, true, false, List, [], ◌∷◌, ◌++◌, length, set, take, drop, replicate, Contains, refl, sym, ap, ◌∙◌, inl, inr, arith}
+use Rattle.std.proofs.lemmas.Bool.{cases_eq, cases_lt}
+use Rattle.std.proofs.lemmas.List.{get_or-set_same, get_or-set_other, get_or_default, get_or_past, get_or-take, length-set, length-take, take_all}
+use Rattle.std.specs.Prelude.{◌↔◌, ◌⊎◌, slice_index}
+use Rattle.tf_config_data.specs.Names.{NameView, meant_at, directly_before}
+use Rattle.tf_graph.proofs.Edges.{all_by_contained, contains_head, contains_tail, contains_cases}
 use Rattle.tf_graph.proofs.Solving.{all_by_at}
 use Rattle.tf_graph.specs.NodeSet.{has}
-use Rattle.tf_names.specs.Needs.{IsDependence, needs_in}
-use Rattle.tf_names.specs.declared.dependence.Dependence.{Dependence}
-use Rattle.tf_operators.specs.Answer.{Answers}
-use Rattle.tf_operators.specs.declared.fault.EvalFault.{EvalFault}
-use Rattle.tf_syntax.specs.ExprNames.{named_by}
-use Rattle.tf_syntax.specs.ExprTree as expr
-use Rattle.tf_value.specs.Tree.{Tree, Entries}
-use Rattle.tf_value.specs.declared.value.Value.{Value}
-use Rattle.tf_eval.proofs.Locality.{expressions_local}
-use Rattle.tf_eval.specs.ExprMeaning.{meaning}
-use Rattle.tf_environment.proofs.Places.{all_places}
-use Rattle.tf_environment.proofs.Seen.{agree_on}
-use Rattle.tf_environment.specs.Kept.{AreClosed}
-use Rattle.tf_environment.specs.Shape.{ShapeView}
-use Rattle.tf_environment.specs.Stages.{applying}
-use Rattle.tf_environment.specs.Standing.{StandingView, AreStandings, environment}
-use Rattle.tf_request.specs.Requests.{IsOutput, is_wanted, without_sets}
-use Rattle.tf_request.proofs.Needed.{member_below}
+use Rattle.tf_graph.specs.Order.{IsInOrder}
+use Rattle.tf_names.proofs.Tables.{drop_all}
+use Rattle.tf_request.specs.Wanted.{AreClosedForLocals, IsWanted, itself, by_local, is_local}
 
--- each of some names is wanted with them
-each_wanted : (d : Dependence) (ps : List ℕ) (n : ℕ) → Contains ps n → is_wanted d ps n ≡ true
-each_wanted d [] n c = absurd (omega (arith, c.1))
-each_wanted d (p ∷ ps) n c = elim (contains_cases n p ps c) [
-  | inl here ↦ or_left (p == n || needs_in d p n) (is_wanted d ps n) (or_left (p == n) (needs_in d p n) (eq-eqb p n here))
-  | inr rest ↦ or_right (p == n || needs_in d p n) (is_wanted d ps n) (each_wanted d ps n rest)
+-- what is written back of a list as long
+pub written_back : (len : ℕ) (items now : List Bool) → len ≡ length items → length now ≡ length items → take len (now ++ drop (length now) items) ≡ now
+written_back len items now long same =
+    rw (drop_all items (length now) (omega (arith, same)), append_none now) (take_all len now (omega (arith, long, same)))
+  where
+    append_none : (xs : List Bool) → xs ++ [] ≡ xs
+    append_none [] = refl
+    append_none (x ∷ xs) = ap (λ ys. x ∷ ys) (append_none xs)
+
+-- marks, and places that are still to be marked, are together the marks before and all places
+pub record AreMarked (before : List Bool) (places : List ℕ) (now : List Bool) (left : List ℕ) : Type 0 where
+  pub long : length now ≡ length before
+  pub stays : (n : ℕ) → (has before n ≡ true) ⊎ Contains places n → (has now n ≡ true) ⊎ Contains left n
+  pub comes : (n : ℕ) → (has now n ≡ true) ⊎ Contains left n → (has before n ≡ true) ⊎ Contains places n
+
+pub marks_start : (before : List Bool) (places : List ℕ) → AreMarked before places before places
+marks_start before places = record { long = refl; stays = λ n h. h; comes = λ n h. h }
+
+marked_here : (w : List Bool) (p n : ℕ) → p < length w → n ≡ p → has (set w p true) n ≡ true
+marked_here w p n h is = ap (has (set w p true)) is ∙ get_or-set_same w p true false h
+
+still_marked : (w : List Bool) (p n : ℕ) → p < length w → has w n ≡ true → has (set w p true) n ≡ true
+still_marked w p n h was = elim (cases_eq n p) [
+  | inl here ↦ marked_here w p n h here
+  | inr other ↦ get_or-set_other w p n true false other ∙ was
 ]
 
--- with a name all that stands directly before it is wanted
-before_wanted : (names : List NameView) (d : Dependence) → IsDependence names d → (ps : List ℕ) (n a : ℕ) → is_wanted d ps n ≡ true → Contains (directly_before names n) a → is_wanted d ps a ≡ true
-before_wanted names d dependence [] n a h c = absurd (cc)
-before_wanted names d dependence (p ∷ ps) n a h c = elim (or_cases (p == n || needs_in d p n) (is_wanted d ps n) h) [
-  | inl first ↦
-      or_left (p == a || needs_in d p a) (is_wanted d ps a)
-      (or_right (p == a) (needs_in d p a) (elim (or_cases (p == n) (needs_in d p n) first) [
-        | inl same ↦ dependence.direct p a (rw (eqb-true p n same) c)
-        | inr needs ↦ dependence.closed p n a needs c
-      ]))
-  | inr rest ↦ or_right (p == a || needs_in d p a) (is_wanted d ps a) (before_wanted names d dependence ps n a rest c)
+-- one place more
+pub marks_more : (before : List Bool) (places : List ℕ) (now next : List Bool) (left rest : List ℕ) (p : ℕ) → p < length before → left ≡ p ∷ rest → next ≡ set now p true
+    → AreMarked before places now left → AreMarked before places next rest
+marks_more before places now next left rest p h front is m =
+    let below : p < length now = omega (arith, m.long) in
+    let ahead : (n : ℕ) → (p ≡ n) ⊎ Contains rest n → Contains left n = λ n c. elim c [
+      | inl here ↦ rw front (contains_head n p rest here)
+      | inr later ↦ rw front (contains_tail n p rest later)
+    ] in
+    rw is (record {
+      long = length-set now p true ∙ m.long;
+      stays = λ n was. elim (m.stays n was) [
+        | inl marked ↦ inl (still_marked now p n below marked)
+        | inr due ↦
+            elim (contains_cases n p rest (rw front at due)) [
+              | inl here ↦ inl (marked_here now p n below (sym here))
+              | inr later ↦ inr later
+            ]
+      ];
+      comes = λ n has_now. elim has_now [
+        | inl marked ↦
+            elim (cases_eq n p) [
+              | inl here ↦ m.comes n (inr (ahead n (inl (sym here))))
+              | inr other ↦ m.comes n (inl (sym (get_or-set_other now p n true false other) ∙ marked))
+            ]
+        | inr later ↦ m.comes n (inr (ahead n (inr later)))
+      ];
+    })
+
+-- all places are marked
+pub marks_all : (before : List Bool) (places : List ℕ) (now : List Bool) (left : List ℕ) → left ≡ [] → AreMarked before places now left
+    → (n : ℕ) → (has now n ≡ true) ↔ ((has before n ≡ true) ⊎ Contains places n)
+marks_all before places now left none m n = (
+  λ marked. m.comes n (inl marked),
+  λ was. elim (m.stays n was) [
+    | inl marked ↦ marked
+    | inr due ↦ let c : Contains {X = ℕ} [] n = (rw none at due) in absurd (omega (arith, c.1))
+  ],
+)
+
+-- what a marked local at a place names
+abbrev pub Spreads : List NameView → List Bool → ℕ → ℕ → Type 0
+Spreads names w p n = (has w p ≡ true) × (is_local (meant_at names p) ≡ true) × Contains (directly_before names p) n
+
+-- no marked local stands there
+pub spreads_not : (names : List NameView) (w : List Bool) (p : ℕ) → (has w p ≡ true → is_local (meant_at names p) ≡ true → ⊥)
+    → (n : ℕ) → (has w n ≡ true) ↔ ((has w n ≡ true) ⊎ Spreads names w p n)
+spreads_not names w p none n = (λ marked. inl marked, λ either. elim either [ inl marked ↦ marked | inr new ↦ absurd (none new.0 new.1) ])
+
+-- one does
+pub spreads_on : (names : List NameView) (w now : List Bool) (p : ℕ) → has w p ≡ true → is_local (meant_at names p) ≡ true
+    → ((n : ℕ) → (has now n ≡ true) ↔ ((has w n ≡ true) ⊎ Contains (directly_before names p) n))
+    → (n : ℕ) → (has now n ≡ true) ↔ ((has w n ≡ true) ⊎ Spreads names w p n)
+spreads_on names w now p here is marked n = (
+  λ h. elim ((marked n).0 h) [ inl was ↦ inl was | inr new ↦ inr (here, is, new) ],
+  λ either. elim either [ inl was ↦ (marked n).1 (inl was) | inr new ↦ (marked n).1 (inr new.2) ],
+)
+
+-- marks once the places of the order from one on are looked into
+pub record AreSpread (names : List NameView) (order others : List ℕ) (i : ℕ) (w : List Bool) : Type 0 where
+  pub long : length w ≡ length names
+  pub first : (n : ℕ) → Contains others n → has w n ≡ true
+  pub led : (n : ℕ) → has w n ≡ true → IsWanted names others n
+  pub closed : (k a : ℕ) → i ≤ k → k < length order → has w (slice_index order k) ≡ true → is_local (meant_at names (slice_index order k)) ≡ true
+      → Contains (directly_before names (slice_index order k)) a → has w a ≡ true
+
+pub spread_start : (names : List NameView) (order others : List ℕ) (none w : List Bool) → length w ≡ length names → ((n : ℕ) → has none n ≡ false)
+    → ((n : ℕ) → (has w n ≡ true) ↔ ((has none n ≡ true) ⊎ Contains others n)) → AreSpread names order others (length order) w
+spread_start names order others none w long empty marked = record {
+  long = long;
+  first = λ n c. (marked n).1 (inr c);
+  led = λ n h. elim ((marked n).0 h) [
+    | inl was ↦ let not : has none n ≡ false = empty n in absurd (cc)
+    | inr c ↦ itself n c
+  ];
+  closed = λ k a past below h is c. absurd (omega arith);
+}
+
+-- what stands directly before a place of the order stands in the order before it, and so not after it
+not_later : (names : List NameView) (order : List ℕ) (i k : ℕ) → IsInOrder (directly_before names) order → i < length order → i ≤ k → k < length order
+    → Contains (directly_before names (slice_index order i)) (slice_index order k) → ⊥
+not_later names order i k ordered h later below c =
+    let n : ℕ = slice_index order k in
+    let entered : Contains (take i order) n = all_by_at (λ a. Contains (take i order) a) (directly_before names (slice_index order i)) n (ordered.after i h) c in
+    let j : ℕ = entered.0 in
+    let short = length-take i order in
+    let before : j < i = omega (arith, entered.1, short) in
+    let inside : j < length order = omega (arith, before, h) in
+    let same : slice_index order j ≡ n = sym (get_or_default order j n 0 inside) ∙ sym (get_or-take i order j n before) ∙ entered.2 in
+    ordered.once j k (omega (arith, before, later)) below same
+
+-- one place more
+pub spread_more : (names : List NameView) (order others : List ℕ) (i upto p : ℕ) (w now : List Bool) → IsInOrder (directly_before names) order → i < length order → i + 1 ≡ upto → p ≡ slice_index order i
+    → length now ≡ length w → ((n : ℕ) → (has now n ≡ true) ↔ ((has w n ≡ true) ⊎ Spreads names w p n))
+    → AreSpread names order others upto w → AreSpread names order others i now
+spread_more names order others i upto p w now ordered h next is long marked s = record {
+  long = long ∙ s.long;
+  first = λ n c. (marked n).1 (inl (s.first n c));
+  led = λ n new. elim ((marked n).0 new) [
+    | inl was ↦ s.led n was
+    | inr spread ↦ by_local p n (s.led p spread.0) spread.1 spread.2
+  ];
+  closed = λ k a past below new local c. elim (cases_eq k i) [
+    | inl here ↦
+        let there : slice_index order k ≡ p = ap (slice_index order) here ∙ sym is in
+        let local_there : is_local (meant_at names p) ≡ true = (rw there at local) in
+        let c_there : Contains (directly_before names p) a = (rw there at c) in
+        let new_there : has now p ≡ true = (rw there at new) in
+        elim ((marked p).0 new_there) [
+          | inl was ↦ (marked a).1 (inr (was, local_there, c_there))
+          | inr spread ↦ (marked a).1 (inr (spread.0, local_there, c_there))
+        ]
+    | inr other ↦
+        elim ((marked (slice_index order k)).0 new) [
+          | inl was ↦ (marked a).1 (inl (s.closed k a (omega (arith, past, next)) below was local c))
+          | inr spread ↦ absurd (not_later names order i k ordered h past below (rw is at spread.2))
+        ]
+  ];
+}
+
+-- a member is no place past the end
+pub member_below : (wanted : List Bool) (n : ℕ) → has wanted n ≡ true → n < length wanted
+member_below wanted n h = elim (cases_lt n (length wanted)) [
+  | inl below ↦ below
+  | inr past ↦ let none : has wanted n ≡ false = get_or_past wanted n false past in absurd (cc)
 ]
 
-module _ (names : List NameView) (d : Dependence) (dependence : IsDependence names d) (e : expr.Tree) (wanted : List Bool) (long : length wanted ≡ length names) (each : (k : ℕ) → k < length names → has wanted k ≡ is_wanted d (places names (named_by e)) k) where
-  pub wanted_closed : AreClosed names wanted
-  wanted_closed n h =
-      let member = member_below wanted n h in
-      let below : n < length names = omega (arith, long) in
-      let here : is_wanted d (places names (named_by e)) n ≡ true = sym (each n below) ∙ h in
-      all_by_contained (λ a. has wanted a ≡ true) (directly_before names n)
-      (λ a c. each a (all_by_at (λ b. b < length names) (directly_before names n) a (dependence.stays n below) c) ∙ before_wanted names d dependence (places names (named_by e)) n a here c)
+marked_wanted : (names : List NameView) (order others : List ℕ) (w : List Bool) → ((n : ℕ) → n < length names → Contains order n) → AreSpread names order others 0 w
+    → (n : ℕ) → IsWanted names others n → has w n ≡ true
+marked_wanted names order others w whole s _ (itself n c) = s.first n c
+marked_wanted names order others w whole s _ (by_local a n wants is c) =
+    let marked : has w a ≡ true = marked_wanted names order others w whole s a wants in
+    let inside : a < length w = member_below w a marked in
+    let held : Contains order a = whole a (omega (arith, inside, s.long)) in
+    let k : ℕ = held.0 in
+    let there : slice_index order k ≡ a = sym (get_or_default order k a 0 held.1) ∙ held.2 in
+    s.closed k n (omega arith) held.1 (rw there marked) (rw there is) (rw there c)
 
-  wanted_same : (kept standings : ℕ → StandingView) → ((n : ℕ) → n < length names → has wanted n ≡ true → kept n ≡ standings n)
-      → AllByRecursion (λ n. kept n ≡ standings n) (places names (named_by e))
-  wanted_same kept standings same =
-      all_by_contained (λ n. kept n ≡ standings n) (places names (named_by e))
-      (λ n c.
-      let below = all_by_at (λ b. b < length names) (places names (named_by e)) n (all_places (λ b. b < length names) names (named_by e) (λ b h. h)) c in
-      same n below (each n below ∙ each_wanted d (places names (named_by e)) n c))
+-- the whole order is looked into
+pub spread_all : (names : List NameView) (order others : List ℕ) (i : ℕ) (w : List Bool) → ((n : ℕ) → n < length names → Contains order n) → i ≡ 0 → AreSpread names order others i w
+    → (n : ℕ) → (has w n ≡ true) ↔ IsWanted names others n
+spread_all names order others i w whole start s n =
+    let all : AreSpread names order others 0 w = (rw start at s) in
+    (all.led n, marked_wanted names order others w whole all n)
 
-  -- what an expression means where so much stands is what the output is
-  pub answered : (variables : Entries) (shapes : ℕ → ShapeView) (objects : ℕ → InstanceKeyView → Tree) (kept : ℕ → StandingView)
-      → ((standings : ℕ → StandingView) → AreStandings (applying shapes objects) variables names standings → (n : ℕ) → n < length names → has wanted n ≡ true → kept n ≡ standings n)
-      → (result : Result (Result Value EvalFault) AllocError)
-      → IfOk result (λ output. Answers (without_sets (meaning (environment variables names kept) e)) output)
-      → IfOk result (λ output. IsOutput variables names shapes objects e output)
-  answered variables shapes objects kept same (Ok output) given = λ standings solves.
-      let agree = agree_on variables names kept standings (named_by e) (wanted_same kept standings (same standings solves)) in
-      rw (sym (expressions_local (environment variables names kept) (environment variables names standings) e agree)) given
-  answered variables shapes objects kept same (Err why) given = given
+-- with a wanted local all that it names is wanted
+pub wanted_closed : (names : List NameView) (others : List ℕ) (w : List Bool) → ((n : ℕ) → (has w n ≡ true) ↔ IsWanted names others n) → AreClosedForLocals names w
+wanted_closed names others w each n h is =
+    all_by_contained (λ a. has w a ≡ true) (directly_before names n) (λ a c. (each a).1 (by_local n a ((each n).0 h) is c))
+
+-- no mark is among none
+pub empty_marks : (count n : ℕ) → has (replicate count false) n ≡ false
+empty_marks zero n = refl
+empty_marks (suc count) zero = refl
+empty_marks (suc count) (suc n) = empty_marks count n

@@ -1,10 +1,8 @@
 -- What an apply asks of providers, and what outputs are then.
-use Rattle.std.specs.Prelude.{◌≡◌, ◌==◌, ◌||◌, ℕ, Bool, true, false, List, [], ◌∷◌, Option, Some, Result, Ok, Err}
+use Rattle.std.specs.Prelude.{◌≡◌, ℕ, Bool, true, false, List, Option, Some, Result, Ok, Err}
 use Rattle.tf_address.specs.ObjectId.{InstanceKeyView}
 use Rattle.tf_config_data.specs.Config.{BlockView}
 use Rattle.tf_config_data.specs.Names.{NameView, Meant, a_block, meant_at}
-use Rattle.tf_names.specs.Needs.{needs_in}
-use Rattle.tf_names.specs.declared.dependence.Dependence.{Dependence}
 use Rattle.tf_operators.specs.Answer.{Answer, Answers}
 use Rattle.tf_operators.specs.declared.fault.EvalFault.{EvalFault}
 use Rattle.tf_protocol.specs.Schema.{SchemaView}
@@ -41,8 +39,3 @@ abbrev pub IsOutput : Entries → List NameView → (ℕ → ShapeView) → (ℕ
 IsOutput variables names shapes objects e output =
     (standings : ℕ → StandingView) → AreStandings (applying shapes objects) variables names standings
     → Answers (without_sets (meaning (environment variables names standings) e)) output
-
--- whether the name at a place is one of some others, or needed by one
-abbrev pub is_wanted : Dependence → List ℕ → ℕ → Bool
-is_wanted d [] n = false
-is_wanted d (place ∷ places) n = (place == n || needs_in d place n) || is_wanted d places n

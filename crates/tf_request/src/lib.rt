@@ -7,6 +7,7 @@
 #![tactic(auto)]
 
 pub mod laws;
+mod named;
 mod outputs;
 mod requests;
 mod results;

@@ -12,7 +12,6 @@ ghost use Rattle.tf_request.specs.Requests.{IsOutput, without_sets};
 
 use crate::results::Results;
 use crate::standing::answered_standings;
-use crate::wanted::wanted_by;
 use std::alloc::{AllocError, Global};
 use tf_environment::{Declarations, NamesScope, Shape};
 use tf_eval::{EvalFault, Scope, eval_expr};
@@ -21,7 +20,8 @@ use tf_value::{Value, with_lists};
 
 /// What an output is after an apply, or the fault of its expression: what the expression means where resources stand
 /// for what their providers answered, with the list of its texts in place of each set. `shapes` says of the place of
-/// each name how its instances stand together. No local is evaluated that isn't needed.
+/// each name how its instances stand together. No local is evaluated, and no object copied, that the expression doesn't
+/// name, directly or through locals.
 ///
 /// # Errors
 ///
@@ -38,8 +38,8 @@ pub fn output_value<R: Results>(
     ensures { IfOk result (λ output. IsOutput (entries_view declared.now.variables.now.entries) (names_in declared.now.names.now)
         (shapes_of shapes.now) (R.objects results.now) (tree_of expr.now) output) }
 {
-    let wanted = wanted_by(alloc, declared, expr)?;
-    let kept = answered_standings(alloc, declared, shapes, results, wanted.as_slice())?;
+    let named = declared.names.named_in(alloc, expr)?;
+    let kept = answered_standings(alloc, declared, shapes, results, named.as_slice())?;
     let scope = NamesScope {
         variables: declared.variables,
         names: declared.names,

@@ -11,6 +11,7 @@ ghost use Rattle.tf_names.specs.Table.{names_in};
 ghost use Rattle.tf_value.specs.Tree.{entries_view, tree_of};
 ghost use Rattle.tf_request.specs.Requests.{IsRequest, is_resource};
 
+use crate::named::named_for_instance;
 use crate::results::Results;
 use crate::standing::answered_standings;
 use std::alloc::{AllocError, Global};
@@ -23,7 +24,8 @@ use tf_value::Value;
 
 /// What is asked of a provider for the create of an instance of the resource at a place, or what is wrong with it: what
 /// is planned for it, where the resources that it needs stand for what their providers answered. `shapes` says of the
-/// place of each name how its instances stand together. No local is evaluated that isn't needed.
+/// place of each name how its instances stand together. No local is evaluated, and no object copied, that the block's
+/// expressions don't name, directly or through locals.
 ///
 /// # Errors
 ///
@@ -44,15 +46,15 @@ pub fn request<R: Results>(
         (shapes_of shapes.now) (R.objects results.now) place (instance_key_of key.now) schema.now (instance_of request)) }
     ensures within { IfOk result (λ request. IfOk request (λ v. has_planned_attributes (tree_of v) ≡ true)) }
 {
-    let wanted = declared.dependence.needed_by(alloc, place)?;
-    let kept = answered_standings(alloc, declared, shapes, results, wanted.as_slice())?;
+    let Named::Resource(_, block) = declared.names.at(place) else {
+        unreachable!()
+    };
+    let named = named_for_instance(alloc, declared.names, block)?;
+    let kept = answered_standings(alloc, declared, shapes, results, named.as_slice())?;
     let scope = NamesScope {
         variables: declared.variables,
         names: declared.names,
         standings: kept.as_slice(),
     };
-    match declared.names.at(place) {
-        Named::Local(_, _) => unreachable!(),
-        Named::Resource(_, block) => plan_instance(alloc, schema, block, key, &scope),
-    }
+    plan_instance(alloc, schema, block, key, &scope)
 }

@@ -11,7 +11,7 @@ use tf_eval::Scope;
 use tf_value::Value;
 
 /// The objects that providers answered for the instances of an apply. Only those of resources that what is worked out
-/// needs are asked for; any value may stand for the others.
+/// names, directly or through locals, are asked for; any value may stand for the others.
 pub trait Results {
     ghost objects: { Self → ℕ → InstanceKeyView → Tree };
 

@@ -1,38 +1,121 @@
 //! What names stand for in an apply.
 
-ghost use Rattle.std.specs.Prelude.{◌≡◌, ◌<◌, ℕ, IfOk, true, length};
-ghost use Rattle.tf_environment.specs.Kept.{AreClosed};
+ghost use Rattle.std.specs.List.{AllByRecursion};
+ghost use Rattle.std.specs.Prelude.{◌≡◌, ◌<◌, ℕ, IfOk, None, if◌then◌else◌, length};
+ghost use Rattle.tf_config_data.specs.Names.{meant_at};
+ghost use Rattle.tf_environment.specs.Kept.{HaveStandings, OnlyWanted};
 ghost use Rattle.tf_environment.specs.Stages.{applying};
-ghost use Rattle.tf_environment.specs.Standing.{StandingView, AreStandings};
-ghost use Rattle.tf_environment.specs.Views.{shapes_of, standings_of};
-ghost use Rattle.tf_graph.specs.NodeSet.{has};
-ghost use Rattle.tf_names.specs.Needs.{IsAcyclic, IsDependence};
+ghost use Rattle.tf_environment.specs.Standing.{StandingView, AreStandings, environment, stands_at};
+ghost use Rattle.tf_environment.specs.Views.{shapes_of, standing_of, standings_of};
+ghost use Rattle.tf_names.specs.Needs.{IsAcyclic, IsDependence, order_in};
 ghost use Rattle.tf_names.specs.Table.{names_in};
 ghost use Rattle.tf_value.specs.Tree.{entries_view};
+ghost use Rattle.tf_request.specs.Wanted.{AreClosedForLocals, IsWanted};
 
 use crate::results::{Answered, Results};
+use crate::wanted::wanted_by;
 use std::alloc::{AllocError, Global};
-use tf_environment::{Declarations, Instanced, Shape, Standing, standings};
+use tf_environment::{
+    Declarations, Instanced, NamesScope, Resource, Shape, Stage, Standing, evaluated,
+};
+use tf_names::Named;
 
-/// What each wanted name stands for where resources stand for what their providers answered.
+/// What the names at some places stand for where resources stand for what their providers answered, by place. Nothing
+/// stands at a place that isn't wanted for them.
 pub(crate) fn answered_standings<R: Results>(
     alloc: Global,
     declared: &Declarations,
     shapes: &[Shape],
     results: &R,
-    wanted: &[bool],
+    others: &[usize],
 ) -> Result<Vec<Standing>, AllocError>
     requires dependence { IsDependence (names_in declared.now.names.now) declared.now.dependence.now }
     requires acyclic { IsAcyclic declared.now.dependence.now }
-    requires closed { AreClosed (names_in declared.now.names.now) wanted.now }
-    ensures { IfOk result (λ kept. (standings : ℕ → StandingView)
+    requires within { AllByRecursion (λ n. n < length (names_in declared.now.names.now)) others.now }
+    ensures standings { IfOk result (λ kept. (standings : ℕ → StandingView)
         → AreStandings (applying (shapes_of shapes.now) (R.objects results.now)) (entries_view declared.now.variables.now.entries) (names_in declared.now.names.now) standings
-        → (n : ℕ) → n < length (names_in declared.now.names.now) → has wanted.now n ≡ true → standings_of kept.items n ≡ standings n) }
+        → AllByRecursion (λ n. standings_of kept.items n ≡ standings n) others.now) }
+    ensures only { IfOk result (λ kept. (n : ℕ) → (IsWanted (names_in declared.now.names.now) others.now n → ⊥) → standings_of kept.items n ≡ None) }
 {
+    let wanted = wanted_by(alloc, declared, others)?;
     let objects = Answered { results };
     let stage = Instanced {
         shapes,
         objects: &objects,
     };
-    standings(alloc, &stage, declared, wanted)
+    standings_wanted(alloc, declared, &stage, wanted.as_slice())
+}
+
+/// What each wanted name stands for in an apply, by place; nothing stands at any other place. With a local all that its
+/// expression names is wanted.
+fn standings_wanted<R: Results>(
+    alloc: Global,
+    declared: &Declarations,
+    stage: &Instanced<'_, Answered<'_, R>>,
+    wanted: &[bool],
+) -> Result<Vec<Standing>, AllocError>
+    requires dependence { IsDependence (names_in declared.now.names.now) declared.now.dependence.now }
+    requires acyclic { IsAcyclic declared.now.dependence.now }
+    requires length { length wanted.now ≡ length (names_in declared.now.names.now) }
+    requires closed { AreClosedForLocals (names_in declared.now.names.now) wanted.now }
+    ensures standings { IfOk result (λ kept. HaveStandings (applying (shapes_of stage.now.shapes.now) (R.objects stage.now.objects.now.results.now)) (entries_view declared.now.variables.now.entries)
+        (names_in declared.now.names.now) (order_in declared.now.dependence.now) wanted.now (standings_of kept.items)) }
+    ensures only { IfOk result (λ kept. OnlyWanted wanted.now (standings_of kept.items)) }
+{
+    let mut kept = nothing(alloc, declared.names.len())?;
+    for place in declared.dependence.order() {
+        let is_wanted = wanted[*place];
+        let standing = standing_at(alloc, declared, stage, kept.as_slice(), *place, is_wanted)?;
+        kept[*place] = standing;
+    }
+    Ok(kept)
+}
+
+/// As many places, at none of which anything stands.
+fn nothing(alloc: Global, count: usize) -> Result<Vec<Standing>, AllocError>
+    ensures length { IfOk result (λ kept. length kept.items ≡ count) }
+    ensures none { IfOk result (λ kept. (n : ℕ) → standings_of kept.items n ≡ None) }
+{
+    let mut kept = Vec::with_capacity(alloc, count)?;
+    for _ in 0..count {
+        kept.push(Standing::Nothing)?;
+    }
+    Ok(kept)
+}
+
+/// What the name at a place stands for, by what names stand for so far; nothing where it isn't wanted.
+fn standing_at<T: Stage>(
+    alloc: Global,
+    declared: &Declarations,
+    stage: &T,
+    kept: &[Standing],
+    place: usize,
+    is_wanted: bool,
+) -> Result<Standing, AllocError>
+    requires { place < length (names_in declared.now.names.now) }
+    ensures { IfOk result (λ standing. standing_of standing ≡ (if is_wanted
+        then stands_at (T.stage stage.now) place (meant_at (names_in declared.now.names.now) place)
+        (environment (entries_view declared.now.variables.now.entries) (names_in declared.now.names.now) (standings_of kept.now))
+        else None)) }
+{
+    if !is_wanted {
+        return Ok(Standing::Nothing);
+    }
+    let scope = NamesScope {
+        variables: declared.variables,
+        names: declared.names,
+        standings: kept,
+    };
+    match declared.names.at(place) {
+        Named::Local(_, expr) => evaluated(alloc, expr, &scope),
+        Named::Resource(label, block) => {
+            let resource = Resource {
+                place,
+                label,
+                block,
+                scope: &scope,
+            };
+            stage.stand(alloc, &resource)
+        }
+    }
 }

@@ -1,44 +1,71 @@
-//! What some names need.
+//! Which names are wanted.
 
-ghost use Rattle.std.specs.Prelude.{◌≡◌, ◌<◌, ℕ, IfOk, length};
-ghost use Rattle.tf_config_data.specs.Names.{places};
+ghost use Rattle.std.specs.List.{AllByRecursion};
+ghost use Rattle.std.specs.Prelude.{◌≡◌, ◌<◌, ◌↔◌, ◌⊎◌, ℕ, IfOk, true, false, length, replicate, Contains};
+ghost use Rattle.tf_config_data.specs.Names.{directly_before, meant_at};
 ghost use Rattle.tf_graph.specs.NodeSet.{has};
+ghost use Rattle.tf_names.specs.Needs.{IsAcyclic, IsDependence};
 ghost use Rattle.tf_names.specs.Table.{names_in};
-ghost use Rattle.tf_syntax.specs.ExprNames.{named_by};
-ghost use Rattle.tf_syntax.specs.ExprTree.{tree_of};
-ghost use Rattle.tf_request.specs.Requests.{is_wanted as is_one_or_needed};
+ghost use Rattle.tf_request.specs.Wanted.{IsWanted, is_local};
 
 use std::alloc::{AllocError, Global};
 use tf_environment::Declarations;
-use tf_names::Dependence;
-use tf_syntax::Expr;
+use tf_names::Named;
 
-/// For each place, whether an expression names what is there, or something that it names needs it.
+/// For each place, whether the name there is wanted: it is at one of these places, or the expression of a wanted local
+/// names it.
 pub(crate) fn wanted_by(
     alloc: Global,
     declared: &Declarations,
-    expr: &Expr,
+    others: &[usize],
 ) -> Result<Vec<bool>, AllocError>
+    requires dependence { IsDependence (names_in declared.now.names.now) declared.now.dependence.now }
+    requires acyclic { IsAcyclic declared.now.dependence.now }
+    requires within { AllByRecursion (λ n. n < length (names_in declared.now.names.now)) others.now }
     ensures length { IfOk result (λ wanted. length wanted.items ≡ length (names_in declared.now.names.now)) }
-    ensures each { IfOk result (λ wanted. (n : ℕ) → n < length (names_in declared.now.names.now)
-        → has wanted.items n ≡ is_one_or_needed declared.now.dependence.now (places (names_in declared.now.names.now) (named_by (tree_of expr.now))) n) }
+    ensures wanted { IfOk result (λ wanted. (n : ℕ) → (has wanted.items n ≡ true) ↔ IsWanted (names_in declared.now.names.now) others.now n) }
 {
-    let named = declared.names.named_in(alloc, expr)?;
-    let mut wanted = Vec::with_capacity(alloc, declared.names.len())?;
-    for place in 0..declared.names.len() {
-        wanted.push(is_wanted(declared.dependence, named.as_slice(), place))?;
+    let order = declared.dependence.order();
+    let mut wanted = none_wanted(alloc, declared.names.len())?;
+    mark(wanted.as_mut_slice(), others);
+    for index in (0..order.len()).rev() {
+        mark_named(declared, wanted.as_mut_slice(), order[index]);
     }
     Ok(wanted)
 }
 
-/// Whether the name at a place is one of some others, or needed by one.
-fn is_wanted(dependence: &Dependence, others: &[usize], place: usize) -> bool
-    ensures { result ≡ is_one_or_needed dependence.now others.now place }
+/// As many places, none of which is marked.
+fn none_wanted(alloc: Global, count: usize) -> Result<Vec<bool>, AllocError>
+    ensures { IfOk result (λ wanted. wanted.items ≡ replicate count false) }
 {
-    for other in others {
-        if *other == place || dependence.needs(*other, place) {
-            return true;
-        }
+    vec![in alloc; false; count]
+}
+
+/// Marks what the expression at a place names, where a marked local stands there.
+fn mark_named(declared: &Declarations, wanted: &mut [bool], place: usize)
+    requires dependence { IsDependence (names_in declared.now.names.now) declared.now.dependence.now }
+    requires length { length wanted.old ≡ length (names_in declared.now.names.now) }
+    requires place { place < length (names_in declared.now.names.now) }
+    ensures length { length wanted.new ≡ length wanted.old }
+    ensures marked { (n : ℕ) → (has wanted.new n ≡ true) ↔ ((has wanted.old n ≡ true)
+        ⊎ ((has wanted.old place ≡ true) × (is_local (meant_at (names_in declared.now.names.now) place) ≡ true) × Contains (directly_before (names_in declared.now.names.now) place) n)) }
+{
+    if !wanted[place] {
+        return;
     }
-    false
+    match declared.names.at(place) {
+        Named::Local(_, _) => mark(wanted, declared.dependence.before(place)),
+        Named::Resource(_, _) => {}
+    }
+}
+
+/// Marks places.
+fn mark(wanted: &mut [bool], places: &[usize])
+    requires within { AllByRecursion (λ n. n < length wanted.old) places.now }
+    ensures length { length wanted.new ≡ length wanted.old }
+    ensures marked { (n : ℕ) → (has wanted.new n ≡ true) ↔ ((has wanted.old n ≡ true) ⊎ Contains places.now n) }
+{
+    for place in places {
+        wanted[*place] = true;
+    }
 }

@@ -1,19 +1,16 @@
--- Results and rooms, one for each action.
-use Rattle.std.proofs.Common.{◌≡◌, ℕ, List, [], ◌∷◌, ◌++◌, Option, None, option_map, replicate, length, map, take, drop, refl, sym, ap, ◌∙◌, subst}
+-- Results that were lent to a walk.
+use Rattle.std.proofs.Common.{◌≡◌, ◌∙◌, ℕ, List, [], ◌∷◌, ◌++◌, Option, None, option_map, replicate, length, map, take, drop, refl, sym, ap, subst}
 use Rattle.std.proofs.lemmas.List.{length-map, length-replicate}
-use Rattle.tf_plan.specs.Plan.{ActionView}
-use Rattle.tf_walk.specs.Ended.{done_of}
-use Rattle.tf_walk.specs.declared.ended.Ended.{Ended}
-use Rattle.tf_walk.specs.Room.{head_of}
-use Rattle.tf_walk.specs.RoomHead.{room_head}
-use Rattle.tf_walk.specs.declared.rooms.Room.{Room}
+use Rattle.tf_plan_data.specs.Action.{ActionView}
+use Rattle.tf_outcome.specs.Ended.{done_of}
+use Rattle.tf_outcome.specs.declared.ended.Ended.{Ended}
 
 first_part : {A : Type 0} (xs ys : List A) → take (length xs) (xs ++ ys) ≡ xs
 first_part [] ys = refl
 first_part (x ∷ xs) ys = ap (λ zs. x ∷ zs) (first_part xs ys)
 
 -- a list that was written through a slice
-pub written-back : {A : Type 0} (new ys : List A) (n : ℕ) → length new ≡ n → take n (new ++ ys) ≡ new
+written-back : {A : Type 0} (new ys : List A) (n : ℕ) → length new ≡ n → take n (new ++ ys) ≡ new
 written-back new ys n e = subst (λ (k : ℕ). take k (new ++ ys) ≡ new) e (first_part new ys)
 
 -- results that were lent to a walk are then those that it wrote, one for each action
@@ -23,7 +20,3 @@ left_by_walk new items len nodes actions sized counted start long =
     let written : length new ≡ nodes = sym (length-map new (option_map done_of)) ∙ (sized ∙ counted) in
     let there : length items ≡ nodes = ap length start ∙ length-replicate nodes None in
     (written-back new (drop (length new) items) len (written ∙ (sym there ∙ long)), written)
-
--- there are as many rooms as actions
-pub rooms-sized : (rooms : List Room) (actions : List ActionView) → map room_head rooms ≡ map head_of actions → length rooms ≡ length actions
-rooms-sized rooms actions e = sym (length-map rooms room_head) ∙ (ap length e ∙ length-map actions head_of)

@@ -6,8 +6,8 @@ use Rattle.tf_graph.specs.Digraph.{predecessors_of}
 use Rattle.tf_journal.specs.declared.journal.Entry.{Entry}
 use Rattle.tf_journal.specs.Entries.{Log, is_entered, fault_of}
 use Rattle.tf_walk.specs.Ends.{end_at, done_in}
-use Rattle.tf_walk.specs.Outcome.{Done, skipped, excused, called, is_good}
-use Rattle.tf_walk.specs.Report.{verdict_in, entered_verdict}
+use Rattle.tf_outcome.specs.Outcome.{Done, skipped, excused, faulted, called, is_good}
+use Rattle.tf_outcome.specs.Journal.{verdict_in, entered_verdict}
 use Rattle.tf_walk.proofs.Seen.{list_all-weaker}
 use Rattle.std.proofs.lemmas.Bool.Decides.{nat_tests}
 use Rattle.std.proofs.Common.{arith}
@@ -61,6 +61,7 @@ good_entered : (o : Option Done) → is_good (unwrap_or o skipped) ≡ true → 
 good_entered None h = absurd (cc)
 good_entered (Some skipped) h = absurd (cc)
 good_entered (Some (excused m)) h = absurd (cc)
+good_entered (Some (faulted why)) h = absurd (cc)
 good_entered (Some (called r a v)) h = refl
 
 -- where all actions directly before an action are good, and it hasn't ended, its call may be recorded

@@ -1,10 +1,13 @@
 -- The excuses of the excused actions excuse exactly those.
 use Rattle.std.proofs.Common.{◌≡◌, ◌<◌, ℕ, zero, suc, ◌+◌, Bool, true, false, cond, eqb, List, [], ◌∷◌, ◌++◌, Option, Some, None, refl, ap, ◌∙◌, arith}
 use Rattle.std.proofs.lemmas.Bool.Decides.{nat_tests}
-use Rattle.tf_walk.specs.Excuse.{Moment, before_call, during_call, excuse_of, moment_in, or_else}
-use Rattle.tf_walk.specs.Outcome.{Done, skipped, excused, called, done_at}
-use Rattle.tf_walk.specs.Report.{excuses_at, excuses_from}
-use Rattle.tf_walk.specs.declared.report.Excuse.{Excuse}
+use Rattle.tf_outcome.specs.Excuse.{Moment, before_call, during_call, excuse_of, moment_in, or_else}
+use Rattle.tf_outcome.specs.Outcome.{Done, skipped, excused, faulted, called, done_at}
+use Rattle.tf_outputs.specs.declared.ends.OutputEnd.{OutputEnd}
+use Rattle.tf_outputs.specs.declared.ends.OutputEnd.TheVariants.{NotEvaluated, NoMemory, Faulted, Valued}
+use Rattle.tf_report.specs.Outcomes.{excuses_at, excuses_from}
+use Rattle.tf_report.specs.OutputsTold.{output_excuses}
+use Rattle.tf_outcome.specs.declared.excuse.Excuse.{Excuse}
 
 -- the moment at which an action is excused, if it is
 abbrev pub moment_of : Done → Option Moment
@@ -30,6 +33,7 @@ same_either false o = refl
 -- one action's excuses excuse that action
 at_one : (k n : ℕ) (d : Done) → excuse_of (excuses_at k d) n ≡ cond (eqb k n) (moment_of d) None
 at_one k n skipped = same_either (eqb k n) None
+at_one k n (faulted why) = same_either (eqb k n) None
 at_one k n (called r a v) = same_either (eqb k n) None
 at_one k n (excused before_call) = or_none (eqb k n) before_call
 at_one k n (excused during_call) = or_none (eqb k n) during_call
@@ -61,5 +65,19 @@ there k (d ∷ done) n (suc m) e =
     ∙ (ap (λ (o : Option Moment). or_else o (excuse_of (excuses_from (k + 1) done) n)) here ∙ there (k + 1) done n m (omega (arith, e)))
 
 -- an action is excused exactly as it ended
-pub excuses-are : (done : List Done) (n : ℕ) → excuse_of (excuses_from 0 done) n ≡ moment_of (done_at done n)
+excuses-are : (done : List Done) (n : ℕ) → excuse_of (excuses_from 0 done) n ≡ moment_of (done_at done n)
 excuses-are done n = there 0 done n n (omega arith)
+
+-- no excuse of an output names an action
+none_of_outputs : (first : ℕ) (ends : List OutputEnd) (n : ℕ) → excuse_of (output_excuses first ends) n ≡ None
+none_of_outputs first [] n = refl
+none_of_outputs first (NotEvaluated ∷ ends) n = none_of_outputs (first + 1) ends n
+none_of_outputs first (NoMemory ∷ ends) n = none_of_outputs (first + 1) ends n
+none_of_outputs first (Faulted why ∷ ends) n = none_of_outputs (first + 1) ends n
+none_of_outputs first (Valued ∷ ends) n = none_of_outputs (first + 1) ends n
+
+-- so an action is excused exactly as it ended by all excuses
+pub excuses-with_outputs : (done : List Done) (ends : List OutputEnd) (n : ℕ) → excuse_of (excuses_from 0 done ++ output_excuses 0 ends) n ≡ moment_of (done_at done n)
+excuses-with_outputs done ends n =
+    excuse_of-append (excuses_from 0 done) (output_excuses 0 ends) n
+    ∙ (ap (or_else (excuse_of (excuses_from 0 done) n)) (none_of_outputs 0 ends n) ∙ (or_else-none (excuse_of (excuses_from 0 done) n) ∙ excuses-are done n))

@@ -8,7 +8,7 @@ use Rattle.tf_protocol.specs.Schema.{SchemaView}
 use Rattle.tf_protocol.specs.Verdict.{verdict_on, asks_fully}
 use Rattle.tf_protocol.specs.declared.verdict.Verdict.{Verdict}
 use Rattle.tf_protocol.specs.declared.verdict.Verdict.TheVariants as verdict
-use Rattle.tf_walk.specs.Outcome.{called, skipped, call_of_provider}
+use Rattle.tf_outcome.specs.Outcome.{called, skipped, call_of_provider}
 
 by_answer : (m : Meaning) (r : Asked) (s : SchemaView) (answer : Option Answer) (v : Verdict) → IfSome answer (λ a. a ≡ m.answer r) → v ≡ verdict_on r answer s → (v ≡ verdict.Excused → ⊥)
     → called r answer v ≡ called r (Some (m.answer r)) (verdict_on r (Some (m.answer r)) s)

@@ -12,13 +12,13 @@ use Rattle.tf_graph.specs.Digraph.{Digraph, predecessors_of}
 use Rattle.tf_graph.proofs.Solving.{seen_by-same, all_done}
 use Rattle.tf_graph.specs.Solutions.{seen_by, Ranked, StaysBelow}
 use Rattle.tf_journal.specs.declared.journal.Entry.{Entry}
-use Rattle.tf_plan.specs.Plan.{PlanView}
+use Rattle.tf_plan_data.specs.Plan.{PlanView}
 use Rattle.tf_protocol.specs.Meaning.{Meaning}
 use Rattle.tf_protocol.specs.declared.verdict.Verdict.{Verdict}
 use Rattle.tf_value.proofs.Conjunction.{and-first, and-second}
 use Rattle.tf_walk.specs.Ends.{IsEnd, IsSoFar, IsStaged, Enters, AllHaveEnded, end_at, done_in, stage_of}
-use Rattle.tf_walk.specs.Outcome.{Done, skipped}
-use Rattle.tf_walk.specs.Report.{verdict_in, entered_verdict}
+use Rattle.tf_outcome.specs.Outcome.{Done, skipped, Requests, AreRequests}
+use Rattle.tf_outcome.specs.Journal.{verdict_in, entered_verdict}
 use Rattle.tf_walk.proofs.Entered.{verdict_in-push}
 use Rattle.tf_walk.proofs.Seen.{list_all-same, list_all-weaker, all_by_test}
 
@@ -72,7 +72,7 @@ ended_at false n m d o = refl
 pub so_far-more : (ms : List Meaning) (plan : PlanView) (ends : List (Option Done)) (es es' : List Entry) (n : ℕ) (d : Done)
     → IsSoFar ms plan ends es → n < length ends → end_at ends n ≡ None
     → list_all (λ m. is_some (end_at ends m)) (predecessors_of plan.order n) ≡ true
-    → IsEnd ms plan.actions n (seen_by (done_in ends) (predecessors_of plan.order n)) d
+    → ((requests : Requests) → AreRequests plan requests → IsEnd ms requests plan.actions n (seen_by (done_in ends) (predecessors_of plan.order n)) d)
     → Enters n d es es'
     → IsSoFar ms plan (set ends n (Some d)) es'
 so_far-more ms plan ends es es' n d s h free before end enters =
@@ -88,16 +88,16 @@ so_far-more ms plan ends es es' n d s h free before end enters =
             let old : is_some (end_at ends m) ≡ true = sym (ap is_some (end_at-set ends n d m h ∙ rw e refl)) ∙ some in
             list_all-weaker (λ k. is_some (end_at ends k)) (λ k. is_some (end_at new k)) (predecessors_of plan.order m) (λ k p. some_stays ends n d k h free p) (s.closed m old)
       ];
-      ended = λ m d' is. elim (cases (eqb n m)) [
+      ended = λ requests are m d' is. elim (cases (eqb n m)) [
         | inl e ↦
             let same : n ≡ m = grind (arith, nat_tests) in
             let same_end : d ≡ d' = some_is (sym here ∙ (ap (end_at new) same ∙ is)) in
-            let P : Done → Type 0 = λ x. IsEnd ms plan.actions m (seen_by (done_in new) (predecessors_of plan.order m)) x in
-            subst P same_end (rw (← same, seen_stays ends n d (predecessors_of plan.order n) h free before) end)
+            let P : Done → Type 0 = λ x. IsEnd ms requests plan.actions m (seen_by (done_in new) (predecessors_of plan.order m)) x in
+            subst P same_end (rw (← same, seen_stays ends n d (predecessors_of plan.order n) h free before) (end requests are))
         | inr e ↦
             let old : end_at ends m ≡ Some d' = sym (end_at-set ends n d m h ∙ rw e refl) ∙ is in
             let some : is_some (end_at ends m) ≡ true = ap is_some old in
-            rw (seen_stays ends n d (predecessors_of plan.order m) h free (s.closed m some)) (s.ended m d' old)
+            rw (seen_stays ends n d (predecessors_of plan.order m) h free (s.closed m some)) (s.ended requests are m d' old)
       ];
       entered = λ m.
           entered_at es es' n d (entered_verdict d) refl enters (s.entered n ∙ ap (option_and_then entered_verdict) free) m

@@ -1,5 +1,5 @@
 -- How one action ends, whatever is excused later.
-use Rattle.std.specs.Prelude.{◌≡◌, ℕ, ◌<◌, true, List, [], ◌∷◌, ◌++◌, length, Option, Some, None, is_some, unwrap_or, slice_index_or, MatchBool, MatchOption, option_and_then}
+use Rattle.std.specs.Prelude.{◌≡◌, ℕ, ◌<◌, true, false, List, [], ◌∷◌, ◌++◌, length, Option, Some, None, is_some, unwrap_or, slice_index_or, MatchBool, MatchOption, option_and_then}
 use Rattle.std.specs.List.{list_all}
 use Rattle.tf_claim.specs.Ledger.{stage_in}
 use Rattle.tf_claim.specs.declared.book.Stage.{Stage}
@@ -7,19 +7,23 @@ use Rattle.tf_claim.specs.declared.book.Stage.TheVariants as stage
 use Rattle.tf_graph.specs.Digraph.{predecessors_of}
 use Rattle.tf_graph.specs.Solutions.{seen_by}
 use Rattle.tf_journal.specs.declared.journal.Entry.{Entry}
-use Rattle.tf_plan.specs.Plan.{ActionView, PlanView}
+use Rattle.tf_plan_data.specs.Action.{ActionView}
+use Rattle.tf_plan_data.specs.Plan.{PlanView}
 use Rattle.tf_protocol.specs.Meaning.{Meaning}
-use Rattle.tf_walk.specs.Outcome.{Done, skipped, excused, all_good, call_at}
-use Rattle.tf_walk.specs.Report.{verdict_in, entered_verdict}
+use Rattle.tf_outcome.specs.Excuse.{before_call, during_call}
+use Rattle.tf_outcome.specs.Journal.{verdict_in, entered_verdict}
+use Rattle.tf_outcome.specs.Outcome.{Done, skipped, excused, Requests, AreRequests, all_good, call_at, is_faulted}
 
--- an action that may be called has what comes of the call, or is excused
+-- An action that may be called has what comes of the call, or is excused: before the call whatever would come of it,
+-- during the call only where there is one.
 abbrev pub IsRun : Done → Done → Type 0
-IsRun call (excused moment) = Unit {0}
+IsRun call (excused before_call) = Unit {0}
+IsRun call (excused during_call) = is_faulted call ≡ false
 IsRun call d = d ≡ call
 
--- An action is skipped where one directly before it isn't good, and else it is called or excused.
-abbrev pub IsEnd : List Meaning → List ActionView → ℕ → List (ℕ × Done) → Done → Type 0
-IsEnd ms actions n seen d = MatchBool (all_good seen) (IsRun (call_at ms actions n) d) (d ≡ skipped)
+-- An action is skipped where one directly before it isn't good, and else it is called, faulted or excused.
+abbrev pub IsEnd : List Meaning → Requests → List ActionView → ℕ → List (ℕ × Done) → Done → Type 0
+IsEnd ms requests actions n seen d = MatchBool (all_good seen) (IsRun (call_at ms requests actions n seen) d) (d ≡ skipped)
 
 -- what came of an action so far
 abbrev pub end_at : List (Option Done) → ℕ → Option Done
@@ -43,7 +47,7 @@ IsStaged stages ends = (n : ℕ) → stage_in stages n ≡ stage_of (end_at ends
 pub record IsSoFar (ms : List Meaning) (plan : PlanView) (ends : List (Option Done)) (entries : List Entry) : Type 0 where
   pub sized : length ends ≡ length plan.actions
   pub closed : (n : ℕ) → is_some (end_at ends n) ≡ true → list_all (λ m. is_some (end_at ends m)) (predecessors_of plan.order n) ≡ true
-  pub ended : (n : ℕ) (d : Done) → end_at ends n ≡ Some d → IsEnd ms plan.actions n (seen_by (done_in ends) (predecessors_of plan.order n)) d
+  pub ended : (requests : Requests) → AreRequests plan requests → (n : ℕ) (d : Done) → end_at ends n ≡ Some d → IsEnd ms requests plan.actions n (seen_by (done_in ends) (predecessors_of plan.order n)) d
   pub entered : (n : ℕ) → verdict_in entries n ≡ option_and_then entered_verdict (end_at ends n)
 
 -- an action's entry is added to a journal where its end calls for one

@@ -1,14 +1,3 @@
-pub mod Addition
-pub mod After
-pub mod Diagnostics
-pub mod Draft
-pub mod Ended
+pub mod Asked
 pub mod Ends
-pub mod Excuse
-pub mod Fallback
-pub mod Outcome
 pub mod Prepared
-pub mod Report
-pub mod Room
-pub mod RoomHead
-pub mod Savable

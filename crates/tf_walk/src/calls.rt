@@ -6,15 +6,14 @@ ghost use Rattle.tf_journal.specs.Entries.{fault_of};
 ghost use Rattle.tf_journal.specs.declared.journal.Entry.{Entry};
 ghost use Rattle.tf_provider.specs.Call.{IsServed};
 ghost use Rattle.tf_protocol.specs.Meaning.{asked};
-ghost use Rattle.tf_walk.specs.Ended.{done_of, done_or_skipped};
+ghost use Rattle.tf_outcome.specs.Ended.{done_of, done_or_skipped};
+ghost use Rattle.tf_outcome.specs.Journal.{entered_verdict};
+ghost use Rattle.tf_outcome.specs.Outcome.{call_of_provider, is_good};
 ghost use Rattle.tf_walk.specs.Ends.{IsRun, done_in};
-ghost use Rattle.tf_walk.specs.Outcome.{call_of_provider, is_good};
-ghost use Rattle.tf_walk.specs.Report.{entered_verdict};
 
-use crate::asking::Asking;
-use crate::ended::{Ended, Judged};
 use tf_claim::{Finished, Permit};
 use tf_journal::Journal;
+use tf_outcome::{Asking, Ended, Judged};
 use tf_provider::{Parts, Provider, Verdict, call};
 
 /// Calls a provider with a request, and records the call.

@@ -2,23 +2,15 @@
 //! is recorded and reported.
 #![tactic(auto)]
 
-mod addition;
-mod asking;
 mod calls;
 mod claims;
-mod conclude;
-mod draft;
-mod ended;
-mod furnish;
-mod gather;
-mod one_line;
+mod messages;
 mod prepared;
-pub mod report;
 mod requests;
-mod rooms;
 mod single;
 mod steps;
 mod walk;
 
-pub use report::{Diagnostic, Excuse, Outcome, Report, Walked};
 pub use single::run_one;
+pub use tf_outcome::{Excuse, Outcome};
+pub use tf_report::{Diagnostic, Report, Walked};

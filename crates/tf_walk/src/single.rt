@@ -1,43 +1,39 @@
 //! Carrying out a plan by one thread.
 
-ghost use Rattle.std.specs.List.{AllByRecursion};
-ghost use Rattle.std.specs.Prelude.{◌≡◌, List, map, count_by, IfOk, IfErr};
-ghost use Rattle.tf_plan.specs.Plan.{action_of, plan_of};
-ghost use Rattle.tf_plan.specs.Served.{AreServed};
+ghost use Rattle.std.specs.Prelude.{◌≡◌, List, map, IfOk, IfErr};
+ghost use Rattle.tf_plan_data.specs.Action.{action_of};
+ghost use Rattle.tf_plan_data.specs.Plan.{FitsTogether, plan_of};
+ghost use Rattle.tf_plan_data.specs.Served.{AreServed};
 ghost use Rattle.tf_refusal.specs.Refusal.{no_memory, told};
-ghost use Rattle.tf_state_data.specs.State.{state_of};
-ghost use Rattle.tf_walk.specs.Addition.{saved_in, told_in};
-ghost use Rattle.tf_walk.specs.After.{is_any, raised, with_resources};
-ghost use Rattle.tf_walk.specs.Diagnostics.{diagnostic_of};
-ghost use Rattle.tf_walk.specs.Ended.{dones_of};
-ghost use Rattle.tf_walk.specs.Outcome.{Done, is_good};
-ghost use Rattle.tf_walk.specs.Prepared.{IsOver, IsPrepared};
-ghost use Rattle.tf_walk.specs.Report.{IsJournal, IsReport, IsWalked, excuses_from, outcome_of};
-ghost use Rattle.tf_walk.specs.RoomHead.{room_head};
-ghost use Rattle.tf_walk.specs.Savable.{AsksWithin, HasRecords};
+ghost use Rattle.tf_outcome.specs.Journal.{IsJournal};
+ghost use Rattle.tf_outcome.specs.Outcome.{Done, Requests, AreRequests};
+ghost use Rattle.tf_outputs.specs.Outputs.{OutputDone};
+ghost use Rattle.tf_report.specs.Report.{IsReport, IsWalked};
+ghost use Rattle.tf_walk.specs.Prepared.{IsPrepared};
 
-use crate::draft::Draft;
-use crate::ended::Ended;
-use crate::gather::{conclude_all, count_good, put_all, tell_excuses, tell_outcomes};
 use crate::prepared::{Prepared, prepare};
-use crate::report::{Report, Walked};
-use crate::rooms::Room;
 use crate::walk::walk;
 use std::alloc::{AllocError, Global};
-use tf_journal::Journal;
-use tf_plan::Plan;
+use tf_environment::Declarations;
+use tf_plan_data::Plan;
 use tf_provider::Provider;
 use tf_refusal::Refusal;
+use tf_report::{Report, Walked, report_of};
 
 /// Carries out a plan by one thread, without waiting: every action is ended once, after all that stand before
-/// it. Some provider in the list has the type of each action, and the action's object has exactly the
-/// attributes of that type's schema. Refused, before the first call, only where there is no memory for the
-/// report; after the first call, no memory is taken for what a reply says.
+/// it. The parts of the plan fit together, and some provider in the list has the type of each action. Refused, before
+/// the first call, only where there is no memory for the report; after the first call, no memory is taken for what a
+/// reply says.
+///
+/// # Errors
+///
+/// Only where memory runs out.
 pub fn run_one(
     alloc: Global,
     plan: &Plan,
     providers: &[Box<dyn Provider + Sync>],
 ) -> Result<Walked, Refusal>
+    requires fits { FitsTogether plan.now }
     requires served { AreServed (map (λ b. meaning b) providers.now) (map action_of plan.now.actions.items) }
     ensures walked { IfOk result (IsWalked (map (λ b. meaning b) providers.now) (plan_of plan.now)) }
     ensures refused { IfErr result (λ r. told r ≡ no_memory) }
@@ -53,70 +49,39 @@ fn carry_out(
     alloc: Global,
     plan: &Plan,
     providers: &[Box<dyn Provider + Sync>],
-    prepared: Prepared,
+    prepared: Prepared<'_>,
 ) -> Report
+    requires fits { FitsTogether plan.now }
     requires served { AreServed (map (λ b. meaning b) providers.now) (map action_of plan.now.actions.items) }
-    requires prepared { IsPrepared (plan_of plan.now) prepared }
-    ensures { (done : List Done)
-        × IsReport (map (λ b. meaning b) providers.now) (plan_of plan.now) done result
+    requires prepared { IsPrepared plan.now prepared }
+    ensures { (requests : Requests) → AreRequests (plan_of plan.now) requests
+        → (done : List Done) × (outputs : List OutputDone)
+        × IsReport (map (λ b. meaning b) providers.now) requests (plan_of plan.now) done outputs result
         × IsJournal (plan_of plan.now) done result.journal.entries }
 {
     let Prepared {
+        names,
         mut book,
         mut journal,
+        furnished,
         mut results,
-        rooms,
-        draft,
     } = prepared;
     walk(
         alloc,
         plan,
+        &names,
         providers,
         &mut book,
         &mut journal,
         &mut results,
     );
     let _entries = journal.entries();
-    report_of(draft, providers, rooms, results, journal)
-}
-
-/// The report on actions that ended, put together in a draft without taking memory.
-fn report_of(
-    draft: Draft,
-    providers: &[Box<dyn Provider + Sync>],
-    rooms: Vec<Room>,
-    results: Vec<Option<Ended>>,
-    journal: Journal,
-) -> Report
-    requires { IsOver (map (λ b. meaning b) providers.now) draft rooms.items results.items }
-    ensures state { state_of result.state
-        ≡ raised (is_any (saved_in (map (λ b. meaning b) providers.now) (map room_head rooms.items) (dones_of results.items)))
-        (with_resources (saved_in (map (λ b. meaning b) providers.now) (map room_head rooms.items) (dones_of results.items)) (state_of draft.state)) }
-    ensures records { AllByRecursion AsksWithin (dones_of results.items)
-        → AllByRecursion HasRecords (saved_in (map (λ b. meaning b) providers.now) (map room_head rooms.items) (dones_of results.items)) }
-    ensures outcomes { result.outcomes.items ≡ map outcome_of (dones_of results.items) }
-    ensures diagnostics { map diagnostic_of result.diagnostics.items ≡ told_in (map room_head rooms.items) (dones_of results.items) }
-    ensures journal { result.journal ≡ journal }
-    ensures excused { result.excused.items ≡ excuses_from 0 (dones_of results.items) }
-    ensures good { result.good ≡ (count_by is_good (dones_of results.items), 0, 0) }
-{
-    let Draft {
-        state,
-        mut resources,
-        mut outcomes,
-        mut diagnostics,
-        mut excused,
-    } = draft;
-    tell_outcomes(&mut outcomes, &results);
-    tell_excuses(&mut excused, &results);
-    let good = count_good(&results);
-    conclude_all(providers, rooms, results, &mut resources, &mut diagnostics);
-    Report {
-        state: put_all(state, resources),
-        outcomes,
-        diagnostics,
-        journal,
-        excused,
-        good: (good, 0, 0),
-    }
+    let declared = Declarations {
+        variables: &plan.variables,
+        names: &names,
+        dependence: &plan.dependence,
+    };
+    report_of(
+        alloc, plan, &declared, providers, furnished, results, journal,
+    )
 }

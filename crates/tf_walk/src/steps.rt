@@ -2,55 +2,70 @@
 
 ghost use Rattle.std.specs.List.{list_all};
 ghost use Rattle.std.specs.Prelude.{◌≡◌, ◌<◌, None, Some, length, map, option_map, slice_get, IsSomeAnd, IsTrue};
+ghost use Rattle.tf_config_data.specs.Config.{config_of};
+ghost use Rattle.tf_config_data.specs.Names.{names_of};
 ghost use Rattle.tf_graph.specs.Digraph.{predecessors_of};
 ghost use Rattle.tf_graph.specs.Solutions.{seen_by};
 ghost use Rattle.tf_journal.specs.Entries.{fault_of};
-ghost use Rattle.tf_plan.specs.Plan.{action_of, plan_of};
-ghost use Rattle.tf_plan.specs.Served.{AreServed};
+ghost use Rattle.tf_names.specs.Table.{names_in};
+ghost use Rattle.tf_plan_data.specs.Action.{action_of};
+ghost use Rattle.tf_plan_data.specs.Plan.{FitsTogether, plan_of};
+ghost use Rattle.tf_plan_data.specs.Served.{AreServed};
 ghost use Rattle.tf_protocol.specs.Meaning.{asked, schema_in};
 ghost use Rattle.tf_protocol.specs.Verdict.{asks_fully};
-ghost use Rattle.tf_walk.specs.Ended.{done_of};
+ghost use Rattle.tf_outcome.specs.Ended.{done_of};
+ghost use Rattle.tf_outcome.specs.Outcome.{Requests, AreRequests, call_of};
 ghost use Rattle.tf_walk.specs.Ends.{Enters, IsEnd, IsRun, IsSoFar, done_in, end_at};
-ghost use Rattle.tf_walk.specs.Outcome.{call_of};
 
-use crate::asking::Asking;
 use crate::calls::{are_good, make_call};
-use crate::ended::Ended;
-use crate::requests::ask;
+use crate::requests::ask_provider;
 use std::alloc::{AllocError, Global};
 use tf_claim::{Finished, Permit, waive};
 use tf_journal::Journal;
-use tf_plan::Plan;
+use tf_names::Names;
+use tf_outcome::{Answered, Asking, Ended};
+use tf_plan_data::Plan;
 use tf_provider::{Provider, first_provider};
 
-/// Ends a claimed action: skips it where an action directly before it isn't good, excuses it where memory
-/// for its request is refused, and else calls its provider.
+/// Ends a claimed action: skips it where an action directly before it isn't good; excuses it where memory for its
+/// request is refused; tells what is wrong where its request has a fault; and else calls its provider.
 pub fn end_action(
     alloc: Global,
     plan: &Plan,
+    names: &Names<'_>,
     providers: &[Box<dyn Provider + Sync>],
     journal: &mut Journal,
     results: &[Option<Ended>],
     permit: Permit,
 ) -> (Ended, Finished)
+    requires fits { FitsTogether plan.now }
+    requires names { names_in names.now ≡ names_of (config_of plan.now.config) }
     requires served { AreServed (map (λ b. meaning b) providers.now) (map action_of plan.now.actions.items) }
     requires so_far { IsSoFar (map (λ b. meaning b) providers.now) (plan_of plan.now) (map (option_map done_of) results.now) journal.old.entries }
     requires free { end_at (map (option_map done_of) results.now) permit ≡ None }
     requires within { permit < length plan.now.actions.items }
     requires graph { journal.old.graph ≡ plan.now.order }
     ensures finished { result.1 ≡ permit }
-    ensures ended { IsEnd (map (λ b. meaning b) providers.now) (map action_of plan.now.actions.items) permit
+    ensures ended { (requests : Requests) → AreRequests (plan_of plan.now) requests → IsEnd (map (λ b. meaning b) providers.now) requests (map action_of plan.now.actions.items) permit
         (seen_by (done_in (map (option_map done_of) results.now)) (predecessors_of plan.now.order permit)) (done_of result.0) }
     ensures entered { Enters permit (done_of result.0) journal.old.entries journal.new.entries }
     ensures same_graph { journal.new.graph ≡ journal.old.graph }
 {
     let action = permit.action();
-    if !are_good(results, plan.order.graph().predecessors(action)) {
+    let before = plan.order.graph().predecessors(action);
+    if !are_good(results, before) {
         return (Ended::Skipped, waive(permit));
     }
-    match ask(alloc, &plan.actions[action]) {
+    let actions = plan.actions.as_slice();
+    let seen = Answered {
+        actions,
+        seen: before,
+        results,
+    };
+    match ask_provider(alloc, plan, names, providers, &actions[action], &seen) {
         Err(AllocError) => (Ended::NotAsked, waive(permit)),
-        Ok(asking) => serve(providers, journal, permit, asking),
+        Ok(Err(faulted)) => (Ended::Faulted(faulted), waive(permit)),
+        Ok(Ok(asking)) => serve(providers, journal, permit, asking),
     }
 }
 

@@ -1,30 +1,38 @@
 //! The walk of one thread.
 
 ghost use Rattle.std.specs.Prelude.{◌≡◌, ◌<◌, None, Some, map, option_map, length, slice_set};
-ghost use Rattle.tf_plan.specs.Plan.{action_of, plan_of};
-ghost use Rattle.tf_plan.specs.Served.{AreServed};
-ghost use Rattle.tf_walk.specs.Ended.{done_of};
+ghost use Rattle.tf_config_data.specs.Config.{config_of};
+ghost use Rattle.tf_config_data.specs.Names.{names_of};
+ghost use Rattle.tf_names.specs.Table.{names_in};
+ghost use Rattle.tf_plan_data.specs.Action.{action_of};
+ghost use Rattle.tf_plan_data.specs.Plan.{FitsTogether, plan_of};
+ghost use Rattle.tf_plan_data.specs.Served.{AreServed};
+ghost use Rattle.tf_outcome.specs.Ended.{done_of};
 ghost use Rattle.tf_walk.specs.Ends.{AllHaveEnded, IsSoFar, IsStaged, end_at};
 
 use crate::claims::{close, next_permit};
-use crate::ended::Ended;
 use crate::steps::end_action;
 use std::alloc::Global;
 use std::mem;
 use tf_claim::Book;
 use tf_journal::Journal;
-use tf_plan::Plan;
+use tf_names::Names;
+use tf_outcome::Ended;
+use tf_plan_data::Plan;
 use tf_provider::Provider;
 
 /// Takes every action of a plan to its end.
 pub fn walk(
     alloc: Global,
     plan: &Plan,
+    names: &Names<'_>,
     providers: &[Box<dyn Provider + Sync>],
     book: &mut Book,
     journal: &mut Journal,
     results: &mut [Option<Ended>],
 )
+    requires fits { FitsTogether plan.now }
+    requires names { names_in names.now ≡ names_of (config_of plan.now.config) }
     requires served { AreServed (map (λ b. meaning b) providers.now) (map action_of plan.now.actions.items) }
     requires so_far { IsSoFar (map (λ b. meaning b) providers.now) (plan_of plan.now) (map (option_map done_of) results.old) journal.old.entries }
     requires staged { IsStaged book.old.stages (map (option_map done_of) results.old) }
@@ -37,7 +45,7 @@ pub fn walk(
     let _order = plan.order.graph();
     while let Some(permit) = next_permit(book) {
         let action = permit.action();
-        let (ended, finished) = end_action(alloc, plan, providers, journal, results, permit);
+        let (ended, finished) = end_action(alloc, plan, names, providers, journal, results, permit);
         keep(results, action, ended);
         close(book, finished);
     }

@@ -3,14 +3,14 @@
 use std::alloc::{AllocError, Global};
 use std::process::Abort;
 use std::test::Fail;
-use tf_config::{Refusal, read_whole};
+use tf_config::{Refusal, read};
 use tf_value::{Value, to_json};
 use tf_variables::{read_vars, values_are_one};
 
 // The values as JSON, or the refusal's text. The configuration declares these variables.
 fn answer(alloc: Global, variables: &str, file: Option<&[u8]>) -> Result<String, Fail> {
     let text = format!(in alloc; "{{\"variable\": {{{variables}}}}}")?;
-    let config = read_whole(alloc, text.as_bytes()).map_err(|_| "the configuration is refused")?;
+    let config = read(alloc, text.as_bytes()).map_err(|_| "the configuration is refused")?;
     match read_vars(alloc, file, &config) {
         Ok(values) => {
             let json = to_json(alloc, &Value::Map(values)).map_err(|_| "no JSON")?;
@@ -412,7 +412,7 @@ fn keeps_the_limit_of_a_file(rt: HostRuntime) -> Result<(), Fail> {
 fn says_when_memory_ran_out(rt: HostRuntime) {
     let text = "{\"variable\": {\"a\": {\"default\": [1]}, \"b\": {\"type\": \"map(string)\"}}}";
     let file = "{\"b\": {\"k\": 1}}";
-    match read_whole(rt.alloc(), text.as_bytes()) {
+    match read(rt.alloc(), text.as_bytes()) {
         Ok(config) => match read_vars(rt.alloc(), Some(file.as_bytes()), &config) {
             Ok(values) => assert_eq!(rt; values.len(), 2),
             Err(refusal) => assert!(rt; matches!(refusal, Refusal::OutOfMemory)),

@@ -1,6 +1,7 @@
 //! Plans and applies of whole texts, watched.
 
 use std::alloc::{AllocError, Global};
+use std::fmt::Debug;
 use std::process::Abort;
 use std::sync::Arc;
 use std::sync::atomic::{AtomicUsize, Ordering};
@@ -36,6 +37,30 @@ impl Provider for Watched {
     }
 }
 
+/// The texts that are handed in.
+#[derive(Clone, Copy)]
+pub struct Texts<'a> {
+    pub config: &'a [u8],
+    pub vars: Option<&'a [u8]>,
+    pub state: Option<&'a [u8]>,
+}
+
+impl<'a> Texts<'a> {
+    /// A configuration alone.
+    pub fn of(config: &'a str) -> Texts<'a> {
+        Texts::with_vars(config, None)
+    }
+
+    /// A configuration, and a variables file where there is one.
+    pub fn with_vars(config: &'a str, vars: Option<&'a str>) -> Texts<'a> {
+        Texts {
+            config: config.as_bytes(),
+            vars: vars.map(|vars| vars.as_bytes()),
+            state: None,
+        }
+    }
+}
+
 /// What an apply prints and answers.
 #[derive(Drop)]
 pub struct Seen {
@@ -45,25 +70,22 @@ pub struct Seen {
     /// The text of the state after, where nothing is refused.
     pub state: String,
     pub changed: bool,
+    /// How each action ended, in action order.
+    pub outcomes: String,
     pub calls: usize,
-    /// How many calls are in the journal.
-    pub recorded: usize,
+    /// The actions in the journal.
+    pub journal: Vec<usize>,
 }
 
 /// Applies a configuration.
-pub fn watch_apply(
-    alloc: Global,
-    config: &[u8],
-    state: Option<&[u8]>,
-    forgetful: bool,
-) -> Result<Seen, Fail> {
+pub fn watch_apply(alloc: Global, texts: Texts<'_>, forgetful: bool) -> Result<Seen, Fail> {
     let calls = Arc::new(alloc, AtomicUsize::new(0))?;
     let watched = Watched {
         sim: Sim::new(alloc)?,
         calls: Arc::try_clone(&calls)?,
         forgetful,
     };
-    let mut seen = apply_by(alloc, config, state, Box::new(alloc, watched)?)?;
+    let mut seen = apply_by(alloc, texts, Box::new(alloc, watched)?)?;
     seen.calls = calls.load(Ordering::SeqCst);
     Ok(seen)
 }
@@ -71,50 +93,61 @@ pub fn watch_apply(
 /// Applies a configuration by a provider whose calls aren't counted.
 pub fn apply_by(
     alloc: Global,
-    config: &[u8],
-    state: Option<&[u8]>,
+    texts: Texts<'_>,
     provider: Box<dyn Provider + Sync>,
 ) -> Result<Seen, Fail> {
     let mut providers: Vec<Box<dyn Provider + Sync>> = Vec::new(alloc);
     providers.push(provider)?;
-    let answer = apply_text(alloc, config, None, state, "L", &providers);
+    let answer = apply_text(
+        alloc,
+        texts.config,
+        texts.vars,
+        texts.state,
+        "L",
+        &providers,
+    );
     let mut output = Vec::new(alloc);
     let mut errors = Vec::new(alloc);
     let status = show(&answer, &mut output, &mut errors);
     let After {
         state,
         changed,
-        recorded,
-    } = state_after(alloc, answer);
+        outcomes,
+        journal,
+    } = state_after(alloc, answer)?;
     Ok(Seen {
         output: String::from_utf8(output)?,
         errors: String::from_utf8(errors)?,
         status,
         state,
         changed,
+        outcomes,
         calls: 0,
-        recorded,
+        journal,
     })
 }
 
-/// What an answer says of the state after.
+/// What an answer says of the walk, and of the state after it.
 #[derive(Drop)]
 pub struct After {
     /// The text of the state, where nothing is refused and there was memory for it.
     state: String,
     changed: bool,
-    /// How many calls are in the journal.
-    recorded: usize,
+    /// How each action ended, in action order.
+    outcomes: String,
+    /// The actions in the journal.
+    journal: Vec<usize>,
 }
 
-/// What an answer says of the state after. All else goes.
-pub fn state_after(alloc: Global, answer: Result<Applied, Refused>) -> After {
+/// What an answer says of the walk, and of the state after it. All else goes.
+pub fn state_after(alloc: Global, answer: Result<Applied, Refused>) -> Result<After, AllocError> {
     let Ok(applied) = answer else {
-        return After {
+        return Ok(After {
             state: String::new(alloc),
             changed: false,
-            recorded: 0,
-        };
+            outcomes: String::new(alloc),
+            journal: Vec::new(alloc),
+        });
     };
     let Applied {
         plan: _,
@@ -124,32 +157,43 @@ pub fn state_after(alloc: Global, answer: Result<Applied, Refused>) -> After {
     } = applied;
     let Report {
         state: _,
-        outcomes: _,
+        outcomes,
         diagnostics: _,
         journal,
         excused: _,
         good: _,
     } = walked.into_report();
-    let recorded = journal.entries().len();
-    match state {
-        Ok(state) => After {
-            state,
-            changed,
-            recorded,
-        },
-        Err(AllocError) => After {
-            state: String::new(alloc),
-            changed: false,
-            recorded,
-        },
+    let mut called = Vec::new(alloc);
+    for entry in journal.entries() {
+        called.push(entry.action)?;
     }
+    Ok(After {
+        state: match state {
+            Ok(state) => state,
+            Err(AllocError) => String::new(alloc),
+        },
+        changed,
+        outcomes: listed(alloc, outcomes.as_slice())?,
+        journal: called,
+    })
+}
+
+/// Things one after another, with commas.
+fn listed<T: Debug>(alloc: Global, things: &[T]) -> Result<String, AllocError> {
+    let mut text = String::new(alloc);
+    for thing in things {
+        let separator = if text.is_empty() { "" } else { ", " };
+        let next = format!(in alloc; "{separator}{thing:?}")?;
+        text.push_str(next.as_str())?;
+    }
+    Ok(text)
 }
 
 /// The plan's text, or the refusals.
-pub fn planned(alloc: Global, config: &[u8], state: Option<&[u8]>) -> Result<String, Fail> {
+pub fn planned(alloc: Global, texts: Texts<'_>) -> Result<String, Fail> {
     let mut providers: Vec<Box<dyn Provider + Sync>> = Vec::new(alloc);
     providers.push(Box::new(alloc, Sim::new(alloc)?)?)?;
-    match plan_text(alloc, config, None, state, &providers) {
+    match plan_text(alloc, texts.config, texts.vars, texts.state, &providers) {
         Ok(text) => Ok(text),
         Err(refused) => {
             let mut errors = Vec::new(alloc);
@@ -159,17 +203,16 @@ pub fn planned(alloc: Global, config: &[u8], state: Option<&[u8]>) -> Result<Str
     }
 }
 
-// Checks that a plan and an apply are refused with these lines, and that no provider was called.
+/// Checks that a plan and an apply are refused with these lines, and that no provider was called.
 pub fn check_refused(
     rt: &impl Abort,
     alloc: Global,
-    config: &[u8],
-    state: Option<&[u8]>,
+    texts: Texts<'_>,
     errors: &str,
 ) -> Result<(), Fail> {
-    let said = planned(alloc, config, state)?;
+    let said = planned(alloc, texts)?;
     assert_eq!(rt; said.as_str(), errors);
-    let seen = watch_apply(alloc, config, state, false)?;
+    let seen = watch_apply(alloc, texts, false)?;
     assert_eq!(rt; seen.output.as_str(), "", "{errors}");
     assert_eq!(rt; seen.errors.as_str(), errors);
     assert_eq!(rt; seen.status, 1, "{errors}");

@@ -3,7 +3,7 @@
 ghost use Rattle.std.specs.Prelude.{◌≡◌, IfOk, option_map};
 ghost use Rattle.tf_value.specs.Tree.{tree_of};
 
-use crate::tests::applying::{CONFIG, NOTHING, apply_by};
+use crate::tests::applying::{CONFIG, NOTHING, Texts, apply_by};
 use std::alloc::{AllocError, Global};
 use std::collections::BTreeMap;
 use std::test::Fail;
@@ -151,7 +151,7 @@ fn answers_of_each_kind(rt: HostRuntime) -> Result<(), Fail> {
             message,
             object,
         };
-        let seen = apply_by(alloc, CONFIG.as_bytes(), None, Box::new(alloc, scripted)?)?;
+        let seen = apply_by(alloc, Texts::of(CONFIG), Box::new(alloc, scripted)?)?;
         let state = net_state(alloc, *cidr, *id, *status)?;
         assert_eq!(rt; seen.errors.as_str(), *errors, "{said:?}");
         assert_eq!(rt; seen.state.as_str(), state.as_str(), "{said:?}");

@@ -38,7 +38,7 @@ fn tells_that_a_state_is_not_written(rt: HostRuntime) -> Result<(), Fail> {
         let mut output = Vec::new(rt.alloc());
         let mut told = Vec::new(rt.alloc());
         let shown = show(&answer, &mut output, &mut told);
-        let _ = state_after(rt.alloc(), answer);
+        let _ = state_after(rt.alloc(), answer)?;
         assert_eq!(rt; shown, status, "{config}");
         assert_eq!(rt; told.as_slice(), errors.as_bytes(), "{config}");
     }
@@ -51,7 +51,7 @@ fn tells_want_of_memory(rt: HostRuntime) -> Result<(), Fail> {
     let mut output = Vec::new(rt.alloc());
     let mut errors = Vec::new(rt.alloc());
     let status = show(&answer, &mut output, &mut errors);
-    let _ = state_after(rt.alloc(), answer);
+    let _ = state_after(rt.alloc(), answer)?;
     assert_eq!(rt; status, 1);
     assert!(rt; output.is_empty());
     assert_eq!(rt;
@@ -121,6 +121,6 @@ fn shows_what_has_room(rt: HostRuntime) -> Result<(), Fail> {
         );
         assert_eq!(rt; status_then, status);
     }
-    let _ = state_after(rt.alloc(), answer);
+    let _ = state_after(rt.alloc(), answer)?;
     Ok(())
 }

@@ -14,6 +14,7 @@ fn read(alloc: Global, words: &[&str]) -> Result<Options, clap::Error> {
 fn reads_defaults(rt: HostRuntime) -> Result<(), Fail> {
     let read = read(rt.alloc(), &["apply"])?;
     assert_eq!(rt; read.config.as_str(), "main.tf.json");
+    assert!(rt; read.vars.is_none());
     assert_eq!(rt; read.state.as_str(), "terraform.tfstate");
     assert_eq!(rt;
         read.lineage.as_str(),
@@ -30,6 +31,8 @@ fn reads_all(rt: HostRuntime) -> Result<(), Fail> {
         "--parallelism=64",
         "--config",
         "a",
+        "--vars",
+        "v",
         "--state",
         "b",
         "--lineage",
@@ -37,6 +40,7 @@ fn reads_all(rt: HostRuntime) -> Result<(), Fail> {
     ];
     let read = read(rt.alloc(), &words)?;
     assert_eq!(rt; read.config.as_str(), "a");
+    assert_eq!(rt; read.vars.as_ref().map(|file| file.as_str()), Some("v"));
     assert_eq!(rt; read.state.as_str(), "b");
     assert_eq!(rt; read.lineage.as_str(), "L");
     assert_eq!(rt; read.parallelism, 64);
@@ -51,7 +55,13 @@ fn refuses_words(rt: HostRuntime) -> Result<(), Fail> {
             Err(error) => assert!(rt; error.use_stderr(), "{number}"),
         }
     }
-    assert!(rt; read(rt.alloc(), &["apply", "--vars", "v"]).is_err());
+    for words in [
+        ["apply", "--vars"].as_slice(),
+        ["apply", "--vars", "v", "--vars", "w"].as_slice(),
+        ["apply", "--stop-after", "1"].as_slice(),
+    ] {
+        assert!(rt; read(rt.alloc(), words).is_err());
+    }
     match read(rt.alloc(), &["apply", "--help"]) {
         Ok(_) => assert!(rt; false, "help was read"),
         Err(error) => assert!(rt; !error.use_stderr()),

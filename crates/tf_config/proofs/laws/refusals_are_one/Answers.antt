@@ -1,4 +1,4 @@
-use Rattle.tf_config.proofs.RefusalLaws.{refused_once, refused_not_read, whole_once, whole_not_read}
+use Rattle.tf_config.proofs.RefusalLaws.{refused_once, refused_not_read}
 use Rattle.tf_config.proofs.laws.refusals_are_one.Goals as goal
 
 pub returns-clause-once : goal.returns-clause-once
@@ -6,9 +6,3 @@ returns-clause-once c = refused_once
 
 pub returns-clause-not_read : goal.returns-clause-not_read
 returns-clause-not_read c = refused_not_read
-
-pub returns-clause-whole_once : goal.returns-clause-whole_once
-returns-clause-whole_once c = whole_once
-
-pub returns-clause-whole_not_read : goal.returns-clause-whole_not_read
-returns-clause-whole_not_read c = whole_not_read

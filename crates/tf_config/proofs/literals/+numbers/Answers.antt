@@ -3,8 +3,7 @@ use Rattle.std.proofs.lemmas.Result.{err_from_is_err_and}
 use Rattle.std.specs.Fmt.{decimal}
 use Rattle.serde_json.proofs.Views.{Entry}
 use Rattle.serde_json.specs.View.{view, items_view, members_view}
-use Rattle.tf_config.proofs.Functions.{drop_next}
-use Rattle.tf_config.proofs.Walks.{left_more, left_refused}
+use Rattle.tf_config.proofs.Walks.{drop_next, left_more, left_refused}
 use Rattle.tf_config.specs.Demand.{IsMet, Fails}
 use Rattle.tf_config.specs.Parts.{number_checks, item_number_checks, member_number_checks}
 use Rattle.tf_json_path.proofs.Places.{place_of-Member, place_of-Item}

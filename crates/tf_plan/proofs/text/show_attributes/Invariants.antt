@@ -1,6 +1,6 @@
 -- the text so far, with the lines of the attributes that are left
 use Rattle.std.proofs.Common.{◌≡◌, ◌++◌, string_bytes}
-use Rattle.tf_plan.specs.Plan.{attribute_lines}
+use Rattle.tf_plan.specs.Text.{attribute_lines}
 use Rattle.tf_value.specs.Tree.{entries_view}
 use Rattle.tf_plan.proofs.text.show_attributes.Given as goal
 

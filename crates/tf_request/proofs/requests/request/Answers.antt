@@ -1,32 +1,35 @@
-use Rattle.std.proofs.Common.{length, ap, ◌∙◌}
+use Rattle.std.proofs.Common.{◌≡◌, ◌<◌, ℕ, List, length, sym, subst, ◌∙◌}
+use Rattle.std.specs.List.{AllByRecursion}
 use Rattle.tf_address.specs.Label.{label_of}
 use Rattle.tf_address.specs.ObjectId.{instance_key_of}
 use Rattle.tf_config_data.specs.Config.{block_at}
+use Rattle.tf_config_data.specs.Names.{places}
+use Rattle.tf_environment.proofs.Places.{all_places}
 use Rattle.tf_environment.specs.Views.{shapes_of, standings_of}
-use Rattle.tf_graph.specs.NodeSet.{has}
 use Rattle.tf_names.specs.Table.{names_in}
 use Rattle.tf_value.specs.Tree.{entries_view}
-use Rattle.tf_request.proofs.Needed.{needed_closed, requested, resource_below}
+use Rattle.tf_request.specs.Wanted.{instance_names}
+use Rattle.tf_request.proofs.Requesting.{requested, resource_below, standing_same}
 use Rattle.tf_request.proofs.requests.request.Goals as goal
-
-pub answered_standings-requires-clause-closed : goal.answered_standings-requires-clause-closed
-answered_standings-requires-clause-closed g c =
-    let wanted = c.as_slice.result.now in
-    needed_closed (names_in c.args.declared.now.names.now) c.args.declared.now.dependence.now c.requires.dependence c.args.place wanted
-    (ap length c.as_slice.ensures.value ∙ c.in_ok-wanted.ensures.length)
-    (λ k h. ap (λ xs. has xs k) c.as_slice.ensures.value ∙ c.in_ok-wanted.ensures.needed k h)
 
 pub at-requires : goal.at-requires
 at-requires g c = resource_below (names_in c.args.declared.now.names.now) c.args.place c.requires.resource
 
+pub answered_standings-requires-clause-within : goal.answered_standings-requires-clause-within
+answered_standings-requires-clause-within g c =
+    let names = names_in c.args.declared.now.names.now in
+    let refers = instance_names (block_at (label_of c.in-Resource.field-0.now) c.in-Resource.block.now) in
+    let named : c.as_slice.result.now ≡ places names refers = c.as_slice.ensures.value ∙ c.in_ok-named.ensures (label_of c.in-Resource.field-0.now) in
+    subst (λ (ns : List ℕ). AllByRecursion (λ n. n < length names) ns) (sym named) (all_places (λ n. n < length names) names refers (λ n h. h))
+
 pub returns-clause-request : goal.returns-clause-request
 returns-clause-request g c =
-    let wanted = c.as_slice.result.now in
+    let names = names_in c.args.declared.now.names.now in
     let label = label_of c.in-Resource.field-0.now in
-    requested (names_in c.args.declared.now.names.now) c.args.declared.now.dependence.now c.requires.dependence c.args.place wanted
-    (ap length c.as_slice.ensures.value ∙ c.in_ok-wanted.ensures.length)
-    (λ k h. ap (λ xs. has xs k) c.as_slice.ensures.value ∙ c.in_ok-wanted.ensures.needed k h)
-    (entries_view c.args.declared.now.variables.now.entries) (shapes_of c.args.shapes.now) (g.R.Results.objects c.args.results.now) (standings_of c.as_slice-2.result.now)
-    (λ standings solves n below wants. ap (λ xs. standings_of xs n) c.as_slice-2.ensures.value ∙ c.in_ok-kept.ensures standings solves n below wants)
-    (block_at label c.in-Resource.block.now) c.in-Resource.ensures.meant
+    let block = block_at label c.in-Resource.block.now in
+    let named : c.as_slice.result.now ≡ places names (instance_names block) = c.as_slice.ensures.value ∙ c.in_ok-named.ensures label in
+    requested (entries_view c.args.declared.now.variables.now.entries) names (shapes_of c.args.shapes.now) (g.R.Results.objects c.args.results.now) (standings_of c.as_slice-2.result.now) block c.args.place
+    c.in-Resource.ensures.meant
+    (λ standings solves. standing_same standings c.as_slice.result.now (places names (instance_names block)) c.in_ok-kept.kept.items c.as_slice-2.result.now named c.as_slice-2.ensures.value
+    (c.in_ok-kept.ensures.standings standings solves))
     (instance_key_of c.args.key.now) c.args.schema.now c.plan_instance.result (c.plan_instance.ensures.plans label)

@@ -1,26 +1,22 @@
-use Rattle.std.proofs.Common.{◌≡◌, ℕ, ◌++◌, length, map, take, drop, None, option_map, replicate, sym, ap, ap₂, ◌∙◌, subst, arith}
+use Rattle.std.proofs.Common.{◌≡◌, ◌∙◌, ℕ, ◌++◌, length, map, take, drop, None, option_map, replicate, sym, ap, subst, arith}
 use Rattle.std.proofs.lemmas.List.{length-map}
-use Rattle.std.specs.List.{AllByRecursion}
-use Rattle.tf_state.specs.Valid.{IsValid}
-use Rattle.tf_state_data.specs.State.{empty_state, state_of}
 use Rattle.tf_graph.specs.Digraph.{Digraph, predecessors_of}
 use Rattle.tf_graph.specs.Order.{IsInOrder}
 use Rattle.tf_journal.specs.Entries.{Log, actions_of}
-use Rattle.tf_plan.specs.Plan.{action_of, plan_of}
-use Rattle.tf_walk.specs.Addition.{AreJudged, saved_in, told_in}
-use Rattle.tf_walk.specs.After.{is_any, raised, with_resources, saved_resources, state_after}
-use Rattle.tf_walk.specs.Diagnostics.{diagnostic_of, diagnostics}
-use Rattle.tf_walk.specs.Draft.{IsBlank}
-use Rattle.tf_walk.specs.Ended.{done_of, done_or_skipped, dones_of}
+use Rattle.tf_plan_data.specs.Action.{action_of}
+use Rattle.tf_plan_data.specs.Plan.{plan_of}
+use Rattle.tf_outcome.specs.Ended.{done_of, done_or_skipped, dones_of}
+use Rattle.tf_outcome.specs.Excuse.{excuse_of}
+use Rattle.tf_outcome.specs.Journal.{verdict_in}
+use Rattle.tf_outcome.specs.Outcome.{done_at}
+use Rattle.tf_outputs.specs.Outputs.{end_of}
+use Rattle.tf_report.specs.Addition.{AreJudged}
 use Rattle.tf_walk.specs.Ends.{done_in}
-use Rattle.tf_walk.specs.Outcome.{AreOutcomes, done_at}
-use Rattle.tf_walk.specs.Report.{verdict_in}
-use Rattle.tf_walk.specs.Room.{head_of}
-use Rattle.tf_walk.specs.RoomHead.{room_head}
-use Rattle.tf_walk.specs.Savable.{HasRecords}
-use Rattle.tf_walk.proofs.Carried.{left_by_walk, rooms-sized}
-use Rattle.tf_walk.proofs.Reported.{dones-are, so_far-none, staged-none, so_far-solves, so_far-entered, so_far-judged, so_far-within, saved_in-actions, told_in-actions}
-use Rattle.tf_walk.proofs.Valid.{after-valid}
+use Rattle.tf_walk.proofs.Asking.{some_requests}
+use Rattle.tf_walk.proofs.Carried.{left_by_walk}
+use Rattle.tf_walk.proofs.Excused.{excuses-with_outputs}
+use Rattle.tf_walk.proofs.Reported.{so_far-asked, so_far-entered, so_far-judged, so_far-none, so_far-solves, staged-none}
+use Rattle.tf_walk.proofs.Seen.{dones-are}
 use Rattle.tf_walk.proofs.single.carry_out.Goals as goal
 
 pub walk-requires-clause-so_far : goal.walk-requires-clause-so_far
@@ -37,64 +33,55 @@ walk-requires-clause-staged g c =
     let start : c.deref_mut.result.now ≡ replicate count None = c.deref_mut.ensures.value ∙ c.requires.prepared.results in
     rw (start, c.requires.prepared.free) (staged-none count count)
 
-pub report_of-requires : goal.report_of-requires
-report_of-requires g c =
-    let ms = map (λ b. (goal.Provider-dyn g (b.vtable, b.value)).meaning b.value) c.args.providers.now in
+pub report_of-requires-clause-sized : goal.report_of-requires-clause-sized
+report_of-requires-clause-sized g c =
     let new = c.walk.new.results in
     let actions = map action_of c.args.plan.now.actions.items in
     let counted : length actions ≡ c.args.plan.now.order.nodes = omega (arith, length-map c.args.plan.now.actions.items action_of, c.args.plan.now.counted, c.args.plan.now.actions.ok.0) in
-    let left = left_by_walk c.walk.new.results c.args.prepared.results.items c.args.prepared.results.len c.args.plan.now.order.nodes actions c.walk.ensures.so_far.sized counted c.requires.prepared.results (omega (arith, c.args.prepared.results.ok.0)) in
-    let count = ap length left.0 ∙ left.1 in
-    record {
-      blank = subst (λ (n : ℕ). IsBlank n c.args.prepared.draft) (sym count) c.requires.prepared.blank;
-      few = omega (arith, count, c.requires.prepared.few);
-      paired = rooms-sized c.args.prepared.rooms.items actions c.requires.prepared.rooms ∙ (counted ∙ sym count);
-      judged = subst (λ rs. AreJudged ms (dones_of rs)) (sym left.0) (so_far-judged ms (plan_of c.args.plan.now) (map (option_map done_of) new) c.walk.new.journal.entries (dones_of new) c.walk.ensures.so_far (dones-are new));
-    }
+    let left = left_by_walk new c.args.prepared.results.items c.args.prepared.results.len c.args.plan.now.order.nodes actions c.walk.ensures.so_far.sized counted c.requires.prepared.results (omega (arith, c.args.prepared.results.ok.0)) in
+    ap length left.0 ∙ (left.1 ∙ (sym counted ∙ length-map c.args.plan.now.actions.items action_of))
 
-pub returns : goal.returns
-returns g c =
+pub report_of-requires-clause-judged : goal.report_of-requires-clause-judged
+report_of-requires-clause-judged g c =
     let ms = map (λ b. (goal.Provider-dyn g (b.vtable, b.value)).meaning b.value) c.args.providers.now in
     let plan = plan_of c.args.plan.now in
     let new = c.walk.new.results in
     let actions = map action_of c.args.plan.now.actions.items in
     let counted : length actions ≡ c.args.plan.now.order.nodes = omega (arith, length-map c.args.plan.now.actions.items action_of, c.args.plan.now.counted, c.args.plan.now.actions.ok.0) in
-    let left = left_by_walk c.walk.new.results c.args.prepared.results.items c.args.prepared.results.len c.args.plan.now.order.nodes actions c.walk.ensures.so_far.sized counted c.requires.prepared.results (omega (arith, c.args.prepared.results.ok.0)) in
-    let written = take c.args.prepared.results.len (new ++ drop (length new) c.args.prepared.results.items) in
-    let back : written ≡ new = left.0 in
+    let left = left_by_walk new c.args.prepared.results.items c.args.prepared.results.len c.args.plan.now.order.nodes actions c.walk.ensures.so_far.sized counted c.requires.prepared.results (omega (arith, c.args.prepared.results.ok.0)) in
+    let asked = some_requests plan (c.requires.fits.dependence.ranked c.requires.fits.acyclic) in
+    let judged = so_far-judged ms asked.0 plan (map (option_map done_of) new) c.walk.new.journal.entries (dones_of new) c.walk.ensures.so_far asked.1 (dones-are new) in
+    subst (λ rs. AreJudged ms (dones_of rs)) (sym left.0) judged
+
+pub returns : goal.returns
+returns g c = λ requests are.
+    let ms = map (λ b. (goal.Provider-dyn g (b.vtable, b.value)).meaning b.value) c.args.providers.now in
+    let plan = plan_of c.args.plan.now in
+    let new = c.walk.new.results in
+    let actions = map action_of c.args.plan.now.actions.items in
+    let counted : length actions ≡ c.args.plan.now.order.nodes = omega (arith, length-map c.args.plan.now.actions.items action_of, c.args.plan.now.counted, c.args.plan.now.actions.ok.0) in
+    let left = left_by_walk new c.args.prepared.results.items c.args.prepared.results.len c.args.plan.now.order.nodes actions c.walk.ensures.so_far.sized counted c.requires.prepared.results (omega (arith, c.args.prepared.results.ok.0)) in
+    let back : take c.args.prepared.results.len (new ++ drop (length new) c.args.prepared.results.items) ≡ new = left.0 in
     let ends = map (option_map done_of) new in
-    let done = dones_of written in
+    let entries = c.walk.new.journal.entries in
+    let done = dones_of (take c.args.prepared.results.len (new ++ drop (length new) c.args.prepared.results.items)) in
     let same : (n : ℕ) → done_at done n ≡ done_in ends n = λ n. ap (λ rs. done_at (dones_of rs) n) back ∙ dones-are new n in
     let lengths : length done ≡ length ends = ap (λ rs. length (dones_of rs)) back ∙ (length-map new done_or_skipped ∙ sym (length-map new (option_map done_of))) in
     let report = c.report_of.result in
-    let told = c.report_of.ensures in
-    let solves = so_far-solves ms plan ends c.walk.new.journal.entries done c.walk.ensures.so_far c.walk.ensures.all lengths same in
-    let heads : map room_head c.args.prepared.rooms.items ≡ map head_of plan.actions = c.requires.prepared.rooms in
-    let saved = saved_in ms (map room_head c.args.prepared.rooms.items) done in
-    let resources : saved ≡ saved_resources ms plan.actions done =
-    ◌∙◌ {b = saved_in ms (map head_of plan.actions) done} (ap (λ hs. saved_in ms hs done) heads) (saved_in-actions ms plan.actions done) in
-    let state : state_of report.state ≡ state_after ms plan.actions done (empty_state plan.lineage) =
-    ◌∙◌ {b = raised (is_any saved) (with_resources saved (state_of c.args.prepared.draft.state))} told.state (ap₂ (λ rs s. raised (is_any rs) (with_resources rs s)) resources c.requires.prepared.state) in
-    let diagnostics_told : map diagnostic_of report.diagnostics.items ≡ diagnostics plan.actions done =
-    ◌∙◌ {b = told_in (map room_head c.args.prepared.rooms.items) done} told.diagnostics (◌∙◌ {b = told_in (map head_of plan.actions) done} (ap (λ hs. told_in hs done) heads) (told_in-actions plan.actions done)) in
-    let entries : report.journal.entries ≡ c.walk.new.journal.entries = ap (λ (l : Log). l.entries) told.journal in
-    let allowed : IsInOrder (predecessors_of c.args.plan.now.order) (actions_of c.walk.new.journal.entries) =
-    subst (λ (d : Digraph). IsInOrder (predecessors_of d) (actions_of c.walk.new.journal.entries)) c.walk.ensures.graph c.entries-entries.ensures.allowed in (
+    let told = c.report_of.ensures.told in
+    let excuses = λ (n : ℕ). ap (λ es. excuse_of es n) told.1.lawful ∙ excuses-with_outputs done (map end_of told.0) n in
+    let written : report.journal.entries ≡ entries = ap (λ (l : Log). l.entries) c.report_of.ensures.journal in
+    let allowed : IsInOrder (predecessors_of c.args.plan.now.order) (actions_of entries) =
+    subst (λ (d : Digraph). IsInOrder (predecessors_of d) (actions_of entries)) c.walk.ensures.graph c.entries-entries.ensures.allowed in (
       done,
+      told.0,
       record {
-        solved = subst (λ es. AreOutcomes ms plan es done) (sym told.excused) solves;
-        lawful = told.excused;
-        outcomes = told.outcomes;
-        state = state;
-        valid = λ may.
-            let within = so_far-within ms plan ends c.walk.new.journal.entries done may c.walk.ensures.so_far same in
-            let records = subst (AllByRecursion HasRecords) resources (told.records within) in
-            subst IsValid (sym state) (after-valid ms plan.actions done plan.lineage may records);
-        diagnostics_told = diagnostics_told;
-        good = told.good;
+        solved = so_far-solves ms requests plan ends entries done report.excused.items c.walk.ensures.so_far are c.walk.ensures.all lengths same excuses;
+        asked = so_far-asked ms requests plan ends entries done c.walk.ensures.so_far are same;
+        told = told.1;
       },
       record {
-        in_order = subst (λ es. IsInOrder (predecessors_of c.args.plan.now.order) (actions_of es)) (sym entries) allowed;
-        verdicts = λ n. ap (λ es. verdict_in es n) entries ∙ so_far-entered ms plan ends c.walk.new.journal.entries done c.walk.ensures.so_far same n;
+        in_order = subst (λ es. IsInOrder (predecessors_of c.args.plan.now.order) (actions_of es)) (sym written) allowed;
+        verdicts = λ n. ap (λ es. verdict_in es n) written ∙ so_far-entered ms plan ends entries done c.walk.ensures.so_far same n;
       },
     )

@@ -1,0 +1,43 @@
+//! What the object of an instance is worked out from.
+
+ghost use Rattle.std.specs.Prelude.{◌≡◌, IfOk};
+ghost use Rattle.tf_address.specs.Label.{LabelView};
+ghost use Rattle.tf_config_data.specs.Config.{block_at, repetition_of};
+ghost use Rattle.tf_config_data.specs.Names.{places};
+ghost use Rattle.tf_names.specs.Table.{names_in};
+ghost use Rattle.tf_request.specs.Wanted.{instance_names, named_in_for_each};
+
+use std::alloc::{AllocError, Global};
+use tf_config_data::{Block, Repetition};
+use tf_names::Names;
+
+/// The places of what `for_each` and the arguments of a block name, as often as they do. What isn't declared is left
+/// out, and so are `count` and `depends_on`: neither is evaluated for one instance.
+pub(crate) fn named_for_instance(
+    alloc: Global,
+    names: &Names<'_>,
+    block: &Block,
+) -> Result<Vec<usize>, AllocError>
+    ensures { IfOk result (λ named. (label : LabelView) → named.items ≡ places (names_in names.now) (instance_names (block_at label block.now))) }
+{
+    let mut named = named_in_for_each(alloc, names, &block.repetition)?;
+    for (_, expr) in block.arguments.iter() {
+        let more = names.named_in(alloc, expr)?;
+        named.extend_from_slice(more.as_slice())?;
+    }
+    Ok(named)
+}
+
+/// The places of what `for_each` names.
+fn named_in_for_each(
+    alloc: Global,
+    names: &Names<'_>,
+    repetition: &Repetition,
+) -> Result<Vec<usize>, AllocError>
+    ensures { IfOk result (λ named. named.items ≡ places (names_in names.now) (named_in_for_each (repetition_of repetition.now))) }
+{
+    match repetition {
+        Repetition::ForEach(expr) => names.named_in(alloc, expr),
+        Repetition::Single | Repetition::Count(_) => Ok(Vec::new(alloc)),
+    }
+}
