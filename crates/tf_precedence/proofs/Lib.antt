@@ -1,0 +1,4 @@
+pub mod Chains
+pub mod Listed
+pub mod Spreading
+pub mod Turned

@@ -1,0 +1,29 @@
+use Rattle.std.proofs.Common.{Result, ◌≡◌, ◌∙◌, ◌<◌, ◌++◌, Err, length, sym, ap, arith}
+use Rattle.std.proofs.lemmas.Result.{err_from_is_err_and}
+use Rattle.tf_precedence.proofs.Listed.{made-step, made-long}
+use Rattle.tf_precedence.specs.Order.{pairs, pairs_into}
+use Rattle.tf_precedence.specs.Ties.{ties_of}
+use Rattle.tf_precedence.specs.declared.order.OrderFault.TheVariants.{TooMany}
+use Rattle.tf_precedence.proofs.order.all_pairs.Goals as goal
+
+same_fault : {T E : Type 0} (r : Result T E) (x y : E) → r ≡ Err x → r ≡ Err y → x ≡ y
+same_fault r x y p q = cc
+
+pub loop-second-preserved : goal.loop-second-preserved
+loop-second-preserved c =
+    let a = c.args in
+    let l = c.loop-second in
+    record {
+      rest = made-step (pairs_into (ties_of a.ties.now) a.actions.now) l.second (length a.actions.now) l.found.items c.add_before.new.found.items (pairs (ties_of a.ties.now) a.actions.now)
+          c.loop-second-test.true c.in_ok-add_before.ensures.pairs l.invariant.rest;
+      few = c.in_ok-add_before.ensures.few;
+    }
+
+pub returns-in_err-add_before-clause-too_many : goal.returns-in_err-add_before-clause-too_many
+returns-in_err-add_before-clause-too_many c h =
+    let e = err_from_is_err_and c.from_residual.result c.from_residual.ensures.1 in
+    let a = c.args in
+    let l = c.loop-second in
+    let told : 200000 < length (l.found.items ++ pairs_into (ties_of a.ties.now) a.actions.now l.second) = c.in_err-add_before.ensures.too_many (ap Err (sym e.2 ∙ same_fault c.from_residual.result e.0 TooMany e.1 h)) in
+    let long = made-long (pairs_into (ties_of a.ties.now) a.actions.now) l.second (length a.actions.now) l.found.items (pairs (ties_of a.ties.now) a.actions.now) c.loop-second-test.true l.invariant.rest in
+    omega (arith, told, long)

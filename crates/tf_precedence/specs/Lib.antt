@@ -1,0 +1,7 @@
+pub mod Ties
+pub mod Stored
+pub mod Before
+pub mod Order
+pub mod Late
+pub mod Spread
+pub mod Laws

@@ -1,0 +1,25 @@
+//! The actions of a plan, as far as their order depends on them.
+
+/// What an action does.
+#[derive(Clone, Copy, Debug, PartialEq, Eq)]
+pub enum Kind {
+    /// It creates or updates the current object of an instance.
+    Apply,
+    /// It destroys the current object of an instance.
+    Destroy,
+    /// It destroys a deposed object of an instance.
+    DestroyDeposed,
+}
+
+/// An action of a plan.
+#[derive(Clone, Copy, Debug, PartialEq, Eq)]
+pub struct Action {
+    /// The number of its resource.
+    pub resource: usize,
+    /// The number of its instance, among those of its resource.
+    pub instance: usize,
+    /// What it does.
+    pub kind: Kind,
+    /// Whether it is half of a replace: a create, with the destroy of the object that it takes the place of.
+    pub replaces: bool,
+}

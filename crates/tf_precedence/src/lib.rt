@@ -1,0 +1,19 @@
+//! The order of a plan's actions, and which resources are late.
+//!
+//! Both follow from what ties resources to one another: which needs which by the configuration, and which needed which
+//! when it was made, by what the state has stored.
+#![tactic(auto)]
+
+mod action;
+mod graphs;
+mod late;
+pub mod laws;
+mod order;
+mod stored;
+mod ties;
+
+pub use action::{Action, Kind};
+pub use late::lateness;
+pub use order::{MAX_PAIRS, Order, OrderFault};
+pub use stored::Stored;
+pub use ties::Ties;

@@ -1,0 +1,196 @@
+//! The order of a plan's actions.
+
+ghost use Rattle.std.specs.Prelude.{◌≡◌, ◌≤◌, ◌<◌, ◌+◌, ◌++◌, ◌∷◌, [], ◌||◌, ◌&&◌, IfOk, OnOk, IsErrOf, length, if◌then◌else◌};
+ghost use Rattle.tf_precedence.specs.Before.{are_halves, is_before, is_dependent, is_destroyed_first};
+ghost use Rattle.tf_precedence.specs.Order.{IsOrder, pairs, pairs_into};
+ghost use Rattle.tf_precedence.specs.Ties.{AreSound, ties_of};
+ghost use Rattle.tf_precedence.specs.declared.order.OrderFault.TheVariants.{OutOfMemory};
+
+use crate::action::{Action, Kind};
+use crate::graphs::graph_of;
+use crate::ties::Ties;
+use std::alloc::{AllocError, AllocFailed, Global};
+use std::marker::Model;
+use tf_graph::{Graph, MAX_NODES};
+
+/// The most pairs of actions of which the first is before the second that a plan may have.
+pub const MAX_PAIRS: usize = 200_000;
+
+/// Why the order of a plan's actions isn't made.
+#[derive(Clone, Copy, Debug, PartialEq, Eq)]
+pub enum OrderFault {
+    /// There are more pairs than `MAX_PAIRS`.
+    TooMany,
+    /// Memory ran out.
+    OutOfMemory,
+}
+
+impl From<AllocError> for OrderFault {
+    ghost from_gives = { λ _ fault. fault ≡ OutOfMemory };
+
+    fn from(_error: AllocError) -> OrderFault {
+        OrderFault::OutOfMemory
+    }
+}
+
+impl<T: Drop> From<AllocFailed<T>> for OrderFault {
+    ghost from_gives = { λ _ fault. fault ≡ OutOfMemory };
+
+    fn from(_error: AllocFailed<T>) -> OrderFault {
+        OrderFault::OutOfMemory
+    }
+}
+
+/// The order of a plan's actions, as a graph whose nodes are their places in the plan. An edge `(a, b)` says that
+/// action a is before action b, and no chain of edges leads back.
+#[derive(Drop)]
+pub struct Order {
+    graph: Graph,
+}
+
+impl Model for Order {
+    ghost use Rattle.tf_graph.specs.Digraph.{Digraph};
+    ghost use Rattle.tf_precedence.specs.Order.{IsOrder};
+
+    ghost Value = { Digraph };
+
+    ghost view = { λ o. o.graph };
+
+    ghost invariant = { λ o. IsOrder o.graph };
+}
+
+impl Order {
+    /// The order of these actions, which stand as their places in the list: each pair of which the first is before the
+    /// second, once.
+    ///
+    /// # Errors
+    ///
+    /// `TooMany` where there are more such pairs than `MAX_PAIRS`, and `OutOfMemory`.
+    pub fn new(alloc: Global, ties: &Ties<'_>, actions: &[Action]) -> Result<Order, OrderFault>
+        requires few { length actions.now ≤ MAX_NODES }
+        requires sound { AreSound (ties_of ties.now) }
+        ensures nodes { IfOk result (λ o. o.nodes ≡ length actions.now) }
+        ensures edges { IfOk result (λ o. o.edges ≡ pairs (ties_of ties.now) actions.now) }
+        ensures few { IfOk result (λ o. length o.edges ≤ MAX_PAIRS) }
+        ensures too_many { IsErrOf result OrderFault.TooMany → MAX_PAIRS < length (pairs (ties_of ties.now) actions.now) }
+    {
+        let pairs = all_pairs(alloc, ties, actions)?;
+        let graph = graph_of(alloc, actions.len(), pairs.as_slice())?;
+        Ok(Order { graph })
+    }
+
+    /// The graph. No chain of its edges leads back, and some rank rises along each.
+    pub fn graph(&self) -> &Graph
+        ensures graph { result.now ≡ self.now }
+        ensures order { IsOrder self.now }
+    {
+        &self.graph
+    }
+}
+
+/// All pairs of actions of which the first is before the second.
+fn all_pairs(
+    alloc: Global,
+    ties: &Ties<'_>,
+    actions: &[Action],
+) -> Result<Vec<(usize, usize)>, OrderFault>
+    ensures pairs { IfOk result (λ found. found.items ≡ pairs (ties_of ties.now) actions.now) }
+    ensures few { IfOk result (λ found. length found.items ≤ MAX_PAIRS) }
+    ensures too_many { IsErrOf result OrderFault.TooMany → MAX_PAIRS < length (pairs (ties_of ties.now) actions.now) }
+{
+    let mut found = Vec::new(alloc);
+    for second in 0..actions.len() {
+        add_before(&mut found, ties, actions, second)?;
+    }
+    Ok(found)
+}
+
+/// Adds an action's pairs with those that are before it.
+fn add_before(
+    found: &mut Vec<(usize, usize)>,
+    ties: &Ties<'_>,
+    actions: &[Action],
+    second: usize,
+) -> Result<(), OrderFault>
+    requires inside { second < length actions.now }
+    requires few { length found.old.items ≤ MAX_PAIRS }
+    ensures pairs { OnOk result (found.new.items ≡ found.old.items ++ pairs_into (ties_of ties.now) actions.now second) }
+    ensures few { OnOk result (length found.new.items ≤ MAX_PAIRS) }
+    ensures too_many { IsErrOf result OrderFault.TooMany
+        → MAX_PAIRS < length (found.old.items ++ pairs_into (ties_of ties.now) actions.now second) }
+{
+    for first in 0..actions.len() {
+        let holds = is_before(ties, &actions[first], &actions[second]);
+        add_if(found, holds, (first, second))?;
+    }
+    Ok(())
+}
+
+/// Adds a pair, if it is one of an action and one that is before it.
+fn add_if(
+    found: &mut Vec<(usize, usize)>,
+    holds: bool,
+    pair: (usize, usize),
+) -> Result<(), OrderFault>
+    requires { length found.old.items ≤ MAX_PAIRS }
+    ensures pairs { OnOk result (found.new.items ≡ found.old.items ++ (if holds then pair ∷ [] else [])) }
+    ensures few { OnOk result (length found.new.items ≤ MAX_PAIRS) }
+    ensures too_many { IsErrOf result OrderFault.TooMany
+        → MAX_PAIRS < length (found.old.items ++ (if holds then pair ∷ [] else [])) }
+{
+    if !holds {
+        return Ok(());
+    }
+    if found.len() == MAX_PAIRS {
+        return Err(OrderFault::TooMany);
+    }
+    found.push(pair)?;
+    Ok(())
+}
+
+/// Whether an action is before another.
+fn is_before(ties: &Ties<'_>, first: &Action, second: &Action) -> bool
+    ensures { result ≡ is_before (ties_of ties.now) first.now second.now }
+{
+    match (first.kind, second.kind) {
+        (Kind::Apply, Kind::Apply) => ties.needs(second.resource, first.resource),
+        (Kind::Apply, Kind::Destroy) => {
+            ties.is_late(second.resource)
+                && (are_halves(first, second) || is_dependent(ties, first, second))
+        }
+        (Kind::Apply, Kind::DestroyDeposed) => {
+            ties.is_late(second.resource) && is_dependent(ties, first, second)
+        }
+        (Kind::Destroy, Kind::Apply) => {
+            are_halves(first, second) && !ties.is_late(first.resource)
+        }
+        (Kind::DestroyDeposed, Kind::Apply) => false,
+        (Kind::Destroy | Kind::DestroyDeposed, Kind::Destroy | Kind::DestroyDeposed) => {
+            is_destroyed_first(ties, first, second)
+        }
+    }
+}
+
+/// Whether two actions, of which one creates and the other destroys an object, are the halves of one replace.
+fn are_halves(action: &Action, other: &Action) -> bool
+    ensures { result ≡ are_halves action.now other.now }
+{
+    action.replaces
+        && other.replaces
+        && action.resource == other.resource
+        && action.instance == other.instance
+}
+
+/// Whether what the first destroys needed what the second does, and not the other way round.
+fn is_destroyed_first(ties: &Ties<'_>, first: &Action, second: &Action) -> bool
+    ensures { result ≡ is_destroyed_first (ties_of ties.now) first.now second.now }
+{
+    ties.needed(first.resource, second.resource) && !ties.needed(second.resource, first.resource)
+}
+
+/// Whether the one's resource needs the other's, or needed it when it was made.
+fn is_dependent(ties: &Ties<'_>, action: &Action, other: &Action) -> bool
+    ensures { result ≡ is_dependent (ties_of ties.now) action.now other.now }
+{
+    ties.needs(action.resource, other.resource) || ties.needed(action.resource, other.resource)
+}
