@@ -1,4 +1,3 @@
 mod Carried
 mod Named
-mod Texts
 mod Writes
