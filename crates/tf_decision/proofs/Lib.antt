@@ -1,0 +1,11 @@
+pub mod Aligned
+pub mod Applied
+pub mod Causes
+pub mod Equal
+pub mod Exact
+pub mod Fitting
+pub mod Growing
+pub mod Keeping
+pub mod Planned
+pub mod Replies
+pub mod Shown
