@@ -1,0 +1,7 @@
+pub mod Numbering
+pub mod Dependencies
+pub mod Marks
+pub mod Places
+pub mod Numbered
+pub mod Table
+pub mod Laws
