@@ -1,0 +1,160 @@
+//! Ends that are published, read and taken out.
+
+ghost use Rattle.std.specs.Prelude.{◌≡◌, ◌<◌, All};
+
+use std::alloc::{AllocError, Global};
+use std::marker::Brand;
+use std::test::Fail;
+use std::thread;
+use std::thread::Threads;
+use tf_cells::{Cells, Naming, Sight};
+use tf_outcome::{Ended, Judged};
+
+/// How an end is called here.
+#[derive(Clone, Copy, Debug, PartialEq, Eq)]
+enum Kind {
+    Skipped,
+    NotAsked,
+    NotServed,
+    Faulted,
+    Called,
+}
+
+/// The kind of an end, of which nothing else is kept.
+fn kind_of(ended: Ended) -> Kind {
+    match ended {
+        Ended::Skipped => Kind::Skipped,
+        Ended::NotAsked => Kind::NotAsked,
+        Ended::NotServed => Kind::NotServed,
+        Ended::Faulted(_) => Kind::Faulted,
+        Ended::Called(judged) => {
+            let Judged {
+                asking: _,
+                reply: _,
+                verdict: _,
+            } = judged;
+            Kind::Called
+        }
+    }
+}
+
+/// Publishes that an action was skipped, or that nothing was asked for it: what didn't go into the cell.
+fn publish<N: Naming>(cells: &Cells<N>, action: usize, skips: bool) -> Option<Kind>
+    requires { action < cells.now }
+{
+    let ended = if skips {
+        Ended::Skipped
+    } else {
+        Ended::NotAsked
+    };
+    match cells.publish(action, ended) {
+        Ok(()) => None,
+        Err(ended) => Some(kind_of(ended)),
+    }
+}
+
+/// What is taken out of two cells.
+fn taken(cells: Cells<Brand>) -> (Option<Kind>, Option<Kind>)
+    requires { cells ≡ 2 }
+{
+    let mut results = [None, None];
+    cells.take_out(&mut results);
+    let [first, second] = results;
+    (
+        first.map(|ended| kind_of(ended)),
+        second.map(|ended| kind_of(ended)),
+    )
+}
+
+/// Two threads publish for one action: what didn't go into its cell.
+fn publish_twice<N: Naming + Send + Sync, R: Threads + Sync>(
+    rt: &R,
+    cells: &Cells<N>,
+) -> (Option<Kind>, Option<Kind>)
+    requires { cells.now ≡ 2 }
+{
+    thread::join(
+        rt,
+        || -> Option<Kind>
+            requires { cells.now ≡ 2 }
+        { publish(cells, 1, true) },
+        || -> Option<Kind>
+            requires { cells.now ≡ 2 }
+        { publish(cells, 1, false) },
+    )
+}
+
+/// What is seen of some actions.
+#[derive(Clone, Copy, Debug, PartialEq, Eq)]
+enum Shown {
+    NoMemory,
+    Waits,
+    Bad,
+    Good,
+}
+
+/// What is seen of the actions before one.
+fn seen(alloc: Global, cells: &Cells<Brand>, before: &[usize]) -> Shown
+    requires { All (λ n. n < cells.now) before.now }
+{
+    match cells.look(alloc, &[], before) {
+        Err(AllocError) => Shown::NoMemory,
+        Ok(Sight::Waits) => Shown::Waits,
+        Ok(Sight::Bad) => Shown::Bad,
+        Ok(Sight::Good(_)) => Shown::Good,
+    }
+}
+
+#[test]
+fn an_end_is_published_once(rt: HostRuntime) -> Result<(), Fail> {
+    let cells = Cells::<Brand>::new(rt.alloc(), 2)?;
+    let empty = cells.read(1).is_none();
+    let first = publish(&cells, 1, true);
+    let second = publish(&cells, 1, false);
+    let good = cells.read(1).map(|reading| reading.is_good());
+    let other = cells.read(0).is_none();
+    let taken = taken(cells);
+    assert!(rt; empty && other);
+    assert_eq!(rt; (first, second), (None, Some(Kind::NotAsked)));
+    assert_eq!(rt; good, Some(false));
+    assert_eq!(rt; taken, (None, Some(Kind::Skipped)));
+    Ok(())
+}
+
+#[test]
+fn of_two_threads_one_publishes(rt: HostRuntime) -> Result<(), Fail> {
+    let cells = Cells::<Brand>::new(rt.alloc(), 2)?;
+    let (first, second) = publish_twice(&rt, &cells);
+    let (none, there) = taken(cells);
+    assert_eq!(rt; none, None);
+    if first.is_none() {
+        assert_eq!(rt;
+            (second, there),
+            (Some(Kind::NotAsked), Some(Kind::Skipped))
+        );
+    } else {
+        assert_eq!(rt;
+            (first, second, there),
+            (Some(Kind::Skipped), None, Some(Kind::NotAsked))
+        );
+    }
+    Ok(())
+}
+
+#[test]
+fn a_sight_waits_or_is_bad(rt: HostRuntime) -> Result<(), Fail> {
+    let cells = Cells::<Brand>::new(rt.alloc(), 2)?;
+    let before = seen(rt.alloc(), &cells, &[0, 1]);
+    let published = publish(&cells, 0, true);
+    let after = seen(rt.alloc(), &cells, &[0, 1]);
+    let waits = seen(rt.alloc(), &cells, &[1, 0]);
+    let none = seen(rt.alloc(), &cells, &[]);
+    let taken = taken(cells);
+    assert_eq!(rt; published, None);
+    assert_eq!(rt;
+        (before, after, waits, none),
+        (Shown::Waits, Shown::Bad, Shown::Waits, Shown::Good)
+    );
+    assert_eq!(rt; taken, (Some(Kind::Skipped), None));
+    Ok(())
+}

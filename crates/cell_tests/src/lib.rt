@@ -1,0 +1,5 @@
+//! Tests over result cells, by threads.
+#![tactic(auto)]
+
+#[cfg(test)]
+mod cells;

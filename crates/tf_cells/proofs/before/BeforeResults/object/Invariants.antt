@@ -1,0 +1,12 @@
+-- none of the actions passed is of the instance
+use Rattle.std.proofs.Common.{◌≡◌, map, drop}
+use Rattle.tf_address.specs.ObjectId.{instance_key_of}
+use Rattle.tf_outcome.specs.Outcome.{objects_seen}
+use Rattle.tf_plan_data.specs.Action.{action_of}
+use Rattle.tf_cells.specs.Reading.{seen_in}
+use Rattle.tf_cells.proofs.before.BeforeResults.object.Given as goal
+
+abbrev pub invariant-loop-reading : goal.invariant-loop-reading
+invariant-loop-reading g l =
+    objects_seen (map action_of l.self.actions.now) (map seen_in (drop l.reading-index l.reading-items)) l.place (instance_key_of l.key)
+    ≡ objects_seen (map action_of l.self.actions.now) (map seen_in l.self.readings.items) l.place (instance_key_of l.key)

@@ -1,0 +1,18 @@
+-- A plan in which there is nothing to do.
+use Rattle.std.specs.Prelude.{[], false}
+use Rattle.tf_environment.specs.Shape as shape
+use Rattle.tf_plan_data.specs.Plan.{PlanView}
+use Rattle.tf_syntax.specs.ExprTree as expr
+use Rattle.tf_value.specs.Tree.{no_entries}
+
+abbrev pub no_plan : PlanView
+no_plan =
+    record {
+      lineage = [];
+      config = record { variables = []; locals = expr.no_entries; outputs = expr.no_entries; blocks = [] };
+      variables = no_entries;
+      needs = λ a b. false;
+      shapes = λ n. shape.one;
+      actions = [];
+      order = record { nodes = 0; edges = [] };
+    }
