@@ -1,9 +1,9 @@
 -- True ends of all actions are a plan's outcomes.
-use Rattle.std.proofs.Common.{◌≡◌, ◌<◌, ◌∙◌, ◌∷◌, [], ◌&&◌, ℕ, Bool, true, false, not, List, length, Option, Some, None, if◌then◌else◌, refl, sym, ap, ap₂, subst}
+use Rattle.std.proofs.Common.{◌≡◌, ◌<◌, ◌∙◌, ◌∷◌, [], ℕ, Bool, true, false, not, List, length, Option, if◌then◌else◌, refl, sym, ap, ap₂, subst}
 use Rattle.tf_graph.proofs.Solving.{solution-exists}
 use Rattle.tf_graph.specs.Digraph.{predecessors_of}
 use Rattle.tf_graph.specs.Solutions.{Ranked, seen_by}
-use Rattle.tf_outcome.specs.Excuse.{Moment, before_call, during_call, excuse_of}
+use Rattle.tf_outcome.specs.Excuse.{Moment, during_call, excuse_of}
 use Rattle.tf_outcome.specs.Outcome.{Done, skipped, excused, faulted, called, Requests, AreRequests, is_good, all_good, call_at, done_at, is_faulted, or_excused, rule}
 use Rattle.tf_outcome.specs.declared.excuse.Excuse.{Excuse}
 use Rattle.tf_plan_data.specs.Plan.{PlanView}

@@ -69,7 +69,8 @@ impl<N: Naming> Cells<N> {
             let Some(reading) = self.read(*action) else {
                 return Ok(Sight::Waits);
             };
-            if !reading.is_good() {
+            let bad = !reading.is_good();
+            if bad {
                 return Ok(Sight::Bad);
             }
             readings.push_reserved(reading);

@@ -40,7 +40,7 @@ impl Numbering<'_> {
         ensures { IfOk result (λ pairs. pairs.items ≡ dependencies (numbered_in self.now) (resources_in self.now)) }
     {
         let mut pairs = Vec::new(alloc);
-        for resource in self.resources() {
+        for resource in self.state().resources() {
             self.add_resource(&mut pairs, resource)?;
         }
         Ok(pairs)

@@ -34,9 +34,9 @@ impl Numbering<'_> {
         ensures { option_map is_marked (slice_get (numbered_in self.now) place) ≡ Some result }
     {
         match self.at(place) {
-            Numbered::Name(Named::Local(_, _)) => false,
-            Numbered::Name(Named::Resource(_, block)) => block.lifecycle.create_before_destroy,
             Numbered::Orphan(resource) => any_says_so(resource.records()),
+            Numbered::Name(Named::Resource(_, block)) => block.lifecycle.create_before_destroy,
+            Numbered::Name(Named::Local(_, _)) => false,
         }
     }
 }

@@ -88,11 +88,11 @@ impl<'a> Numbering<'a> {
         }
     }
 
-    /// The resources of the state, in address order.
-    pub(crate) fn resources(&self) -> &'a [Resource]
-        ensures { map resource_of result.now ≡ resources_in self.now }
+    /// The state whose resources it numbers.
+    pub(crate) fn state(&self) -> &'a State
+        ensures { (state_of result.now).resources ≡ resources_in self.now }
     {
-        self.state.resources()
+        self.state
     }
 }
 

@@ -27,8 +27,8 @@ loop-action-preserved g c =
     let i = c.loop-action.action-index in
     let items = c.loop-action.readings.items in
     let reading = c.in-Some.reading in
-    let good : is_good (done_in reading) ≡ true = sym c.is_good.ensures.value ∙ c.if-not-is_good.false in
-    let more = shown-more g.N.Naming.meanings g.N.Naming.plan nodes i (map seen_in items) reading.action (done_in reading) c.loop-action-test.true c.in-Some.ensures good (c.is_good.ensures.ideal c.if-not-is_good.false) c.loop-action.invariant.0 in
+    let good : is_good (done_in reading) ≡ true = sym c.is_good-bad.ensures.value ∙ c.if-bad.false in
+    let more = shown-more g.N.Naming.meanings g.N.Naming.plan nodes i (map seen_in items) reading.action (done_in reading) c.loop-action-test.true c.in-Some.ensures good (c.is_good-bad.ensures.ideal c.if-bad.false) c.loop-action.invariant.0 in
     let pushed : map seen_in c.push_reserved.new.self.items ≡ map seen_in items ++ seen_in reading ∷ [] = ap (map seen_in) c.push_reserved.ensures.items ∙ map_push seen_in items reading in (
       subst (AreShown g.N.Naming.meanings g.N.Naming.plan (take (i + 1) nodes)) (sym pushed) more,
       search rules,
