@@ -95,7 +95,7 @@ module _ (shapes : ℕ → ShapeView) (objects : ℕ → InstanceKeyView → Tre
   answered_same n (Some (a_block b)) e f h = refl
 
   -- where what is kept of all that a local names is right, so is what the local stands for, and a resource's always is
-  next_is : (variables : Entries) (names : List NameView) → Ranked (directly_before names) → (kept standings : ℕ → StandingView) → AreStandings (applying shapes objects) variables names standings → (p : ℕ) → p < length names
+  pub next_is : (variables : Entries) (names : List NameView) → Ranked (directly_before names) → (kept standings : ℕ → StandingView) → AreStandings (applying shapes objects) variables names standings → (p : ℕ) → p < length names
       → (is_local (meant_at names p) ≡ true → AllByRecursion (λ a. kept a ≡ standings a) (directly_before names p))
       → stands_at (applying shapes objects) p (meant_at names p) (environment variables names kept) ≡ standings p
   next_is variables names ranked kept standings solves p h same =
@@ -103,16 +103,16 @@ module _ (shapes : ℕ → ShapeView) (objects : ℕ → InstanceKeyView → Tre
       (λ is. agree_on variables names kept standings (refers_at (meant_at names p)) (same is))
       ∙ sym (stands_alone variables names ranked standings solves p h)
 
-stand_same : (kept : List Standing) (p : ℕ) (s : Standing) → p < length kept → standings_of (set kept p s) p ≡ standing_of s
+pub stand_same : (kept : List Standing) (p : ℕ) (s : Standing) → p < length kept → standings_of (set kept p s) p ≡ standing_of s
 stand_same kept p s h =
     let inside : p < length (map standing_of kept) = rw (length-map kept standing_of) h in
     ap (λ xs. get_or xs p None) (map-set standing_of kept p s) ∙ get_or-set_same (map standing_of kept) p (standing_of s) None inside
 
-stand_other : (kept : List Standing) (p n : ℕ) (s : Standing) → n ≢ p → standings_of (set kept p s) n ≡ standings_of kept n
+pub stand_other : (kept : List Standing) (p n : ℕ) (s : Standing) → n ≢ p → standings_of (set kept p s) n ≡ standings_of kept n
 stand_other kept p n s h = ap (λ xs. get_or xs n None) (map-set standing_of kept p s) ∙ get_or-set_other (map standing_of kept) p n (standing_of s) None h
 
 -- a member of a longer front is one of the shorter one, or the last
-earlier : (order : List ℕ) (i p n : ℕ) → i < length order → p ≡ slice_index order i → n ≢ p → Contains (take (i + 1) order) n → Contains (take i order) n
+pub earlier : (order : List ℕ) (i p n : ℕ) → i < length order → p ≡ slice_index order i → n ≢ p → Contains (take (i + 1) order) n → Contains (take i order) n
 earlier order i p n h is other held =
     let k : ℕ = held.0 in
     let short = length-take (i + 1) order in

@@ -1,3 +1,4 @@
+mod Alone
 pub mod Wanting
 pub mod Answering
 pub mod Requesting

@@ -10,6 +10,7 @@ pub mod laws;
 mod named;
 mod outputs;
 mod requests;
+mod resources;
 mod results;
 mod standing;
 mod wanted;

@@ -1,7 +1,7 @@
 //! What names stand for in an apply.
 
-ghost use Rattle.std.specs.List.{AllByRecursion};
-ghost use Rattle.std.specs.Prelude.{◌≡◌, ◌<◌, ℕ, IfOk, None, if◌then◌else◌, length};
+ghost use Rattle.std.specs.List.{AllByRecursion, list_all};
+ghost use Rattle.std.specs.Prelude.{◌≡◌, ◌<◌, ℕ, IfOk, None, true, if◌then◌else◌, length, Contains};
 ghost use Rattle.tf_config_data.specs.Names.{meant_at};
 ghost use Rattle.tf_environment.specs.Kept.{HaveStandings, OnlyWanted};
 ghost use Rattle.tf_environment.specs.Stages.{applying};
@@ -10,8 +10,10 @@ ghost use Rattle.tf_environment.specs.Views.{shapes_of, standing_of, standings_o
 ghost use Rattle.tf_names.specs.Needs.{IsAcyclic, IsDependence, order_in};
 ghost use Rattle.tf_names.specs.Table.{names_in};
 ghost use Rattle.tf_value.specs.Tree.{entries_view};
+ghost use Rattle.tf_request.specs.Requests.{is_resource};
 ghost use Rattle.tf_request.specs.Wanted.{AreClosedForLocals, IsWanted};
 
+use crate::resources::{are_resources, past_last};
 use crate::results::{Answered, Results};
 use crate::wanted::wanted_by;
 use std::alloc::{AllocError, Global};
@@ -37,13 +39,41 @@ pub(crate) fn answered_standings<R: Results>(
         → AllByRecursion (λ n. standings_of kept.items n ≡ standings n) others.now) }
     ensures only { IfOk result (λ kept. (n : ℕ) → (IsWanted (names_in declared.now.names.now) others.now n → ⊥) → standings_of kept.items n ≡ None) }
 {
-    let wanted = wanted_by(alloc, declared, others)?;
     let objects = Answered { results };
     let stage = Instanced {
         shapes,
         objects: &objects,
     };
+    if are_resources(declared, others) {
+        return resources_standing(alloc, declared, &stage, others);
+    }
+    let wanted = wanted_by(alloc, declared, others)?;
     standings_wanted(alloc, declared, &stage, wanted.as_slice())
+}
+
+/// What resources stand for in an apply, by place, as far as the last of them; nothing stands at any other place. None
+/// is looked at but they: a resource stands for its answered objects, whatever it refers to.
+fn resources_standing<R: Results>(
+    alloc: Global,
+    declared: &Declarations,
+    stage: &Instanced<'_, Answered<'_, R>>,
+    resources: &[usize],
+) -> Result<Vec<Standing>, AllocError>
+    requires dependence { IsDependence (names_in declared.now.names.now) declared.now.dependence.now }
+    requires acyclic { IsAcyclic declared.now.dependence.now }
+    requires within { AllByRecursion (λ n. n < length (names_in declared.now.names.now)) resources.now }
+    requires resources { list_all (λ n. is_resource (meant_at (names_in declared.now.names.now) n)) resources.now ≡ true }
+    ensures standings { IfOk result (λ kept. (standings : ℕ → StandingView)
+        → AreStandings (applying (shapes_of stage.now.shapes.now) (R.objects stage.now.objects.now.results.now)) (entries_view declared.now.variables.now.entries) (names_in declared.now.names.now) standings
+        → AllByRecursion (λ n. standings_of kept.items n ≡ standings n) resources.now) }
+    ensures only { IfOk result (λ kept. (n : ℕ) → (Contains resources.now n → ⊥) → standings_of kept.items n ≡ None) }
+{
+    let mut kept = nothing(alloc, past_last(resources, declared.names.len()))?;
+    for place in resources {
+        let standing = standing_at(alloc, declared, stage, kept.as_slice(), *place, true)?;
+        kept[*place] = standing;
+    }
+    Ok(kept)
 }
 
 /// What each wanted name stands for in an apply, by place; nothing stands at any other place. With a local all that its
