@@ -1,3 +1,4 @@
+mod Independent
 pub mod Assembled
 pub mod Complete
 pub mod Fine

@@ -1,6 +1,6 @@
 //! Of which resources all actions are good.
 
-ghost use Rattle.std.specs.Prelude.{◌≡◌, ◌==◌, ◌<◌, ◌||◌, ℕ, length, map, not};
+ghost use Rattle.std.specs.Prelude.{◌≡◌, ◌==◌, ◌<◌, ◌&&◌, ◌||◌, ℕ, length, map, not, true};
 ghost use Rattle.tf_graph.specs.NodeSet.{has};
 ghost use Rattle.tf_outcome.specs.Ended.{done_or_skipped, dones_of};
 ghost use Rattle.tf_outcome.specs.Outcome.{is_good};
@@ -17,27 +17,29 @@ pub fn note_good(good: &mut [bool], actions: &[Action], results: &[Option<Ended>
     ensures length { length good.new ≡ length good.old }
     ensures good { (n : ℕ) → n < length good.old → has good.new n ≡ are_good_at (map action_of actions.now) (dones_of results.now) n }
 {
-    for place in 0..good.len() {
-        good[place] = all_good_at(actions, results, place);
-    }
-}
-
-/// Whether all actions of the resource at a place are good.
-fn all_good_at(actions: &[Action], results: &[Option<Ended>], place: usize) -> bool
-    requires { length results.now ≡ length actions.now }
-    ensures { result ≡ are_good_at (map action_of actions.now) (dones_of results.now) place }
-{
+    mark_all(good);
     for index in 0..actions.len() {
-        if !is_fine(&actions[index], &results[index], place) {
-            return false;
-        }
+        note_end(good, &actions[index], &results[index]);
     }
-    true
 }
 
-/// Whether an action is good or of another resource than the one at a place.
-fn is_fine(action: &Action, ended: &Option<Ended>, place: usize) -> bool
-    ensures { result ≡ (not ((action_of action.now).place == place) || is_good (done_or_skipped ended.now)) }
+/// Marks all places.
+fn mark_all(good: &mut [bool])
+    ensures length { length good.new ≡ length good.old }
+    ensures marked { (n : ℕ) → n < length good.old → has good.new n ≡ true }
 {
-    action.place != place || is_good(ended)
+    for place in 0..good.len() {
+        good[place] = true;
+    }
+}
+
+/// Notes of the resource of an action that isn't good that not all its actions are.
+fn note_end(good: &mut [bool], action: &Action, ended: &Option<Ended>)
+    ensures length { length good.new ≡ length good.old }
+    ensures good { (n : ℕ) → n < length good.old → has good.new n
+        ≡ (has good.old n && (not ((action_of action.now).place == n) || is_good (done_or_skipped ended.now))) }
+{
+    if !is_good(ended) && action.place < good.len() {
+        good[action.place] = false;
+    }
 }

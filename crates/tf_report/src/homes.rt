@@ -1,6 +1,6 @@
 //! The resources into which what the actions save is put.
 
-ghost use Rattle.std.specs.Prelude.{◌≡◌, ◌==◌, ◌<◌, IfOk, count_by, length, map, string_bytes};
+ghost use Rattle.std.specs.Prelude.{◌≡◌, ◌==◌, ◌<◌, ◌+◌, ◌-◌, ◌^◌, ℕ, IfOk, if◌then◌else◌, count_by, length, map, slice_index_or, string_bytes};
 ghost use Rattle.std.specs.List.{AllByRecursion};
 ghost use Rattle.tf_address.specs.Label.{label_of};
 ghost use Rattle.tf_names.specs.Named.{named_view};
@@ -30,10 +30,10 @@ pub fn homes_for(
     ensures homes { IfOk result (λ homes. map resource_of homes.items ≡ map home_of (names_in names.now)) }
     ensures room { IfOk result (λ homes. HaveRoom (λ place. count_by (λ a. a.place == place) actions.now) homes.items) }
 {
+    let counts = counts_of(alloc, names.len(), actions)?;
     let mut homes = Vec::with_capacity(alloc, names.len())?;
     for place in 0..names.len() {
-        let count = count_at(actions, place);
-        homes.push(home_for(alloc, names.at(place), count)?)?;
+        homes.push(home_for(alloc, names.at(place), counts[place])?)?;
     }
     Ok(homes)
 }
@@ -62,15 +62,26 @@ fn label_at(alloc: Global, named: Named<'_>) -> Result<Label, AllocError>
     }
 }
 
-/// How many of the actions are of the resource at a place.
-fn count_at(actions: &[Action], place: usize) -> usize
-    ensures { result ≡ count_by (λ a. a.place == place) actions.now }
+/// For each of so many places, how many of the actions are of the resource there.
+fn counts_of(alloc: Global, places: usize, actions: &[Action]) -> Result<Vec<usize>, AllocError>
+    ensures length { IfOk result (λ counts. length counts.items ≡ places) }
+    ensures counts { IfOk result (λ counts. (n : ℕ) → n < places → slice_index_or counts.items n 0 ≡ count_by (λ a. a.place == n) actions.now) }
 {
-    let mut count = 0;
+    let mut counts = vec![in alloc; 0; places]?;
     for action in actions {
-        if action.place == place {
-            count += 1;
-        }
+        count_in(&mut counts, action.place);
     }
-    count
+    Ok(counts)
+}
+
+/// Counts one more at a place.
+fn count_in(counts: &mut Vec<usize>, place: usize)
+    requires { place < length counts.old.items → slice_index_or counts.old.items place 0 < 2 ^ 64 - 1 }
+    ensures length { length counts.new.items ≡ length counts.old.items }
+    ensures counted { (n : ℕ) → n < length counts.old.items
+        → slice_index_or counts.new.items n 0 ≡ slice_index_or counts.old.items n 0 + (if place == n then 1 else 0) }
+{
+    if place < counts.len() {
+        counts[place] += 1;
+    }
 }
