@@ -1,10 +1,10 @@
 -- What has nothing directly before it needs nothing.
-use Rattle.std.proofs.Common.{◌≡◌, ◌==◌, ◌∙◌, ◌+◌, ℕ, zero, suc, Bool, true, false, cond, List, [], ◌∷◌, filter, fold, Option, None, Some, refl, sym, ap, subst, arith}
+use Rattle.std.proofs.Common.{◌≡◌, ◌==◌, ◌∙◌, ℕ, Bool, true, false, cond, List, [], ◌∷◌, filter, fold, Option, None, Some, refl, sym, ap, subst, arith}
 use Rattle.std.proofs.lemmas.Bool.{eqb-true}
 use Rattle.std.specs.List.{range_with_len}
 use Rattle.std.specs.Prelude.{IsSome, Contains, length}
-use Rattle.tf_config_data.specs.Names.{NameView, meant_at, place_of, directly_before}
-use Rattle.tf_graph.specs.Path.{Path, direct, onward}
+use Rattle.tf_config_data.specs.Names.{NameView, meant_at, place_of}
+use Rattle.tf_graph.specs.Path.{direct, onward}
 use Rattle.tf_names.proofs.Needing.{before-from_refers, none_contained}
 use Rattle.tf_names.specs.Needs.{IsDependence, Needs, RefersTo, before_in, needs_in}
 use Rattle.tf_names.specs.declared.dependence.Dependence.{Dependence}

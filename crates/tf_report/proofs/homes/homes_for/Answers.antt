@@ -1,4 +1,4 @@
-use Rattle.std.proofs.Common.{◌≡◌, ◌∙◌, ◌+◌, ◌==◌, ◌<◌, ◌++◌, ◌∷◌, [], ℕ, count_by, length, map, sym, ap, subst, arith}
+use Rattle.std.proofs.Common.{◌≡◌, ◌∙◌, ◌+◌, ◌==◌, ◌<◌, ℕ, count_by, length, map, sym, ap, subst, arith}
 use Rattle.std.proofs.lemmas.List.{get_or_default, length_push}
 use Rattle.tf_names.specs.Named.{named_view}
 use Rattle.tf_names.specs.Table.{names_in}

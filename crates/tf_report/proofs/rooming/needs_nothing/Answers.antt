@@ -1,4 +1,4 @@
-use Rattle.std.proofs.Common.{◌≡◌, ◌∙◌, List, ℕ, [], Some, length, sym, ap, refl}
+use Rattle.std.proofs.Common.{◌≡◌, ◌∙◌, [], Some, sym, ap}
 use Rattle.std.proofs.lemmas.Bool.{eqb-true}
 use Rattle.tf_config_data.specs.Names.{place_of}
 use Rattle.tf_names.specs.Needs.{before_in}

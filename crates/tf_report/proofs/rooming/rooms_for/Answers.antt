@@ -1,4 +1,4 @@
-use Rattle.std.proofs.Common.{◌≡◌, ◌∙◌, ◌<◌, List, length, map, get_or, sym, ap, subst, arith}
+use Rattle.std.proofs.Common.{◌∙◌, ◌<◌, List, length, map, get_or, ap, subst}
 use Rattle.tf_plan_data.specs.Action.{action_of}
 use Rattle.tf_plan_data.specs.Plan.{IsOfResource, plan_names, plan_of}
 use Rattle.tf_plan_data.specs.declared.action.Action.{Action}
