@@ -1,1 +1,4 @@
 pub mod Decided
+pub mod Local
+pub mod Listed
+pub mod Found

@@ -1,3 +1,5 @@
 pub mod Steps
 pub mod Outcome
 pub mod Views
+pub mod Stage
+pub mod Laws

@@ -4,7 +4,12 @@
 //! configuration doesn't have it; or it is refused. `specs/Outcome.antt` says what becomes of each.
 #![tactic(auto)]
 
+pub mod laws;
+mod objects;
 mod outcome;
+mod stage;
 mod steps;
 
+pub use objects::DecidedObjects;
 pub use outcome::{Why, member_outcome, orphan_outcome};
+pub use stage::Deciding;

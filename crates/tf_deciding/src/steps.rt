@@ -41,7 +41,7 @@ pub(crate) fn removal_steps(alloc: Global, records: &[Record]) -> Result<Vec<Ste
 }
 
 /// The record of the current object.
-fn current(records: &[Record]) -> Option<&Record>
+pub(crate) fn current(records: &[Record]) -> Option<&Record>
     ensures { option_map (λ r. record_of r.now) result ≡ current (map record_of records.now) }
 {
     for record in records {
