@@ -1,4 +1,5 @@
-pub mod Decided
+pub mod Declared
 pub mod Local
 pub mod Listed
 pub mod Found
+pub mod Adding

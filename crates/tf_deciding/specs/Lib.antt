@@ -3,3 +3,4 @@ pub mod Outcome
 pub mod Views
 pub mod Stage
 pub mod Laws
+pub mod Deciding

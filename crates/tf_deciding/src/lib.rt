@@ -4,12 +4,14 @@
 //! configuration doesn't have it; or it is refused. `specs/Outcome.antt` says what becomes of each.
 #![tactic(auto)]
 
+mod collecting;
 pub mod laws;
 mod objects;
 mod outcome;
 mod stage;
 mod steps;
 
+pub use collecting::{Decided, Refused};
 pub use objects::DecidedObjects;
 pub use outcome::{Why, member_outcome, orphan_outcome};
 pub use stage::Deciding;

@@ -2,7 +2,7 @@ use Rattle.std.proofs.Common.{map}
 use Rattle.tf_address.specs.ObjectId.{instance_key_of}
 use Rattle.tf_change.specs.Instance.{instance_object, instance_of}
 use Rattle.tf_config_data.specs.Config.{block_at, lifecycle_of}
-use Rattle.tf_deciding.proofs.Decided.{steps_done, refusal_told}
+use Rattle.tf_deciding.proofs.Declared.{steps_done, refusal_told}
 use Rattle.tf_deciding.specs.Views.{steps_of}
 use Rattle.tf_decision.specs.Answer.{decision_of, refusal_of}
 use Rattle.tf_deciding.proofs.outcome.declared_outcome.Goals as goal
