@@ -3,3 +3,4 @@ pub mod Local
 pub mod Listed
 pub mod Found
 pub mod Adding
+pub mod Standing

@@ -4,3 +4,4 @@ pub mod Views
 pub mod Stage
 pub mod Laws
 pub mod Deciding
+pub mod Whole

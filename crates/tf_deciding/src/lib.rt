@@ -10,8 +10,10 @@ mod objects;
 mod outcome;
 mod stage;
 mod steps;
+mod whole;
 
 pub use collecting::{Decided, Refused};
 pub use objects::DecidedObjects;
 pub use outcome::{Why, member_outcome, orphan_outcome};
 pub use stage::Deciding;
+pub use whole::decide_all;
