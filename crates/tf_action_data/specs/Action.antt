@@ -1,0 +1,55 @@
+-- The actions of a plan from any prior state, as plain data.
+use Rattle.std.specs.Prelude.{ℕ, List, map, String, string_bytes}
+use Rattle.std.specs.declared.alloc.Global.{Global}
+use Rattle.tf_action_data.specs.declared.action.Action.{Action}
+use Rattle.tf_action_data.specs.declared.step.Step.{Step}
+use Rattle.tf_action_data.specs.declared.step.Step.TheVariants as rust
+use Rattle.tf_address.specs.Label.{LabelView, label_of}
+use Rattle.tf_address.specs.ObjectId.{InstanceKeyView, instance_key_of}
+use Rattle.tf_state_data.specs.declared.object.Object.{Object}
+use Rattle.tf_value.specs.Tree.{Tree, tree_of}
+
+-- What an action does to which object of an instance.
+pub data StepView : Type 0 where
+  -- makes an object where none is
+  create : Tree → StepView
+  -- changes the current object, which was so, to another, in the attributes of these names
+  update : Tree → Tree → List (List ℕ) → StepView
+  -- makes the object that takes the place of one, for which changes of the attributes of these names are the cause
+  replacement : Tree → List (List ℕ) → StepView
+  -- destroys the current object, which was so, whose place another takes
+  replaced : Tree → StepView
+  -- destroys the current object, which was so, and nothing takes its place
+  destroyed : Tree → StepView
+  -- destroys the deposed object of a key, which was so
+  deposed_destroyed : List ℕ → Tree → StepView
+
+-- An action: the number of its resource, and that of its instance among those of the resource; the address of the instance;
+-- what it does, and the version of the schema that objects follow.
+pub record ActionView : Type 0 where
+  pub resource : ℕ
+  pub instance : ℕ
+  pub label : LabelView
+  pub key : InstanceKeyView
+  pub step : StepView
+  pub version : ℕ
+
+-- the attributes of an object that is there
+abbrev pub prior_of : Object → Tree
+prior_of o = tree_of o.value
+
+-- names as lists of bytes
+abbrev pub names_of : List (String Global) → List (List ℕ)
+names_of = map string_bytes
+
+abbrev pub step_of : Step → StepView
+step_of (rust.Create asked) = create (tree_of asked)
+step_of (rust.Update prior asked names) = update (prior_of prior) (tree_of asked) (names_of names.items)
+step_of (rust.Replacement asked names) = replacement (tree_of asked) (names_of names.items)
+step_of (rust.Replaced prior) = replaced (prior_of prior)
+step_of (rust.Destroy prior) = destroyed (prior_of prior)
+step_of (rust.DestroyDeposed key prior) = deposed_destroyed (string_bytes key) (prior_of prior)
+
+abbrev pub action_of : Action → ActionView
+action_of a =
+    record { resource = a.resource; instance = a.instance; label = label_of a.label; key = instance_key_of a.key; step = step_of a.step; version = a.version }

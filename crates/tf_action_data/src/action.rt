@@ -1,0 +1,39 @@
+//! An action of a plan.
+
+ghost use Rattle.std.specs.Prelude.{◌≡◌};
+ghost use Rattle.tf_action_data.specs.Action.{action_of};
+ghost use Rattle.tf_action_data.specs.Precedence.{ordered};
+
+use crate::step::Step;
+use tf_address::{InstanceKey, Label};
+
+/// An action of a plan from any prior state.
+#[derive(Debug, Drop)]
+pub struct Action {
+    /// The number of its resource, over configuration and state together (`tf_resources`).
+    pub resource: usize,
+    /// The number of its instance, among the members of the resource (`tf_members`).
+    pub instance: usize,
+    /// The resource.
+    pub label: Label,
+    /// The instance.
+    pub key: InstanceKey,
+    /// What it does.
+    pub step: Step,
+    /// The version of the schema that its objects follow.
+    pub version: u32,
+}
+
+impl Action {
+    /// The action as the order of actions sees it.
+    pub fn ordered(&self) -> tf_precedence::Action
+        ensures { result ≡ ordered (action_of self.now) }
+    {
+        tf_precedence::Action {
+            resource: self.resource,
+            instance: self.instance,
+            kind: self.step.kind(),
+            replaces: self.step.is_half(),
+        }
+    }
+}

@@ -1,0 +1,48 @@
+//! What an action does.
+
+ghost use Rattle.std.specs.Prelude.{◌≡◌};
+ghost use Rattle.tf_action_data.specs.Action.{step_of};
+ghost use Rattle.tf_action_data.specs.Precedence.{is_half, kind_of};
+
+use tf_precedence::Kind;
+use tf_state_data::Object;
+use tf_value::Value;
+
+/// What an action does to an object of an instance. What is asked for has each attribute of the type's schema, unknown where
+/// the provider decides; what is there is as the state has it.
+#[derive(Debug, Drop)]
+pub enum Step {
+    /// Makes this object where none is.
+    Create(Value),
+    /// Changes the current object, the first, to the second, in the attributes of these names, in byte order.
+    Update(Object, Value, Vec<String>),
+    /// Makes this object, which takes the place of the one that is destroyed (`Replaced`). The names, in byte order, are
+    /// those of the attributes whose changes replace the object; there are none where that one is tainted.
+    Replacement(Value, Vec<String>),
+    /// Destroys the current object, whose place another takes (`Replacement`).
+    Replaced(Object),
+    /// Destroys the current object, and nothing takes its place.
+    Destroy(Object),
+    /// Destroys the deposed object of this key.
+    DestroyDeposed(String, Object),
+}
+
+impl Step {
+    /// What it does, as far as the order of actions depends on it.
+    pub fn kind(&self) -> Kind
+        ensures { result ≡ kind_of (step_of self.now) }
+    {
+        match self {
+            Step::Create(_) | Step::Update(_, _, _) | Step::Replacement(_, _) => Kind::Apply,
+            Step::Replaced(_) | Step::Destroy(_) => Kind::Destroy,
+            Step::DestroyDeposed(_, _) => Kind::DestroyDeposed,
+        }
+    }
+
+    /// Whether it is half of a replace.
+    pub fn is_half(&self) -> bool
+        ensures { result ≡ is_half (step_of self.now) }
+    {
+        matches!(self, Step::Replacement(_, _) | Step::Replaced(_))
+    }
+}

@@ -1,0 +1,34 @@
+-- What a block refers to decides what it stands for.
+use Rattle.std.proofs.Common.{◌≡◌, ℕ, List, Option, Some, None, if◌then◌else◌, refl, ap}
+use Rattle.std.specs.Prelude.{option_and_then}
+use Rattle.tf_address.specs.ObjectId.{InstanceKeyView}
+use Rattle.tf_change.proofs.Locals.{instances_local}
+use Rattle.tf_config_data.specs.Config.{BlockView}
+use Rattle.tf_config_data.specs.Names.{block_refers}
+use Rattle.tf_deciding.specs.Laws.{DecidingIsLocal}
+use Rattle.tf_deciding.specs.Stage.{all_can_go, decided_object, object_of, object_unless_refused, records_at}
+use Rattle.tf_decision.specs.Decision.{decision}
+use Rattle.tf_environment.proofs.Locals.{together_same}
+use Rattle.tf_eval.proofs.Locality.{expressions_local}
+use Rattle.tf_eval.specs.Environment.{Environment}
+use Rattle.tf_eval.specs.Locality.{AgreeOn}
+use Rattle.tf_members.specs.Members.{records_of}
+use Rattle.tf_protocol.specs.Meaning.{Meaning, schema_in}
+use Rattle.tf_protocol.specs.Schema.{SchemaView}
+use Rattle.tf_state_data.specs.Record.{RecordView}
+use Rattle.tf_state_data.specs.Resource.{ResourceView}
+
+object_local : (schema : SchemaView) (block : BlockView) (records : List RecordView) (e f : Environment) (key : InstanceKeyView) → AgreeOn e f (block_refers block)
+    → object_of schema block records e key ≡ object_of schema block records f key
+object_local schema block records e f key agree =
+    ap (λ planned. object_unless_refused records (decision schema block.lifecycle records planned)) (instances_local expressions_local schema block key e f agree)
+
+by_schema : (found : Option SchemaView) (block : BlockView) (records : List RecordView) (e f : Environment) (key : InstanceKeyView) → AgreeOn e f (block_refers block)
+    → option_and_then (λ schema. object_of schema block records e key) found ≡ option_and_then (λ schema. object_of schema block records f key) found
+by_schema None block records e f key agree = refl
+by_schema (Some schema) block records e f key agree = object_local schema block records e f key agree
+
+pub stage_local : DecidingIsLocal
+stage_local ms resources shapes n block e f agree =
+    together_same (decided_object ms resources n block e) (decided_object ms resources n block f) (if all_can_go ms resources (shapes n) block then Some (shapes n) else None)
+    (λ key. by_schema (schema_in block.label.type_name ms) block (records_of key (records_at block.label resources)) e f key agree)

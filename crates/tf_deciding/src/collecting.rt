@@ -1,0 +1,209 @@
+//! What is done and what is refused, one member after another.
+
+ghost use Rattle.std.specs.Prelude.{◌≡◌, ◌++◌, IfOk, OnOk, map, option_map};
+ghost use Rattle.tf_action_data.specs.Action.{action_of};
+ghost use Rattle.tf_address.specs.Label.{label_of};
+ghost use Rattle.tf_address.specs.ObjectId.{instance_key_of};
+ghost use Rattle.tf_config_data.specs.Config.{block_at};
+ghost use Rattle.tf_deciding.specs.Deciding.{action, decided_of, of_view, version_of, with_block, with_members, with_orphan, with_outcome};
+ghost use Rattle.tf_deciding.specs.Outcome.{member_outcome, orphan_outcome};
+ghost use Rattle.tf_deciding.specs.Views.{outcome_of, steps_of};
+ghost use Rattle.tf_environment.specs.Views.{shape_of};
+ghost use Rattle.tf_members.specs.Views.{member_of};
+ghost use Rattle.tf_state_data.specs.Resource.{resource_of};
+ghost use Rattle.tf_state_data.specs.State.{state_of};
+
+use crate::outcome::{Why, member_outcome, orphan_outcome};
+use crate::stage::block_members;
+use std::alloc::{AllocError, Global};
+use tf_action_data::{Action, Step};
+use tf_address::{InstanceKey, Label};
+use tf_config_data::Block;
+use tf_environment::{Resource, Shape};
+use tf_eval::Scope;
+use tf_members::{Member, members};
+use tf_protocol::{Provider, Schema, schema_for};
+use tf_state_data::State;
+
+/// An instance that is refused.
+#[derive(Debug, Drop)]
+pub struct Refused {
+    /// Its resource.
+    pub label: Label,
+    /// Which instance it is.
+    pub key: InstanceKey,
+    /// Why it is refused.
+    pub why: Why,
+}
+
+/// What is done, and what is refused.
+#[derive(Debug, Drop)]
+pub struct Decided {
+    /// The actions, in the order in which instances were decided; of one instance the apply, the destroy of the current object,
+    /// and the destroys of deposed ones by their keys.
+    pub actions: Vec<Action>,
+    /// The instances that are refused, in the order in which they were decided.
+    pub refusals: Vec<Refused>,
+}
+
+/// A resource, as its actions name it.
+#[derive(Drop)]
+pub(crate) struct Of<'a> {
+    /// The number of the resource.
+    pub(crate) resource: usize,
+    /// Its address.
+    pub(crate) label: &'a Label,
+    /// The version of the schema of its type.
+    pub(crate) version: u32,
+}
+
+impl Decided {
+    /// Decides the members of a resource whose block stands: those that the configuration has, by the resource's shape, and
+    /// those that the state has of it.
+    ///
+    /// # Errors
+    ///
+    /// Only where memory runs out.
+    pub fn add_block<S: Scope>(
+        &mut self,
+        alloc: Global,
+        resource: &Resource<'_, S>,
+        shape: &Shape,
+        state: &State,
+        providers: &[Box<dyn Provider + Sync>],
+    ) -> Result<(), AllocError>
+        ensures { OnOk result (decided_of self.new ≡ with_block (map (λ b. meaning b) providers.now) (state_of state.now).resources resource.now.place
+            (block_at (label_of resource.now.label.now) resource.now.block.now) (S.environment resource.now.scope.now) (shape_of shape.now) (decided_of self.old)) }
+    {
+        let schema = schema_for(providers, resource.label.type_name.as_str());
+        let members = block_members(alloc, state, shape, resource.label, resource.block)?;
+        let of = Of {
+            resource: resource.place,
+            label: resource.label,
+            version: version_of(schema),
+        };
+        add_members(alloc, self, &of, schema, resource, members.as_slice())
+    }
+
+    /// Decides the members of a resource whose block is gone.
+    ///
+    /// # Errors
+    ///
+    /// Only where memory runs out.
+    pub fn add_orphan(
+        &mut self,
+        alloc: Global,
+        place: usize,
+        orphan: &tf_state_data::Resource,
+        providers: &[Box<dyn Provider + Sync>],
+    ) -> Result<(), AllocError>
+        ensures { OnOk result (decided_of self.new ≡ with_orphan (map (λ b. meaning b) providers.now) place (resource_of orphan.now) (decided_of self.old)) }
+    {
+        let schema = schema_for(providers, orphan.label().type_name.as_str());
+        let members = members(alloc, &[], orphan.records())?;
+        let of = Of {
+            resource: place,
+            label: orphan.label(),
+            version: version_of(schema),
+        };
+        add_gone(alloc, self, &of, schema, members.as_slice())
+    }
+}
+
+/// The version of a schema, where there is one.
+fn version_of(schema: Option<&Schema>) -> u32
+    ensures { result ≡ version_of (option_map (λ s. s.now) schema.entry) }
+{
+    match schema {
+        Some(schema) => schema.version(),
+        None => 0,
+    }
+}
+
+/// Adds what becomes of the members of a resource whose block stands.
+fn add_members<S: Scope>(
+    alloc: Global,
+    decided: &mut Decided,
+    of: &Of<'_>,
+    schema: Option<&Schema>,
+    resource: &Resource<'_, S>,
+    members: &[Member<'_>],
+) -> Result<(), AllocError>
+    ensures { OnOk result (decided_of decided.new ≡ with_members (of_view of.now)
+        (member_outcome (option_map (λ s. s.now) schema.entry) (block_at (label_of resource.now.label.now) resource.now.block.now) (S.environment resource.now.scope.now))
+        0 (map member_of members.now) (decided_of decided.old)) }
+{
+    for index in 0..members.len() {
+        let member = &members[index];
+        let outcome = member_outcome(alloc, schema, resource.block, resource.scope, member)?;
+        add_outcome(decided, of, index, &member.key, outcome)?;
+    }
+    Ok(())
+}
+
+/// Adds what becomes of the members of a resource whose block is gone.
+fn add_gone(
+    alloc: Global,
+    decided: &mut Decided,
+    of: &Of<'_>,
+    schema: Option<&Schema>,
+    members: &[Member<'_>],
+) -> Result<(), AllocError>
+    ensures { OnOk result (decided_of decided.new ≡ with_members (of_view of.now) (orphan_outcome (option_map (λ s. s.now) schema.entry))
+        0 (map member_of members.now) (decided_of decided.old)) }
+{
+    for index in 0..members.len() {
+        let member = &members[index];
+        let outcome = orphan_outcome(alloc, schema, member)?;
+        add_outcome(decided, of, index, &member.key, outcome)?;
+    }
+    Ok(())
+}
+
+/// Adds what becomes of an instance.
+fn add_outcome(
+    decided: &mut Decided,
+    of: &Of<'_>,
+    instance: usize,
+    key: &InstanceKey,
+    outcome: Result<Vec<Step>, Why>,
+) -> Result<(), AllocError>
+    ensures { OnOk result (decided_of decided.new ≡ with_outcome (of_view of.now) instance (instance_key_of key.now) (outcome_of outcome) (decided_of decided.old)) }
+{
+    match outcome {
+        Ok(steps) => add_steps(decided, of, instance, key, steps),
+        Err(why) => {
+            decided.refusals.push(Refused {
+                label: of.label.clone()?,
+                key: key.clone()?,
+                why,
+            })?;
+            Ok(())
+        }
+    }
+}
+
+/// Adds the actions of an instance.
+fn add_steps(
+    decided: &mut Decided,
+    of: &Of<'_>,
+    instance: usize,
+    key: &InstanceKey,
+    steps: Vec<Step>,
+) -> Result<(), AllocError>
+    ensures actions { OnOk result (map action_of decided.new.actions.items
+        ≡ map action_of decided.old.actions.items ++ map (action (of_view of.now) instance (instance_key_of key.now)) (steps_of steps.items)) }
+    ensures refusals { decided.new.refusals.items ≡ decided.old.refusals.items }
+{
+    for step in steps {
+        decided.actions.push(Action {
+            resource: of.resource,
+            instance,
+            label: of.label.clone()?,
+            key: key.clone()?,
+            step,
+            version: of.version,
+        })?;
+    }
+    Ok(())
+}

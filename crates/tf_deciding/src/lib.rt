@@ -1,0 +1,19 @@
+//! What is decided about the instances of a configuration and a prior state together.
+//!
+//! A member of a resource (`tf_members`) is decided by what is planned for it and what exists of it, or destroyed where the
+//! configuration doesn't have it; or it is refused. `specs/Outcome.antt` says what becomes of each.
+#![tactic(auto)]
+
+mod collecting;
+pub mod laws;
+mod objects;
+mod outcome;
+mod stage;
+mod steps;
+mod whole;
+
+pub use collecting::{Decided, Refused};
+pub use objects::DecidedObjects;
+pub use outcome::{Why, member_outcome, orphan_outcome};
+pub use stage::Deciding;
+pub use whole::decide_all;

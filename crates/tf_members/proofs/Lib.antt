@@ -1,0 +1,4 @@
+pub mod Order
+pub mod Known
+pub mod Parting
+pub mod Listing

@@ -1,0 +1,68 @@
+-- The instances of a resource, by its configuration and by what its state has, together.
+use Rattle.std.specs.Prelude.{◌≡◌, Bool, ◌||◌, List, [], map, filter, fold, Contains}
+use Rattle.std.specs.BTreeSet.{insert_key}
+use Rattle.std.specs.List.{list_any}
+use Rattle.std.specs.List.Sorted.{IsStrictlySortedBy}
+use Rattle.tf_address.specs.ObjectId.{InstanceKeyView, instance_key_cmp}
+use Rattle.tf_address.specs.Same.{same_instance_key}
+use Rattle.tf_state_data.specs.Record.{RecordView}
+
+-- An instance of a resource: whether the configuration has it, and the records of its objects.
+pub record MemberView : Type 0 where
+  pub key : InstanceKeyView
+  pub is_declared : Bool
+  pub records : List RecordView
+
+-- an instance is one of these
+abbrev pub is_among : List InstanceKeyView → InstanceKeyView → Bool
+is_among keys key = list_any (λ other. same_instance_key other key) keys
+
+-- a record is of an object of an instance
+abbrev pub is_of : InstanceKeyView → RecordView → Bool
+is_of key r = same_instance_key r.id.key key
+
+-- the records of an instance's objects among those of its resource, in their order: the current one before the deposed ones
+abbrev pub records_of : InstanceKeyView → List RecordView → List RecordView
+records_of key records = filter (is_of key) records
+
+-- there is a record of some object of an instance
+abbrev pub is_recorded : List RecordView → InstanceKeyView → Bool
+is_recorded records key = list_any (is_of key) records
+
+-- the instances that members are
+abbrev pub keys_of : List MemberView → List InstanceKeyView
+keys_of members = map (λ m. m.key) members
+
+-- The members of a resource, of which the configuration has the instances of some keys and the state has some records: all
+-- instances of both, each once, in address order.
+pub record AreMembers (keys : List InstanceKeyView) (records : List RecordView) (members : List MemberView) : Type 0 where
+  -- they stand in address order, each once
+  pub sorted : IsStrictlySortedBy instance_key_cmp (keys_of members)
+  -- an instance is there exactly where the configuration has it, or there is a record of it
+  pub there : (key : InstanceKeyView) → is_among (keys_of members) key ≡ (is_among keys key || is_recorded records key)
+  -- each says exactly whether the configuration has it
+  pub declared : (m : MemberView) → Contains members m → m.is_declared ≡ is_among keys m.key
+  -- and has exactly the records of its objects, in their order
+  pub recorded : (m : MemberView) → Contains members m → m.records ≡ records_of m.key records
+
+-- The same as a list.
+
+-- the member that an instance is
+abbrev pub member : List InstanceKeyView → List RecordView → InstanceKeyView → MemberView
+member keys records key = record { key = key; is_declared = is_among keys key; records = records_of key records }
+
+-- keys with some more, each at its place in address order and each once
+abbrev pub with_keys : List InstanceKeyView → List InstanceKeyView → List InstanceKeyView
+with_keys known keys = fold (insert_key instance_key_cmp) known keys
+
+-- the keys of the instances that records are of
+abbrev pub recorded_keys : List RecordView → List InstanceKeyView
+recorded_keys records = map (λ r. r.id.key) records
+
+-- all instances that the configuration has or there are records of
+abbrev pub all_keys : List InstanceKeyView → List RecordView → List InstanceKeyView
+all_keys keys records = with_keys (with_keys [] keys) (recorded_keys records)
+
+-- the members
+abbrev pub members : List InstanceKeyView → List RecordView → List MemberView
+members keys records = map (member keys records) (all_keys keys records)
