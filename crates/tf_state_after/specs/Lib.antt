@@ -1,0 +1,5 @@
+pub mod After
+pub mod DeposedKey
+pub mod Ends
+pub mod Room
+pub mod Saved
