@@ -15,10 +15,20 @@ abbrev pub object_replied : Option Answer → Option Tree
 object_replied (Some (object t)) = Some t
 object_replied _ = None
 
+-- an object, where it is well formed
+abbrev pub if_formed : SchemaView → Tree → Option Tree
+if_formed schema t = if well_formed schema t then Some t else None
+
 -- the object that is there in spite of a failure, where it is well formed
 abbrev pub object_there : SchemaView → Option Answer → Option Tree
-object_there schema (Some (failed message (Some t))) = if well_formed schema t then Some t else None
+object_there schema (Some (failed message (Some t))) = if_formed schema t
 object_there schema _ = None
+
+-- the object in an answer, replied or there in spite of a failure, where it is well formed
+abbrev pub formed_in : SchemaView → Option Answer → Option Tree
+formed_in schema (Some (object t)) = if_formed schema t
+formed_in schema (Some (failed message (Some t))) = if_formed schema t
+formed_in schema _ = None
 
 -- an object that is saved as tainted, or not
 abbrev pub as_saved : Bool → Option Tree → Option SavedView

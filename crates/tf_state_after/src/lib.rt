@@ -9,8 +9,11 @@
 
 mod ends;
 mod key;
+pub mod laws;
 mod record_ends;
+mod saved;
 
 pub use ends::{Applied, Ends, Given, Left, Saved};
 pub use key::deposed_key;
 pub use record_ends::{record_current, record_destroy};
+pub use saved::{left_by_destroy, saved_by_create, saved_by_update};
