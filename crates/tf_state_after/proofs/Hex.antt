@@ -1,11 +1,13 @@
 -- The text of a key: what is written with width 8, and that no two serials have one text.
-use Rattle.std.proofs.Common.{◌≡◌, ℕ, zero, suc, ◌+◌, ◌-◌, ◌/◌, ◌%◌, ◌^◌, ◌<◌, ◌≤◌, Bool, true, false, cond, List, [], ◌∷◌, ◌++◌, length, refl, sym, ap, ◌∙◌, arith, append_assoc}
+use Rattle.std.proofs.Common.{◌≡◌, ℕ, zero, suc, ◌+◌, ◌-◌, ◌/◌, ◌%◌, ◌^◌, ◌<◌, ◌≤◌, Bool, true, false, cond, List, [], ◌∷◌, ◌++◌, length, refl, sym, ap, ap₂, ◌∙◌, arith, append_assoc}
 use Rattle.std.proofs.lemmas.Bool.Decides.{nat_tests}
-use Rattle.std.proofs.lemmas.List.{append-nil, replicate-append-replicate, same_from_push}
+use Rattle.std.proofs.lemmas.List.{append-nil, length_push, replicate-append-replicate, same_from_push}
 use Rattle.std.proofs.Math.Nat.{pow-suc}
 use Rattle.std.specs.Fmt.{digit_glyph, digits_onto, digits, padded_integral, format_spec, char_count}
-use Rattle.std.specs.Prelude.{◌==◌, replicate}
-use Rattle.tf_state_after.specs.DeposedKey.{hex_digits, key_text, serial_after}
+use Rattle.std.proofs.lemmas.List.Folds.{list_all-append}
+use Rattle.std.specs.List.{list_all}
+use Rattle.std.specs.Prelude.{◌==◌, ◌&&◌, replicate}
+use Rattle.tf_state_after.specs.DeposedKey.{hex_digits, is_hex, is_key, key_text, serial_after}
 
 -- the digits of nothing are zeros
 zeros : (k : ℕ) → hex_digits k 0 ≡ replicate k 48
@@ -75,3 +77,19 @@ keys_apart m n small few e = digits_same 8 m n (omega arith) (omega arith) e
 pub steps_apart : (serial i j : ℕ) → i < 2 ^ 32 → j < 2 ^ 32 → key_text (serial_after serial i) ≡ key_text (serial_after serial j) → i ≡ j
 steps_apart serial i j small few e =
     let same = keys_apart (serial_after serial i) (serial_after serial j) (omega arith) (omega arith) e in omega arith
+
+glyph_hex : (d : ℕ) → d < 16 → is_hex (digit_glyph false d) ≡ true
+glyph_hex d h = grind (arith, nat_tests)
+
+all_hex : (k n : ℕ) → list_all is_hex (hex_digits k n) ≡ true
+all_hex zero n = refl
+all_hex (suc k) n = list_all-append is_hex (hex_digits k (n / 16)) (glyph n ∷ []) ∙ ap₂ (λ a b. a && (b && true)) (all_hex k (n / 16)) (glyph_hex (n % 16) (omega arith))
+
+digits_length : (k n : ℕ) → length (hex_digits k n) ≡ k
+digits_length zero n = refl
+digits_length (suc k) n = length_push (hex_digits k (n / 16)) (glyph n) ∙ ap (λ l. l + 1) (digits_length k (n / 16)) ∙ omega arith
+
+-- a text is eight lower-case hex digits
+pub text_key : (n : ℕ) → is_key (key_text n) ≡ true
+unfolding key_text
+text_key n = ap₂ (λ l a. (l == 8) && a) (digits_length 8 n) (all_hex 8 n)

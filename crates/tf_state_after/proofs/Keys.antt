@@ -4,10 +4,11 @@ use Rattle.std.specs.List.{list_any}
 use Rattle.tf_address.specs.ObjectId.{InstanceKeyView, ObjectIdView, object_id_cmp}
 use Rattle.tf_address.specs.Same.{same_object_id}
 use Rattle.tf_state_after.specs.After.{object_at}
-use Rattle.tf_state_after.specs.DeposedKey.{IsDeposedKey, IsFirstFree, is_used, key_text, serial_after}
+use Rattle.tf_state_after.specs.DeposedKey.{IsDeposedKey, IsFirstFree, is_key, is_used, key_text, serial_after}
 use Rattle.std.proofs.lemmas.Bool.{cases_order}
-use Rattle.tf_state_after.specs.Laws.{KeyExists, KeyIsFree}
+use Rattle.tf_state_after.specs.Laws.{KeyExists, KeyIsFree, KeyIsHex}
 use Rattle.tf_state_after.proofs.Crowded.{keys_crowded}
+use Rattle.tf_state_after.proofs.Hex.{text_key}
 use Rattle.tf_state_after.proofs.Places.{objects_tied}
 use Rattle.tf_state_data.specs.Record.{RecordView}
 use Rattle.tf_state_data.specs.Resource.{record_at}
@@ -47,3 +48,6 @@ unused id (x ∷ xs) none = unused_at id (same_object_id x.id id) x xs refl (unu
 
 pub key_free : KeyIsFree
 key_free serial key records text is = unused (object_at key (Some text)) records (ap (is_used key records) is.spelled ∙ is.is_first.free)
+
+pub key_hex : KeyIsHex
+key_hex serial key records text is = ap is_key is.spelled ∙ text_key is.first

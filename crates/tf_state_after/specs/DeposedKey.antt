@@ -1,7 +1,7 @@
 -- The key of an object that becomes deposed.
 use Rattle.std.specs.Fmt.{digit_glyph}
-use Rattle.std.specs.List.{list_any}
-use Rattle.std.specs.Prelude.{◌≡◌, ℕ, zero, suc, ◌+◌, ◌/◌, ◌%◌, ◌^◌, ◌<◌, Bool, true, false, List, [], ◌∷◌, ◌++◌, Some}
+use Rattle.std.specs.List.{list_all, list_any}
+use Rattle.std.specs.Prelude.{◌≡◌, ℕ, zero, suc, ◌+◌, ◌/◌, ◌%◌, ◌^◌, ◌<◌, ◌==◌, ◌&&◌, ◌||◌, nat_le, Bool, true, false, List, [], ◌∷◌, ◌++◌, Some, length}
 use Rattle.tf_address.specs.ObjectId.{InstanceKeyView}
 use Rattle.tf_address.specs.Same.{same_object_id}
 use Rattle.tf_state_after.specs.After.{object_at}
@@ -15,6 +15,14 @@ hex_digits (suc k) n = hex_digits k (n / 16) ++ digit_glyph false (n % 16) ∷ [
 -- a serial as a key: eight lower-case hex digits
 unfoldable pub key_text : ℕ → List ℕ
 key_text serial = hex_digits 8 serial
+
+-- a lower-case hex digit
+abbrev pub is_hex : ℕ → Bool
+is_hex c = (nat_le 48 c && nat_le c 57) || (nat_le 97 c && nat_le c 102)
+
+-- eight lower-case hex digits
+abbrev pub is_key : List ℕ → Bool
+is_key text = (length text == 8) && list_all is_hex text
 
 -- the serial that is so many steps after another one, where 0 comes after the last one
 abbrev pub serial_after : ℕ → ℕ → ℕ

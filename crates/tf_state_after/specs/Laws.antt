@@ -3,7 +3,7 @@ use Rattle.std.specs.List.{list_all}
 use Rattle.std.specs.Prelude.{◌≡◌, ◌<◌, ◌≤◌, ◌^◌, ◌⊎◌, ◌+◌, ℕ, Bool, true, false, ◌||◌, ◌&&◌, nat_le, List, [], ◌∷◌, length, Option, Some, None, sum_by, count_by}
 use Rattle.tf_address.specs.ObjectId.{InstanceKeyView}
 use Rattle.tf_state_after.specs.After.{Places, IsAfter, after_destroy, as_deposed, destroy_under, instance_after, places_in, record_of_saved, renewed}
-use Rattle.tf_state_after.specs.DeposedKey.{IsDeposedKey}
+use Rattle.tf_state_after.specs.DeposedKey.{IsDeposedKey, is_key}
 use Rattle.tf_state_after.specs.Ends.{SavedView, LeftView, gone, changed, AppliedView, unwanted, unplanned, nothing, saved, EndsView, GivenView, destroy_of}
 use Rattle.tf_state_after.specs.Room.{records_more}
 use Rattle.tf_state_data.specs.Ids.{AreById}
@@ -96,6 +96,10 @@ KeyIsOne =
 -- Where there are fewer records than serials, there is one.
 abbrev pub KeyExists : Type 0
 KeyExists = (serial : ℕ) (key : InstanceKeyView) (records : List RecordView) → length records < 2 ^ 32 → (text : List ℕ) × IsDeposedKey serial key records text
+
+-- It is eight lower-case hex digits.
+abbrev pub KeyIsHex : Type 0
+KeyIsHex = (serial : ℕ) (key : InstanceKeyView) (records : List RecordView) (text : List ℕ) → IsDeposedKey serial key records text → is_key text ≡ true
 
 -- No object is deposed under it.
 abbrev pub KeyIsFree : Type 0

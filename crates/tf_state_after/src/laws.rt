@@ -1,6 +1,6 @@
 // Laws on what is known of an instance's objects after its actions, proved for all of them: each function's contract is a
 // law, and its body does nothing.
-ghost use Rattle.tf_state_after.specs.Laws.{AfterIsOne, DeposedStay, DestroysCombine, KeyExists, KeyIsFree, KeyIsOne, NothingIsForgotten, OldIsDeposed, OldStays, RoomsSuffice, SavedIsCurrent};
+ghost use Rattle.tf_state_after.specs.Laws.{AfterIsOne, DeposedStay, DestroysCombine, KeyExists, KeyIsFree, KeyIsHex, KeyIsOne, NothingIsForgotten, OldIsDeposed, OldStays, RoomsSuffice, SavedIsCurrent};
 
 /// What comes of an instance's actions is one resource, and the destroys of its deposed objects may come before the rest
 /// or after it.
@@ -19,11 +19,13 @@ pub fn nothing_is_forgotten()
     ensures current { OldStays }
 {}
 
-/// The key of an object that becomes deposed is one and there is one, under which no object is deposed.
+/// There is one key for an object that becomes deposed, where records are fewer than serials, and it is the only one. It is
+/// eight lower-case hex digits, and no object is deposed under it.
 pub fn keys_are_free()
     ensures one { KeyIsOne }
     ensures exists { KeyExists }
     ensures free { KeyIsFree }
+    ensures hex { KeyIsHex }
 {}
 
 /// Room for one record of each create or update of a resource is enough.

@@ -12,6 +12,8 @@ mod key;
 pub mod laws;
 mod record_ends;
 mod saved;
+#[cfg(test)]
+mod tests;
 
 pub use ends::{Applied, Ends, Given, Left, Saved};
 pub use key::deposed_key;
