@@ -1,7 +1,6 @@
 -- No more records are saved than there are creates and updates.
-use Rattle.std.proofs.Common.{◌≡◌, ℕ, ◌+◌, ◌≤◌, cond, Bool, List, [], ◌∷◌, arith}
+use Rattle.std.proofs.Common.{◌≤◌, cond, [], ◌∷◌, arith}
 use Rattle.std.proofs.lemmas.List.Sums.{sum_by-cons}
-use Rattle.std.specs.Prelude.{sum_by, count_by}
 use Rattle.tf_state_after.specs.Ends.{AppliedView, unwanted, unplanned, nothing, saved}
 use Rattle.tf_state_after.specs.Laws.{RoomsSuffice, is_planned}
 use Rattle.tf_state_after.specs.Room.{records_more}

@@ -1,10 +1,9 @@
 -- Nothing is forgotten.
-use Rattle.std.proofs.Common.{◌≡◌, ℕ, ◌+◌, ◌≤◌, ◌⊎◌, inl, inr, Bool, true, false, cond, List, [], ◌∷◌, Option, Some, None, option_map, option_and_then, refl, sym, ap, ◌∙◌, arith}
+use Rattle.std.proofs.Common.{◌≡◌, ℕ, ◌⊎◌, inl, inr, Bool, true, false, cond, List, Option, Some, None, option_map, refl, sym, ap, ◌∙◌}
 use Rattle.std.proofs.lemmas.Slice.Eq.{bytes_eq-Decides}
 use Rattle.std.specs.Option.{option_eq, option_or}
 use Rattle.std.specs.Prelude.{bytes_eq}
-use Rattle.tf_address.specs.ObjectId.{InstanceKeyView}
-use Rattle.tf_state_after.specs.After.{Places, after_destroy, as_deposed, current_after, deposed_anew, destroy_under, instance_after, record_of_saved, renewed}
+use Rattle.tf_state_after.specs.After.{Places, after_destroy, as_deposed, current_after, deposed_anew, destroy_under, record_of_saved, renewed}
 use Rattle.tf_state_after.specs.Ends.{SavedView, LeftView, gone, changed, unchanged, AppliedView, unwanted, unplanned, nothing, saved, EndsView, GivenView}
 use Rattle.tf_state_after.specs.Laws.{DeposedStay, IsKept, IsOrderly, NothingIsForgotten, Tells, destroy_at}
 use Rattle.tf_state_data.specs.Record.{RecordView}

@@ -1,10 +1,10 @@
 -- The key of an object that becomes deposed: there is one, and it is free.
-use Rattle.std.proofs.Common.{◌≡◌, ℕ, zero, suc, ◌+◌, ◌<◌, ◌≤◌, ◌^◌, ◌⊎◌, inl, inr, Bool, true, false, ◌||◌, List, [], ◌∷◌, length, Option, Some, None, is_eq, refl, sym, ap, ◌∙◌, subst, arith}
+use Rattle.std.proofs.Common.{◌≡◌, ℕ, zero, suc, ◌<◌, ◌⊎◌, inl, inr, Bool, true, false, ◌||◌, List, [], ◌∷◌, length, Some, None, is_eq, refl, sym, ap, ◌∙◌, subst, arith}
 use Rattle.std.specs.List.{list_any}
-use Rattle.tf_address.specs.ObjectId.{InstanceKeyView, ObjectIdView, object_id_cmp}
+use Rattle.tf_address.specs.ObjectId.{ObjectIdView, object_id_cmp}
 use Rattle.tf_address.specs.Same.{same_object_id}
 use Rattle.tf_state_after.specs.After.{object_at}
-use Rattle.tf_state_after.specs.DeposedKey.{IsDeposedKey, IsFirstFree, is_key, is_used, key_text, serial_after}
+use Rattle.tf_state_after.specs.DeposedKey.{IsFirstFree, is_key, is_used, key_text, serial_after}
 use Rattle.std.proofs.lemmas.Bool.{cases_order}
 use Rattle.tf_state_after.specs.Laws.{KeyExists, KeyIsFree, KeyIsHex}
 use Rattle.tf_state_after.proofs.Crowded.{keys_crowded}

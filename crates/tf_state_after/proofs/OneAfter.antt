@@ -1,5 +1,5 @@
 -- Records in order are those that stand at their places.
-use Rattle.std.proofs.Common.{◌≡◌, ◌⊎◌, inl, inr, Bool, true, false, cond, List, [], ◌∷◌, Option, Some, None, Ordering, Less, Equal, Greater, is_eq, refl, sym, ap, ap₂, ◌∙◌, subst}
+use Rattle.std.proofs.Common.{◌≡◌, ◌⊎◌, inl, inr, Bool, true, false, cond, List, [], ◌∷◌, Some, None, Ordering, Less, Equal, Greater, is_eq, refl, sym, ap, ap₂, ◌∙◌, subst}
 use Rattle.std.specs.List.{AllByRecursion}
 use Rattle.std.specs.List.Sorted.{IsStrictlySortedBy}
 use Rattle.std.specs.Ordering.{ordering_reverse}
@@ -7,13 +7,13 @@ use Rattle.std.proofs.lemmas.Cmp.{tied_itself}
 use Rattle.tf_address.specs.ObjectId.{ObjectIdView, object_id_cmp}
 use Rattle.tf_address.specs.Same.{same_object_id, object_id_Decides}
 use Rattle.tf_address.proofs.Totals.{object_id_total}
-use Rattle.tf_state_after.specs.After.{IsAfter, object_at}
+use Rattle.tf_state_after.specs.After.{object_at}
 use Rattle.tf_state_after.specs.Laws.{AfterIsOne}
-use Rattle.tf_state_after.proofs.Places.{apart, objects_tied}
+use Rattle.tf_state_after.proofs.Places.{objects_tied}
 use Rattle.tf_state_data.proofs.Sorted.{all_mono}
 use Rattle.tf_state_data.specs.Ids.{AreById, ids_of}
 use Rattle.tf_state_data.specs.Record.{RecordView}
-use Rattle.tf_state_data.specs.Resource.{ResourceView, record_at}
+use Rattle.tf_state_data.specs.Resource.{record_at}
 
 -- the first record is found, and each other one behind it
 first_at : (id : ObjectIdView) (x : RecordView) (xs : List RecordView) (b : Bool) → is_eq (object_id_cmp x.id id) ≡ b → record_at id (x ∷ xs) ≡ cond b (Some x) (record_at id xs)

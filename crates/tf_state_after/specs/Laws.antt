@@ -1,8 +1,7 @@
 -- What holds of an instance's objects after its actions, whatever was there and came of them.
-use Rattle.std.specs.List.{list_all}
-use Rattle.std.specs.Prelude.{◌≡◌, ◌<◌, ◌≤◌, ◌^◌, ◌⊎◌, ◌+◌, ℕ, Bool, true, false, ◌||◌, ◌&&◌, nat_le, List, [], ◌∷◌, length, Option, Some, None, sum_by, count_by}
+use Rattle.std.specs.Prelude.{◌≡◌, ◌<◌, ◌≤◌, ◌^◌, ◌⊎◌, ℕ, Bool, true, false, List, ◌∷◌, length, Option, Some, None, sum_by, count_by}
 use Rattle.tf_address.specs.ObjectId.{InstanceKeyView}
-use Rattle.tf_state_after.specs.After.{Places, IsAfter, after_destroy, as_deposed, destroy_under, instance_after, places_in, record_of_saved, renewed}
+use Rattle.tf_state_after.specs.After.{Places, IsAfter, after_destroy, as_deposed, destroy_under, instance_after, places_in, record_of_saved}
 use Rattle.tf_state_after.specs.DeposedKey.{IsDeposedKey, is_key}
 use Rattle.tf_state_after.specs.Ends.{SavedView, LeftView, gone, changed, AppliedView, unwanted, unplanned, nothing, saved, EndsView, GivenView, destroy_of}
 use Rattle.tf_state_after.specs.Room.{records_more}
