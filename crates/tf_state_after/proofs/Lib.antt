@@ -1,0 +1,9 @@
+pub mod Afterwards
+pub mod Counted
+pub mod Crowded
+pub mod Hex
+pub mod Kept
+pub mod Keys
+pub mod OneAfter
+pub mod Places
+pub mod Rooms

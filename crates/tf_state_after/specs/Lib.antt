@@ -1,0 +1,6 @@
+pub mod After
+pub mod DeposedKey
+pub mod Ends
+pub mod Laws
+pub mod Room
+pub mod Saved

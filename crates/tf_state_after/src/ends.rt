@@ -1,0 +1,59 @@
+//! What came of the actions of an instance.
+
+use std::collections::BTreeSet;
+use tf_address::InstanceKey;
+use tf_state_data::Object;
+
+/// An object that a create or an update saved. A provider made it, so it can be neither copied nor let go.
+pub struct Saved {
+    /// Its attributes.
+    pub attributes: Object,
+    /// Whether it is damaged, so that the next apply replaces it.
+    pub tainted: bool,
+}
+
+/// What a destroy left of an object. As it may hold what a provider replied, it can be neither copied nor let go.
+pub enum Left {
+    /// The object is gone.
+    Gone,
+    /// The object is there with these attributes.
+    Changed(Object),
+    /// What is known of the object stays: nothing was called, or the reply told nothing of it.
+    Unchanged,
+}
+
+/// What came of the create or the update of an instance. As it may hold what a provider made, it can be neither copied
+/// nor let go.
+pub enum Applied {
+    /// No object was wanted.
+    Unwanted,
+    /// An object was wanted, and nothing was planned for it.
+    Unplanned,
+    /// It saved nothing, or wasn't called.
+    Nothing,
+    /// It saved an object.
+    Saved(Saved),
+}
+
+/// What came of the actions on the current object of an instance. It can be neither copied nor let go.
+pub struct Ends {
+    /// What came of the create or the update.
+    pub applied: Applied,
+    /// What the destroy of the object that was there left of it, where one was planned.
+    pub destroyed: Option<Left>,
+}
+
+/// What the record of an instance's object is given, all of which is had before the first call.
+#[derive(Drop)]
+pub struct Given {
+    /// The instance.
+    pub key: InstanceKey,
+    /// The version of the schema that a new object follows.
+    pub schema_version: u32,
+    /// The addresses of the resources that its resource needs.
+    pub dependencies: BTreeSet<String>,
+    /// Whether its resource is late.
+    pub create_before_destroy: bool,
+    /// The key that the old object has if it becomes deposed; none but in a replace that creates first.
+    pub deposed_key: Option<String>,
+}
