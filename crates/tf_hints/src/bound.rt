@@ -1,0 +1,27 @@
+//! What is true of each hint.
+
+ghost use Rattle.std.specs.Prelude.{ℕ, ◌<◌, All};
+
+use crossbeam_deque::protocol::{Outcome, Protocol};
+use std::marker::PhantomData;
+
+/// Below which number all hints of some workers are. It is for contracts alone.
+pub trait Bound {
+    ghost bound: { ℕ };
+}
+
+/// The rule of some workers' hints: each is below the bound.
+pub struct Below<B>(PhantomData<B>);
+
+impl<B: Bound> Protocol<usize, ()> for Below<B> {
+    ghost holds = { λ hints _. All (λ n. n < B.bound) hints };
+
+    ghost first = { tt };
+
+    ghost guest = { tt };
+}
+
+/// What comes or goes is below the bound too.
+impl<B: Bound> Outcome<usize, ()> for Below<B> {
+    ghost then = { λ _ hints _. All (λ n. n < B.bound) hints };
+}

@@ -1,0 +1,21 @@
+-- Whether the journal of a report is the one that the report tells of.
+use Rattle.std.specs.Prelude.{◌≡◌, ℕ, ⊤}
+use Rattle.tf_graph.specs.Digraph.{Digraph, predecessors_of}
+use Rattle.tf_graph.specs.Order.{IsInOrder}
+use Rattle.tf_journal.specs.Entries.{actions_of}
+use Rattle.tf_outcome.specs.Journal.{verdict_in}
+use Rattle.tf_report.specs.declared.report.Report.{Report}
+use Rattle.tf_report.specs.declared.report.Walked.{Walked}
+use Rattle.tf_report.specs.declared.report.Walked.TheVariants.{Whole, Torn}
+use Rattle.tf_settle.specs.Told.{verdict_told}
+
+-- A journal holds exactly the calls that its report tells of, each once with its verdict, none before one that it depends
+-- on.
+pub record IsJournalTold (order : Digraph) (report : Report) : Type 0 where
+  pub in_order : IsInOrder (predecessors_of order) (actions_of report.journal.entries)
+  pub verdicts : (n : ℕ) → verdict_in report.journal.entries n ≡ verdict_told report.outcomes.items report.excused.items n
+
+-- a report is whole where its journal is the one that it tells of, and else it is torn
+abbrev pub IsSettled : Digraph → Report → Walked → Type 0
+IsSettled order report (Whole r) = (r ≡ report) × IsJournalTold order report
+IsSettled order report (Torn r) = (r ≡ report) × (IsJournalTold order report → ⊥)

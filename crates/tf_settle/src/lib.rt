@@ -1,0 +1,7 @@
+//! Whether a report is whole: its journal, compared with what it tells of each action.
+#![tactic(auto)]
+
+mod calls_told;
+mod settling;
+
+pub use settling::settle;
