@@ -41,6 +41,20 @@ impl Dependence {
         })
     }
 
+    /// The graph of what refers directly to what, which leads from what is referred to.
+    pub fn graph(&self) -> &Graph
+        ensures { result.now ≡ self.now.graph }
+    {
+        &self.graph
+    }
+
+    /// What needs what, through others too, as a table that leads from what is needed to what needs it.
+    pub fn table(&self) -> &Closure
+        ensures { result.now ≡ self.now.table }
+    {
+        &self.table
+    }
+
     /// Whether the name at the first place needs the one at the other.
     pub fn needs(&self, name: usize, other: usize) -> bool
         ensures { result ≡ needs_in self.now name other }

@@ -45,6 +45,10 @@ bad_argument = 10
 abbrev pub no_provider : ℕ
 no_provider = 11
 
+-- an object that may not be destroyed would be
+abbrev pub prevent_destroy : ℕ
+prevent_destroy = 12
+
 -- a state isn't in the format
 abbrev pub bad_state : ℕ
 bad_state = 13

@@ -33,6 +33,9 @@ pub const BAD_ARGUMENT: u8 = 10;
 /// No provider has the type.
 pub const NO_PROVIDER: u8 = 11;
 
+/// An object that may not be destroyed would be.
+pub const PREVENT_DESTROY: u8 = 12;
+
 /// A state isn't in the format.
 pub const BAD_STATE: u8 = 13;
 
