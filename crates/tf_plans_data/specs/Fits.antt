@@ -1,5 +1,5 @@
 -- What each plan that is made of a configuration and a prior state keeps to.
-use Rattle.std.specs.Prelude.{◌≡◌, ◌<◌, ℕ, Bool, true, false, List, Option, None, Some, map, slice_get, ⊤}
+use Rattle.std.specs.Prelude.{◌≡◌, ◌+◌, ◌<◌, ◌^◌, ℕ, Bool, true, false, List, Option, None, Some, map, slice_get, ⊤}
 use Rattle.std.specs.List.{AllByRecursion}
 use Rattle.tf_action_data.specs.Action.{ActionView, StepView, create, update, replacement, replaced, destroyed, deposed_destroyed, action_of}
 use Rattle.tf_address.specs.Label.{LabelView}
@@ -60,10 +60,12 @@ about a = record { label = a.label; key = a.key; applies = is_apply a.step; depo
 abbrev pub AreApart : List ActionView → Type 0
 AreApart actions = (i j : ℕ) (a b : ActionView) → slice_get actions i ≡ Some a → slice_get actions j ≡ Some b → about a ≡ about b → i ≡ j
 
--- The parts of a plan fit together, as those of each plan that is made of a configuration and a state do.
+-- The parts of a plan fit together, as those of each plan that is made of a configuration and a state do. The serial after
+-- the prior one is a serial too.
 pub record FitsTogether (p : Plan) : Type 0 where
   pub dependence : IsDependence (names_of (config_of p.config)) p.dependence
   pub acyclic : IsAcyclic p.dependence
   pub placed : AllByRecursion (IsPlaced (numbered (names_of (config_of p.config)) (state_of p.prior).resources)) (map action_of p.actions.items)
   pub declared : AllByRecursion (IsDeclared (names_of (config_of p.config))) (map action_of p.actions.items)
   pub apart : AreApart (map action_of p.actions.items)
+  pub serial : (state_of p.prior).serial + 1 < 2 ^ 32
