@@ -11,8 +11,12 @@ use tf_protocol::{Mode, Schema};
 use tf_value::Value;
 
 /// The planned object with the prior value of each attribute that is kept: those that the provider sets, and those whose
-/// changes are ignored.
-pub(crate) fn kept_object(
+/// changes are ignored. It is what an update asks for.
+///
+/// # Errors
+///
+/// Only where memory runs out.
+pub fn kept_object(
     alloc: Global,
     schema: &Schema,
     ignored: &[String],

@@ -16,4 +16,5 @@ mod prior;
 
 pub use decision::{Decision, Refusal, decide, refuse_removal};
 pub use ignored::ignored_fault;
+pub use kept::kept_object;
 pub use prior::{PriorFault, prior_fault};
