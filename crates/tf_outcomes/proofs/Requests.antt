@@ -28,7 +28,7 @@ pub requests_one : StandingsExist → RequestsAreOne
 requests_one exist plan requests others ranked are same objects a schema resource =
     let names = plan_names plan in
     let standings = exist (applying plan.shapes objects) plan.variables names ranked in
-    let block = resource_has_block (meant_at names a.place) resource in
+    let block = resource_has_block (meant_at names a.resource) resource in
     are objects a schema standings.0 block.0 standings.1 block.1 ∙ sym (same objects a schema standings.0 block.0 standings.1 block.1)
 
 -- the object of what stands at a place, where it is a resource
@@ -52,8 +52,8 @@ pub requests_exist : StandingsExist → StandingsAreOne → RequestsExist
 requests_exist exist one plan ranked =
     let names = plan_names plan in
     let found = λ (objects : ℕ → InstanceKeyView → Tree). exist (applying plan.shapes objects) plan.variables names ranked in (
-      (λ objects a schema. object_by schema a.key plan.variables names (found objects).0 (meant_at names a.place)),
+      (λ objects a schema. object_by schema a.key plan.variables names (found objects).0 (meant_at names a.resource)),
       (λ objects a schema standings block solves meant.
-          object_same schema a.key plan.variables names (found objects).0 standings (meant_at names a.place) block
+          object_same schema a.key plan.variables names (found objects).0 standings (meant_at names a.resource) block
           (λ n below. one (applying plan.shapes objects) plan.variables names (found objects).0 standings ranked (found objects).1 solves n below) meant),
     )

@@ -1,5 +1,5 @@
 -- What the actions of a plan ask of their providers.
-use Rattle.std.specs.Prelude.{◌≡◌, ℕ, List, [], Option, Some, None, Result, Ok, Err}
+use Rattle.std.specs.Prelude.{ℕ, List, [], Option, Some, None, Result, Ok, Err}
 use Rattle.tf_action_data.specs.Action.{ActionView, StepView, create, update, replacement, replaced, destroyed, deposed_destroyed}
 use Rattle.tf_address.specs.ObjectId.{InstanceKeyView}
 use Rattle.tf_change.specs.Instance.{InstanceFaultView}

@@ -9,7 +9,7 @@ ghost use Rattle.tf_graph.specs.Solutions.{seen_by};
 ghost use Rattle.tf_names.specs.Table.{names_in};
 ghost use Rattle.tf_plans_data.specs.Fits.{is_apply};
 ghost use Rattle.tf_state_data.specs.State.{state_of};
-ghost use Rattle.tf_value.specs.Tree.{tree_of};
+ghost use Rattle.tf_value.specs.Tree.{null, tree_of};
 ghost use Rattle.tf_outcomes.specs.Ended.{done_or_skipped, dones_of};
 ghost use Rattle.tf_outcomes.specs.Objects.{current_object, is_of, object_of, objects_seen, prior_object};
 ghost use Rattle.tf_outcomes.specs.Outcome.{done_at};
@@ -63,12 +63,19 @@ fn prior_object(
     ensures { IfOk result (λ value. tree_of value ≡ prior_object (state_of prior.now) (instance_key_of key.now) (meant_at (names_in names.now) place)) }
 {
     if place >= names.len() {
-        return Ok(Value::Null);
+        return Ok(no_object());
     }
     match names.at(place) {
         Named::Resource(label, _) => current_object(prior, label, key),
         Named::Local(_, _) => Ok(Value::Null),
     }
+}
+
+/// What stands for an instance without an object.
+fn no_object() -> Value
+    ensures { tree_of result ≡ null }
+{
+    Value::Null
 }
 
 /// The current object of an instance of the resource at an address, copied; null where the state has none.
@@ -110,7 +117,10 @@ fn is_of(action: Option<&Action>, place: usize, key: &InstanceKey) -> bool
 fn is_apply(step: &Step) -> bool
     ensures { result ≡ is_apply (step_of step.now) }
 {
-    matches!(step, Step::Create(_) | Step::Update(_, _, _) | Step::Replacement(_, _))
+    matches!(
+        step,
+        Step::Create(_) | Step::Update(_, _, _) | Step::Replacement(_, _)
+    )
 }
 
 /// The object that a provider answered to the action at a place, copied; null where there is none.

@@ -1,10 +1,8 @@
 //! What is had before a call: the request, and room for a message about its reply.
 
-ghost use Rattle.std.specs.Prelude.{◌≡◌, [], true, IfSome, IsSome, option_map, string_bytes, string_capacity};
-ghost use Rattle.tf_protocol.specs.declared.request.Op.TheVariants.{Create};
+ghost use Rattle.std.specs.Prelude.{◌≡◌, [], true, option_map, string_bytes, string_capacity};
 ghost use Rattle.tf_value.specs.Tree.{tree_of};
-ghost use Rattle.tf_value.specs.Nulls.{with_nulls};
-ghost use Rattle.tf_outcomes.specs.Fallback.{has_stored_attributes};
+ghost use Rattle.tf_outcomes.specs.Fallback.{is_fallback};
 ghost use Rattle.tf_outcomes.specs.Room.{message_fits};
 
 use tf_protocol::Request;
@@ -21,7 +19,5 @@ pub struct Asking {
     pub fallback: Option<Object>,
     pub ghost blank: { string_bytes message ≡ [] },
     pub ghost fits: { message_fits (string_capacity message) (option_map tree_of request.object) ≡ true },
-    pub ghost stands_in: { request.op ≡ Create → option_map with_nulls (option_map tree_of request.object) ≡ option_map (λ o. tree_of o.value) fallback },
-    pub ghost there: { request.op ≡ Create → IsSome fallback },
-    pub ghost within: { IfSome fallback (λ o. has_stored_attributes (tree_of o.value) ≡ true) },
+    pub ghost stands_in: { is_fallback request.op (option_map tree_of request.object) (option_map (λ o. tree_of o.value) fallback) ≡ true },
 }
