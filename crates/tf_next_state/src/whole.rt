@@ -1,0 +1,79 @@
+//! The state after an apply is put together, without taking memory.
+
+ghost use Rattle.std.specs.Prelude.{◌≡◌, filter, map};
+ghost use Rattle.tf_next_state.specs.Events.{AreEachAboutOne, ends_in, events_of, given_in};
+ghost use Rattle.tf_next_state.specs.Homes.{AreHomes};
+ghost use Rattle.tf_next_state.specs.Sound.{AreSound};
+ghost use Rattle.tf_next_state.specs.StateAfter.{IsStateAfter, has_records, next_serial};
+ghost use Rattle.tf_state.specs.Valid.{IsValid};
+ghost use Rattle.tf_state_data.specs.Resource.{resource_of};
+ghost use Rattle.tf_state_data.specs.State.{outputs_of, state_of};
+ghost use Rattle.tf_value.specs.Stored.{IsTable};
+
+use crate::events::Events;
+use crate::homes::Homes;
+use crate::recording::{apply_all, destroy_all, renew_all};
+use std::collections::BTreeMap;
+use tf_state_data::{Object, Resource, State};
+
+/// The state after an apply, by what came of its actions and by the outputs. It takes no memory and has no error: for each
+/// create and update there has to be room (`homes_for`). What is destroyed is recorded before what takes its place.
+pub fn state_after(
+    homes: Homes<'_>,
+    events: Events<'_>,
+    outputs: BTreeMap<String, Object>,
+) -> State
+    requires homes { AreHomes (state_of homes.prior.now) (map (λ a. a.label) (events_of events).applies) homes }
+    requires apart { AreEachAboutOne (events_of events) }
+    ensures after { IsStateAfter (state_of homes.prior.now) (given_in (events_of events)) (ends_in (events_of events)) (outputs_of outputs.entries) (state_of result) }
+    ensures valid { IsValid (state_of homes.prior.now) → AreSound (events_of events) → IsTable (outputs_of outputs.entries) → IsValid (state_of result) }
+{
+    let Homes {
+        prior,
+        lineage,
+        terraform_version,
+        mut resources,
+    } = homes;
+    let Events {
+        destroys,
+        applies,
+        renewals,
+    } = events;
+    destroy_all(&mut resources, destroys);
+    renew_all(&mut resources, renewals);
+    apply_all(&mut resources, applies);
+    let resources = present(resources);
+    let state = State::new(
+        prior.serial(),
+        lineage,
+        terraform_version,
+        outputs,
+        resources,
+    );
+    raised(prior, state)
+}
+
+/// Those resources of which an object is known.
+fn present(mut resources: Vec<Resource>) -> Vec<Resource>
+    ensures { map resource_of result.items ≡ filter has_records (map resource_of resources.items) }
+{
+    resources.retain(|resource| has_records(resource));
+    resources
+}
+
+fn has_records(resource: &Resource) -> bool
+    ensures { result ≡ has_records (resource_of resource.now) }
+{
+    !resource.records().is_empty()
+}
+
+/// A state with the serial that follows that of the state before it, where the rest isn't the same.
+fn raised(prior: &State, mut state: State) -> State
+    requires { (state_of state).serial ≡ (state_of prior.now).serial }
+    ensures { state_of result ≡ record (state_of state) { serial = next_serial (state_of prior.now) (state_of state) } }
+{
+    if state != *prior {
+        state.set_serial(prior.serial().wrapping_add(1));
+    }
+    state
+}
