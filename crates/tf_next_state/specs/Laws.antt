@@ -1,5 +1,5 @@
 -- What holds of each state after an apply.
-use Rattle.std.specs.Prelude.{◌≡◌}
+use Rattle.std.specs.Prelude.{◌≡◌, ◌+◌, ◌<◌, ◌^◌}
 use Rattle.std.specs.List.{AllByRecursion}
 use Rattle.tf_address.specs.Label.{LabelView}
 use Rattle.tf_address.specs.ObjectId.{InstanceKeyView}
@@ -29,4 +29,4 @@ StateAfterIsOne =
 abbrev pub StateAfterIsValid : Type 0
 StateAfterIsValid =
     (prior : StateView) (e : EventsView) (outputs : Entries) (s : StateView)
-    → IsValid prior → AreSound e → IsTable outputs → IsInOrder s → IsStateAfter prior (given_in e) (ends_in e) outputs s → IsValid s
+    → IsValid prior → prior.serial + 1 < 2 ^ 32 → AreSound e → IsTable outputs → IsInOrder s → IsStateAfter prior (given_in e) (ends_in e) outputs s → IsValid s

@@ -1,11 +1,10 @@
 -- The state after an apply.
-use Rattle.std.specs.Prelude.{◌≡◌, ℕ, Bool, true, false, if◌then◌else◌, List, [], ◌∷◌, Option, Some}
+use Rattle.std.specs.Prelude.{◌≡◌, ◌+◌, ℕ, Bool, true, false, if◌then◌else◌, List, [], ◌∷◌, Option, Some}
 use Rattle.std.specs.List.{AllByRecursion}
 use Rattle.std.specs.Option.{option_map_or}
 use Rattle.tf_address.specs.Label.{LabelView}
 use Rattle.tf_address.specs.ObjectId.{InstanceKeyView, ObjectIdView}
 use Rattle.tf_state_after.specs.After.{Places, instance_after, object_at}
-use Rattle.tf_state_after.specs.DeposedKey.{serial_after}
 use Rattle.tf_state_after.specs.Ends.{EndsView, GivenView}
 use Rattle.tf_state_data.specs.Equality.{same_state}
 use Rattle.tf_state_data.specs.Provider.{provider_text}
@@ -34,13 +33,14 @@ provider_after prior label = option_map_or (λ r. r.provider) (resource_at label
 abbrev pub is_same : StateView → StateView → Bool
 is_same prior after = same_state (record after { serial = prior.serial }) prior
 
--- The serial that follows the prior one exactly where the rest of the state isn't the same.
+-- The serial is one more than the prior one exactly where the rest of the state isn't the same.
 abbrev pub next_serial : StateView → StateView → ℕ
-next_serial prior after = if is_same prior after then prior.serial else serial_after prior.serial 1
+next_serial prior after = if is_same prior after then prior.serial else prior.serial + 1
 
 -- The state after an apply, by what each instance is given and what came of its actions, and by the outputs: what is known
 -- of each object is what comes of its instance's actions; a resource is there exactly where an object of it is known, with
--- its provider; outputs are these; lineage and version stay; and the serial follows exactly where the rest isn't the same.
+-- its provider; outputs are these; lineage and version stay; and the serial is one more exactly where the rest
+-- isn't the same.
 pub record IsStateAfter (prior : StateView) (given : LabelView → InstanceKeyView → GivenView) (ends : LabelView → InstanceKeyView → EndsView) (outputs : Entries) (after : StateView) : Type 0 where
   pub records : (label : LabelView) (id : ObjectIdView) → record_in label id after ≡ instance_after (given label id.key) (ends label id.key) (places_at label id.key prior) id.deposed
   pub present : AllByRecursion (λ r. has_records r ≡ true) after.resources

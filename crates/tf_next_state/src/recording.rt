@@ -1,6 +1,6 @@
 //! What came of the actions is recorded in the resources, without taking memory.
 
-ghost use Rattle.std.specs.Prelude.{◌≡◌, ℕ, [], ◌∷◌, None, IfErr, IfOk, map, slice_get};
+ghost use Rattle.std.specs.Prelude.{◌≡◌, ℕ, List, [], ◌∷◌, ◌++◌, IfErr, IfOk, map};
 ghost use Rattle.tf_address.specs.Label.{LabelView, label_cmp, label_of};
 ghost use Rattle.tf_next_state.specs.Events.{AreApart, apply_of, as_apply, destroy_of, instance_of, object_of, renewal_of};
 ghost use Rattle.tf_next_state.specs.Homes.{HaveRoom, count_of};
@@ -27,7 +27,7 @@ pub(crate) fn search(resources: &[Resource], label: &Label) -> Result<usize, usi
 pub(crate) fn destroy_all(resources: &mut [Resource], mut destroys: Vec<Destroy<'_>>)
     requires ordered { AreByAddress (map resource_of resources.old) }
     requires apart { AreApart object_of (map destroy_of destroys.items) }
-    ensures recorded { AreDestroyed (map destroy_of destroys.items) (map resource_of resources.old) (map resource_of resources.new) }
+    ensures recorded { AreDestroyed (map destroy_of destroys.entry.items) (map resource_of resources.old) (map resource_of resources.new) }
     ensures room { (count : LabelView → ℕ) → HaveRoom count resources.old → HaveRoom count resources.new }
 {
     while let Some(event) = destroys.pop() {
@@ -39,7 +39,7 @@ pub(crate) fn destroy_all(resources: &mut [Resource], mut destroys: Vec<Destroy<
 /// Records what a destroy left of its object.
 fn destroy(resources: &mut [Resource], event: Destroy<'_>)
     requires ordered { AreByAddress (map resource_of resources.old) }
-    ensures recorded { AreDestroyed (destroy_of event ∷ []) (map resource_of resources.old) (map resource_of resources.new) }
+    ensures recorded { AreDestroyed (destroy_of event.entry ∷ []) (map resource_of resources.old) (map resource_of resources.new) }
     ensures room { (count : LabelView → ℕ) → HaveRoom count resources.old → HaveRoom count resources.new }
 {
     let Destroy { label, id, left } = event;
@@ -61,7 +61,7 @@ fn leave_nothing(left: Left) {
 pub(crate) fn renew_all(resources: &mut [Resource], mut renewals: Vec<Renewal<'_>>)
     requires ordered { AreByAddress (map resource_of resources.old) }
     requires apart { AreApart instance_of (map as_apply (map renewal_of renewals.items)) }
-    ensures recorded { AreApplied (map as_apply (map renewal_of renewals.items)) (map resource_of resources.old) (map resource_of resources.new) }
+    ensures recorded { AreApplied (map as_apply (map renewal_of renewals.entry.items)) (map resource_of resources.old) (map resource_of resources.new) }
     ensures room { (count : LabelView → ℕ) → HaveRoom count resources.old → HaveRoom count resources.new }
 {
     while let Some(event) = renewals.pop() {
@@ -72,7 +72,7 @@ pub(crate) fn renew_all(resources: &mut [Resource], mut renewals: Vec<Renewal<'_
 /// Gives an object for which nothing was planned anew what it is given.
 fn renew(resources: &mut [Resource], event: Renewal<'_>)
     requires ordered { AreByAddress (map resource_of resources.old) }
-    ensures recorded { AreApplied (as_apply (renewal_of event) ∷ []) (map resource_of resources.old) (map resource_of resources.new) }
+    ensures recorded { AreApplied (as_apply (renewal_of event.entry) ∷ []) (map resource_of resources.old) (map resource_of resources.new) }
     ensures room { (count : LabelView → ℕ) → HaveRoom count resources.old → HaveRoom count resources.new }
 {
     let Renewal { label, given } = event;
@@ -91,7 +91,7 @@ pub(crate) fn apply_all(resources: &mut [Resource], mut applies: Vec<Apply<'_>>)
     requires apart { AreApart instance_of (map apply_of applies.items) }
     requires there { AreThere (map (λ a. a.label) (map apply_of applies.items)) (map resource_of resources.old) }
     requires room { HaveRoom (count_of (map (λ a. a.label) (map apply_of applies.items))) resources.old }
-    ensures { AreApplied (map apply_of applies.items) (map resource_of resources.old) (map resource_of resources.new) }
+    ensures { AreApplied (map apply_of applies.entry.items) (map resource_of resources.old) (map resource_of resources.new) }
 {
     while let Some(event) = applies.pop() {
         apply(resources, event);
@@ -104,8 +104,8 @@ fn apply(resources: &mut [Resource], event: Apply<'_>)
     requires ordered { AreByAddress (map resource_of resources.old) }
     requires there { AreThere (label_of event.label.now ∷ []) (map resource_of resources.old) }
     requires room { HaveRoom (count_of (label_of event.label.now ∷ [])) resources.old }
-    ensures recorded { AreApplied (apply_of event ∷ []) (map resource_of resources.old) (map resource_of resources.new) }
-    ensures room { (labels : List LabelView) → HaveRoom (count_of (labels ++ label_of event.label.now ∷ [])) resources.old → HaveRoom (count_of labels) resources.new }
+    ensures recorded { AreApplied (apply_of event.entry ∷ []) (map resource_of resources.old) (map resource_of resources.new) }
+    ensures room { (labels : List LabelView) → HaveRoom (count_of (labels ++ label_of event.entry.label.now ∷ [])) resources.old → HaveRoom (count_of labels) resources.new }
 {
     let Apply {
         label,

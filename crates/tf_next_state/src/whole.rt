@@ -1,6 +1,6 @@
 //! The state after an apply is put together, without taking memory.
 
-ghost use Rattle.std.specs.Prelude.{◌≡◌, filter, map};
+ghost use Rattle.std.specs.Prelude.{◌≡◌, ◌+◌, ◌<◌, ◌^◌, filter, map};
 ghost use Rattle.tf_next_state.specs.Events.{AreEachAboutOne, ends_in, events_of, given_in};
 ghost use Rattle.tf_next_state.specs.Homes.{AreHomes};
 ghost use Rattle.tf_next_state.specs.Sound.{AreSound};
@@ -24,9 +24,10 @@ pub fn state_after(
     outputs: BTreeMap<String, Object>,
 ) -> State
     requires homes { AreHomes (state_of homes.prior.now) (map (λ a. a.label) (events_of events).applies) homes }
+    requires serial { (state_of homes.prior.now).serial + 1 < 2 ^ 32 }
     requires apart { AreEachAboutOne (events_of events) }
-    ensures after { IsStateAfter (state_of homes.prior.now) (given_in (events_of events)) (ends_in (events_of events)) (outputs_of outputs.entries) (state_of result) }
-    ensures valid { IsValid (state_of homes.prior.now) → AreSound (events_of events) → IsTable (outputs_of outputs.entries) → IsValid (state_of result) }
+    ensures after { IsStateAfter (state_of homes.entry.prior.now) (given_in (events_of events.entry)) (ends_in (events_of events.entry)) (outputs_of outputs.entries) (state_of result) }
+    ensures valid { IsValid (state_of homes.entry.prior.now) → AreSound (events_of events.entry) → IsTable (outputs_of outputs.entries) → IsValid (state_of result) }
 {
     let Homes {
         prior,
@@ -69,11 +70,12 @@ fn has_records(resource: &Resource) -> bool
 
 /// A state with the serial that follows that of the state before it, where the rest isn't the same.
 fn raised(prior: &State, mut state: State) -> State
-    requires { (state_of state).serial ≡ (state_of prior.now).serial }
+    requires same { (state_of state).serial ≡ (state_of prior.now).serial }
+    requires serial { (state_of prior.now).serial + 1 < 2 ^ 32 }
     ensures { state_of result ≡ record (state_of state) { serial = next_serial (state_of prior.now) (state_of state) } }
 {
     if state != *prior {
-        state.set_serial(prior.serial().wrapping_add(1));
+        state.set_serial(prior.serial() + 1);
     }
     state
 }
