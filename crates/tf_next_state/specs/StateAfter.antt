@@ -1,14 +1,14 @@
 -- The state after an apply.
-use Rattle.std.specs.Prelude.{◌≡◌, ◌+◌, ℕ, Bool, true, false, if◌then◌else◌, List, [], ◌∷◌, Option, Some}
+use Rattle.std.specs.Prelude.{◌≡◌, ◌+◌, ℕ, Bool, true, if◌then◌else◌, List, Some}
 use Rattle.std.specs.List.{AllByRecursion}
 use Rattle.std.specs.Option.{option_map_or}
 use Rattle.tf_address.specs.Label.{LabelView}
 use Rattle.tf_address.specs.ObjectId.{InstanceKeyView, ObjectIdView}
+use Rattle.tf_state.specs.Arrangement.{is_some_record}
 use Rattle.tf_state_after.specs.After.{Places, instance_after, object_at}
 use Rattle.tf_state_after.specs.Ends.{EndsView, GivenView}
 use Rattle.tf_state_data.specs.Equality.{same_state}
 use Rattle.tf_state_data.specs.Provider.{provider_text}
-use Rattle.tf_state_data.specs.Record.{RecordView}
 use Rattle.tf_state_data.specs.Resource.{ResourceView}
 use Rattle.tf_state_data.specs.State.{StateView, record_in, resource_at}
 use Rattle.tf_value.specs.Tree.{Entries}
@@ -17,13 +17,9 @@ use Rattle.tf_value.specs.Tree.{Entries}
 abbrev pub places_at : LabelView → InstanceKeyView → StateView → Places
 places_at label key s deposed = record_in label (object_at key deposed) s
 
-abbrev pub is_any : List RecordView → Bool
-is_any [] = false
-is_any (x ∷ xs) = true
-
 -- a resource of which an object is known
 abbrev pub has_records : ResourceView → Bool
-has_records r = is_any r.records
+has_records r = is_some_record r.records
 
 -- The provider of a resource: that of the prior state, where it has the resource; else that of its type.
 abbrev pub provider_after : StateView → LabelView → List ℕ
