@@ -7,18 +7,20 @@ use Rattle.std.proofs.lemmas.List.Sums.{sum_by-append}
 use Rattle.std.proofs.lemmas.Map.Text.{is_eq-slice_cmp}
 use Rattle.std.proofs.lemmas.Option.{slice_get-get_or}
 use Rattle.std.specs.Cmp.{tied_then}
-use Rattle.std.specs.Prelude.{bytes_eq, slice_get}
+use Rattle.std.specs.List.Sorted.{IsStrictlySortedBy}
+use Rattle.std.specs.Prelude.{bytes_eq, option_map, slice_get}
 use Rattle.tf_address.proofs.Totals.{label_total}
 use Rattle.tf_address.specs.Label.{LabelView, label_cmp, label_of}
 use Rattle.tf_address.specs.Same.{same_label, label_Decides}
 use Rattle.tf_next_state.proofs.Finding.{found_passes}
 use Rattle.tf_next_state.proofs.OneByOne.{IsChanged, label_itself}
 use Rattle.tf_next_state.specs.Homes.{HaveRoom, count_of}
-use Rattle.tf_next_state.specs.Recorded.{heads_of}
+use Rattle.tf_next_state.specs.Recorded.{AreThere, heads_of}
 use Rattle.tf_state_after.specs.Ends.{AppliedView, unwanted, unplanned, nothing, saved}
 use Rattle.tf_state_after.specs.Room.{records_more}
 use Rattle.tf_state_data.proofs.Edits.{by_address, element_found, put_over}
 use Rattle.tf_state_data.proofs.OneChanged.{put_changes_one}
+use Rattle.tf_state_data.specs.Addresses.{AreByAddress, addresses_of}
 use Rattle.tf_state_data.specs.Order.{IsAt, with_one}
 use Rattle.tf_state_data.specs.Resource.{HasRoomForRecords, ResourceView, resource_of}
 use Rattle.tf_state_data.specs.State.{resource_at}
@@ -142,3 +144,58 @@ room_taken labels l rs index old new a is label labels_same takes room =
 
 pub found_at : (label : LabelView) (rs : List Resource) (i : ℕ) (old : Resource) → IsAtLabel label rs i → old ≡ get_or rs i old → resource_at label (map resource_of rs) ≡ Some (resource_of old)
 found_at label rs i old is e = sym (element_found by_address label rs i old is e)
+
+addresses_in : (rs : List ResourceView) → addresses_of rs ≡ map (λ h. h.0) (heads_of rs)
+addresses_in [] = refl
+addresses_in (r ∷ rs) = ap (λ ls. r.label ∷ ls) (addresses_in rs)
+
+-- resources with the same addresses are in order
+pub heads_ordered : (rs qs : List ResourceView) → heads_of qs ≡ heads_of rs → AreByAddress rs → AreByAddress qs
+heads_ordered rs qs e ordered = subst (λ ls. IsStrictlySortedBy label_cmp ls) (addresses_in rs ∙ ap (map (λ h. h.0)) (sym e) ∙ sym (addresses_in qs)) ordered
+
+provider_from : (label : LabelView) → List (LabelView × List ℕ) → Option (List ℕ)
+provider_from label [] = None
+provider_from label (h ∷ hs) = cond (is_eq (label_cmp h.0 label)) (Some h.1) (provider_from label hs)
+
+provider_of : (label : LabelView) (rs : List ResourceView) → option_map (λ r. r.provider) (resource_at label rs) ≡ provider_from label (heads_of rs)
+unfolding provider_from
+provider_of label [] = refl
+provider_of label (r ∷ rs) = at (is_eq (label_cmp r.label label)) refl (provider_of label rs)
+  where
+    at : (b : Bool) → is_eq (label_cmp r.label label) ≡ b → option_map (λ r. r.provider) (resource_at label rs) ≡ provider_from label (heads_of rs)
+        → option_map (λ r. r.provider) (resource_at label (r ∷ rs)) ≡ provider_from label (heads_of (r ∷ rs))
+    at true e rest = rw e refl
+    at false e rest = rw e rest
+
+-- and with the same providers
+pub heads_providers : (label : LabelView) (rs qs : List ResourceView) → heads_of qs ≡ heads_of rs → option_map (λ r. r.provider) (resource_at label qs) ≡ option_map (λ r. r.provider) (resource_at label rs)
+heads_providers label rs qs e = provider_of label qs ∙ ap (provider_from label) e ∙ sym (provider_of label rs)
+
+-- there is one where there was one
+pub heads_there : (label : LabelView) (rs qs : List ResourceView) → heads_of qs ≡ heads_of rs → ¬ (resource_at label rs ≡ None) → ¬ (resource_at label qs ≡ None)
+heads_there label rs qs e there none = there (absent (resource_at label rs) (sym (heads_providers label rs qs e) ∙ ap (option_map (λ r. r.provider)) none))
+  where
+    absent : (o : Option ResourceView) → option_map (λ r. r.provider) o ≡ None → o ≡ None
+    absent None h = refl
+    absent (Some r) h = absurd (cc)
+
+pub all_there : (labels : List LabelView) (rs qs : List ResourceView) → heads_of qs ≡ heads_of rs → AreThere labels rs → AreThere labels qs
+all_there [] rs qs e h = tt
+all_there (l ∷ labels) rs qs e h = (heads_there l rs qs e h.0, all_there labels rs qs e h.1)
+
+pub there_front : (labels more : List LabelView) (rs : List ResourceView) → AreThere (labels ++ more) rs → AreThere labels rs × AreThere more rs
+there_front [] more rs h = (tt, h)
+there_front (l ∷ labels) more rs h = let rest = there_front labels more rs h.1 in ((h.0, rest.0), rest.1)
+
+pub empty : {A : Type 0} (xs : List A) → length xs ≡ 0 → xs ≡ []
+empty [] h = refl
+empty (x ∷ xs) h = absurd (omega (arith, h))
+
+-- room for more is room for fewer
+pub room_fewer : (count fewer : LabelView → ℕ) (rs : List Resource) → ((l : LabelView) → fewer l ≤ count l) → HaveRoom count rs → HaveRoom fewer rs
+room_fewer count fewer rs less room n =
+    some_weaker (λ (r : Resource). HasRoomForRecords (count (label_of r.label)) r) (λ (r : Resource). HasRoomForRecords (fewer (label_of r.label)) r) (slice_get rs n)
+    (λ r h. room_weaker r (count (label_of r.label)) (fewer (label_of r.label)) (less (label_of r.label)) h) (room n)
+
+pub room_last : (labels : List LabelView) (l : LabelView) (rs : List Resource) → HaveRoom (count_of (labels ++ l ∷ [])) rs → HaveRoom (count_of (l ∷ [])) rs
+room_last labels l rs room = room_fewer (count_of (labels ++ l ∷ [])) (count_of (l ∷ [])) rs (λ k. let more = count_joined labels (l ∷ []) k in omega arith) room
