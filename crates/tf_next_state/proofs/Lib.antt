@@ -1,3 +1,5 @@
+pub mod Added
 pub mod Changing
+pub mod Composed
 pub mod Finding
 pub mod OneByOne
