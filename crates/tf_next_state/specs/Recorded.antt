@@ -3,7 +3,7 @@ use Rattle.std.specs.Prelude.{◌≡◌, ℕ, List, [], Option, None, option_and
 use Rattle.std.specs.List.{AllByRecursion}
 use Rattle.tf_address.specs.Label.{LabelView}
 use Rattle.tf_address.specs.ObjectId.{InstanceKeyView, ObjectIdView}
-use Rattle.tf_next_state.specs.Events.{ApplyView, DestroyView, applied_by, given_by, left_of_object}
+use Rattle.tf_next_state.specs.Events.{ApplyView, DestroyView, EventsView, as_apply, applied_by, given_by, left_of_object}
 use Rattle.tf_state_after.specs.After.{Places, after_destroy, instance_after, object_at}
 use Rattle.tf_state_after.specs.Ends.{EndsView}
 use Rattle.tf_state_data.specs.Record.{RecordView}
@@ -39,3 +39,12 @@ pub record AreApplied (applies : List ApplyView) (before after : List ResourceVi
 -- there is a resource at each of these addresses
 abbrev pub AreThere : List LabelView → List ResourceView → Type 0
 AreThere labels rs = AllByRecursion (λ label. ¬ (resource_at label rs ≡ None)) labels
+
+-- Resources after all that came of the actions: after the destroys, then what is given anew, and then what came of the
+-- creates and updates.
+pub record IsRecorded (e : EventsView) (before after : List ResourceView) : Type 0 where
+  pub mid : List ResourceView
+  pub late : List ResourceView
+  pub destroyed : AreDestroyed e.destroys before mid
+  pub renewed : AreApplied (map as_apply e.renewals) mid late
+  pub applied : AreApplied e.applies late after

@@ -2,10 +2,12 @@
 
 ghost use Rattle.std.specs.Prelude.{◌≡◌, ◌+◌, ◌<◌, ◌^◌, filter, map};
 ghost use Rattle.tf_next_state.specs.Events.{AreEachAboutOne, ends_in, events_of, given_in};
-ghost use Rattle.tf_next_state.specs.Homes.{AreHomes};
+ghost use Rattle.tf_next_state.specs.Homes.{AreHomes, HaveRoom, count_of};
+ghost use Rattle.tf_next_state.specs.Recorded.{AreThere, IsRecorded};
 ghost use Rattle.tf_next_state.specs.Sound.{AreSound};
 ghost use Rattle.tf_next_state.specs.StateAfter.{IsStateAfter, has_records, next_serial};
 ghost use Rattle.tf_state.specs.Valid.{IsValid};
+ghost use Rattle.tf_state_data.specs.Addresses.{AreByAddress};
 ghost use Rattle.tf_state_data.specs.Resource.{resource_of};
 ghost use Rattle.tf_state_data.specs.State.{outputs_of, state_of};
 ghost use Rattle.tf_value.specs.Stored.{IsTable};
@@ -17,7 +19,7 @@ use std::collections::BTreeMap;
 use tf_state_data::{Object, Resource, State};
 
 /// The state after an apply, by what came of its actions and by the outputs. It takes no memory and has no error: for each
-/// create and update there has to be room (`homes_for`). What is destroyed is recorded before what takes its place.
+/// create and update there has to be room (`homes_for`).
 pub fn state_after(
     homes: Homes<'_>,
     events: Events<'_>,
@@ -33,17 +35,9 @@ pub fn state_after(
         prior,
         lineage,
         terraform_version,
-        mut resources,
+        resources,
     } = homes;
-    let Events {
-        destroys,
-        applies,
-        renewals,
-    } = events;
-    destroy_all(&mut resources, destroys);
-    renew_all(&mut resources, renewals);
-    apply_all(&mut resources, applies);
-    let resources = present(resources);
+    let resources = present(recorded(resources, events));
     let state = State::new(
         prior.serial(),
         lineage,
@@ -52,6 +46,25 @@ pub fn state_after(
         resources,
     );
     raised(prior, state)
+}
+
+/// Resources with what came of all actions. What is destroyed is recorded before what takes its place.
+fn recorded(mut resources: Vec<Resource>, events: Events<'_>) -> Vec<Resource>
+    requires ordered { AreByAddress (map resource_of resources.items) }
+    requires apart { AreEachAboutOne (events_of events) }
+    requires there { AreThere (map (λ a. a.label) (events_of events).applies) (map resource_of resources.items) }
+    requires room { HaveRoom (count_of (map (λ a. a.label) (events_of events).applies)) resources.items }
+    ensures { IsRecorded (events_of events.entry) (map resource_of resources.items) (map resource_of result.items) }
+{
+    let Events {
+        destroys,
+        applies,
+        renewals,
+    } = events;
+    destroy_all(&mut resources, destroys);
+    renew_all(&mut resources, renewals);
+    apply_all(&mut resources, applies);
+    resources
 }
 
 /// Those resources of which an object is known.
