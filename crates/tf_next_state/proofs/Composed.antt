@@ -1,25 +1,29 @@
 -- Destroys, and then renewals and applies, are what comes of all of them.
-use Rattle.std.proofs.Common.{◌≡◌, ℕ, ◌&&◌, Bool, true, false, cond, List, [], ◌∷◌, ◌++◌, map, filter, Option, Some, None, option_map, refl, sym, ap, ap₂, ◌∙◌, subst}
-use Rattle.std.specs.List.{AllByRecursion, cons_option, filter_map, find}
+use Rattle.std.proofs.Common.{◌≡◌, ℕ, ◌&&◌, ◌||◌, Bool, true, false, cond, List, [], ◌∷◌, map, filter, Option, Some, None, option_map, refl, sym, ap, ap₂, ◌∙◌, subst}
+use Rattle.std.specs.List.{AllByRecursion, cons_option, filter_map, find, list_any}
 use Rattle.std.specs.Option.{option_eq, option_map_or, option_or}
 use Rattle.std.specs.Prelude.{bytes_eq, option_and_then}
 use Rattle.tf_address.proofs.Totals.{label_total}
 use Rattle.tf_address.specs.Label.{LabelView, label_cmp}
 use Rattle.tf_address.specs.ObjectId.{InstanceKeyView, ObjectIdView}
 use Rattle.tf_address.specs.Same.{same_label, same_instance_key}
-use Rattle.tf_next_state.proofs.Finding.{found_filtered, found_first}
-use Rattle.tf_next_state.proofs.OneByOne.{applied_joined, destroys_it}
-use Rattle.tf_next_state.specs.Events.{ApplyView, DestroyView, EventsView, AreEachAboutOne, as_apply, wanted, applied_by, given_in, ends_in, left_of_object, left_of_deposed}
+use Rattle.tf_next_state.proofs.Finding.{filtered_ordered, found_filtered, found_first}
+use Rattle.tf_next_state.proofs.Changing.{heads_ordered, heads_providers}
+use Rattle.tf_next_state.proofs.OneByOne.{applied_joined, destroys_it, label_itself}
+use Rattle.tf_next_state.specs.Events.{DestroyView, EventsView, AreEachAboutOne, as_apply, wanted, applied_by, given_in, ends_in, left_of_object, left_of_deposed}
 use Rattle.tf_next_state.specs.Homes.{home_at, empty_home}
-use Rattle.tf_next_state.specs.Recorded.{AreApplied, AreDestroyed, record_among, places_among}
+use Rattle.tf_next_state.specs.Recorded.{AreApplied, AreDestroyed, AreThere, IsRecorded, heads_of, record_among, places_among}
 use Rattle.tf_next_state.specs.StateAfter.{IsStateAfter, has_records, next_serial}
 use Rattle.tf_state.specs.Arrangement.{is_some_record}
 use Rattle.tf_state_after.specs.After.{Places, after_destroy, current_after, deposed_anew, destroy_under, instance_after, object_at}
 use Rattle.tf_state_after.specs.Ends.{LeftView, AppliedView, EndsView, GivenView}
+use Rattle.tf_state_data.proofs.Sorted.{all_mono}
+use Rattle.tf_state_data.specs.Ids.{AreById}
+use Rattle.tf_state_data.specs.declared.resource.Resource.{Resource}
 use Rattle.tf_state_data.specs.Addresses.{AreByAddress}
 use Rattle.tf_state_data.specs.Provider.{provider_text}
 use Rattle.tf_state_data.specs.Record.{RecordView}
-use Rattle.tf_state_data.specs.Resource.{ResourceView, record_at}
+use Rattle.tf_state_data.specs.Resource.{ResourceView, record_at, resource_of}
 use Rattle.tf_state_data.specs.State.{StateView, resource_at}
 use Rattle.tf_value.specs.Tree.{Entries}
 
@@ -112,7 +116,7 @@ all_kept p (x ∷ xs) = at (p x) refl (all_kept p xs)
     at true e rest = (e, rest)
     at false e rest = rest
 
-state_is : (n : ℕ) (l v : List ℕ) (o p : Entries) (qs rs : List ResourceView) (m : ℕ) (k w : List ℕ) → n ≡ m → l ≡ k → v ≡ w → o ≡ p → qs ≡ rs
+pub state_is : (n : ℕ) (l v : List ℕ) (o p : Entries) (qs rs : List ResourceView) (m : ℕ) (k w : List ℕ) → n ≡ m → l ≡ k → v ≡ w → o ≡ p → qs ≡ rs
     → ◌≡◌ {A = StateView} (record { serial = n; lineage = l; terraform_version = v; outputs = o; resources = qs }) (record { serial = m; lineage = k; terraform_version = w; outputs = p; resources = rs })
 state_is n l v o p qs rs m k w e f g h i = cc
 
@@ -148,3 +152,60 @@ module _ (prior : StateView) (given : LabelView → InstanceKeyView → GivenVie
   is_after_of n l v qs s t serial lineage version resources is raised h =
       let one : s ≡ kept_state = is ∙ state_is n l v outputs outputs qs (filter has_records rs) prior.serial prior.lineage prior.terraform_version serial lineage version refl resources in
       subst (IsStateAfter prior given ends outputs) (sym (raised ∙ ap (λ (u : StateView). record u { serial = next_serial prior u }) one)) h
+
+-- ---- the whole
+
+pub recorded_heads : (e : EventsView) (before after : List ResourceView) → IsRecorded e before after → heads_of after ≡ heads_of before
+recorded_heads e before after h = h.applied.heads ∙ h.renewed.heads ∙ h.destroyed.heads
+
+pub recorded_ordered : (e : EventsView) (before after : List ResourceView) → IsRecorded e before after → AreByAddress before → AreByAddress (filter has_records after)
+recorded_ordered e before after h ordered =
+    filtered_ordered (λ (r : ResourceView). r.label) label_cmp label_total has_records after (heads_ordered before after (recorded_heads e before after h) ordered)
+
+-- the state that the code makes of homes and of what was recorded in them
+pub whole_is : (prior : StateView) (e : EventsView) (outputs : Entries) (labels : List LabelView) (homes rs : List ResourceView) (n : ℕ) (l v : List ℕ) (qs : List ResourceView) (s t : StateView)
+    → AreByAddress homes → ((label : LabelView) → resource_at label homes ≡ home_at prior.resources labels label) → AreEachAboutOne e → IsRecorded e homes rs
+    → n ≡ prior.serial → l ≡ prior.lineage → v ≡ prior.terraform_version → qs ≡ filter has_records rs
+    → s ≡ record { serial = n; lineage = l; terraform_version = v; outputs = outputs; resources = qs } → t ≡ record s { serial = next_serial prior s }
+    → IsStateAfter prior (given_in e) (ends_in e) outputs t
+whole_is prior e outputs labels homes rs n l v qs s t ordered are apart h serial lineage version resources is raised =
+    let heads = recorded_heads e homes rs h in
+    is_after_of prior (given_in e) (ends_in e) outputs labels homes rs n l v qs s t serial lineage version resources is raised
+    (is_after prior (given_in e) (ends_in e) outputs labels homes rs (heads_ordered homes rs heads ordered) are (λ label. heads_providers label homes rs heads)
+    (known_after prior.resources labels e homes h.mid h.late rs are apart h.destroyed h.renewed h.applied))
+
+any_at : (x l : LabelView) (b : Bool) → b ≡ true → (same_label x l || b) ≡ true
+any_at x l true e = or_true (same_label x l)
+  where
+    or_true : (c : Bool) → (c || true) ≡ true
+    or_true true = refl
+    or_true false = refl
+any_at x l false e = absurd (cc)
+
+first_true : (c d : Bool) → c ≡ true → (c || d) ≡ true
+first_true true d e = refl
+first_true false d e = absurd (cc)
+
+-- each of some addresses is one of them
+each_is : (labels : List LabelView) → AllByRecursion (λ l. list_any (λ k. same_label k l) labels ≡ true) labels
+each_is [] = tt
+each_is (x ∷ labels) = (
+  first_true (same_label x x) _ (label_itself x),
+  all_mono (λ l. list_any (λ k. same_label k l) labels ≡ true) (λ l. list_any (λ k. same_label k l) (x ∷ labels) ≡ true) labels (λ l h. any_at x l (list_any (λ k. same_label k l) labels) h) (each_is labels),
+)
+
+home_there : (prior : Option ResourceView) (b : Bool) (l : LabelView) → b ≡ true → ¬ (option_or prior (cond b (Some (empty_home l)) None) ≡ None)
+home_there (Some r) b l e h = absurd (cc)
+home_there None true l e h = absurd (cc)
+home_there None false l e h = absurd (cc)
+
+-- there is a home at each of the addresses
+pub homes_there : (prior : List ResourceView) (labels : List LabelView) (homes : List ResourceView) → ((label : LabelView) → resource_at label homes ≡ home_at prior labels label) → AreThere labels homes
+homes_there prior labels homes are =
+    all_mono (λ l. list_any (λ k. same_label k l) labels ≡ true) (λ l. ¬ (resource_at l homes ≡ None)) labels
+    (λ l one none. home_there (resource_at l prior) (list_any (λ k. same_label k l) labels) l one (sym (are l) ∙ none)) (each_is labels)
+
+-- the records of each resource are in order
+pub records_ordered : (rs : List Resource) → AllByRecursion (λ r. AreById r.records) (map resource_of rs)
+records_ordered [] = tt
+records_ordered (r ∷ rs) = (r.ordered, records_ordered rs)

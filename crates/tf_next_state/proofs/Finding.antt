@@ -109,12 +109,9 @@ module _ {A K : Type 0} (key : A → K) (cmp : K → K → Ordering) (total : Is
   none_before : (k : K) (xs : List A) → AllByRecursion (λ j. cmp k j ≡ Less) (map key xs) → at_key key cmp k xs ≡ None
   none_before k xs h = found_none (λ x. is_eq (cmp (key x) k)) xs (all_behind k xs h)
 
-  first : (x : A) (xs : List A) → at_key key cmp (key x) (x ∷ xs) ≡ Some x
+  -- the first is found by its own key
+  pub first : (x : A) (xs : List A) → at_key key cmp (key x) (x ∷ xs) ≡ Some x
   first x xs = found_first (λ y. is_eq (cmp (key y) (key x))) x xs true (ap is_eq (tied_itself total (key x)))
-
-  -- of what stands behind the first
-  later : (x y : A) (xs : List A) (k : K) → cmp (key x) k ≡ Less → at_key key cmp k (x ∷ xs) ≡ at_key key cmp k xs
-  later x y xs k e = found_first (λ y. is_eq (cmp (key y) k)) x xs false (ap is_eq e)
 
   equal_from : (o : Ordering) → is_eq o ≡ true → o ≡ Equal
   equal_from Equal e = refl

@@ -1,17 +1,17 @@
 -- Destroys and applies are recorded one after another.
-use Rattle.std.proofs.Common.{◌≡◌, ℕ, ◌&&◌, Bool, true, false, cond, List, [], ◌∷◌, ◌++◌, map, Option, Some, None, option_map, refl, sym, ap, ap₂, ◌∙◌, subst}
+use Rattle.std.proofs.Common.{◌≡◌, ℕ, ◌&&◌, Bool, true, false, cond, List, [], ◌∷◌, ◌++◌, Option, Some, None, option_map, refl, sym, ap, ap₂, ◌∙◌, subst}
 use Rattle.std.proofs.lemmas.Slice.Eq.{bytes_eq-Decides}
-use Rattle.std.specs.List.{filter_map, find}
+use Rattle.std.specs.List.{find}
 use Rattle.std.specs.Option.{option_eq, option_map_or, option_or}
 use Rattle.std.specs.Prelude.{bytes_eq, option_and_then}
 use Rattle.tf_address.specs.Label.{LabelView}
 use Rattle.tf_address.specs.ObjectId.{InstanceKeyView, ObjectIdView}
 use Rattle.tf_address.specs.Same.{same_label, same_instance_key, same_object_id, label_Decides, object_id_Decides}
-use Rattle.tf_next_state.proofs.Finding.{found_first, found_joined, found_once, found_passes}
-use Rattle.tf_next_state.specs.Events.{ApplyView, DestroyView, AreApart, instance_of, object_of, is_instance, apply_of_instance, left_of_object, left_of_deposed, nothing_given}
+use Rattle.tf_next_state.proofs.Finding.{found_first, found_joined, found_once}
+use Rattle.tf_next_state.specs.Events.{ApplyView, DestroyView, AreApart, instance_of, object_of, is_instance, apply_of_instance, left_of_object, nothing_given}
 use Rattle.tf_next_state.specs.Recorded.{AreApplied, AreDestroyed, record_among, places_among, heads_of}
 use Rattle.tf_state_after.specs.After.{Places, IsAfter, after_destroy, current_after, deposed_anew, destroy_under, instance_after, object_at, places_in}
-use Rattle.tf_state_after.specs.Ends.{LeftView, AppliedView, unwanted, unplanned, GivenView, EndsView, destroy_of}
+use Rattle.tf_state_after.specs.Ends.{LeftView, AppliedView, unwanted, unplanned, destroy_of}
 use Rattle.tf_state_data.specs.Record.{RecordView}
 use Rattle.tf_state_data.specs.Resource.{ResourceView, record_at}
 use Rattle.tf_state_data.specs.State.{resource_at}
@@ -250,6 +250,7 @@ destroyed_nowhere d rs none = record { known = λ label id. at label id (same_la
     nothing_left : (o : Option LeftView) → None ≡ after_destroy o None
     nothing_left None = refl
     nothing_left (Some l) = refl
+
     at : (label : LabelView) (id : ObjectIdView) (b : Bool) → same_label d.label label ≡ b → record_among label id rs ≡ after_destroy (left_of_object label id (d ∷ [])) (record_among label id rs)
     at label id true e =
         let gone : record_among label id rs ≡ None = ap (option_and_then (λ (r : ResourceView). record_at id r.records)) (ap (λ l. resource_at l rs) (sym ((label_Decides d.label label).0 e)) ∙ none) in
@@ -271,12 +272,15 @@ applied_nowhere a rs un none = record { known = λ label key deposed. at label k
         gone ∙ ap₂ (λ (x : AppliedView) (left : Option RecordView). current_after b.given x left) (sym (is b refl)) (sym gone)
     nothing_renewed (Some b) key before (Some k) is gone =
         ap (λ (x : AppliedView). option_or (deposed_anew b.given x (before None) k) (before (Some k))) (sym (is b refl))
+
     at_not : (b c : Bool) → b ≡ false → (b && c) ≡ false
     at_not false c h = refl
     at_not true c h = absurd (cc)
+
     only : (q : ApplyView → Bool) (b : ApplyView) (c : Bool) → q a ≡ c → find q (a ∷ []) ≡ Some b → b.applied ≡ unplanned
     only q b true e h = let is : Some a ≡ Some b = sym (rw e refl) ∙ h in let one : a ≡ b = cc in ap (λ (x : ApplyView). x.applied) (sym one) ∙ un
     only q b false e h = let is : None ≡ Some b = sym (rw e refl) ∙ h in absurd (cc)
+
     at : (label : LabelView) (key : InstanceKeyView) (deposed : Option (List ℕ)) (b : Bool) → same_label a.label label ≡ b
         → record_among label (object_at key deposed) rs ≡ after_by (apply_of_instance label key (a ∷ [])) key (places_among label key rs) deposed
     at label key deposed true e =

@@ -20,11 +20,7 @@ use tf_state_data::{Object, Resource, State};
 
 /// The state after an apply, by what came of its actions and by the outputs. It takes no memory and has no error: for each
 /// create and update there has to be room (`homes_for`).
-pub fn state_after(
-    homes: Homes<'_>,
-    events: Events<'_>,
-    outputs: BTreeMap<String, Object>,
-) -> State
+pub fn state_after(homes: Homes<'_>, events: Events<'_>, outputs: BTreeMap<String, Object>) -> State
     requires homes { AreHomes (state_of homes.prior.now) (map (λ a. a.label) (events_of events).applies) homes }
     requires serial { (state_of homes.prior.now).serial + 1 < 2 ^ 32 }
     requires apart { AreEachAboutOne (events_of events) }

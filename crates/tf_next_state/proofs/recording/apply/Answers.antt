@@ -1,4 +1,4 @@
-use Rattle.std.proofs.Common.{◌≡◌, ◌+◌, ℕ, None, [], map, sym, subst}
+use Rattle.std.proofs.Common.{◌+◌, ℕ, None, [], map, sym, subst}
 use Rattle.tf_next_state.proofs.Changing.{changed_in, found_at, found_label, read_at, room_here, room_taken}
 use Rattle.tf_next_state.proofs.OneByOne.{one_applied}
 use Rattle.tf_next_state.specs.Events.{apply_of}

@@ -1,4 +1,4 @@
-use Rattle.std.proofs.Common.{◌≡◌, ℕ, map, sym, subst}
+use Rattle.std.proofs.Common.{ℕ, map, sym, subst}
 use Rattle.tf_next_state.proofs.Changing.{changed_in, read_at, room_kept}
 use Rattle.tf_next_state.proofs.OneByOne.{one_destroyed}
 use Rattle.tf_next_state.specs.Events.{destroy_of, nothing_given}

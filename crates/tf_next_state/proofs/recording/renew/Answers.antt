@@ -1,6 +1,6 @@
-use Rattle.std.proofs.Common.{◌≡◌, ◌+◌, ℕ, None, [], map, sym, subst, arith}
+use Rattle.std.proofs.Common.{◌+◌, ℕ, None, [], map, sym, subst, arith}
 use Rattle.tf_next_state.proofs.Changing.{changed_in, read_at, room_kept}
-use Rattle.tf_next_state.proofs.OneByOne.{one_applied, applied_nowhere}
+use Rattle.tf_next_state.proofs.OneByOne.{one_applied}
 use Rattle.tf_next_state.specs.Events.{as_apply, renewal_of}
 use Rattle.tf_state_after.specs.After.{IsAfter}
 use Rattle.tf_state_after.specs.Ends.{unplanned}

@@ -1,12 +1,11 @@
 use Rattle.std.proofs.Common.{◌≡◌, ◌++◌, ℕ, List, length, take, drop, map, sym, ap, ◌∙◌, subst}
-use Rattle.tf_address.specs.Label.{LabelView}
 use Rattle.tf_next_state.proofs.Changing.{all_there, heads_ordered, written}
 use Rattle.tf_next_state.proofs.Finding.{apart_back, apart_front}
-use Rattle.tf_next_state.specs.Events.{ApplyView, DestroyView, as_apply, apply_of, destroy_of, events_of, instance_of, renewal_of}
+use Rattle.tf_next_state.specs.Events.{ApplyView, DestroyView, as_apply, apply_of, events_of, instance_of, renewal_of}
 use Rattle.tf_next_state.specs.Homes.{HaveRoom, count_of}
 use Rattle.tf_next_state.specs.Recorded.{AreApplied, AreDestroyed, AreThere, IsRecorded}
 use Rattle.tf_state_data.specs.Addresses.{AreByAddress}
-use Rattle.tf_state_data.specs.Resource.{ResourceView, resource_of}
+use Rattle.tf_state_data.specs.Resource.{resource_of}
 use Rattle.tf_state_data.specs.declared.resource.Resource.{Resource}
 use Rattle.tf_next_state.proofs.whole.recorded.Goals as goal
 
