@@ -1,1 +1,2 @@
+mod Few
 mod Named

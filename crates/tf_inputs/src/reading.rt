@@ -1,13 +1,12 @@
 //! From the texts that the user gives to what they stand for.
 
-ghost use Rattle.std.specs.Prelude.{◌≡◌, option_map, IfOk, IfErr, OnOk};
+ghost use Rattle.std.specs.Prelude.{◌≡◌, ◌≤◌, ◌<◌, ◌+◌, ◌^◌, length, option_map, IfOk, IfErr, OnOk};
 ghost use Rattle.tf_config.specs.Reading.{IsRefused, IsWithinCounts};
 ghost use Rattle.tf_config_data.specs.Config.{config_of};
 ghost use Rattle.tf_config_data.specs.Names.{names_of};
 ghost use Rattle.tf_names.specs.Judging.{RefusesItsNames};
 ghost use Rattle.tf_names.specs.Needs.{IsAcyclic, IsDependence};
 ghost use Rattle.tf_refusal.specs.Refusal.{told};
-ghost use Rattle.tf_state.specs.Table.{IsPlannable};
 ghost use Rattle.tf_state.specs.Valid.{IsValid};
 ghost use Rattle.tf_state_data.specs.State.{state_of};
 ghost use Rattle.tf_value.specs.Tree.{entries_view};
@@ -17,6 +16,7 @@ ghost use Rattle.tf_inputs.specs.Texts.{AreNamesGood, IsPrior, IsRead, StandFor,
 use std::alloc::{AllocError, Global};
 use std::collections::BTreeMap;
 use tf_config::{Config, names_are_few, read};
+use tf_graph::MAX_NODES;
 use tf_names::{Dependence, judge};
 use tf_refusal::code::{BAD_STATE, LIMIT};
 use tf_refusal::{Detail, Refusal};
@@ -60,6 +60,8 @@ pub fn read_texts(
     ensures dependence { IfOk result (λ i. IsDependence (names_of (config_of i.config)) i.dependence) }
     ensures acyclic { IfOk result (λ i. IsAcyclic i.dependence) }
     ensures valid { IfOk result (λ i. IsValid (state_of i.prior)) }
+    ensures few { IfOk result (λ i. length (names_of (config_of i.config)) + length (state_of i.prior).resources ≤ MAX_NODES) }
+    ensures serial { IfOk result (λ i. (state_of i.prior).serial + 1 < 2 ^ 32) }
     ensures refused { IfErr result (λ r. IsToldOf (the_texts config.now (option_map (λ s. s.now) vars.entry) (option_map (λ s. s.now) state.entry)) (told r)) }
 {
     let config = read_config(alloc, config)?;

@@ -1,5 +1,3 @@
-use Rattle.std.proofs.Common.{sym}
-use Rattle.tf_state.specs.Valid.{IsValid}
 use Rattle.tf_state_data.specs.State.{state_of}
 use Rattle.tf_inputs.proofs.reading.read_prior.Goals as goal
 
