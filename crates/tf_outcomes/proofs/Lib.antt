@@ -1,0 +1,3 @@
+pub mod Fallback
+pub mod Lookup
+pub mod Requests

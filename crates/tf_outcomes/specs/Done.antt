@@ -1,0 +1,24 @@
+-- What may come of an action.
+use Rattle.std.specs.Prelude.{Bool, true, false, Option}
+use Rattle.tf_change.specs.Instance.{InstanceFaultView}
+use Rattle.tf_protocol.specs.Meaning.{Asked, Answer}
+use Rattle.tf_protocol.specs.Verdict.{is_good_verdict}
+use Rattle.tf_protocol.specs.declared.verdict.Verdict.{Verdict}
+use Rattle.tf_outcomes.specs.Excuse.{Moment}
+
+-- What came of an action: it was skipped, since one before it isn't good; it was excused, since memory was refused; its
+-- `for_each` or an argument has a fault, so nothing could be asked; or its provider was called, and answered, and the
+-- answer was judged.
+pub data Done : Type 0 where
+  skipped : Done
+  excused : Moment → Done
+  faulted : InstanceFaultView → Done
+  called : Asked → Option Answer → Verdict → Done
+
+abbrev pub is_good : Done → Bool
+is_good (called asked answer v) = is_good_verdict v
+is_good _ = false
+
+abbrev pub is_faulted : Done → Bool
+is_faulted (faulted why) = true
+is_faulted _ = false
