@@ -1,7 +1,13 @@
 -- What comes of an output, and of one after another.
-use Rattle.std.proofs.Common.{◌≡◌, ℕ, Bool, true, false, if◌then◌else◌, List, [], ◌∷◌, ◌++◌, length, map, String, Ok, Err, Ordering, Less, Equal, Greater, MatchBool, string_bytes, string_cmp, inl, inr, refl, sym, ap, subst, ◌∙◌, append_assoc, ◌+◌, arith}
+use Rattle.std.proofs.Common.{◌≡◌, ℕ, nat_cmp, cond, Bool, true, false, if◌then◌else◌, List, [], ◌∷◌, ◌++◌, length, map, String, Ok, Err, Ordering, Less, Equal, Greater, MatchBool, string_bytes, string_cmp, inl, inr, refl, sym, ap, subst, ◌∙◌, append_assoc, ◌+◌, arith}
 use Rattle.std.proofs.lemmas.List.{append-nil, length_push}
-use Rattle.std.specs.BTreeMap.{insert_entry}
+use Rattle.std.proofs.lemmas.Map.Text.{is_eq-slice_cmp}
+use Rattle.std.specs.BTreeMap.{insert_entry, is_at}
+use Rattle.std.specs.Map.{remove_entry}
+use Rattle.std.specs.Cmp.Lexicographic.{slice_cmp}
+use Rattle.std.specs.List.{AllByRecursion}
+use Rattle.std.specs.List.Sorted.{IsStrictlySortedBy}
+use Rattle.std.specs.Str.{bytes_eq}
 use Rattle.std.specs.Ordering.{match_ordering}
 use Rattle.std.specs.declared.alloc.Global.{Global}
 use Rattle.tf_address.specs.ObjectId.{InstanceKeyView}
@@ -16,7 +22,7 @@ use Rattle.tf_operators.specs.Answer.{Answer}
 use Rattle.tf_operators.specs.declared.fault.EvalFault.{EvalFault}
 use Rattle.tf_operators.specs.declared.fault.EvalFault.TheVariants.{TooLarge}
 use Rattle.tf_outputs.specs.Keeping.{IsKept, IsSameOrExcused, MayBeSaved}
-use Rattle.tf_outputs.specs.Outputs.{OutputDone, not_evaluated, excused, valued, faulted, done_with, IsEvaluated, IsOutputDone, AreOutputsDone, AreOutputsEnded, end_of, is_null, with_output, with_outputs}
+use Rattle.tf_outputs.specs.Outputs.{OutputDone, not_evaluated, excused, valued, faulted, done_with, IsEvaluated, IsOutputDone, AreOutputsDone, AreOutputsEnded, end_of, is_null, with_output, with_outputs, without}
 use Rattle.tf_outputs.specs.Settled.{all_settled, names_are_settled}
 use Rattle.tf_outputs.specs.declared.ends.OutputEnd.{OutputEnd}
 use Rattle.tf_request.specs.Requests.{IsOutput, without_sets}
@@ -29,8 +35,8 @@ use Rattle.tf_value.proofs.WithLists.{lists-no_set}
 use Rattle.tf_value.specs.Measure.{is_within}
 use Rattle.tf_value.specs.Nulls.{with_nulls}
 use Rattle.tf_value.specs.Sets.{has_no_set, with_lists}
-use Rattle.tf_value.specs.Stored.{IsTable}
-use Rattle.tf_value.specs.Tree.{Tree, Entries, no_entries, put, tree_of}
+use Rattle.tf_value.specs.Stored.{EachMayBeStored, IsTable}
+use Rattle.tf_value.specs.Tree.{Tree, Entries, no_entries, entry, keys_of, put, tree_of}
 use Rattle.tf_value.specs.declared.value.Value.{Value}
 
 outputs_of-match_ordering : (o : Ordering) (a b c : List (String Global × Object)) → outputs_of (match_ordering o a b c) ≡ match_ordering o (outputs_of a) (outputs_of b) (outputs_of c)
@@ -43,22 +49,36 @@ pub outputs_of-insert_entry : (es : List (String Global × Object)) (k : String 
 outputs_of-insert_entry [] k o = refl
 outputs_of-insert_entry (e ∷ es) k o = outputs_of-match_ordering (string_cmp k e.0) _ _ _ ∙ rw (outputs_of-insert_entry es k o)
 
-null_left : (b : Bool) (es fs : Entries) → b ≡ true → ◌≡◌ {A = Entries} es (if b then es else fs)
+-- an output that is taken out of a map
+outputs_of-cond : (b : Bool) (xs ys : List (String Global × Object)) → outputs_of (cond b xs ys) ≡ (if b then outputs_of xs else outputs_of ys)
+outputs_of-cond true xs ys = refl
+outputs_of-cond false xs ys = refl
+
+pub outputs_of-remove_entry : (es : List (String Global × Object)) (test : String Global → Bool) (name : List ℕ) → ((k : String Global) → test k ≡ bytes_eq name (string_bytes k)) → outputs_of (remove_entry test es) ≡ without name (outputs_of es)
+outputs_of-remove_entry [] test name same = refl
+outputs_of-remove_entry (e ∷ es) test name same = outputs_of-cond (test e.0) es (e ∷ remove_entry test es) ∙ rw (same e.0, outputs_of-remove_entry es test name same) refl
+
+-- the same where the name is compared as a text
+pub outputs_of-removed : (es : List (String Global × Object)) (text name : List ℕ) → text ≡ name → outputs_of (remove_entry (is_at (λ k. slice_cmp nat_cmp text (string_bytes k))) es) ≡ without name (outputs_of es)
+outputs_of-removed es text name same =
+    outputs_of-remove_entry es (is_at (λ k. slice_cmp nat_cmp text (string_bytes k))) name (λ k. is_eq-slice_cmp text (string_bytes k) ∙ ap (λ t. bytes_eq t (string_bytes k)) same)
+
+pub null_left : (b : Bool) (es fs : Entries) → b ≡ true → ◌≡◌ {A = Entries} es (if b then es else fs)
 null_left true es fs h = refl
 null_left false es fs h = absurd (cc)
 
-other_put : (b : Bool) (es fs : Entries) → b ≡ false → ◌≡◌ {A = Entries} fs (if b then es else fs)
+pub other_put : (b : Bool) (es fs : Entries) → b ≡ false → ◌≡◌ {A = Entries} fs (if b then es else fs)
 other_put false es fs h = refl
 other_put true es fs h = absurd (cc)
 
--- null isn't put, and any other value is
-pub kept_null : (name : List ℕ) (t : Tree) (end : OutputEnd) (before after : Entries) → is_null t ≡ true → end ≡ end_of (valued t) → after ≡ before → IsKept name (valued t) end before after
+-- null takes what was there away, and any other value is put
+pub kept_null : (name : List ℕ) (t : Tree) (end : OutputEnd) (before after : Entries) → is_null t ≡ true → end ≡ end_of (valued t) → after ≡ without name before → IsKept name (valued t) end before after
 kept_null name t end before after null told same =
-    record { kept = valued t; same = inl refl; told = told; saves = same ∙ null_left (is_null t) before (put name t before) null }
+    record { kept = valued t; same = inl refl; told = told; saves = same ∙ null_left (is_null t) (without name before) (put name t before) null }
 
 pub kept_value : (name : List ℕ) (t : Tree) (end : OutputEnd) (before after : Entries) → is_null t ≡ false → end ≡ end_of (valued t) → after ≡ put name t before → IsKept name (valued t) end before after
 kept_value name t end before after other told put_in =
-    record { kept = valued t; same = inl refl; told = told; saves = put_in ∙ other_put (is_null t) before (put name t before) other }
+    record { kept = valued t; same = inl refl; told = told; saves = put_in ∙ other_put (is_null t) (without name before) (put name t before) other }
 
 -- a value without sets
 pub listed_no_set : (a : Answer) (t : Tree) → without_sets a ≡ Ok t → has_no_set t ≡ true
@@ -130,30 +150,63 @@ module _ (variables : Entries) (names : List NameView) (shapes : ℕ → ShapeVi
         excused_too false h = absurd (cc)
 
   -- what is told and saved so far, whatever comes of those that are left
-  abbrev pub EndsWith : (ℕ → Bool) → expr.Entries → expr.Entries → List OutputEnd → Entries → Type 0
-  EndsWith settled all left ends saved =
+  abbrev pub EndsWith : (ℕ → Bool) → Entries → expr.Entries → expr.Entries → List OutputEnd → Entries → Type 0
+  EndsWith settled kept all left ends saved =
       (dones : List OutputDone) → AreOutputsDone variables names shapes objects settled left dones
-      → AreOutputsEnded variables names shapes objects settled all (ends ++ map end_of dones) (with_outputs left dones saved)
+      → AreOutputsEnded variables names shapes objects settled kept all (ends ++ map end_of dones) (with_outputs left dones saved)
 
-  pub ends_start : (settled : ℕ → Bool) (all : expr.Entries) (ends : List OutputEnd) (saved : Entries) → ends ≡ [] → saved ≡ no_entries → EndsWith settled all all ends saved
-  ends_start settled all ends saved none empty dones each = rw (none, empty) (record { dones = dones; each = each; told = refl; saves = refl })
+  pub ends_start : (settled : ℕ → Bool) (kept : Entries) (all : expr.Entries) (ends : List OutputEnd) → ends ≡ [] → EndsWith settled kept all all ends kept
+  ends_start settled kept all ends none dones each = rw none (record { dones = dones; each = each; told = refl; saves = refl })
 
   -- one output more
-  pub ends_more : (settled : ℕ → Bool) (all : expr.Entries) (name : List ℕ) (e : expr.Tree) (left : expr.Entries) (ends now : List OutputEnd) (saved after : Entries) (d : OutputDone) (end : OutputEnd)
+  pub ends_more : (settled : ℕ → Bool) (kept : Entries) (all : expr.Entries) (name : List ℕ) (e : expr.Tree) (left : expr.Entries) (ends now : List OutputEnd) (saved after : Entries) (d : OutputDone) (end : OutputEnd)
       → IsOutputDone variables names shapes objects settled e d → IsKept name d end saved after → now ≡ ends ++ end ∷ []
-      → EndsWith settled all (expr.entry name e left) ends saved → EndsWith settled all left now after
-  ends_more settled all name e left ends now saved after d end done k more before dones each =
+      → EndsWith settled kept all (expr.entry name e left) ends saved → EndsWith settled kept all left now after
+  ends_more settled kept all name e left ends now saved after d end done k more before dones each =
       let whole = before (k.kept ∷ dones) (done_kept settled e d k.kept k.same done, each) in
       let told : now ++ map end_of dones ≡ ends ++ end_of k.kept ∷ map end_of dones =
       ap (λ xs. xs ++ map end_of dones) (more ∙ ap (λ x. ends ++ x ∷ []) k.told) ∙ append_assoc ends (end_of k.kept ∷ []) (map end_of dones) in
       rw (told, k.saves) whole
 
   -- none is left
-  pub ends_all : (settled : ℕ → Bool) (all left : expr.Entries) (ends : List OutputEnd) (saved : Entries) → left ≡ expr.no_entries → EndsWith settled all left ends saved
-      → AreOutputsEnded variables names shapes objects settled all ends saved
-  ends_all settled all expr.no_entries ends saved none before =
-      subst (λ xs. AreOutputsEnded variables names shapes objects settled all xs saved) (append-nil ends) (before [] tt)
-  ends_all settled all (expr.entry name e es) ends saved none before = absurd (cc)
+  pub ends_all : (settled : ℕ → Bool) (kept : Entries) (all left : expr.Entries) (ends : List OutputEnd) (saved : Entries) → left ≡ expr.no_entries → EndsWith settled kept all left ends saved
+      → AreOutputsEnded variables names shapes objects settled kept all ends saved
+  ends_all settled kept all expr.no_entries ends saved none before =
+      subst (λ xs. AreOutputsEnded variables names shapes objects settled kept all xs saved) (append-nil ends) (before [] tt)
+  ends_all settled kept all (expr.entry name e es) ends saved none before = absurd (cc)
+
+-- what is left of a table is one
+later_at : (b : Bool) (l k : List ℕ) (t : Tree) (es left : Entries) → AllByRecursion (λ m. slice_cmp nat_cmp l m ≡ Less) (keys_of (entry k t es)) → AllByRecursion (λ m. slice_cmp nat_cmp l m ≡ Less) (keys_of left)
+    → AllByRecursion (λ m. slice_cmp nat_cmp l m ≡ Less) (keys_of (if b then es else entry k t left))
+later_at true l k t es left h rest = h.1
+later_at false l k t es left h rest = (h.0, rest)
+
+later_without : (l name : List ℕ) (es : Entries) → AllByRecursion (λ k. slice_cmp nat_cmp l k ≡ Less) (keys_of es) → AllByRecursion (λ k. slice_cmp nat_cmp l k ≡ Less) (keys_of (without name es))
+later_without l name no_entries h = tt
+later_without l name (entry k t es) h = later_at (bytes_eq name k) l k t es (without name es) h (later_without l name es h.1)
+
+sorted_at : (b : Bool) (k : List ℕ) (t : Tree) (es left : Entries) → IsStrictlySortedBy (slice_cmp nat_cmp) (keys_of (entry k t es))
+    → AllByRecursion (λ m. slice_cmp nat_cmp k m ≡ Less) (keys_of left) → IsStrictlySortedBy (slice_cmp nat_cmp) (keys_of left)
+    → IsStrictlySortedBy (slice_cmp nat_cmp) (keys_of (if b then es else entry k t left))
+unfolding IsStrictlySortedBy
+sorted_at true k t es left h later rest = h.1
+sorted_at false k t es left h later rest = (later, rest)
+
+sorted_without : (name : List ℕ) (es : Entries) → IsStrictlySortedBy (slice_cmp nat_cmp) (keys_of es) → IsStrictlySortedBy (slice_cmp nat_cmp) (keys_of (without name es))
+unfolding IsStrictlySortedBy
+sorted_without name no_entries h = h
+sorted_without name (entry k t es) h = sorted_at (bytes_eq name k) k t es (without name es) h (later_without k name es h.0) (sorted_without name es h.1)
+
+stored_at : (b : Bool) (k : List ℕ) (t : Tree) (es left : Entries) → EachMayBeStored (entry k t es) → EachMayBeStored left → EachMayBeStored (if b then es else entry k t left)
+stored_at true k t es left h rest = h.1
+stored_at false k t es left h rest = (h.0, rest)
+
+stored_without : (name : List ℕ) (es : Entries) → EachMayBeStored es → EachMayBeStored (without name es)
+stored_without name no_entries h = h
+stored_without name (entry k t es) h = stored_at (bytes_eq name k) k t es (without name es) h (stored_without name es h.1)
+
+table_without : (name : List ℕ) (es : Entries) → IsTable es → IsTable (without name es)
+table_without name es h = (sorted_without name es h.0, stored_without name es h.1)
 
 -- the values that are saved may be stored
 kept_table : (name : List ℕ) (d kept : OutputDone) (found : Entries) → MayBeSaved d → IsSameOrExcused d kept → IsTable found → IsTable (with_output name kept found)
@@ -163,8 +216,8 @@ kept_table name (faulted why) kept found may same table = rw same table
 kept_table name (valued t) kept found may (inr same) table = rw same table
 kept_table name (valued t) kept found may (inl same) table = rw same (by_null (is_null t))
   where
-    by_null : (b : Bool) → IsTable (if b then found else put name t found)
-    by_null true = table
+    by_null : (b : Bool) → IsTable (if b then without name found else put name t found)
+    by_null true = table_without name found table
     by_null false = table-put name t found may table
 
 pub table_more : (name : List ℕ) (d : OutputDone) (end : OutputEnd) (saved after : Entries) → MayBeSaved d → IsKept name d end saved after → IsTable saved → IsTable after

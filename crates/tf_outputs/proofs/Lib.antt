@@ -1,4 +1,5 @@
 pub mod Solved
 pub mod Filled
 pub mod Done
+pub mod Kept
 pub mod Leading

@@ -1,5 +1,6 @@
 -- What becomes of the outputs after an apply.
-use Rattle.std.specs.Prelude.{◌≡◌, ℕ, Bool, true, false, if◌then◌else◌, List, [], ◌∷◌, map, Ok, Err, MatchBool, ⊤}
+use Rattle.std.specs.Prelude.{◌≡◌, ◌||◌, ℕ, Bool, true, false, if◌then◌else◌, List, [], ◌∷◌, map, Ok, Err, MatchBool, ⊤}
+use Rattle.std.specs.Str.{bytes_eq}
 use Rattle.tf_address.specs.ObjectId.{InstanceKeyView}
 use Rattle.tf_config_data.specs.Names.{NameView}
 use Rattle.tf_environment.specs.Shape.{ShapeView}
@@ -16,7 +17,7 @@ use Rattle.tf_request.specs.Requests.{without_sets}
 use Rattle.tf_syntax.specs.ExprTree as expr
 use Rattle.tf_value.specs.Measure.{is_within}
 use Rattle.tf_value.specs.Nulls.{with_nulls}
-use Rattle.tf_value.specs.Tree.{Tree, null, Entries, no_entries, put}
+use Rattle.tf_value.specs.Tree.{Tree, null, Entries, no_entries, entry, put}
 
 -- What comes of an output: it isn't evaluated anew, memory is refused for it, it has a value, or a fault.
 pub data OutputDone : Type 0 where
@@ -56,16 +57,37 @@ abbrev pub is_null : Tree → Bool
 is_null null = true
 is_null _ = false
 
--- A value is saved under the output's name, unless it is null.
+-- entries without the one of a name, where there is one
+abbrev pub without : List ℕ → Entries → Entries
+without name no_entries = no_entries
+without name (entry k t es) = if bytes_eq name k then es else entry k t (without name es)
+
+-- A value is saved under the output's name in place of what was there; where it is null there is no entry. Without a value
+-- what was there stays.
 abbrev pub with_output : List ℕ → OutputDone → Entries → Entries
-with_output name (valued t) found = if is_null t then found else put name t found
+with_output name (valued t) found = if is_null t then without name found else put name t found
 with_output name _ found = found
 
 abbrev pub with_outputs : expr.Entries → List OutputDone → Entries → Entries
 with_outputs (expr.entry name e es) (d ∷ ds) found = with_outputs es ds (with_output name d found)
 with_outputs _ _ found = found
 
--- The outputs that are saved, in byte order of their names.
+-- whether an output of a name is declared
+abbrev pub is_declared : expr.Entries → List ℕ → Bool
+is_declared expr.no_entries name = false
+is_declared (expr.entry k e es) name = bytes_eq name k || is_declared es name
+
+-- prior entries without those of outputs that aren't declared any more
+abbrev pub kept_entries : expr.Entries → Entries → Entries
+kept_entries es no_entries = no_entries
+kept_entries es (entry k t found) = if is_declared es k then entry k t (kept_entries es found) else kept_entries es found
+
+-- The outputs after an apply, in byte order of their names: of each declared one the entry of its value, or its prior entry
+-- where it has no value.
+abbrev pub outputs_after : Entries → expr.Entries → List OutputDone → Entries
+outputs_after prior es ds = with_outputs es ds (kept_entries es prior)
+
+-- those after the first apply
 abbrev pub saved_outputs : expr.Entries → List OutputDone → Entries
 saved_outputs es ds = with_outputs es ds no_entries
 
@@ -76,9 +98,9 @@ end_of excused = NoMemory
 end_of (valued t) = Valued
 end_of (faulted why) = Faulted why
 
--- What comes of each output, with what is told of it and what is saved.
-pub record AreOutputsEnded (variables : Entries) (names : List NameView) (shapes : ℕ → ShapeView) (objects : ℕ → InstanceKeyView → Tree) (settled : ℕ → Bool) (outputs : expr.Entries) (ends : List OutputEnd) (saved : Entries) : Type 0 where
+-- What comes of each output, with what is told of it and what is saved beside the entries that were kept.
+pub record AreOutputsEnded (variables : Entries) (names : List NameView) (shapes : ℕ → ShapeView) (objects : ℕ → InstanceKeyView → Tree) (settled : ℕ → Bool) (kept : Entries) (outputs : expr.Entries) (ends : List OutputEnd) (saved : Entries) : Type 0 where
   pub dones : List OutputDone
   pub each : AreOutputsDone variables names shapes objects settled outputs dones
   pub told : ends ≡ map end_of dones
-  pub saves : saved ≡ saved_outputs outputs dones
+  pub saves : saved ≡ with_outputs outputs dones kept

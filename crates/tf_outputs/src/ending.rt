@@ -15,7 +15,7 @@ ghost use Rattle.tf_syntax.specs.ExprTree.{tree_of as expr_of};
 ghost use Rattle.tf_value.specs.Nulls.{with_nulls};
 ghost use Rattle.tf_value.specs.Sets.{has_no_set};
 ghost use Rattle.tf_value.specs.Stored.{IsTable};
-ghost use Rattle.tf_value.specs.Tree.{entries_view, tree_of};
+ghost use Rattle.tf_value.specs.Tree.{entries_view, no_entries, tree_of};
 
 use crate::ends::{Ended, OutputEnd};
 use crate::keeping::keep;
@@ -31,8 +31,38 @@ use tf_syntax::Expr;
 use tf_value::{Value, is_known, is_within_limits, with_nulls};
 
 /// What comes of all outputs: their values by name, without those that are null, and, in `ends`, what is told of each,
-/// in the order of `rooms`. `settled` says of the place of each name whether it is settled, `shapes` how its instances
-/// stand together. It can't fail: where memory is refused for an output, that is told of it.
+/// in the order of `rooms`. Where an output has no value, its entry among those that are `kept` stays. `settled` says of the
+/// place of each name whether it is settled, `shapes` how its instances stand together. It can't fail: where memory is
+/// refused for an output, that is told of it.
+pub fn renew_outputs<R: Results>(
+    alloc: Global,
+    declared: &Declarations,
+    shapes: &[Shape],
+    rooms: Vec<OutputRoom<'_>>,
+    settled: &[bool],
+    results: &R,
+    kept: BTreeMap<String, Object>,
+    ends: &mut Vec<OutputEnd>,
+) -> BTreeMap<String, Object>
+    requires dependence { IsDependence (names_in declared.now.names.now) declared.now.dependence.now }
+    requires acyclic { IsAcyclic declared.now.dependence.now }
+    requires places { HavePlaces (names_in declared.now.names.now) rooms.items }
+    requires none { ends.old.items ≡ [] }
+    requires room { length rooms.items ≤ vec_capacity ends.old }
+    ensures ended { AreOutputsEnded (entries_view declared.now.variables.now.entries) (names_in declared.now.names.now)
+        (shapes_of shapes.now) (R.objects results.now) (has settled.now) (outputs_of kept.entries) (outputs_in rooms.entry.items) ends.new.items (outputs_of result.entries) }
+    ensures stored { IsTable (outputs_of kept.entries) → IsTable (outputs_of result.entries) }
+{
+    let mut outputs = kept;
+    for room in rooms {
+        let OutputRoom { name, expr, places } = room;
+        let ended = end_output(alloc, declared, shapes, expr, &places, settled, results);
+        ends.push(keep(&mut outputs, name, ended)).unwrap();
+    }
+    outputs
+}
+
+/// What comes of all outputs where none was there before.
 pub fn end_outputs<R: Results>(
     alloc: Global,
     declared: &Declarations,
@@ -48,16 +78,11 @@ pub fn end_outputs<R: Results>(
     requires none { ends.old.items ≡ [] }
     requires room { length rooms.items ≤ vec_capacity ends.old }
     ensures ended { AreOutputsEnded (entries_view declared.now.variables.now.entries) (names_in declared.now.names.now)
-        (shapes_of shapes.now) (R.objects results.now) (has settled.now) (outputs_in rooms.entry.items) ends.new.items (outputs_of result.entries) }
+        (shapes_of shapes.now) (R.objects results.now) (has settled.now) no_entries (outputs_in rooms.entry.items) ends.new.items (outputs_of result.entries) }
     ensures stored { IsTable (outputs_of result.entries) }
 {
-    let mut outputs = BTreeMap::new(alloc);
-    for room in rooms {
-        let OutputRoom { name, expr, places } = room;
-        let ended = end_output(alloc, declared, shapes, expr, &places, settled, results);
-        ends.push(keep(&mut outputs, name, ended)).unwrap();
-    }
-    outputs
+    let kept = BTreeMap::new(alloc);
+    renew_outputs(alloc, declared, shapes, rooms, settled, results, kept, ends)
 }
 
 /// What comes of one output, by the places of what it names.

@@ -2,8 +2,8 @@
 //!
 //! An output is evaluated anew exactly where each name that it names is settled: a resource is where all its actions
 //! are good, a local where each name that it refers to directly is (`specs/Settled.antt`). What comes of an output is
-//! then a value, which is saved unless it is null, or a fault, or memory was refused (`specs/Outputs.antt`). By then
-//! providers were called, so nothing here may fail.
+//! then a value, which is saved unless it is null, or a fault, or memory was refused (`specs/Outputs.antt`). Where there is
+//! no value, the entry of the prior state stays. By then providers were called, so nothing here may fail.
 #![tactic(auto)]
 
 mod ending;
@@ -13,7 +13,8 @@ pub mod laws;
 mod rooms;
 mod settling;
 
-pub use ending::end_outputs;
+pub use ending::{end_outputs, renew_outputs};
 pub use ends::OutputEnd;
+pub use keeping::kept_outputs;
 pub use rooms::{OutputRoom, rooms_for_outputs};
 pub use settling::settle_names;

@@ -12,7 +12,7 @@ use Rattle.tf_saving.specs.Saving.{with_resources}
 use Rattle.tf_state_data.specs.Resource.{ResourceView}
 use Rattle.tf_state_data.specs.State.{StateView}
 use Rattle.tf_syntax.specs.ExprTree as expr
-use Rattle.tf_value.specs.Tree.{Entries, Tree}
+use Rattle.tf_value.specs.Tree.{Entries, Tree, no_entries}
 use Rattle.tf_report.specs.After.{is_any, is_any_entry, raised}
 use Rattle.tf_report.specs.OutputsRoom.{places_in, places_of}
 use Rattle.tf_report.specs.Settling.{AreEnded}
@@ -32,7 +32,7 @@ texts_sized (t ∷ texts) = ap suc (texts_sized texts)
 
 -- there are texts for each output that ended
 pub ends-sized : (variables : Entries) (names : List NameView) (shapes : ℕ → ShapeView) (objects : ℕ → InstanceKeyView → Tree) (settled : ℕ → Bool) (es : expr.Entries) (ends : List OutputEnd) (saved : Entries) (texts : List OutputTexts)
-    → AreOutputsEnded variables names shapes objects settled es ends saved → places_in texts ≡ places_of es → length texts ≡ length ends
+    → AreOutputsEnded variables names shapes objects settled no_entries es ends saved → places_in texts ≡ places_of es → length texts ≡ length ends
 ends-sized variables names shapes objects settled es ends saved texts ended places =
     sym (texts_sized texts) ∙ (ap length places ∙ (done-sized variables names shapes objects settled es ended.dones ended.each ∙ (sym (length-map ended.dones end_of) ∙ ap length (sym ended.told))))
 

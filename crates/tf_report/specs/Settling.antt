@@ -10,7 +10,7 @@ use Rattle.tf_outputs.specs.Settled.{AreSettled}
 use Rattle.tf_plan_data.specs.Action.{ActionView}
 use Rattle.tf_state_data.specs.State.{outputs_of}
 use Rattle.tf_value.specs.Stored.{IsTable}
-use Rattle.tf_value.specs.Tree.{Entries}
+use Rattle.tf_value.specs.Tree.{Entries, no_entries}
 use Rattle.tf_report.specs.Good.{are_good_at}
 use Rattle.tf_report.specs.declared.settling.Outputs.{Outputs}
 use Rattle.tf_report.specs.declared.settling.Settling.{Settling}
@@ -27,5 +27,5 @@ pub record IsReady (names : List NameView) (s : Settling) : Type 0 where
 pub record AreEnded (variables : Entries) (names : List NameView) (shapes : ℕ → ShapeView) (actions : List ActionView) (done : List Done) (s : Settling) (o : Outputs) : Type 0 where
   pub settled : ℕ → Bool
   pub are_settled : AreSettled names (are_good_at actions done) settled
-  pub ended : AreOutputsEnded variables names shapes (objects_seen actions (seen_by (done_at done) s.seen.items)) settled (outputs_in s.rooms.items) o.ends.items (outputs_of o.values.entries)
+  pub ended : AreOutputsEnded variables names shapes (objects_seen actions (seen_by (done_at done) s.seen.items)) settled no_entries (outputs_in s.rooms.items) o.ends.items (outputs_of o.values.entries)
   pub stored : IsTable (outputs_of o.values.entries)

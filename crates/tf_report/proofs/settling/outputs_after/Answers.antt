@@ -10,7 +10,7 @@ use Rattle.tf_outputs.specs.Rooms.{outputs_in}
 use Rattle.tf_outputs.specs.Settled.{AreSettled}
 use Rattle.tf_plan_data.specs.Action.{action_of}
 use Rattle.tf_state_data.specs.State.{outputs_of}
-use Rattle.tf_value.specs.Tree.{entries_view}
+use Rattle.tf_value.specs.Tree.{entries_view, no_entries}
 use Rattle.tf_report.specs.Good.{are_good_at}
 use Rattle.tf_report.proofs.Complete.{settled-same}
 use Rattle.tf_report.proofs.settling.outputs_after.Goals as goal
@@ -31,7 +31,7 @@ returns c =
       settled = settled;
       are_settled = settled-same names (has c.noted-good.result.items) (are_good_at actions done) settled (λ n below. c.noted-good.ensures.good n (subst (λ (k : ℕ). n < k) (sym c.requires.ready.good) below)) are;
       ended =
-          subst (λ (xs : List Bool). AreOutputsEnded variables names shapes (objects_seen actions (seen_by (done_at done) c.args.settling.seen.items)) (has xs) outputs ends values) c.deref-3.ensures.value
-          (subst (λ (xs : List ℕ). AreOutputsEnded variables names shapes (objects_seen actions (seen_by (done_at done) xs)) (has c.deref-3.result.now) outputs ends values) c.deref-2.ensures.value c.end_outputs-values.ensures.ended);
+          subst (λ (xs : List Bool). AreOutputsEnded variables names shapes (objects_seen actions (seen_by (done_at done) c.args.settling.seen.items)) (has xs) no_entries outputs ends values) c.deref-3.ensures.value
+          (subst (λ (xs : List ℕ). AreOutputsEnded variables names shapes (objects_seen actions (seen_by (done_at done) xs)) (has c.deref-3.result.now) no_entries outputs ends values) c.deref-2.ensures.value c.end_outputs-values.ensures.ended);
       stored = c.end_outputs-values.ensures.stored;
     }

@@ -10,15 +10,15 @@ use Rattle.tf_outputs.specs.Rooms.{HavePlaces, outputs_in}
 use Rattle.tf_state_data.specs.State.{outputs_of}
 use Rattle.tf_value.specs.Stored.{IsTable}
 use Rattle.tf_value.specs.Tree.{entries_view}
-use Rattle.tf_outputs.proofs.ending.end_outputs.Given as goal
+use Rattle.tf_outputs.proofs.ending.renew_outputs.Given as goal
 
 abbrev pub invariant-loop-room : goal.invariant-loop-room
 invariant-loop-room g l =
     let left = into_iter_items l.room-iterator in
     record {
-      ended : EndsWith (entries_view l.declared.variables.now.entries) (names_in l.declared.names.now) (shapes_of l.shapes) (g.R.Results.objects l.results) (has l.settled)
+      ended : EndsWith (entries_view l.declared.variables.now.entries) (names_in l.declared.names.now) (shapes_of l.shapes) (g.R.Results.objects l.results) (has l.settled) (outputs_of l.fn.kept.entries)
           (outputs_in l.fn.rooms.items) (outputs_in left) l.ends.items (outputs_of l.outputs.entries);
-      stored : IsTable (outputs_of l.outputs.entries);
+      stored : IsTable (outputs_of l.fn.kept.entries) → IsTable (outputs_of l.outputs.entries);
       places : HavePlaces (names_in l.declared.names.now) left;
       room : length l.ends.items + length left ≤ vec_capacity l.ends;
     }

@@ -1,0 +1,80 @@
+-- What is asked for an action is what its requests say.
+use Rattle.std.proofs.Common.{◌≡◌, ◌∙◌, ℕ, true, List, length, Option, Some, Result, Ok, Err, IfOk, sym, ap, subst}
+use Rattle.std.specs.Option.{option_map_or}
+use Rattle.tf_address.specs.ObjectId.{InstanceKeyView}
+use Rattle.tf_change.proofs.Named.{instances_named}
+use Rattle.tf_change.specs.Instance.{InstanceFaultView, instance_of}
+use Rattle.tf_change.specs.declared.instance.InstanceFault.{InstanceFault}
+use Rattle.tf_config_data.specs.Names.{NameView, directly_before}
+use Rattle.tf_environment.proofs.Places.{names_stay}
+use Rattle.tf_environment.specs.Laws.{StandingsAreOne, StandingsExist}
+use Rattle.tf_environment.specs.Shape.{ShapeView}
+use Rattle.tf_environment.specs.Stages.{applying}
+use Rattle.tf_environment.specs.Standing.{environment, rule}
+use Rattle.tf_graph.proofs.Solving.{solution-exists, solution-unique}
+use Rattle.tf_graph.specs.Solutions.{Ranked}
+use Rattle.tf_action_data.specs.Action.{ActionView}
+use Rattle.tf_plans_data.specs.Fits.{IsOfBlock}
+use Rattle.tf_plans_data.specs.Plan.{PlanView, plan_names}
+use Rattle.tf_protocol.specs.Meaning.{Asked, Meaning, schema_in}
+use Rattle.tf_protocol.specs.Schema.{SchemaView}
+use Rattle.tf_protocol.specs.Verdict.{has_attributes}
+use Rattle.tf_request.specs.Requests.{IsRequest}
+use Rattle.tf_value.specs.Tree.{Tree, tree_of}
+use Rattle.tf_value.specs.declared.value.Value.{Value}
+use Rattle.tf_outcomes.proofs.Requests.{requests_exist}
+use Rattle.tf_outcomes.specs.Asked.{asked_for}
+use Rattle.tf_outcomes.specs.Outcome.{Done, skipped, Requests, AreRequests, call_with, comes_of}
+
+-- what is asked by the definition is what any requests say
+pub is_requested : (plan : PlanView) (requests : Requests) → Ranked (directly_before (plan_names plan)) → AreRequests plan requests
+    → (objects : ℕ → InstanceKeyView → Tree) (a : ActionView) (schema : SchemaView) (request : Result Tree InstanceFaultView) → IsOfBlock (plan_names plan) a
+    → IsRequest plan.variables (plan_names plan) plan.shapes objects a.resource a.key schema request → request ≡ requests objects a schema
+is_requested plan requests ranked are objects a schema request resource h =
+    let names = plan_names plan in
+    let standings = solution-exists (length names) (directly_before names) (rule (applying plan.shapes objects) plan.variables names) ranked in
+    h standings.0 resource.block standings.1 resource.stands ∙ sym (are objects a schema standings.0 resource.block standings.1 resource.stands)
+
+-- and it has exactly the schema's attributes
+pub has_all : (plan : PlanView) → Ranked (directly_before (plan_names plan)) → (objects : ℕ → InstanceKeyView → Tree) (a : ActionView) (schema : SchemaView) (t : Tree) → IsOfBlock (plan_names plan) a
+    → IsRequest plan.variables (plan_names plan) plan.shapes objects a.resource a.key schema (Ok t) → has_attributes schema t ≡ true
+has_all plan ranked objects a schema t resource h =
+    let names = plan_names plan in
+    let standings = solution-exists (length names) (directly_before names) (rule (applying plan.shapes objects) plan.variables names) ranked in
+    instances_named schema resource.block a.key (environment plan.variables names standings.0) t (sym (h standings.0 resource.block standings.1 resource.stands))
+
+-- what follows of each good result
+pub if_ok-weaker : {A E : Type 0} (P Q : A → Type 0) (r : Result A E) → ((x : A) → P x → Q x) → IfOk r P → IfOk r Q
+if_ok-weaker P Q (Ok x) f h = f x h
+if_ok-weaker P Q (Err e) f h = h
+
+-- what is asked for by the same names and shapes
+pub asked_by_plan : (plan : PlanView) (names : List NameView) (shapes : ℕ → ShapeView) (objects : ℕ → InstanceKeyView → Tree) (place : ℕ) (key : InstanceKeyView) (schema : SchemaView) (request : Result Tree InstanceFaultView)
+    → names ≡ plan_names plan → shapes ≡ plan.shapes
+    → IsRequest plan.variables names shapes objects place key schema request → IsRequest plan.variables (plan_names plan) plan.shapes objects place key schema request
+asked_by_plan plan names shapes objects place key schema request same alike h =
+    subst (λ (ns : List NameView). IsRequest plan.variables ns plan.shapes objects place key schema request) same
+    (subst (λ (ss : ℕ → ShapeView). IsRequest plan.variables names ss objects place key schema request) alike h)
+
+standings_exist : StandingsExist
+standings_exist stage variables names ranked = solution-exists (length names) (directly_before names) (rule stage variables names) ranked
+
+standings_one : StandingsAreOne
+standings_one stage variables names standings others ranked s t n h = solution-unique (length names) (directly_before names) (rule stage variables names) standings others ranked (names_stay names) s t n h
+
+-- there are requests
+pub some_requests : (plan : PlanView) → Ranked (directly_before (plan_names plan)) → (requests : Requests) × AreRequests plan requests
+some_requests plan ranked = requests_exist standings_exist standings_one plan ranked
+
+-- what is made has all of them
+pub has_all-made : (plan : PlanView) → Ranked (directly_before (plan_names plan)) → (objects : ℕ → InstanceKeyView → Tree) (a : ActionView) (schema : SchemaView) (made : Result Value InstanceFault) → IsOfBlock (plan_names plan) a
+    → IsRequest plan.variables (plan_names plan) plan.shapes objects a.resource a.key schema (instance_of made) → IfOk made (λ v. has_attributes schema (tree_of v) ≡ true)
+has_all-made plan ranked objects a schema (Ok v) block h = has_all plan ranked objects a schema (tree_of v) block h
+has_all-made plan ranked objects a schema (Err e) block h = search
+
+-- what comes of asking by the schema of the first provider that has the type is what comes of the action
+pub asked-with : (ms : List Meaning) (requests : Requests) (plan : PlanView) (objects : ℕ → InstanceKeyView → Tree) (a : ActionView) (schema : SchemaView) (made : Result Asked InstanceFaultView)
+    → schema_in a.label.type_name ms ≡ Some schema → made ≡ asked_for (plan_names plan) schema a (requests objects a schema) → comes_of ms made ≡ call_with ms requests plan objects a
+asked-with ms requests plan objects a schema made there e =
+    ap (comes_of ms) e
+    ∙ sym (ap (λ (o : Option SchemaView). option_map_or {U = Done} (λ s. comes_of ms (asked_for (plan_names plan) s a (requests objects a s))) o skipped) there)

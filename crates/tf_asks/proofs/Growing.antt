@@ -1,0 +1,113 @@
+-- What was planned stays in the request.
+use Rattle.std.proofs.Common.{◌≡◌, ◌∙◌, ℕ, Bool, true, false, if◌then◌else◌, List, Option, Some, None, Result, Ok, Err, refl, sym, ap}
+use Rattle.std.specs.Prelude.{option_and_then}
+use Rattle.std.specs.Str.{bytes_eq}
+use Rattle.tf_action_data.specs.Action.{ActionView, StepView, create, update, replacement, replaced, destroyed, deposed_destroyed}
+use Rattle.tf_address.specs.ObjectId.{InstanceKeyView}
+use Rattle.tf_change.specs.Instance.{InstanceFaultView, instance_object}
+use Rattle.tf_change.specs.Laws.{InstancesGrow}
+use Rattle.tf_config_data.specs.Names.{meant_at}
+use Rattle.tf_decision.specs.Kept.{kept_object}
+use Rattle.tf_decision.specs.Laws.{UpdatesGrow}
+use Rattle.tf_deciding.specs.Stage.{all_can_go, decided_object, deciding}
+use Rattle.tf_environment.proofs.Refining.{ObjectsRefine, together_grows}
+use Rattle.tf_environment.specs.Laws.{Grows, HaveGrown, StandingsExist, StandingsGrow}
+use Rattle.tf_environment.specs.Shape.{ShapeView}
+use Rattle.tf_environment.specs.Stages.{applying}
+use Rattle.tf_environment.specs.Standing.{StandingView, AreStandings, environment, environment_at, together}
+use Rattle.tf_plans_data.specs.Plan.{PlanView, plan_names}
+use Rattle.tf_protocol.specs.Meaning.{Asked, Meaning}
+use Rattle.tf_protocol.specs.Schema.{SchemaView}
+use Rattle.tf_value.specs.Known.{known}
+use Rattle.tf_value.specs.Laws.{KnownStays}
+use Rattle.tf_value.specs.Refinement.{Refines, RefinesEntries}
+use Rattle.tf_value.specs.Tree.{Tree, Entries, no_entries, entry, map, get, part_at}
+use Rattle.tf_asks.specs.Laws.{IsAnsweredPlan, KnownAttributesStay, RefinesWhere, RequestsRefine}
+use Rattle.tf_outcomes.specs.Asked.{asked_by_step, create_of, ignored_by, unless_faulty, update_of}
+
+-- ---- what names stand for
+
+decided_grows : (b : Bool) (shape : ShapeView) (f g : InstanceKeyView → Option Tree) → ObjectsRefine f g → Grows (together (if b then Some shape else None) f) (together (Some shape) g)
+decided_grows true shape f g h v w p q = together_grows shape f g h v w p q
+decided_grows false shape f g h v w p q = absurd (cc)
+
+plan_grows : StandingsGrow → (ms : List Meaning) (plan : PlanView) (objects : ℕ → InstanceKeyView → Tree) (standings others : ℕ → StandingView)
+    → IsAnsweredPlan ms plan objects standings → AreStandings (applying plan.shapes objects) plan.variables (plan_names plan) others
+    → HaveGrown plan.variables (plan_names plan) standings others
+plan_grows grow ms plan objects standings others is apply =
+    let names = plan_names plan in
+    grow (deciding ms plan.prior.resources plan.shapes) (applying plan.shapes objects) plan.variables names standings others is.ranked is.planned apply
+    (λ n block meant more.
+    decided_grows (all_can_go ms plan.prior.resources (plan.shapes n) block) (plan.shapes n)
+    (decided_object ms plan.prior.resources n block (environment_at plan.variables names standings n)) (λ key. Some (objects n key))
+    (λ key t u a b. let e : objects n key ≡ u = (cc) in rw (← e) (is.answered n block key t meant a)))
+
+-- ---- requests
+
+-- what comes of one result refines to what comes of another where the results do
+asks_grow : (f : Tree → Tree) (ask : Tree → Asked) (p q : Result Tree InstanceFaultView) (planned made : Asked) → ((t : Tree) → (ask t).object ≡ Some (f t)) → ((t u : Tree) → Refines t u → Refines (f t) (f u))
+    → ((t u : Tree) → p ≡ Ok t → q ≡ Ok u → Refines t u) → unless_faulty ask p ≡ Ok planned → unless_faulty ask q ≡ Ok made → RefinesWhere planned.object made.object
+asks_grow f ask (Ok t) (Ok u) planned made object grows h a b =
+    let e : ask t ≡ planned = (cc) in
+    let g : ask u ≡ made = (cc) in
+    rw (← e, ← g, object t, object u) (grows t u (h t u refl refl))
+asks_grow f ask (Ok t) (Err why) planned made object grows h a b = absurd (cc)
+asks_grow f ask (Err why) q planned made object grows h a b = absurd (cc)
+
+same_asked : (r planned made : Asked) → r.object ≡ None → ◌≡◌ {A = Result Asked InstanceFaultView} (Ok r) (Ok planned) → ◌≡◌ {A = Result Asked InstanceFaultView} (Ok r) (Ok made) → RefinesWhere planned.object made.object
+same_asked r planned made none a b =
+    let e : r ≡ planned = (cc) in
+    let f : r ≡ made = (cc) in
+    rw (← e, ← f, none) tt
+
+steps_grow : UpdatesGrow → (ignored : List (List ℕ)) (schema : SchemaView) (a : ActionView) (p q : Result Tree InstanceFaultView) (step : StepView) (planned made : Asked)
+    → ((t u : Tree) → p ≡ Ok t → q ≡ Ok u → Refines t u) → asked_by_step ignored schema a p step ≡ Ok planned → asked_by_step ignored schema a q step ≡ Ok made → RefinesWhere planned.object made.object
+steps_grow updates ignored schema a p q (create asked) planned made h x y = asks_grow (λ t. t) (create_of a) p q planned made (λ t. refl) (λ t u r. r) h x y
+steps_grow updates ignored schema a p q (replacement asked names) planned made h x y = asks_grow (λ t. t) (create_of a) p q planned made (λ t. refl) (λ t u r. r) h x y
+steps_grow updates ignored schema a p q (update prior asked names) planned made h x y =
+    asks_grow (kept_object schema ignored prior) (λ t. update_of a prior (kept_object schema ignored prior t)) p q planned made (λ t. refl) (updates schema ignored prior) h x y
+steps_grow updates ignored schema a p q (replaced prior) planned made h x y = same_asked _ planned made refl x y
+steps_grow updates ignored schema a p q (destroyed prior) planned made h x y = same_asked _ planned made refl x y
+steps_grow updates ignored schema a p q (deposed_destroyed key prior) planned made h x y = same_asked _ planned made refl x y
+
+pub requests_refine : StandingsExist → StandingsGrow → InstancesGrow → UpdatesGrow → RequestsRefine
+requests_refine exist grow instances updates ms plan objects standings requests is are block a schema planned made meant x y =
+    let names = plan_names plan in
+    let apply = exist (applying plan.shapes objects) plan.variables names is.ranked in
+    let grown = plan_grows grow ms plan objects standings apply.0 is apply.1 in
+    let one = environment plan.variables names standings in
+    let other = environment plan.variables names apply.0 in
+    let same = are objects a schema apply.0 block apply.1 meant in
+    steps_grow updates (ignored_by (meant_at names a.resource)) schema a (instance_object schema block a.key one) (requests objects a schema) a.step planned made
+    (λ t u p q. instances schema block a.key one other t u grown.references p (sym same ∙ q)) x y
+
+-- ---- known attributes
+
+pick_known : KnownStays → (here : Bool) (t u : Tree) (rest others : Option Tree) (v : Tree) → Refines t u → (rest ≡ Some v → others ≡ Some v) → known v ≡ true
+    → (if here then Some t else rest) ≡ Some v → (if here then Some u else others) ≡ Some v
+pick_known stays true t u rest others v h more is p =
+    let e : t ≡ v = (cc) in
+    let f : v ≡ u = stays v u is (rw (sym e) h) in
+    ap (λ x. Some x) (sym f)
+pick_known stays false t u rest others v h more is p = more p
+
+get_known : KnownStays → (name : List ℕ) (es fs : Entries) (v : Tree) → RefinesEntries es fs → known v ≡ true → get name es ≡ Some v → get name fs ≡ Some v
+get_known stays name no_entries fs v h is p = absurd (cc)
+get_known stays name (entry k t es) no_entries v h is p = absurd h
+get_known stays name (entry k t es) (entry l u fs) v h is p =
+    let same : k ≡ l = h.0 in
+    rw (sym same) (pick_known stays (bytes_eq name k) t u (get name es) (get name fs) v h.1 (get_known stays name es fs v h.2 is) is p)
+
+part_known : KnownStays → (name : List ℕ) (t u v : Tree) → Refines t u → known v ≡ true → part_at name t ≡ Some v → part_at name u ≡ Some v
+part_known stays name (map es) (map fs) v h is p = get_known stays name es fs v h is p
+part_known stays name (map es) _ v h is p = absurd (assumption)
+part_known stays name _ u v h is p = absurd (cc)
+
+known_where : KnownStays → (name : List ℕ) (o x : Option Tree) (v : Tree) → RefinesWhere o x → known v ≡ true → option_and_then (part_at name) o ≡ Some v → option_and_then (part_at name) x ≡ Some v
+known_where stays name None x v h is p = absurd (cc)
+known_where stays name (Some t) None v h is p = absurd h
+known_where stays name (Some t) (Some u) v h is p = part_known stays name t u v h is p
+
+pub known_stay : KnownStays → RequestsRefine → KnownAttributesStay
+known_stay stays refine ms plan objects standings requests is are block a schema planned made meant x y name v p k =
+    known_where stays name planned.object made.object v (refine ms plan objects standings requests is are block a schema planned made meant x y) k p

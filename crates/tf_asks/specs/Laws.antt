@@ -1,0 +1,55 @@
+-- What holds of what is asked, by what was planned.
+use Rattle.std.specs.Prelude.{◌≡◌, ℕ, true, List, Option, Some, None, option_and_then, Result, Ok, ⊤}
+use Rattle.tf_action_data.specs.Action.{ActionView}
+use Rattle.tf_address.specs.ObjectId.{InstanceKeyView}
+use Rattle.tf_change.specs.Instance.{InstanceFaultView, instance_object}
+use Rattle.tf_config_data.specs.Config.{BlockView}
+use Rattle.tf_config_data.specs.Names.{a_block, directly_before, meant_at}
+use Rattle.tf_deciding.specs.Stage.{decided_object, deciding}
+use Rattle.tf_environment.specs.Laws.{AreAnswered}
+use Rattle.tf_environment.specs.Standing.{StandingView, AreStandings, environment}
+use Rattle.tf_graph.specs.Solutions.{Ranked}
+use Rattle.tf_plans_data.specs.Plan.{PlanView, plan_names}
+use Rattle.tf_protocol.specs.Meaning.{Asked, Meaning}
+use Rattle.tf_protocol.specs.Schema.{SchemaView}
+use Rattle.tf_value.specs.Known.{known}
+use Rattle.tf_value.specs.Refinement.{Refines}
+use Rattle.tf_value.specs.Tree.{Tree, part_at}
+use Rattle.tf_outcomes.specs.Asked.{AreRequests, Requests, asked_for}
+
+-- No name needs itself, names stand in the plan for so much, and the object that each instance stands for there refines to
+-- the one that it stands for in the apply: what its provider answered, or the prior one where nothing is planned for it.
+pub record IsAnsweredPlan (ms : List Meaning) (plan : PlanView) (objects : ℕ → InstanceKeyView → Tree) (standings : ℕ → StandingView) : Type 0 where
+  pub ranked : Ranked (directly_before (plan_names plan))
+  pub planned : AreStandings (deciding ms plan.prior.resources plan.shapes) plan.variables (plan_names plan) standings
+  pub answered : AreAnswered plan.variables (plan_names plan) (decided_object ms plan.prior.resources) objects standings
+
+-- what an action would ask by what its block makes in the plan, or what is wrong with it
+abbrev pub asked_in_plan : PlanView → (ℕ → StandingView) → BlockView → SchemaView → ActionView → Result Asked InstanceFaultView
+asked_in_plan plan standings block schema a =
+    asked_for (plan_names plan) schema a (instance_object schema block a.key (environment plan.variables (plan_names plan) standings))
+
+-- What holds of what an action would ask by the plan and of what it asks, where instances stand for such objects.
+abbrev pub OfRequests : (Asked → Asked → Type 0) → Type 0
+OfRequests Holds =
+    (ms : List Meaning) (plan : PlanView) (objects : ℕ → InstanceKeyView → Tree) (standings : ℕ → StandingView) (requests : Requests)
+    → IsAnsweredPlan ms plan objects standings → AreRequests plan requests
+    → (block : BlockView) (a : ActionView) (schema : SchemaView) (planned made : Asked) → meant_at (plan_names plan) a.resource ≡ Some (a_block block)
+    → asked_in_plan plan standings block schema a ≡ Ok planned
+    → asked_for (plan_names plan) schema a (requests objects a schema) ≡ Ok made
+    → Holds planned made
+
+-- an object that is asked for refines to another; of a destroy there is none
+abbrev pub RefinesWhere : Option Tree → Option Tree → Type 0
+RefinesWhere (Some t) (Some u) = Refines t u
+RefinesWhere None None = ⊤
+RefinesWhere _ _ = ⊥
+
+-- The object that an action would ask for by the plan refines to the one that it asks for.
+abbrev pub RequestsRefine : Type 0
+RequestsRefine = OfRequests (λ planned made. RefinesWhere planned.object made.object)
+
+-- So an attribute that is known in the plan stands unchanged in the request, in an update as in a create.
+abbrev pub KnownAttributesStay : Type 0
+KnownAttributesStay =
+    OfRequests (λ planned made. (name : List ℕ) (v : Tree) → option_and_then (part_at name) planned.object ≡ Some v → known v ≡ true → option_and_then (part_at name) made.object ≡ Some v)

@@ -1,0 +1,2 @@
+pub mod AskedBy
+pub mod Laws

@@ -1,0 +1,22 @@
+//! Laws on what is asked.
+
+ghost use Rattle.tf_asks.specs.Laws.{KnownAttributesStay, RequestsRefine};
+
+use tf_change::laws::objects_grow;
+use tf_decision::laws::updates_grow;
+use tf_environment::laws::{standings_are_one, standings_grow};
+use tf_value::known_values_stay;
+
+/// Where what instances stand for in the plan refines to what they stand for in the apply, the object that an action would
+/// ask for by the plan refines to the one that it asks for. So what is known in the plan stands unchanged in the request of
+/// each create, replacement and update.
+pub fn requests_grow()
+    ensures refine { RequestsRefine }
+    ensures known { KnownAttributesStay }
+{
+    known_values_stay();
+    standings_are_one();
+    standings_grow();
+    objects_grow();
+    updates_grow();
+}

@@ -1,0 +1,87 @@
+//! The objects that are asked for.
+
+ghost use Rattle.std.specs.Prelude.{◌≡◌, ◌<◌, true, IfOk, length, map, string_bytes};
+ghost use Rattle.tf_action_data.specs.Action.{action_of};
+ghost use Rattle.tf_change.specs.Bounded.{has_planned_attributes};
+ghost use Rattle.tf_change.specs.Instance.{instance_of};
+ghost use Rattle.tf_config_data.specs.Config.{config_of};
+ghost use Rattle.tf_config_data.specs.Names.{meant_at, names_of};
+ghost use Rattle.tf_decision.specs.Kept.{kept_object};
+ghost use Rattle.tf_names.specs.Table.{names_in};
+ghost use Rattle.tf_plans_data.specs.Fits.{FitsTogether, IsOfBlock};
+ghost use Rattle.tf_plans_data.specs.Plan.{plan_of};
+ghost use Rattle.tf_protocol.specs.Verdict.{has_attributes};
+ghost use Rattle.tf_value.specs.Tree.{tree_of};
+ghost use Rattle.tf_outcomes.specs.Asked.{AreRequests, Requests, ignored_by};
+
+use std::alloc::{AllocError, Global};
+use tf_change::InstanceFault;
+use tf_decision::kept_object;
+use tf_environment::Declarations;
+use tf_names::{Named, Names};
+use tf_plans_data::{Action, Plan};
+use tf_protocol::Schema;
+use tf_request::{Results, request};
+use tf_value::Value;
+
+/// What the block of an action's instance makes of it by its type's schema, where instances stand for these results; or what
+/// is wrong with it.
+pub(crate) fn made_object<R: Results>(
+    alloc: Global,
+    plan: &Plan,
+    names: &Names<'_>,
+    schema: &Schema,
+    action: &Action,
+    results: &R,
+) -> Result<Result<Value, InstanceFault>, AllocError>
+    requires fits { FitsTogether plan.now }
+    requires names { names_in names.now ≡ names_of (config_of plan.now.config) }
+    requires block { IsOfBlock (names_of (config_of plan.now.config)) (action_of action.now) }
+    ensures made { IfOk result (λ made. (requests : Requests) → AreRequests (plan_of plan.now) requests
+        → instance_of made ≡ requests (R.objects results.now) (action_of action.now) schema.now) }
+    ensures fully { IfOk result (λ made. IfOk made (λ object. has_attributes schema.now (tree_of object) ≡ true)) }
+    ensures within { IfOk result (λ made. IfOk made (λ object. has_planned_attributes (tree_of object) ≡ true)) }
+{
+    let declared = Declarations {
+        variables: &plan.variables,
+        names,
+        dependence: &plan.dependence,
+    };
+    let shapes = plan.shapes.as_slice();
+    request(
+        alloc,
+        &declared,
+        shapes,
+        schema,
+        action.resource,
+        &action.key,
+        results,
+    )
+}
+
+/// An object with what is kept of the prior one, both what the provider sets and what the block of its resource ignores.
+pub(crate) fn kept(
+    alloc: Global,
+    names: &Names<'_>,
+    schema: &Schema,
+    action: &Action,
+    prior: &Value,
+    object: &Value,
+) -> Result<Value, AllocError>
+    requires { (action_of action.now).resource < length (names_in names.now) }
+    ensures { IfOk result (λ v. tree_of v ≡ kept_object schema.now (ignored_by (meant_at (names_in names.now) (action_of action.now).resource)) (tree_of prior.now) (tree_of object.now)) }
+{
+    let ignored = ignored_by(names, action.resource);
+    kept_object(alloc, schema, ignored, prior, object)
+}
+
+/// The names of the attributes whose changes the block of a resource ignores.
+fn ignored_by<'a>(names: &Names<'a>, place: usize) -> &'a [String]
+    requires { place < length (names_in names.now) }
+    ensures { map string_bytes result.now ≡ ignored_by (meant_at (names_in names.now) place) }
+{
+    match names.at(place) {
+        Named::Resource(_, block) => block.lifecycle.ignore_changes.as_slice(),
+        Named::Local(_, _) => &[],
+    }
+}

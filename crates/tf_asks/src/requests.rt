@@ -1,0 +1,226 @@
+//! Requests.
+
+ghost use Rattle.std.specs.Prelude.{◌≡◌, true, Some, map, IfOk, IsSomeAnd, IsTrue, option_map, string_bytes};
+ghost use Rattle.tf_action_data.specs.Action.{action_of, prior_of};
+ghost use Rattle.tf_change.specs.Bounded.{has_planned_attributes};
+ghost use Rattle.tf_config_data.specs.Config.{config_of};
+ghost use Rattle.tf_config_data.specs.Names.{meant_at, names_of};
+ghost use Rattle.tf_decision.specs.Kept.{kept_object};
+ghost use Rattle.tf_names.specs.Table.{names_in};
+ghost use Rattle.tf_plans_data.specs.Fits.{FitsTogether, IsDeclared, IsOfBlock};
+ghost use Rattle.tf_plans_data.specs.Plan.{plan_of};
+ghost use Rattle.tf_plans_data.specs.Served.{IsServedBy};
+ghost use Rattle.tf_protocol.specs.Meaning.{asked, schema_in};
+ghost use Rattle.tf_protocol.specs.Verdict.{asks_fully};
+ghost use Rattle.tf_protocol.specs.declared.request.Op.TheVariants.{Create, Update};
+ghost use Rattle.tf_value.specs.Tree.{tree_of};
+ghost use Rattle.tf_asks.specs.AskedBy.{asked_by};
+ghost use Rattle.tf_outcomes.specs.Asked.{AreRequests, Requests, asked_for, create_of, destroy_of, ignored_by, op_of, unless_faulty, update_of};
+ghost use Rattle.tf_outcomes.specs.Outcome.{call_with, comes_of};
+
+use crate::messages::faulted;
+use crate::objects::{kept, made_object};
+use crate::rooms::{fallback_for, least_room, message_room};
+use std::alloc::{AllocError, Global};
+use tf_names::Names;
+use tf_outcomes::{Asking, Faulted};
+use tf_plans_data::{Action, Plan, Step, address_text};
+use tf_provider::{Op, Provider, Request, Schema, schema_for};
+use tf_request::Results;
+use tf_state_data::Object;
+use tf_value::Value;
+
+/// What is asked for an action of a plan by the schema of the first provider that has its type, or what is wrong with
+/// it, where instances stand for these results.
+///
+/// # Errors
+///
+/// Only where memory runs out.
+pub fn ask_provider<R: Results>(
+    alloc: Global,
+    plan: &Plan,
+    names: &Names<'_>,
+    providers: &[Box<dyn Provider + Sync>],
+    action: &Action,
+    results: &R,
+) -> Result<Result<Asking, Faulted>, AllocError>
+    requires fits { FitsTogether plan.now }
+    requires names { names_in names.now ≡ names_of (config_of plan.now.config) }
+    requires declared { IsDeclared (names_of (config_of plan.now.config)) (action_of action.now) }
+    requires served { IsServedBy (map (λ b. meaning b) providers.now) (action_of action.now) }
+    ensures asked { IfOk result (λ made. (requests : Requests) → AreRequests (plan_of plan.now) requests
+        → comes_of (map (λ b. meaning b) providers.now) (asked_by made)
+        ≡ call_with (map (λ b. meaning b) providers.now) requests (plan_of plan.now) (R.objects results.now) (action_of action.now)) }
+    ensures served { IfOk result (λ made. IfOk made (λ asking.
+        IsSomeAnd (schema_in (asked asking.request).type_name (map (λ b. meaning b) providers.now)) (λ s. IsTrue (asks_fully (asked asking.request) s)))) }
+    ensures op { IfOk result (λ made. IfOk made (λ asking. (asked asking.request).op ≡ op_of (action_of action.now).step)) }
+{
+    match schema_for(providers, action.label.type_name.as_str()) {
+        Some(schema) => ask(alloc, plan, names, schema, action, results),
+        None => unreachable!(),
+    }
+}
+
+/// What is asked for an action of a plan by its type's schema, or what is wrong with it, where instances stand for
+/// these results.
+fn ask<R: Results>(
+    alloc: Global,
+    plan: &Plan,
+    names: &Names<'_>,
+    schema: &Schema,
+    action: &Action,
+    results: &R,
+) -> Result<Result<Asking, Faulted>, AllocError>
+    requires fits { FitsTogether plan.now }
+    requires names { names_in names.now ≡ names_of (config_of plan.now.config) }
+    requires declared { IsDeclared (names_of (config_of plan.now.config)) (action_of action.now) }
+    ensures asked { IfOk result (λ made. (requests : Requests) → AreRequests (plan_of plan.now) requests
+        → asked_by made ≡ asked_for (names_of (config_of plan.now.config)) schema.now (action_of action.now) (requests (R.objects results.now) (action_of action.now) schema.now)) }
+    ensures fully { IfOk result (λ made. IfOk made (λ asking. asks_fully (asked asking.request) schema.now ≡ true)) }
+    ensures type_name { IfOk result (λ made. IfOk made (λ asking. (asked asking.request).type_name ≡ (action_of action.now).label.type_name)) }
+    ensures op { IfOk result (λ made. IfOk made (λ asking. (asked asking.request).op ≡ op_of (action_of action.now).step)) }
+{
+    match &action.step {
+        Step::Create(_) | Step::Replacement(_, _) => {
+            ask_create(alloc, plan, names, schema, action, results)
+        }
+        Step::Update(prior, _, _) => {
+            ask_update(alloc, plan, names, schema, action, results, prior)
+        }
+        Step::Replaced(prior) | Step::Destroy(prior) => {
+            Ok(Ok(destroying(alloc, action, None, prior)?))
+        }
+        Step::DestroyDeposed(key, prior) => Ok(Ok(destroying(
+            alloc,
+            action,
+            Some(key.clone()?),
+            prior,
+        )?)),
+    }
+}
+
+/// What is asked for a create, or what is wrong with it.
+fn ask_create<R: Results>(
+    alloc: Global,
+    plan: &Plan,
+    names: &Names<'_>,
+    schema: &Schema,
+    action: &Action,
+    results: &R,
+) -> Result<Result<Asking, Faulted>, AllocError>
+    requires fits { FitsTogether plan.now }
+    requires names { names_in names.now ≡ names_of (config_of plan.now.config) }
+    requires block { IsOfBlock (names_of (config_of plan.now.config)) (action_of action.now) }
+    ensures asked { IfOk result (λ made. (requests : Requests) → AreRequests (plan_of plan.now) requests
+        → asked_by made ≡ unless_faulty (create_of (action_of action.now)) (requests (R.objects results.now) (action_of action.now) schema.now)) }
+    ensures fully { IfOk result (λ made. IfOk made (λ asking. asks_fully (asked asking.request) schema.now ≡ true)) }
+    ensures type_name { IfOk result (λ made. IfOk made (λ asking. (asked asking.request).type_name ≡ (action_of action.now).label.type_name)) }
+    ensures op { IfOk result (λ made. IfOk made (λ asking. (asked asking.request).op ≡ Create)) }
+{
+    match made_object(alloc, plan, names, schema, action, results)? {
+        Ok(object) => Ok(Ok(creating(alloc, action, object)?)),
+        Err(fault) => Ok(Err(faulted(alloc, fault)?)),
+    }
+}
+
+/// What is asked for an update of an object, or what is wrong with it.
+fn ask_update<R: Results>(
+    alloc: Global,
+    plan: &Plan,
+    names: &Names<'_>,
+    schema: &Schema,
+    action: &Action,
+    results: &R,
+    prior: &Object,
+) -> Result<Result<Asking, Faulted>, AllocError>
+    requires fits { FitsTogether plan.now }
+    requires names { names_in names.now ≡ names_of (config_of plan.now.config) }
+    requires block { IsOfBlock (names_of (config_of plan.now.config)) (action_of action.now) }
+    ensures asked { IfOk result (λ made. (requests : Requests) → AreRequests (plan_of plan.now) requests
+        → asked_by made ≡ unless_faulty (λ t. update_of (action_of action.now) (prior_of prior.now)
+        (kept_object schema.now (ignored_by (meant_at (names_of (config_of plan.now.config)) (action_of action.now).resource)) (prior_of prior.now) t))
+        (requests (R.objects results.now) (action_of action.now) schema.now)) }
+    ensures fully { IfOk result (λ made. IfOk made (λ asking. asks_fully (asked asking.request) schema.now ≡ true)) }
+    ensures type_name { IfOk result (λ made. IfOk made (λ asking. (asked asking.request).type_name ≡ (action_of action.now).label.type_name)) }
+    ensures op { IfOk result (λ made. IfOk made (λ asking. (asked asking.request).op ≡ Update)) }
+{
+    match made_object(alloc, plan, names, schema, action, results)? {
+        Ok(object) => {
+            let wanted = kept(alloc, names, schema, action, &prior.value, &object)?;
+            Ok(Ok(updating(alloc, action, prior, wanted)?))
+        }
+        Err(fault) => Ok(Err(faulted(alloc, fault)?)),
+    }
+}
+
+/// The request to make an object, with room for what is told of its reply, and with what is saved where that can't be used.
+fn creating(alloc: Global, action: &Action, object: Value) -> Result<Asking, AllocError>
+    requires { has_planned_attributes (tree_of object) ≡ true }
+    ensures { IfOk result (λ asking. asked asking.request ≡ create_of (action_of action.now) (tree_of object)) }
+{
+    let message = message_room(alloc, &object)?;
+    let fallback = fallback_for(alloc, &object)?;
+    let request = Request {
+        op: Op::Create,
+        address: address_text(alloc, &action.label, &action.key)?,
+        type_name: action.label.type_name.clone()?,
+        deposed: None,
+        prior: None,
+        object: Some(object),
+    };
+    Ok(Asking {
+        request,
+        message,
+        fallback: Some(fallback),
+    })
+}
+
+/// The request to make of an object that is there another, with room for what is told of its reply.
+fn updating(
+    alloc: Global,
+    action: &Action,
+    prior: &Object,
+    object: Value,
+) -> Result<Asking, AllocError>
+    ensures { IfOk result (λ asking. asked asking.request ≡ update_of (action_of action.now) (prior_of prior.now) (tree_of object)) }
+{
+    let message = message_room(alloc, &object)?;
+    let request = Request {
+        op: Op::Update,
+        address: address_text(alloc, &action.label, &action.key)?,
+        type_name: action.label.type_name.clone()?,
+        deposed: None,
+        prior: Some(prior.value.clone()?),
+        object: Some(object),
+    };
+    Ok(Asking {
+        request,
+        message,
+        fallback: None,
+    })
+}
+
+/// The request to take an object away, the current one or the deposed one of a key, with room for what is told of its reply.
+fn destroying(
+    alloc: Global,
+    action: &Action,
+    deposed: Option<String>,
+    prior: &Object,
+) -> Result<Asking, AllocError>
+    ensures { IfOk result (λ asking. asked asking.request ≡ destroy_of (action_of action.now) (option_map string_bytes deposed) (prior_of prior.now)) }
+{
+    let message = least_room(alloc)?;
+    let request = Request {
+        op: Op::Destroy,
+        address: address_text(alloc, &action.label, &action.key)?,
+        type_name: action.label.type_name.clone()?,
+        deposed,
+        prior: Some(prior.value.clone()?),
+        object: None,
+    };
+    Ok(Asking {
+        request,
+        message,
+        fallback: None,
+    })
+}
