@@ -1,0 +1,11 @@
+pub mod Called
+pub mod Formed
+pub mod Gathered
+pub mod Heads
+pub mod Independent
+pub mod Judged
+pub mod Lines
+pub mod Lists
+pub mod Named
+pub mod Pairs
+pub mod Stored

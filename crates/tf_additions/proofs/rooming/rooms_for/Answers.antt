@@ -1,0 +1,30 @@
+use Rattle.std.proofs.Common.{◌∙◌, ◌<◌, ◌+◌, List, length, map, get_or, ap, sym, take, subst}
+use Rattle.tf_action_data.specs.Action.{action_of}
+use Rattle.tf_action_data.specs.declared.action.Action.{Action}
+use Rattle.tf_plans_data.specs.Fits.{IsDeclared}
+use Rattle.tf_plans_data.specs.Plan.{plan_names, plan_of}
+use Rattle.tf_additions.specs.Head.{AreHeads}
+use Rattle.tf_additions.specs.RoomHead.{room_head}
+use Rattle.tf_additions.proofs.Heads.{heads-next}
+use Rattle.tf_additions.proofs.Lists.{all-at}
+use Rattle.tf_additions.proofs.rooming.rooms_for.Goals as goal
+
+pub room_for-requires-clause-declared : goal.room_for-requires-clause-declared
+room_for-requires-clause-declared c =
+    let items = c.deref-action-items.ensures.value in
+    let action = c.action-item.result in
+    let names = plan_names (plan_of c.args.plan.now) in
+    let below : c.loop-action.action-index < length c.args.plan.now.actions.items = subst (λ (xs : List Action). c.loop-action.action-index < length xs) items c.loop-action-test.true in
+    let is = c.action-item.is ∙ ap (λ xs. get_or xs c.loop-action.action-index action) items in
+    all-at (IsDeclared names) action_of c.args.plan.now.actions.items c.loop-action.action-index action below is c.requires.declared
+
+pub loop-action-preserved : goal.loop-action-preserved
+loop-action-preserved c =
+    let old = c.loop-action in
+    let plan = plan_of c.args.plan.now in
+    let items = c.deref-action-items.ensures.value in
+    let action = c.action-item.result in
+    let below : old.action-index < length c.args.plan.now.actions.items = subst (λ (xs : List Action). old.action-index < length xs) items c.loop-action-test.true in
+    let is = c.action-item.is ∙ ap (λ xs. get_or xs old.action-index action) items in
+    subst (λ xs. AreHeads plan (map action_of (take (old.action-index + 1) c.args.plan.now.actions.items)) (map room_head xs)) (sym c.in_ok-push.ensures.items)
+    (heads-next plan room_head action_of old.rooms.items c.args.plan.now.actions.items old.action-index c.in_ok-room_for.field-0 action below is old.invariant c.in_ok-room_for.ensures)

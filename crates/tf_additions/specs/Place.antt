@@ -1,0 +1,14 @@
+-- Where a diagnostic of an action stands.
+use Rattle.std.specs.Prelude.{ℕ, List, ◌++◌, codes, Option, Some, None}
+use Rattle.tf_action_data.specs.Action.{ActionView}
+use Rattle.tf_plans_data.specs.Address.{address_text}
+use Rattle.tf_plans_data.specs.Fits.{deposed_key}
+
+-- an address, and behind it of a deposed object ` (deposed KEY)`
+abbrev pub with_key : List ℕ → Option (List ℕ) → List ℕ
+with_key address None = address
+with_key address (Some key) = address ++ (codes " (deposed " ++ (key ++ codes ")"))
+
+-- The address of an action's instance, and behind it of a deposed object ` (deposed KEY)`.
+abbrev pub place_of : ActionView → List ℕ
+place_of a = with_key (address_text a.label a.key) (deposed_key a.step)

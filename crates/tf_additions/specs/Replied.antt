@@ -1,0 +1,8 @@
+-- What an answer says beside an object.
+use Rattle.std.specs.Prelude.{ℕ, List, Option, Some, None}
+use Rattle.tf_protocol.specs.Meaning.{Answer, failed}
+
+-- the message of a failure
+abbrev pub failure_in : Option Answer → Option (List ℕ)
+failure_in (Some (failed message there)) = Some message
+failure_in _ = None
