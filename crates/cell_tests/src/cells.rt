@@ -1,14 +1,13 @@
 //! Ends that are published, read and taken out.
 
-ghost use Rattle.std.specs.Prelude.{◌≡◌, ◌<◌, All};
+ghost use Rattle.std.specs.Prelude.{◌≡◌, ◌<◌};
 
-use std::alloc::{AllocError, Global};
 use std::marker::Brand;
 use std::test::Fail;
 use std::thread;
 use std::thread::Threads;
-use tf_cells::{Cells, Naming, Sight};
-use tf_outcome::{Ended, Judged};
+use tf_cells::{Cells, Naming};
+use tf_outcomes::{Ended, Judged};
 
 /// How an end is called here.
 #[derive(Clone, Copy, Debug, PartialEq, Eq)]
@@ -84,27 +83,6 @@ fn publish_twice<N: Naming + Send + Sync, R: Threads + Sync>(
     )
 }
 
-/// What is seen of some actions.
-#[derive(Clone, Copy, Debug, PartialEq, Eq)]
-enum Shown {
-    NoMemory,
-    Waits,
-    Bad,
-    Good,
-}
-
-/// What is seen of the actions before one.
-fn seen(alloc: Global, cells: &Cells<Brand>, before: &[usize]) -> Shown
-    requires { All (λ n. n < cells.now) before.now }
-{
-    match cells.look(alloc, &[], before) {
-        Err(AllocError) => Shown::NoMemory,
-        Ok(Sight::Waits) => Shown::Waits,
-        Ok(Sight::Bad) => Shown::Bad,
-        Ok(Sight::Good(_)) => Shown::Good,
-    }
-}
-
 #[test]
 fn an_end_is_published_once(rt: HostRuntime) -> Result<(), Fail> {
     let cells = Cells::<Brand>::new(rt.alloc(), 2)?;
@@ -138,23 +116,5 @@ fn of_two_threads_one_publishes(rt: HostRuntime) -> Result<(), Fail> {
             (Some(Kind::Skipped), None, Some(Kind::NotAsked))
         );
     }
-    Ok(())
-}
-
-#[test]
-fn a_sight_waits_or_is_bad(rt: HostRuntime) -> Result<(), Fail> {
-    let cells = Cells::<Brand>::new(rt.alloc(), 2)?;
-    let before = seen(rt.alloc(), &cells, &[0, 1]);
-    let published = publish(&cells, 0, true);
-    let after = seen(rt.alloc(), &cells, &[0, 1]);
-    let waits = seen(rt.alloc(), &cells, &[1, 0]);
-    let none = seen(rt.alloc(), &cells, &[]);
-    let taken = taken(cells);
-    assert_eq!(rt; published, None);
-    assert_eq!(rt;
-        (before, after, waits, none),
-        (Shown::Waits, Shown::Bad, Shown::Waits, Shown::Good)
-    );
-    assert_eq!(rt; taken, (Some(Kind::Skipped), None));
     Ok(())
 }

@@ -1,5 +1,6 @@
 mod applies;
 mod applying;
+mod changes;
 mod counted;
 mod large;
 mod names;

@@ -1,15 +1,16 @@
 //! What is planned by a schema with an attribute of each kind and of each mode.
 
-ghost use Rattle.std.specs.Prelude.{◌≤◌, IfOk, length};
+ghost use Rattle.std.specs.Prelude.{◌≤◌, IfOk, OnOk, length};
 ghost use Rattle.tf_config_data.specs.Config.{config_of};
 ghost use Rattle.tf_config_data.specs.Names.{names_of};
 ghost use Rattle.tf_names.specs.Needs.{IsAcyclic, IsDependence};
 
+use crate::door::nothing;
 use std::alloc::{AllocError, Global};
 use std::test::Fail;
 use tf_config::{Config, read};
 use tf_names::{Dependence, Names, judge};
-use tf_plan::{Refused, plan, plan_text};
+use tf_plans::{Refused, plan, plan_text};
 use tf_protocol::{Attribute, Kind, Mode, Provider, Reply, Request, Schema};
 use tf_variables::read_vars;
 
@@ -62,6 +63,7 @@ fn net_provider(alloc: Global) -> Result<Nets, Fail> {
 
 // What a configuration's names need, of few names.
 fn dependence_of(alloc: Global, config: &Config) -> Result<Dependence, Fail>
+    ensures few { OnOk result (length (names_of (config_of config.now)) ≤ 8000) }
     ensures dependence { IfOk result (IsDependence (names_of (config_of config.now))) }
     ensures acyclic { IfOk result IsAcyclic }
 {
@@ -82,15 +84,16 @@ fn answer(alloc: Global, resources: &str) -> Result<String, Fail> {
     let dependence = dependence_of(alloc, &config)?;
     let mut providers: Vec<Box<dyn Provider + Sync>> = Vec::new(alloc);
     providers.push(Box::new(alloc, net_provider(alloc)?)?)?;
+    let prior = nothing(alloc)?;
     match plan(
         alloc,
+        prior,
         config,
         variables,
         dependence,
-        "L",
         providers.as_slice(),
     ) {
-        Ok(plan) => Ok(plan_text(alloc, plan.actions.as_slice())?),
+        Ok(plan) => Ok(plan_text(alloc, plan.actions.as_slice(), plan.late.as_slice())?),
         Err(Refused::These(refusals)) => {
             let mut lines = String::new(alloc);
             for refusal in &refusals {

@@ -1,3 +1,4 @@
 pub mod Asking
 pub mod Fallback
 pub mod Growing
+pub mod Planned

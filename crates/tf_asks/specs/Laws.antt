@@ -1,17 +1,20 @@
 -- What holds of what is asked, by what was planned.
-use Rattle.std.specs.Prelude.{◌≡◌, ℕ, true, List, Option, Some, None, option_and_then, Result, Ok, ⊤}
-use Rattle.tf_action_data.specs.Action.{ActionView}
+use Rattle.std.specs.Prelude.{◌≡◌, ℕ, true, List, Option, Some, None, option_and_then, Result, Ok, Contains, ⊤}
+use Rattle.tf_action_data.specs.Action.{ActionView, StepView, create, update, replacement}
 use Rattle.tf_address.specs.ObjectId.{InstanceKeyView}
 use Rattle.tf_change.specs.Instance.{InstanceFaultView, instance_object}
 use Rattle.tf_config_data.specs.Config.{BlockView}
 use Rattle.tf_config_data.specs.Names.{a_block, directly_before, meant_at}
 use Rattle.tf_deciding.specs.Stage.{decided_object, deciding}
+use Rattle.tf_deciding.specs.Steps.{decided_steps}
+use Rattle.tf_decision.specs.Decision.{DecisionView, decision}
 use Rattle.tf_environment.specs.Laws.{AreAnswered}
 use Rattle.tf_environment.specs.Standing.{StandingView, AreStandings, environment}
 use Rattle.tf_graph.specs.Solutions.{Ranked}
 use Rattle.tf_plans_data.specs.Plan.{PlanView, plan_names}
 use Rattle.tf_protocol.specs.Meaning.{Asked, Meaning}
 use Rattle.tf_protocol.specs.Schema.{SchemaView}
+use Rattle.tf_state_data.specs.Record.{RecordView}
 use Rattle.tf_value.specs.Known.{known}
 use Rattle.tf_value.specs.Refinement.{Refines}
 use Rattle.tf_value.specs.Tree.{Tree, part_at}
@@ -53,3 +56,21 @@ RequestsRefine = OfRequests (λ planned made. RefinesWhere planned.object made.o
 abbrev pub KnownAttributesStay : Type 0
 KnownAttributesStay =
     OfRequests (λ planned made. (name : List ℕ) (v : Tree) → option_and_then (part_at name) planned.object ≡ Some v → known v ≡ true → option_and_then (part_at name) made.object ≡ Some v)
+
+-- the object that a step is planned with; a destroy has none
+abbrev pub planned_object : StepView → Option Tree
+planned_object (create asked) = Some asked
+planned_object (update prior asked names) = Some asked
+planned_object (replacement asked names) = Some asked
+planned_object _ = None
+
+-- What an action would ask for by the plan is the object that it is planned with: the step is one of those that are decided
+-- about its instance, by what the block makes of it in the plan.
+abbrev pub PlannedObjectsAreAsked : Type 0
+PlannedObjectsAreAsked =
+    (plan : PlanView) (standings : ℕ → StandingView) (block : BlockView) (a : ActionView) (schema : SchemaView) (records : List RecordView) (d : DecisionView) (planned : Asked)
+    → meant_at (plan_names plan) a.resource ≡ Some (a_block block)
+    → decision schema block.lifecycle records (instance_object schema block a.key (environment plan.variables (plan_names plan) standings)) ≡ Ok d
+    → Contains (decided_steps records d) a.step
+    → asked_in_plan plan standings block schema a ≡ Ok planned
+    → planned.object ≡ planned_object a.step

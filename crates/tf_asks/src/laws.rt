@@ -1,9 +1,9 @@
 //! Laws on what is asked.
 
-ghost use Rattle.tf_asks.specs.Laws.{KnownAttributesStay, RequestsRefine};
+ghost use Rattle.tf_asks.specs.Laws.{KnownAttributesStay, PlannedObjectsAreAsked, RequestsRefine};
 
 use tf_change::laws::objects_grow;
-use tf_decision::laws::updates_grow;
+use tf_decision::laws::{changes_have_a_cause, updates_grow};
 use tf_environment::laws::{standings_are_one, standings_grow};
 use tf_value::known_values_stay;
 
@@ -19,4 +19,11 @@ pub fn requests_grow()
     standings_grow();
     objects_grow();
     updates_grow();
+}
+
+/// What an action would ask for by the plan is the object that it is planned with.
+pub fn planned_objects_are_asked()
+    ensures { PlannedObjectsAreAsked }
+{
+    changes_have_a_cause();
 }

@@ -2,23 +2,23 @@
 use Rattle.std.proofs.Common.{◌≡◌, ◌<◌, ◌∙◌, [], ℕ, true, List, length, if◌then◌else◌, sym, ap}
 use Rattle.tf_graph.specs.Digraph.{predecessors_of}
 use Rattle.tf_graph.specs.Solutions.{seen_by}
-use Rattle.tf_plan_data.specs.Plan.{PlanView}
+use Rattle.tf_plans_data.specs.Plan.{PlanView}
 use Rattle.tf_protocol.specs.Meaning.{Meaning}
-use Rattle.tf_outcome.specs.Excuse.{before_call, during_call}
-use Rattle.tf_outcome.specs.Outcome.{Done, skipped, excused, faulted, called, Requests, all_good, call_at, is_faulted, rule}
+use Rattle.tf_outcomes.specs.Excuse.{before_call, during_call}
+use Rattle.tf_outcomes.specs.Outcome.{Done, skipped, excused, faulted, called, Requests, all_good, call_at, is_faulted, rule}
 use Rattle.tf_cells.specs.Ideal.{IsIdeal, AgreesWith}
 use Rattle.tf_cells.specs.Laws.{CallsAreTrue, ExcusesAreTrue}
 use Rattle.tf_cells.specs.Sight.{AreShown}
 
 -- where all that is seen is good, the rule makes a call of it
-pub rule-calls : (ms : List Meaning) (requests : Requests) (plan : PlanView) (n : ℕ) (seen : List (ℕ × Done)) → all_good seen ≡ true → rule ms requests plan.actions [] n seen ≡ call_at ms requests plan.actions n seen
-rule-calls ms requests plan n seen good = ap (λ b. if b then call_at ms requests plan.actions n seen else skipped) good
+pub rule-calls : (ms : List Meaning) (requests : Requests) (plan : PlanView) (n : ℕ) (seen : List (ℕ × Done)) → all_good seen ≡ true → rule ms requests plan [] n seen ≡ call_at ms requests plan n seen
+rule-calls ms requests plan n seen good = ap (λ b. if b then call_at ms requests plan n seen else skipped) good
 
 -- the ideal outcome is that of the call, by what is seen
 pub ideal-calls : (ms : List Meaning) (plan : PlanView) (n : ℕ) (seen : List (ℕ × Done)) (requests : Requests) (ideal : ℕ → Done) → n < length plan.actions
-    → AreShown ms plan (predecessors_of plan.order n) seen → IsIdeal ms plan requests ideal → ideal n ≡ call_at ms requests plan.actions n seen
+    → AreShown ms plan (predecessors_of plan.order n) seen → IsIdeal ms plan requests ideal → ideal n ≡ call_at ms requests plan n seen
 ideal-calls ms plan n seen requests ideal below shown is =
-    is.1 n below ∙ ap (rule ms requests plan.actions [] n) (sym (shown.1 requests ideal is)) ∙ rule-calls ms requests plan n seen shown.0
+    is.1 n below ∙ ap (rule ms requests plan [] n) (sym (shown.1 requests ideal is)) ∙ rule-calls ms requests plan n seen shown.0
 
 -- and all before the action are good in the ideal
 pub ideal-good : (ms : List Meaning) (plan : PlanView) (nodes : List ℕ) (seen : List (ℕ × Done)) (requests : Requests) (ideal : ℕ → Done)

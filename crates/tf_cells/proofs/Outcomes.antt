@@ -3,10 +3,10 @@ use Rattle.std.proofs.Common.{◌≡◌, ◌<◌, ◌∙◌, ◌∷◌, [], ℕ,
 use Rattle.tf_graph.proofs.Solving.{solution-exists}
 use Rattle.tf_graph.specs.Digraph.{predecessors_of}
 use Rattle.tf_graph.specs.Solutions.{Ranked, seen_by}
-use Rattle.tf_outcome.specs.Excuse.{Moment, during_call, excuse_of}
-use Rattle.tf_outcome.specs.Outcome.{Done, skipped, excused, faulted, called, Requests, AreRequests, is_good, all_good, call_at, done_at, is_faulted, or_excused, rule}
-use Rattle.tf_outcome.specs.declared.excuse.Excuse.{Excuse}
-use Rattle.tf_plan_data.specs.Plan.{PlanView}
+use Rattle.tf_outcomes.specs.Excuse.{Moment, during_call, excuse_of}
+use Rattle.tf_outcomes.specs.Outcome.{Done, skipped, excused, faulted, called, Requests, AreRequests, is_good, all_good, call_at, done_at, is_faulted, or_excused, rule}
+use Rattle.tf_outcomes.specs.declared.excuse.Excuse.{Excuse}
+use Rattle.tf_plans_data.specs.Plan.{PlanView}
 use Rattle.tf_protocol.specs.Meaning.{Meaning}
 use Rattle.tf_value.proofs.Conjunction.{and-first, and-second}
 use Rattle.tf_cells.proofs.Calls.{rule-calls}
@@ -40,24 +40,24 @@ module _ (ms : List Meaning) (plan : PlanView) (done : List Done) (ranked : Rank
   -- some ideal
   some : (ideal : ℕ → Done) × IsIdeal ms plan requests ideal
   some =
-      let found = solution-exists (length plan.actions) (predecessors_of plan.order) (rule ms requests plan.actions []) ranked in
+      let found = solution-exists (length plan.actions) (predecessors_of plan.order) (rule ms requests plan []) ranked in
       (found.0, (are, found.1))
 
   -- where all before an action are good, its ideal outcome is that of the call, by what came of them
   some-calls : (n : ℕ) → n < length plan.actions → all_good (seen_by (done_at done) (predecessors_of plan.order n)) ≡ true
-      → some.0 n ≡ call_at ms requests plan.actions n (seen_by (done_at done) (predecessors_of plan.order n))
+      → some.0 n ≡ call_at ms requests plan n (seen_by (done_at done) (predecessors_of plan.order n))
   some-calls n below good =
       let seen = seen_by (done_at done) (predecessors_of plan.order n) in
       let same : seen ≡ seen_by some.0 (predecessors_of plan.order n) =
       good-seen (done_at done) some.0 (predecessors_of plan.order n) (λ a fine. good-is ms plan a (done_at done a) (fit.fits a) fine requests some.0 some.1) good in
-      some.1.1 n below ∙ ap (rule ms requests plan.actions [] n) (sym same) ∙ rule-calls ms requests plan n seen good
+      some.1.1 n below ∙ ap (rule ms requests plan [] n) (sym same) ∙ rule-calls ms requests plan n seen good
 
   -- each end is what the rule makes
   ruled : (excuses : List Excuse) → ((n : ℕ) → n < length plan.actions → excuse_of excuses n ≡ excuse_in (done_at done n))
       → (n : ℕ) → n < length plan.actions → (good : Bool) → all_good (seen_by (done_at done) (predecessors_of plan.order n)) ≡ good
-      → done_at done n ≡ (if good then or_excused (excuse_of excuses n) (call_at ms requests plan.actions n (seen_by (done_at done) (predecessors_of plan.order n))) else skipped)
+      → done_at done n ≡ (if good then or_excused (excuse_of excuses n) (call_at ms requests plan n (seen_by (done_at done) (predecessors_of plan.order n))) else skipped)
   ruled excuses named n below true good =
-      let call = call_at ms requests plan.actions n (seen_by (done_at done) (predecessors_of plan.order n)) in
+      let call = call_at ms requests plan n (seen_by (done_at done) (predecessors_of plan.order n)) in
       let isnt : is_skipped (done_at done n) ≡ false = fit.skips n below ∙ ap not good in
       run-is (predecessors_of plan.order) some.0 n call (done_at done n) isnt (fit.fits n requests some.0 some.1) (some-calls n below good)
       ∙ ap (λ (m : Option Moment). or_excused m call) (sym (named n below))

@@ -2,14 +2,14 @@
 use Rattle.std.specs.Prelude.{◌≡◌, ◌<◌, ℕ, true, false, List, [], length, slice_index, ⊤}
 use Rattle.tf_graph.specs.Digraph.{predecessors_of}
 use Rattle.tf_graph.specs.Solutions.{Solves, seen_by}
-use Rattle.tf_plan_data.specs.Plan.{PlanView}
+use Rattle.tf_plans_data.specs.Plan.{PlanView}
 use Rattle.tf_protocol.specs.Meaning.{Meaning}
-use Rattle.tf_outcome.specs.Excuse.{before_call, during_call}
-use Rattle.tf_outcome.specs.Outcome.{Done, skipped, excused, Requests, AreRequests, all_good, is_faulted, rule}
+use Rattle.tf_outcomes.specs.Excuse.{before_call, during_call}
+use Rattle.tf_outcomes.specs.Outcome.{Done, skipped, excused, Requests, AreRequests, all_good, is_faulted, rule}
 
 -- Ideal outcomes are those of a plan where nothing is excused.
 abbrev pub IsIdeal : List Meaning → PlanView → Requests → (ℕ → Done) → Type 0
-IsIdeal ms plan requests ideal = AreRequests plan requests × Solves (length plan.actions) (predecessors_of plan.order) (rule ms requests plan.actions []) ideal
+IsIdeal ms plan requests ideal = AreRequests plan requests × Solves (length plan.actions) (predecessors_of plan.order) (rule ms requests plan []) ideal
 
 -- what holds of all ideal outcomes
 abbrev pub InEachIdeal : List Meaning → PlanView → ((ℕ → Done) → Type 0) → Type 0

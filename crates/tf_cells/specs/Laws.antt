@@ -2,17 +2,17 @@
 use Rattle.std.specs.Prelude.{◌≡◌, ◌<◌, ℕ, Bool, true, false, not, List, length, Option, Some, None}
 use Rattle.tf_graph.specs.Digraph.{predecessors_of}
 use Rattle.tf_graph.specs.Solutions.{Ranked, seen_by}
-use Rattle.tf_plan_data.specs.Plan.{PlanView}
+use Rattle.tf_plans_data.specs.Plan.{PlanView}
 use Rattle.tf_protocol.specs.Meaning.{Meaning}
-use Rattle.tf_outcome.specs.Excuse.{Moment, during_call, excuse_of}
-use Rattle.tf_outcome.specs.Outcome.{Done, skipped, excused, Requests, AreOutcomes, AreRequests, all_good, call_at, done_at, is_faulted}
-use Rattle.tf_outcome.specs.declared.excuse.Excuse.{Excuse}
+use Rattle.tf_outcomes.specs.Excuse.{Moment, during_call, excuse_of}
+use Rattle.tf_outcomes.specs.Outcome.{Done, skipped, excused, Requests, AreOutcomes, AreRequests, all_good, call_at, done_at, is_faulted}
+use Rattle.tf_outcomes.specs.declared.excuse.Excuse.{Excuse}
 use Rattle.tf_cells.specs.Ideal.{IsTrueTo}
 use Rattle.tf_cells.specs.Sight.{AreShown}
 
 -- Where all before an action are good, something holds of what comes of it, by what is seen of them.
 abbrev pub OfCall : List Meaning → PlanView → ℕ → List (ℕ × Done) → (Done → Type 0) → Type 0
-OfCall ms plan n seen Holds = (requests : Requests) → AreRequests plan requests → Holds (call_at ms requests plan.actions n seen)
+OfCall ms plan n seen Holds = (requests : Requests) → AreRequests plan requests → Holds (call_at ms requests plan n seen)
 
 -- What comes of an action, by what is seen of those before it, is true.
 abbrev pub CallsAreTrue : Type 0
@@ -56,4 +56,4 @@ ExcusedHaveNoFault =
     (ms : List Meaning) (plan : PlanView) (done : List Done) → Ranked (predecessors_of plan.order) → FitTogether ms plan done
     → (requests : Requests) → AreRequests plan requests
     → (n : ℕ) → n < length plan.actions → done_at done n ≡ excused during_call
-    → is_faulted (call_at ms requests plan.actions n (seen_by (done_at done) (predecessors_of plan.order n))) ≡ false
+    → is_faulted (call_at ms requests plan n (seen_by (done_at done) (predecessors_of plan.order n))) ≡ false

@@ -1,18 +1,20 @@
 -- A plan in which there is nothing to do.
 use Rattle.std.specs.Prelude.{[], false}
 use Rattle.tf_environment.specs.Shape as shape
-use Rattle.tf_plan_data.specs.Plan.{PlanView}
+use Rattle.tf_plans_data.specs.Plan.{PlanView}
+use Rattle.tf_state_data.specs.State.{empty_state}
 use Rattle.tf_syntax.specs.ExprTree as expr
 use Rattle.tf_value.specs.Tree.{no_entries}
 
 abbrev pub no_plan : PlanView
 no_plan =
     record {
-      lineage = [];
+      prior = empty_state [];
       config = record { variables = []; locals = expr.no_entries; outputs = expr.no_entries; blocks = [] };
       variables = no_entries;
       needs = λ a b. false;
       shapes = λ n. shape.one;
+      late = λ n. false;
       actions = [];
       order = record { nodes = 0; edges = [] };
     }

@@ -1,9 +1,14 @@
 //! What came of the actions before one, for its request.
 
 ghost use Rattle.std.specs.Prelude.{◌≡◌, ◌<◌, All, IfOk, map, option_map, slice_get};
+ghost use Rattle.tf_action_data.specs.Action.{action_of, step_of};
+ghost use Rattle.tf_address.specs.Label.{label_of};
 ghost use Rattle.tf_address.specs.ObjectId.{instance_key_of};
-ghost use Rattle.tf_outcome.specs.Outcome.{is_of, same_key, objects_seen};
-ghost use Rattle.tf_plan_data.specs.Action.{action_of};
+ghost use Rattle.tf_config_data.specs.Names.{meant_at};
+ghost use Rattle.tf_names.specs.Table.{names_in};
+ghost use Rattle.tf_outcomes.specs.Objects.{current_object, is_of, objects_seen, prior_object};
+ghost use Rattle.tf_plans_data.specs.Fits.{is_apply};
+ghost use Rattle.tf_state_data.specs.State.{state_of};
 ghost use Rattle.tf_value.specs.Tree.{null, tree_of};
 ghost use Rattle.tf_cells.specs.Reading.{seen_in};
 ghost use Rattle.tf_cells.specs.Sight.{IfGood, Shows};
@@ -12,14 +17,18 @@ use crate::cells::Cells;
 use crate::naming::Naming;
 use crate::reading::Reading;
 use std::alloc::{AllocError, Global};
-use tf_address::InstanceKey;
-use tf_plan_data::Action;
+use tf_address::{InstanceKey, Label, ObjectId};
+use tf_names::{Named, Names};
+use tf_plans_data::{Action, Step};
 use tf_request::Results;
-use tf_value::Value;
+use tf_state_data::State;
+use tf_value::{Value, copy};
 
 /// What came of some actions of a plan, all of which are good. It stays in their cells while this lives.
 #[derive(Drop)]
 pub struct Before<'a, N: Naming> {
+    names: &'a Names<'a>,
+    prior: &'a State,
     actions: &'a [Action],
     readings: Vec<Reading<'a, N>>,
 }
@@ -36,7 +45,7 @@ pub enum Sight<'a, N: Naming> {
 }
 
 impl<N: Naming> Results for Before<'_, N> {
-    ghost objects = { λ s. objects_seen (map action_of s.actions.now) (map seen_in s.readings.items) };
+    ghost objects = { λ s. objects_seen (names_in s.names.now) (state_of s.prior.now) (map action_of s.actions.now) (map seen_in s.readings.items) };
 
     fn object(&self, alloc: Global, place: usize, key: &InstanceKey) -> Result<Value, AllocError> {
         for reading in &self.readings {
@@ -44,12 +53,13 @@ impl<N: Naming> Results for Before<'_, N> {
                 return reading.object(alloc);
             }
         }
-        Ok(no_object())
+        prior_object(self.names, self.prior, place, key)
     }
 }
 
 impl<N: Naming> Cells<N> {
-    /// What came of some actions of a plan, where all of them are good. Then it is what came of them in every ideal.
+    /// What came of some actions of a plan, where all of them are good. Then it is what came of them in every ideal. The
+    /// names are those of the plan's configuration, and the state is the one that it starts from.
     ///
     /// # Errors
     ///
@@ -57,10 +67,14 @@ impl<N: Naming> Cells<N> {
     pub fn look<'a>(
         &'a self,
         alloc: Global,
+        names: &'a Names<'a>,
+        prior: &'a State,
         actions: &'a [Action],
         before: &[usize],
     ) -> Result<Sight<'a, N>, AllocError>
         requires { All (λ n. n < self.now) before.now }
+        ensures names { IfOk result (λ sight. IfGood sight (λ good. good.names.now ≡ names.now)) }
+        ensures prior { IfOk result (λ sight. IfGood sight (λ good. good.prior.now ≡ prior.now)) }
         ensures actions { IfOk result (λ sight. IfGood sight (λ good. good.actions.now ≡ actions.now)) }
         ensures shows { IfOk result (λ sight. IfGood sight (Shows N.meanings N.plan before.now)) }
     {
@@ -75,15 +89,52 @@ impl<N: Naming> Cells<N> {
             }
             readings.push_reserved(reading);
         }
-        Ok(Sight::Good(Before { actions, readings }))
+        Ok(Sight::Good(Before {
+            names,
+            prior,
+            actions,
+            readings,
+        }))
     }
 }
 
-/// What stands for an instance that no action is of.
+/// The current object that the prior state has of an instance, copied; null where it has none.
+fn prior_object(
+    names: &Names<'_>,
+    prior: &State,
+    place: usize,
+    key: &InstanceKey,
+) -> Result<Value, AllocError>
+    ensures { IfOk result (λ value. tree_of value ≡ prior_object (state_of prior.now) (instance_key_of key.now) (meant_at (names_in names.now) place)) }
+{
+    if place >= names.len() {
+        return Ok(no_object());
+    }
+    match names.at(place) {
+        Named::Resource(label, _) => current_object(prior, label, key),
+        Named::Local(_, _) => Ok(Value::Null),
+    }
+}
+
+/// What stands for an instance without an object.
 fn no_object() -> Value
     ensures { tree_of result ≡ null }
 {
     Value::Null
+}
+
+/// The current object of an instance of the resource at an address, copied; null where the state has none.
+fn current_object(prior: &State, label: &Label, key: &InstanceKey) -> Result<Value, AllocError>
+    ensures { IfOk result (λ value. tree_of value ≡ current_object (state_of prior.now) (label_of label.now) (instance_key_of key.now)) }
+{
+    let id = ObjectId {
+        key: key.clone()?,
+        deposed: None,
+    };
+    match prior.record(label, &id) {
+        Some(kept) => copy(&kept.attributes.value),
+        None => Ok(Value::Null),
+    }
 }
 
 /// The action at a place of the list, if there is one.
@@ -97,24 +148,22 @@ fn action_at(actions: &[Action], place: usize) -> Option<&Action>
     }
 }
 
-/// Whether an action is of an instance of the resource whose name stands at a place.
+/// Whether an action creates or updates an instance of the resource whose name stands at a place.
 fn is_of(action: Option<&Action>, place: usize, key: &InstanceKey) -> bool
     ensures { result ≡ is_of (option_map (λ a. action_of a.now) action.entry) place (instance_key_of key.now) }
 {
     match action {
-        Some(action) => action.place == place && same_key(&action.key, key),
+        Some(action) => is_apply(&action.step) && action.resource == place && action.key == *key,
         None => false,
     }
 }
 
-/// Whether two keys are of one instance.
-fn same_key(key: &InstanceKey, other: &InstanceKey) -> bool
-    ensures { result ≡ same_key (instance_key_of key.now) (instance_key_of other.now) }
+/// Whether a step makes an object or changes one.
+fn is_apply(step: &Step) -> bool
+    ensures { result ≡ is_apply (step_of step.now) }
 {
-    match (key, other) {
-        (InstanceKey::Single, InstanceKey::Single) => true,
-        (InstanceKey::Number(number), InstanceKey::Number(other)) => number == other,
-        (InstanceKey::Name(name), InstanceKey::Name(other)) => name == other,
-        _ => false,
-    }
+    matches!(
+        step,
+        Step::Create(_) | Step::Update(_, _, _) | Step::Replacement(_, _)
+    )
 }

@@ -1,44 +1,40 @@
 -- What is answered of a plan that was carried out.
-use Rattle.std.proofs.Common.{◌≡◌, ◌∙◌, ℕ, Bool, false, not, List, [], ◌∷◌, refl, sym, ap, subst, string_bytes, arith}
-use Rattle.std.specs.Prelude.{◌==◌, ◌||◌, ◌↔◌, IfOk}
-use Rattle.tf_outcome.specs.Outcome.{AreRequests, Done, Requests}
-use Rattle.tf_outputs.specs.Outputs.{OutputDone, saved_outputs}
-use Rattle.tf_plan.specs.Text.{plan_text}
-use Rattle.tf_plan_data.specs.Plan.{PlanView}
+use Rattle.std.proofs.Common.{◌≡◌, ◌∙◌, ℕ, Bool, true, false, not, if◌then◌else◌, List, refl, sym, ap, subst, string_bytes, arith}
+use Rattle.std.specs.Prelude.{◌==◌, ◌+◌, ◌↔◌, IfOk}
+use Rattle.tf_next_state.specs.StateAfter.{is_same, next_serial}
+use Rattle.tf_outcomes.specs.Outcome.{AreRequests, Done, Requests}
+use Rattle.tf_outputs.specs.Outputs.{OutputDone}
+use Rattle.tf_plans_data.specs.Plan.{PlanView}
+use Rattle.tf_plans_text.specs.Text.{plan_text}
 use Rattle.tf_protocol.specs.Meaning.{Meaning}
-use Rattle.tf_report.specs.After.{is_any, is_any_entry, raised, resources_after, state_after}
-use Rattle.tf_report.specs.Report.{IsTold, IsWalked, report_of}
-use Rattle.tf_report.specs.Savable.{HasNames}
-use Rattle.tf_report.specs.declared.report.Walked.{Walked}
-use Rattle.tf_report.specs.declared.report.Walked.TheVariants.{Whole, Torn}
-use Rattle.tf_saving.specs.Saving.{with_resources}
-use Rattle.tf_state_data.specs.Resource.{ResourceView}
-use Rattle.tf_state_data.specs.State.{StateView, empty_state, state_of}
+use Rattle.tf_reports.specs.Report.{IsTold, IsWalked, report_of}
+use Rattle.tf_reports.specs.Savable.{HasNames}
+use Rattle.tf_reports.specs.declared.report.Walked.{Walked}
+use Rattle.tf_reports.specs.declared.report.Walked.TheVariants.{Whole, Torn}
+use Rattle.tf_state_data.specs.Equality.{same_state, state_Decides}
+use Rattle.tf_state_data.specs.State.{StateView, state_of}
 use Rattle.tf_state.specs.Text.{state_text}
-use Rattle.tf_value.specs.Tree as tree
+use Rattle.tf_state.specs.Valid.{IsValid}
 use Rattle.tf_cli.specs.Applies.{IsCarriedOut}
 use Rattle.tf_cli.specs.declared.applied.Applied.{Applied}
 
--- the state before anything exists, with outputs
-abbrev with_outputs : List ℕ → tree.Entries → StateView
-with_outputs lineage outputs = record (empty_state lineage) { outputs = outputs }
+same-serial : (n m : ℕ) → not (n == m) ≡ false → n ≡ m
+same-serial n m e = grind (arith, e)
 
--- where the serial isn't raised nothing was saved
-none_saved : (rs : List ResourceView) (outputs : tree.Entries) (lineage : List ℕ) → (raised (is_any rs || is_any_entry outputs) (with_resources rs (with_outputs lineage outputs))).serial ≡ 0
-    → raised (is_any rs || is_any_entry outputs) (with_resources rs (with_outputs lineage outputs)) ≡ empty_state lineage
-none_saved [] tree.no_entries lineage e = refl
-none_saved [] (tree.entry name t es) lineage e = absurd (omega (arith, e))
-none_saved (r ∷ rs) outputs lineage e = absurd (omega (arith, e))
+not-other : (n m : ℕ) → n ≡ m → not (n == m) ≡ false
+not-other n m e = grind (arith, e)
 
-zero-test : (n : ℕ) → not (n == 0) ≡ false → n ≡ 0
-zero-test n e = grind (arith, e)
+-- a state whose serial is the prior one is the prior state
+prior-again : (prior after : StateView) (b : Bool) → is_same prior after ≡ b → after.serial ≡ (if b then prior.serial else prior.serial + 1) → after.serial ≡ prior.serial → after ≡ prior
+prior-again prior after true same is h =
+    ◌∙◌ {b = record after { serial = prior.serial }} (ap (λ (n : ℕ). record after { serial = n }) h) ((state_Decides (record after { serial = prior.serial }) prior).0 same)
+prior-again prior after false same is h = absurd (omega (arith, is, h))
 
--- the state after is the one before anything exists exactly where its serial is 0
-changed-exactly : (ms : List Meaning) (plan : PlanView) (done : List Done) (outputs : tree.Entries) (state : StateView) (changed : Bool) → state ≡ state_after ms plan done outputs → changed ≡ not (state.serial == 0)
-    → (changed ≡ false) ↔ (state ≡ empty_state plan.lineage)
-changed-exactly ms plan done outputs state changed after is = (
-  (λ e. after ∙ none_saved (resources_after ms plan done) outputs plan.lineage (sym (ap (λ (s : StateView). s.serial) after) ∙ zero-test state.serial (sym is ∙ e))),
-  (λ e. is ∙ ap (λ (s : StateView). not (s.serial == 0)) e),
+-- the state after is the prior one exactly where its serial is
+changed-exactly : (prior after : StateView) (changed : Bool) → after.serial ≡ next_serial prior after → changed ≡ not (after.serial == prior.serial) → (changed ≡ false) ↔ (after ≡ prior)
+changed-exactly prior after changed serial is = (
+  (λ e. prior-again prior after (is_same prior after) refl serial (same-serial after.serial prior.serial (sym is ∙ e))),
+  (λ e. is ∙ not-other after.serial prior.serial (ap (λ (s : StateView). s.serial) e)),
 )
 
 -- what the report of a walk tells
@@ -48,22 +44,21 @@ told_of ms plan (Whole report) requests are walked =
     let found = walked requests are in
     (found.0, found.1, found.2.told)
 
-pub is_carried_out : (ms : List Meaning) (lineage : List ℕ) (plan : PlanView) (walked : Walked) (a : Applied) (requests : Requests)
-    → AreRequests plan requests → HasNames plan → plan.lineage ≡ lineage
-    → string_bytes a.plan ≡ plan_text plan.actions
+pub is_carried_out : (ms : List Meaning) (plan : PlanView) (walked : Walked) (a : Applied) (requests : Requests)
+    → AreRequests plan requests → HasNames plan → IsValid plan.prior
+    → string_bytes a.plan ≡ plan_text plan.late plan.actions
     → IsWalked ms plan walked
     → a.walked ≡ walked
     → IfOk a.state (λ text. string_bytes text ≡ state_text (state_of (report_of walked).state))
-    → a.changed ≡ not ((state_of (report_of walked).state).serial == 0)
-    → IsCarriedOut ms lineage plan a
-is_carried_out ms lineage plan walked a requests are named of_lineage shown was_walked same text changed =
+    → a.changed ≡ not ((state_of (report_of walked).state).serial == plan.prior.serial)
+    → IsCarriedOut ms plan a
+is_carried_out ms plan walked a requests are named valid shown was_walked same text changed =
     let told = told_of ms plan walked requests are was_walked in
-    let exactly = changed-exactly ms plan told.0 (saved_outputs plan.config.outputs told.1) (state_of (report_of walked).state) a.changed told.2.state changed in
+    let exactly = changed-exactly plan.prior (state_of (report_of walked).state) a.changed told.2.state.after.serial changed in
     record {
       shown = shown;
       walked = subst (λ (w : Walked). IsWalked ms plan w) (sym same) was_walked;
-      valid = rw same (told.2.valid named);
+      valid = rw same (told.2.valid named valid);
       text = subst (λ (w : Walked). IfOk a.state (λ text. string_bytes text ≡ state_text (state_of (report_of w).state))) (sym same) text;
-      changed = subst (λ (w : Walked). (a.changed ≡ false) ↔ (state_of (report_of w).state ≡ empty_state lineage)) (sym same)
-          (subst (λ (l : List ℕ). (a.changed ≡ false) ↔ (state_of (report_of walked).state ≡ empty_state l)) of_lineage exactly);
+      changed = subst (λ (w : Walked). (a.changed ≡ false) ↔ (state_of (report_of w).state ≡ plan.prior)) (sym same) exactly;
     }

@@ -1,3 +1,3 @@
 mod Carried
-mod Named
+mod Planned
 mod Writes

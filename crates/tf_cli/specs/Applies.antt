@@ -1,48 +1,48 @@
 -- What an apply answers where nothing is refused.
 use Rattle.std.specs.Prelude.{◌≡◌, ◌↔◌, ℕ, false, List, IfOk, string_bytes}
-use Rattle.tf_cli.specs.Texts.{Texts, StandFor}
 use Rattle.tf_cli.specs.declared.applied.Applied.{Applied}
 use Rattle.tf_config_data.specs.Config.{ConfigView}
-use Rattle.tf_plan.specs.Plan.{IsPlan}
-use Rattle.tf_plan.specs.Text.{plan_text}
-use Rattle.tf_plan_data.specs.Plan.{PlanView}
+use Rattle.tf_inputs.specs.Texts.{Texts, StandFor}
+use Rattle.tf_plans.specs.Plan.{IsPlan}
+use Rattle.tf_plans_data.specs.Plan.{PlanView}
+use Rattle.tf_plans_text.specs.Text.{plan_text}
 use Rattle.tf_protocol.specs.Meaning.{Meaning}
-use Rattle.tf_report.specs.Report.{IsWalked, report_of}
-use Rattle.tf_state_data.specs.State.{StateView, empty_state, state_of}
+use Rattle.tf_reports.specs.Report.{IsWalked, report_of}
+use Rattle.tf_state_data.specs.State.{StateView, state_of}
 use Rattle.tf_state.specs.Text.{state_text}
 use Rattle.tf_state.specs.Valid.{IsValid}
 use Rattle.tf_value.specs.Tree.{Entries}
 
--- The texts stand for a configuration and the values of its variables, and this is their plan.
+-- The texts stand for a configuration, the values of its variables and a prior state, and this is their plan.
 pub record IsPlanOf (ms : List Meaning) (texts : Texts) (lineage : List ℕ) (plan : PlanView) : Type 0 where
   pub config : ConfigView
   pub values : Entries
-  pub stand : StandFor texts config values
-  pub planned : IsPlan ms config values lineage plan
+  pub prior : StateView
+  pub stand : StandFor texts lineage config values prior
+  pub planned : IsPlan ms config values prior plan
 
 -- the text that shows the plan of such texts
 pub record IsPlanText (ms : List Meaning) (texts : Texts) (text : List ℕ) : Type 0 where
   pub lineage : List ℕ
   pub plan : PlanView
   pub planned : IsPlanOf ms texts lineage plan
-  pub shown : text ≡ plan_text plan.actions
+  pub shown : text ≡ plan_text plan.late plan.actions
 
 -- the state after an apply
 abbrev pub state_in : Applied → StateView
 state_in a = state_of (report_of a.walked).state
 
 -- The answer for a plan: its text; the report of a walk that carries it out; the text of the state after, where there
--- was memory for it; and whether that state isn't the prior one, in which nothing exists yet. The state after is valid,
--- so its text reads back as it.
-pub record IsCarriedOut (ms : List Meaning) (lineage : List ℕ) (plan : PlanView) (a : Applied) : Type 0 where
-  pub shown : string_bytes a.plan ≡ plan_text plan.actions
+-- was memory for it; and whether that state isn't the prior one. The state after is valid, so its text reads back as it.
+pub record IsCarriedOut (ms : List Meaning) (plan : PlanView) (a : Applied) : Type 0 where
+  pub shown : string_bytes a.plan ≡ plan_text plan.late plan.actions
   pub walked : IsWalked ms plan a.walked
   pub valid : IsValid (state_in a)
   pub text : IfOk a.state (λ text. string_bytes text ≡ state_text (state_in a))
-  pub changed : (a.changed ≡ false) ↔ (state_in a ≡ empty_state lineage)
+  pub changed : (a.changed ≡ false) ↔ (state_in a ≡ plan.prior)
 
 -- The answer of an apply: its texts have a plan, and this is what came of it.
 pub record IsApplied (ms : List Meaning) (texts : Texts) (lineage : List ℕ) (a : Applied) : Type 0 where
   pub plan : PlanView
   pub planned : IsPlanOf ms texts lineage plan
-  pub carried_out : IsCarriedOut ms lineage plan a
+  pub carried_out : IsCarriedOut ms plan a

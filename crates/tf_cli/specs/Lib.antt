@@ -1,4 +1,3 @@
-pub mod Texts
 pub mod Refusals
 pub mod Applies
 pub mod Shown

@@ -3,9 +3,9 @@
 ghost use Rattle.std.specs.Prelude.{◌≡◌, ◌==◌, not, map, option_map, IfOk, IfErr, string_bytes};
 ghost use Rattle.tf_cli.specs.Applies.{IsApplied};
 ghost use Rattle.tf_cli.specs.Refusals.{AreRefusals};
-ghost use Rattle.tf_cli.specs.Texts.{the_texts};
-ghost use Rattle.tf_plan.specs.Refused.{Tells};
-ghost use Rattle.tf_report.specs.Report.{report_of};
+ghost use Rattle.tf_inputs.specs.Texts.{the_texts};
+ghost use Rattle.tf_plans.specs.Refused.{Tells};
+ghost use Rattle.tf_reports.specs.Report.{report_of};
 ghost use Rattle.tf_state_data.specs.State.{state_of};
 ghost use Rattle.tf_state.specs.Text.{state_text};
 
@@ -13,15 +13,16 @@ use crate::applied::Applied;
 use crate::planning::plan_of_texts;
 use std::alloc::Global;
 use tf_config::blocks_have_names;
-use tf_outcome::laws::requests_exist;
-use tf_plan::{Refused, plan_text};
+use tf_outcomes::laws::requests_exist;
+use tf_plans::Refused;
+use tf_plans_text::plan_text;
 use tf_provider::Provider;
 use tf_state::write;
-use tf_walk::{Walked, run_one};
+use tf_walks::{Walked, run_one};
 
-/// Plans a configuration, before anything exists, and carries the plan out by one thread, without waiting. Its
-/// variables have the values that the variables file and their defaults give; the lineage is that of the new state. A
-/// prior state is refused. Where it refuses, no provider was asked for anything but schemas.
+/// Plans a configuration beside a prior state, and carries the plan out by one thread, without waiting. Its variables
+/// have the values that the variables file and their defaults give; where no state is given, nothing exists yet, and
+/// the lineage is that of the new state. Where it refuses, no provider was asked for anything but schemas.
 pub fn apply_text(
     alloc: Global,
     config: &[u8],
@@ -36,23 +37,24 @@ pub fn apply_text(
     blocks_have_names();
     requests_exist();
     let plan = plan_of_texts(alloc, config, vars, state, lineage, providers)?;
-    let text = plan_text(alloc, plan.actions.as_slice())?;
+    let text = plan_text(alloc, plan.actions.as_slice(), plan.late.as_slice())?;
     match run_one(alloc, &plan, providers) {
-        Ok(walked) => Ok(answer_of(alloc, text, walked)),
+        Ok(walked) => Ok(answer_of(alloc, text, plan.prior.serial(), walked)),
         Err(_) => Err(Refused::NoMemory),
     }
 }
 
-/// What is answered where a plan was carried out: its text, the report, and the text of the report's state.
-fn answer_of(alloc: Global, plan: String, walked: Walked) -> Applied
+/// What is answered where a plan that starts from a state of this serial was carried out: its text, the report, and the
+/// text of the report's state. A state that isn't the prior one has another serial.
+fn answer_of(alloc: Global, plan: String, prior_serial: u32, walked: Walked) -> Applied
     ensures plan { result.plan ≡ plan }
     ensures walked { result.walked ≡ walked }
     ensures text { IfOk result.state (λ text. string_bytes text ≡ state_text (state_of (report_of walked).state)) }
-    ensures changed { result.changed ≡ not ((state_of (report_of walked).state).serial == 0) }
+    ensures changed { result.changed ≡ not ((state_of (report_of walked).state).serial == prior_serial) }
 {
     let report = walked.report();
     let state = write(alloc, &report.state);
-    let changed = report.state.serial() != 0;
+    let changed = report.state.serial() != prior_serial;
     Applied {
         plan,
         walked,

@@ -7,7 +7,6 @@ mod lines;
 mod planning;
 mod printing;
 pub mod program;
-mod reading;
 pub mod saving;
 
 pub use applied::Applied;
@@ -16,6 +15,6 @@ pub use planning::plan_text;
 pub use printing::{print, print_refused, show};
 pub use saving::{SaveFault, save, save_all};
 pub use tf_options::{Options, options};
-pub use tf_plan::Refused;
+pub use tf_plans::Refused;
 pub use tf_refusal::Refusal;
-pub use tf_walk::{Report, Walked};
+pub use tf_walks::{Report, Walked};

@@ -1,23 +1,27 @@
 //! From the texts that the user gives to a plan.
 
-ghost use Rattle.std.specs.Prelude.{map, option_map, IfOk, IfErr, string_bytes};
+ghost use Rattle.std.specs.Prelude.{◌≡◌, map, option_map, IfOk, IfErr, string_bytes};
+ghost use Rattle.tf_action_data.specs.Action.{action_of};
 ghost use Rattle.tf_cli.specs.Applies.{IsPlanOf, IsPlanText};
 ghost use Rattle.tf_cli.specs.Refusals.{AreRefusals, RefusesBy};
-ghost use Rattle.tf_cli.specs.Texts.{the_texts};
-ghost use Rattle.tf_plan.specs.Refused.{Tells};
-ghost use Rattle.tf_plan_data.specs.Action.{action_of};
-ghost use Rattle.tf_plan_data.specs.Plan.{FitsTogether, plan_of};
-ghost use Rattle.tf_plan_data.specs.Served.{AreServed};
+ghost use Rattle.tf_inputs.specs.Texts.{the_texts};
+ghost use Rattle.tf_plans.specs.Refused.{Tells};
+ghost use Rattle.tf_plans_data.specs.Fits.{FitsTogether};
+ghost use Rattle.tf_plans_data.specs.Plan.{plan_of};
+ghost use Rattle.tf_plans_data.specs.Served.{AreServed};
 ghost use Rattle.tf_refusal.specs.Refusal.{told};
+ghost use Rattle.tf_state.specs.Valid.{IsValid};
+ghost use Rattle.tf_state_data.specs.State.{state_of};
 
-use crate::reading::{Inputs, read_texts};
 use std::alloc::Global;
-use tf_plan::{Plan, Refused, plan, plan_text as text_of_plan};
+use tf_inputs::{Inputs, read_texts};
+use tf_plans::{Plan, Refused, plan};
+use tf_plans_text::plan_text as text_of_plan;
 use tf_provider::Provider;
 use tf_refusal::Refusal;
 
-/// The text that `plan` prints for a configuration, whose variables have the values that the variables file and their
-/// defaults give. A prior state is refused.
+/// The text that `plan` prints for a configuration and a prior state. The variables have the values that the variables
+/// file and their defaults give; where no state is given, nothing exists yet.
 pub fn plan_text(
     alloc: Global,
     config: &[u8],
@@ -29,11 +33,11 @@ pub fn plan_text(
     ensures refused { IfErr result (Tells (AreRefusals (map (λ b. meaning b) providers.now) (the_texts config.now (option_map (λ s. s.now) vars.entry) (option_map (λ s. s.now) state.entry)))) }
 {
     let plan = plan_of_texts(alloc, config, vars, state, "", providers)?;
-    let text = text_of_plan(alloc, plan.actions.as_slice())?;
+    let text = text_of_plan(alloc, plan.actions.as_slice(), plan.late.as_slice())?;
     Ok(text)
 }
 
-/// The plan of a configuration, before anything exists.
+/// The plan of a configuration beside a prior state, or beside the empty one of a lineage.
 pub fn plan_of_texts(
     alloc: Global,
     config: &[u8],
@@ -45,16 +49,18 @@ pub fn plan_of_texts(
     ensures planned { IfOk result (λ plan. IsPlanOf (map (λ b. meaning b) providers.now) (the_texts config.now (option_map (λ s. s.now) vars.entry) (option_map (λ s. s.now) state.entry)) lineage.now (plan_of plan)) }
     ensures fits { IfOk result FitsTogether }
     ensures served { IfOk result (λ plan. AreServed (map (λ b. meaning b) providers.now) (map action_of plan.actions.items)) }
+    ensures valid { IfOk result (λ plan. IsValid (state_of plan.prior)) }
     ensures refused { IfErr result (Tells (AreRefusals (map (λ b. meaning b) providers.now) (the_texts config.now (option_map (λ s. s.now) vars.entry) (option_map (λ s. s.now) state.entry)))) }
 {
-    match read_texts(alloc, config, vars, state) {
+    match read_texts(alloc, config, vars, state, lineage) {
         Ok(inputs) => {
             let Inputs {
                 config,
                 values,
                 dependence,
+                prior,
             } = inputs;
-            plan(alloc, config, values, dependence, lineage, providers)
+            plan(alloc, prior, config, values, dependence, providers)
         }
         Err(refusal) => Err(one_refusal(alloc, refusal)),
     }

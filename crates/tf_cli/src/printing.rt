@@ -6,17 +6,17 @@ ghost use Rattle.std.specs.Prelude.{◌≡◌, IsErr, MatchResult, OnOk};
 ghost use Rattle.tf_cli.specs.Saved.{AppendsStart};
 ghost use Rattle.tf_cli.specs.Shown.{RefusesStart, TellsStart, all_good, applied_errors, applied_output, applied_status, cant_write, counts, diagnostic_line, diagnostic_lines, error_line, errors_of, is_good_outcome, is_torn, output_of, refusal_line, refused_errors, report_summary, status_of, summary_opening, torn_warning, unwritten_error, warnings};
 ghost use Rattle.tf_refusal.specs.Refusal.{told};
-ghost use Rattle.tf_report.specs.Diagnostics.{diagnostic_of};
+ghost use Rattle.tf_additions.specs.Diagnostics.{diagnostic_of};
 
 use crate::applied::Applied;
 use crate::lines::{RefusalLine, verb_text};
 use crate::saving::{SaveFault, save, save_all};
 use itoa::Buffer;
 use std::io::Write;
-use tf_plan::Refused;
+use tf_plans::Refused;
 use tf_provider::Verdict;
 use tf_refusal::Refusal;
-use tf_walk::{Diagnostic, Outcome, Report, Walked};
+use tf_walks::{Diagnostic, Outcome, Report, Walked};
 
 /// Prints all that `apply` prints before it writes the state file, and answers the status so far: 1 where
 /// something is refused, 3 where the state has changed and there is no text of it, 2 where some action or output

@@ -1,12 +1,11 @@
 -- How many numbers stand in a list of different numbers.
-use Rattle.std.proofs.Common.{◌≡◌, ◌≢◌, ◌<◌, ◌≤◌, ◌+◌, ◌||◌, ◌==◌, ℕ, zero, suc, Bool, true, false, List, [], ◌∷◌, length, map, get_or, Option, Some, None, option_map, refl, sym, ap, ◌∙◌, subst, arith, inl, inr, cond}
-use Rattle.std.specs.Prelude.{is_some, nat_eq, slice_index, find}
-use Rattle.std.specs.List.{list_any, AllByRecursion}
-use Rattle.std.specs.Cmp.{nat_eq_equiv}
-use Rattle.std.proofs.lemmas.Bool.{cases_eq, true≢false, eqb-true}
-use Rattle.std.proofs.lemmas.Bool.Decides.{nat_tests, eqb_tells}
+use Rattle.std.proofs.Common.{◌≡◌, ◌≢◌, ◌<◌, ◌≤◌, ℕ, zero, suc, Bool, true, false, List, [], ◌∷◌, length, refl, arith, inl, inr, cond}
+use Rattle.std.specs.Prelude.{nat_eq, slice_index}
+use Rattle.std.specs.List.{list_any}
+use Rattle.std.proofs.lemmas.Bool.{cases_eq}
+use Rattle.std.proofs.lemmas.Bool.Decides.{nat_tests}
 use Rattle.tf_claim.specs.Claims.{how_many}
-use Rattle.tf_claim.proofs.Counting.{how_many-same, how_many-one_less, how_many-none}
+use Rattle.tf_claim.proofs.Counting.{how_many-one_less, how_many-none}
 
 at_most : (a b : Bool) → (a ≡ true → b ≡ true) → cond a 1 0 ≤ cond b 1 0
 at_most false true h = omega arith

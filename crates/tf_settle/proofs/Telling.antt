@@ -1,13 +1,13 @@
 -- Entries are those that are told exactly where each is told, and there are as many as are told.
-use Rattle.std.proofs.Common.{◌≡◌, ◌≢◌, ◌<◌, ◌≤◌, ◌+◌, ◌||◌, ◌==◌, ℕ, zero, suc, Bool, true, false, List, [], ◌∷◌, length, map, Option, Some, None, option_map, All, refl, sym, ap, ◌∙◌, subst, arith, inl, inr, cond, eq-eqb, ne_eqb}
-use Rattle.std.specs.Prelude.{is_some, nat_eq, slice_index, slice_index_or, find}
+use Rattle.std.proofs.Common.{◌≡◌, ◌≢◌, ◌<◌, ◌==◌, ℕ, zero, suc, true, false, List, [], ◌∷◌, length, Option, Some, None, All, refl, sym, ap, ◌∙◌, subst, arith, inl, inr, eq-eqb, ne_eqb}
+use Rattle.std.specs.Prelude.{is_some, nat_eq, slice_index, slice_index_or}
 use Rattle.std.proofs.lemmas.Bool.{cases_eq, true≢false}
 use Rattle.std.proofs.lemmas.List.{length-map}
 use Rattle.tf_claim.specs.Claims.{how_many}
 use Rattle.tf_claim.proofs.Counting.{how_many-same}
 use Rattle.tf_journal.specs.Entries.{actions_of}
 use Rattle.tf_journal.specs.declared.journal.Entry.{Entry}
-use Rattle.tf_outcome.specs.Journal.{verdict_in}
+use Rattle.tf_outcomes.specs.Journal.{verdict_in}
 use Rattle.tf_protocol.specs.declared.verdict.Verdict.{Verdict}
 use Rattle.tf_settle.proofs.Matching.{how_many-lt, how_many-stand, stands, nat_eq-same, nat_eq-other}
 

@@ -2,11 +2,11 @@
 
 ghost use Rattle.std.specs.Prelude.{◌≡◌, ◌↔◌, IsTrue, All, Some, false, is_some, length};
 ghost use Rattle.tf_claim.specs.Claims.{how_many};
-ghost use Rattle.tf_outcome.specs.Excuse.{excuse_of};
+ghost use Rattle.tf_outcomes.specs.Excuse.{excuse_of};
 ghost use Rattle.tf_settle.specs.Told.{is_during, verdict_told};
 
 use tf_journal::Entry;
-use tf_outcome::{Excuse, Outcome};
+use tf_outcomes::{Excuse, Outcome};
 use tf_provider::Verdict;
 
 /// Whether each entry has the verdict that is told of its action.

@@ -2,6 +2,7 @@
 #![tactic(auto)]
 
 mod calls_told;
+mod operations;
 mod settling;
 
 pub use settling::settle;

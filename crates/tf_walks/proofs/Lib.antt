@@ -1,7 +1,10 @@
 pub mod Seen
 pub mod Judging
+pub mod Judged
+pub mod Excused
 pub mod Carried
 pub mod Entered
 pub mod Stages
 pub mod SoFar
+pub mod Reported
 pub mod Ending

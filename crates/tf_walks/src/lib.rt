@@ -4,5 +4,11 @@
 
 mod calls;
 mod claims;
+mod prepared;
+mod single;
 mod steps;
 mod walk;
+
+pub use single::run_one;
+pub use tf_outcomes::{Excuse, Outcome};
+pub use tf_reports::{Diagnostic, Report, Walked};

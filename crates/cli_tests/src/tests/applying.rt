@@ -75,6 +75,8 @@ pub struct Seen {
     pub calls: usize,
     /// The actions in the journal.
     pub journal: Vec<usize>,
+    /// The same, as a text.
+    pub journal_text: String,
 }
 
 /// Applies a configuration.
@@ -123,6 +125,7 @@ pub fn apply_by(
         changed,
         outcomes,
         calls: 0,
+        journal_text: listed(alloc, journal.as_slice())?,
         journal,
     })
 }

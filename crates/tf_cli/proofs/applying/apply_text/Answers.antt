@@ -1,10 +1,13 @@
-use Rattle.std.proofs.Common.{◌≡◌, ◌∙◌, map, ap, sym, subst, string_bytes}
+use Rattle.std.proofs.Common.{◌≡◌, ◌∙◌, ℕ, false, not, map, ap, ap₂, sym, subst, string_bytes, slice_index_or}
 use Rattle.std.specs.List.{AllByRecursion}
+use Rattle.std.specs.Prelude.{◌==◌}
+use Rattle.tf_action_data.specs.Action.{action_of}
 use Rattle.tf_config_data.specs.Config.{ConfigView}
-use Rattle.tf_plan.specs.Text.{plan_text}
-use Rattle.tf_plan_data.specs.Action.{action_of}
-use Rattle.tf_plan_data.specs.Plan.{plan_of}
-use Rattle.tf_report.specs.Savable.{IsNamed}
+use Rattle.tf_plans_data.specs.Plan.{plan_of}
+use Rattle.tf_plans_text.specs.Text.{plan_text}
+use Rattle.tf_reports.specs.Report.{report_of}
+use Rattle.tf_reports.specs.Savable.{IsNamed}
+use Rattle.tf_state_data.specs.State.{state_of}
 use Rattle.tf_cli.proofs.Carried.{is_carried_out}
 use Rattle.tf_cli.proofs.applying.apply_text.Goals as goal
 
@@ -20,6 +23,8 @@ returns-in-Ok-clause-applied g c =
     record {
       plan = plan;
       planned = planned;
-      carried_out = is_carried_out ms c.args.lineage.now plan c.in-Ok.walked _ found.0 found.1 named planned.planned.lineage
-          (ap string_bytes c.answer_of.ensures.plan ∙ c.in_ok-text.ensures ∙ ap (λ xs. plan_text (map action_of xs)) c.as_slice.ensures.value) c.in-Ok.ensures.walked c.answer_of.ensures.walked c.answer_of.ensures.text c.answer_of.ensures.changed;
+      carried_out = is_carried_out ms plan c.in-Ok.walked _ found.0 found.1 named c.in_ok-plan.ensures.valid
+          (ap string_bytes c.answer_of.ensures.plan ∙ (c.in_ok-text.ensures ∙ ap₂ (λ xs ls. plan_text (λ n. slice_index_or ls n false) (map action_of xs)) c.as_slice.ensures.value c.as_slice-2.ensures.value))
+          c.in-Ok.ensures.walked c.answer_of.ensures.walked c.answer_of.ensures.text
+          (c.answer_of.ensures.changed ∙ ap (λ (n : ℕ). not ((state_of (report_of c.in-Ok.walked).state).serial == n)) c.serial.ensures);
     }

@@ -1,5 +1,5 @@
 -- the calls of the actions passed are counted
-use Rattle.std.proofs.Common.{◌≡◌, ◌≤◌, length}
+use Rattle.std.proofs.Common.{◌≡◌, ◌≤◌}
 use Rattle.std.specs.Prelude.{is_some}
 use Rattle.tf_claim.specs.Claims.{how_many}
 use Rattle.tf_settle.specs.Told.{verdict_told}

@@ -1,0 +1,112 @@
+//! Plans and applies from prior states, byte for byte.
+
+mod actions;
+mod kept;
+mod refused;
+
+use crate::tests::applying::{Texts, check_refused, planned, watch_apply};
+use crate::tests::changes::actions::ACTIONS;
+use crate::tests::changes::kept::KEPT;
+use crate::tests::changes::refused::REFUSED;
+use std::alloc::Global;
+use std::process::Abort;
+use std::test::Fail;
+
+/// The state that is there before.
+#[derive(Clone, Copy)]
+pub enum Prior {
+    /// What the apply of a configuration leaves where nothing was.
+    After(&'static str),
+    /// A text.
+    Text(&'static str),
+}
+
+/// A configuration that is applied to a prior state, and what comes of it.
+pub struct Change {
+    pub prior: Prior,
+    pub config: &'static str,
+    /// The plan's text.
+    pub plan: &'static str,
+    /// The last line that an apply prints.
+    pub summary: &'static str,
+    /// The diagnostics.
+    pub errors: &'static str,
+    /// The actions that were called, in the order of their calls, where there is one order.
+    pub journal: Option<&'static str>,
+    /// The text of the state after, without line breaks and what stands before the first mark of a line.
+    pub state: &'static str,
+    /// Whether it isn't the prior one.
+    pub changed: bool,
+}
+
+/// The text of a prior state.
+fn prior_text(alloc: Global, prior: Prior) -> Result<String, Fail> {
+    match prior {
+        Prior::After(config) => Ok(watch_apply(alloc, Texts::of(config), false)?.state),
+        Prior::Text(text) => Ok(String::from_str(alloc, text)?),
+    }
+}
+
+/// A text without its line breaks and what stands before the first mark of each line.
+fn squeezed(alloc: Global, text: &str) -> Result<String, Fail> {
+    let mut joined = String::new(alloc);
+    for line in text.lines() {
+        joined.push_str(line.trim_start())?;
+    }
+    Ok(joined)
+}
+
+/// A configuration and the text of a prior state.
+fn texts<'a>(config: &'a str, prior: &'a String) -> Texts<'a> {
+    Texts {
+        config: config.as_bytes(),
+        vars: None,
+        state: Some(prior.as_str().as_bytes()),
+    }
+}
+
+fn check_change(rt: &impl Abort, alloc: Global, change: &Change) -> Result<(), Fail> {
+    let prior = prior_text(alloc, change.prior)?;
+    let texts = texts(change.config, &prior);
+    let said = planned(alloc, texts)?;
+    assert_eq!(rt; said.as_str(), change.plan, "{}", change.config);
+    let seen = watch_apply(alloc, texts, false)?;
+    let output = format!(in alloc; "{}{}", change.plan, change.summary)?;
+    assert_eq!(rt; seen.output.as_str(), output.as_str(), "{}", change.config);
+    assert_eq!(rt; seen.errors.as_str(), change.errors, "{}", change.config);
+    let status = if change.errors.is_empty() { 0 } else { 2 };
+    assert_eq!(rt; seen.status, status, "{}", change.config);
+    let state = squeezed(alloc, seen.state.as_str())?;
+    assert_eq!(rt; state.as_str(), change.state, "{}", change.config);
+    assert_eq!(rt; seen.changed, change.changed, "{}", change.config);
+    if let Some(journal) = change.journal {
+        assert_eq!(rt; seen.journal_text.as_str(), journal, "{}", change.config);
+    }
+    assert_eq!(rt; seen.calls, seen.journal.len(), "{}", change.config);
+    Ok(())
+}
+
+#[test]
+fn changes(rt: HostRuntime) -> Result<(), Fail> {
+    for change in &ACTIONS {
+        check_change(&rt, rt.alloc(), change)?;
+    }
+    Ok(())
+}
+
+#[test]
+fn keeps_what_is_there(rt: HostRuntime) -> Result<(), Fail> {
+    for change in &KEPT {
+        check_change(&rt, rt.alloc(), change)?;
+    }
+    Ok(())
+}
+
+#[test]
+fn refuses_changes(rt: HostRuntime) -> Result<(), Fail> {
+    for (prior, config, errors) in &REFUSED {
+        let prior = prior_text(rt.alloc(), *prior)?;
+        check_refused(&rt, rt.alloc(), texts(config, &prior), errors)?;
+    }
+    Ok(())
+}

@@ -1,0 +1,11 @@
+use Rattle.std.proofs.Common.{map}
+use Rattle.tf_config_data.specs.Config.{config_of}
+use Rattle.tf_state_data.specs.State.{state_of}
+use Rattle.tf_value.specs.Tree.{entries_view}
+use Rattle.tf_cli.proofs.Planned.{plan_of_texts}
+use Rattle.tf_cli.proofs.planning.plan_of_texts.Goals as goal
+
+pub returns-in-Ok-clause-planned : goal.returns-in-Ok-clause-planned
+returns-in-Ok-clause-planned g c =
+    plan_of_texts (map (λ b. (goal.Provider-dyn g (b.vtable, b.value)).meaning b.value) c.args.providers.now) _ c.args.lineage.now (config_of c.in-Ok.inputs.config) (entries_view c.in-Ok.inputs.values.entries) (state_of c.in-Ok.inputs.prior)
+    c.plan.result c.in-Ok.ensures.stand c.plan.ensures.planned

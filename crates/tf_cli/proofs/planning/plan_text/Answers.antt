@@ -1,0 +1,14 @@
+use Rattle.std.proofs.Common.{◌≡◌, ◌∙◌, map, ap₂, false, slice_index_or}
+use Rattle.tf_action_data.specs.Action.{action_of}
+use Rattle.tf_plans_data.specs.Plan.{plan_of}
+use Rattle.tf_plans_text.specs.Text.{plan_text}
+use Rattle.tf_cli.proofs.planning.plan_text.Goals as goal
+
+pub returns-clause-planned : goal.returns-clause-planned
+returns-clause-planned g c =
+    record {
+      lineage = _;
+      plan = plan_of c.in_ok-plan.plan;
+      planned = c.in_ok-plan.ensures.planned;
+      shown = c.in_ok-text.ensures ∙ ap₂ (λ xs ls. plan_text (λ n. slice_index_or ls n false) (map action_of xs)) c.as_slice.ensures.value c.as_slice-2.ensures.value;
+    }

@@ -1,4 +1,0 @@
-pub mod Before
-pub mod Dependencies
-pub mod Lateness
-pub mod Order

@@ -1,4 +1,0 @@
-pub mod Plan
-pub mod Refused
-pub mod Shown
-pub mod Text

@@ -1,4 +1,0 @@
-pub mod Action
-pub mod Address
-pub mod Plan
-pub mod Served

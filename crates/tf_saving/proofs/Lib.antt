@@ -1,3 +1,0 @@
-pub mod Saving
-pub mod Keeping
-pub mod Counting

@@ -1,3 +1,0 @@
-pub mod Saving
-pub mod Rooms
-pub mod Laws

@@ -1,0 +1,53 @@
+//! What the actions of a plan have their providers do.
+
+ghost use Rattle.std.specs.List.{AllByRecursion};
+ghost use Rattle.std.specs.Prelude.{◌≡◌, ◌↔◌, IsTrue, false, map};
+ghost use Rattle.tf_action_data.specs.Action.{action_of, step_of};
+ghost use Rattle.tf_outcomes.specs.Asked.{op_of};
+ghost use Rattle.tf_outcomes.specs.Journal.{IsOfAction, op_at};
+
+use tf_journal::Entry;
+use tf_plans_data::{Action, Step};
+use tf_protocol::Op;
+
+/// Whether each entry says what its action has its provider do.
+pub fn are_of_actions(entries: &[Entry], actions: &[Action]) -> bool
+    ensures told { IsTrue result → AllByRecursion (IsOfAction (map action_of actions.now)) entries.now }
+    ensures missed { result ≡ false → AllByRecursion (IsOfAction (map action_of actions.now)) entries.now → ⊥ }
+{
+    for entry in entries {
+        let told = is_of_action(entry, actions);
+        if !told {
+            return false;
+        }
+    }
+    true
+}
+
+/// Whether an entry says what its action has its provider do.
+fn is_of_action(entry: &Entry, actions: &[Action]) -> bool
+    ensures { IsTrue result ↔ IsOfAction (map action_of actions.now) entry.now }
+{
+    op_at(actions, entry.action) == Some(entry.op)
+}
+
+/// What the action at a place has its provider do, if there is one.
+fn op_at(actions: &[Action], place: usize) -> Option<Op>
+    ensures { result ≡ op_at (map action_of actions.now) place }
+{
+    match actions.get(place) {
+        Some(action) => Some(op_of(&action.step)),
+        None => None,
+    }
+}
+
+/// What a provider is to do for a step.
+fn op_of(step: &Step) -> Op
+    ensures { result ≡ op_of (step_of step.now) }
+{
+    match step {
+        Step::Create(_) | Step::Replacement(_, _) => Op::Create,
+        Step::Update(_, _, _) => Op::Update,
+        Step::Replaced(_) | Step::Destroy(_) | Step::DestroyDeposed(_, _) => Op::Destroy,
+    }
+}
