@@ -1,13 +1,17 @@
 //! Plans and applies from prior states, byte for byte.
 
-mod actions;
+mod destroys;
 mod kept;
 mod refused;
+mod replaces;
+mod updates;
 
 use crate::tests::applying::{Texts, check_refused, planned, watch_apply};
-use crate::tests::changes::actions::ACTIONS;
+use crate::tests::changes::destroys::DESTROYS;
 use crate::tests::changes::kept::KEPT;
 use crate::tests::changes::refused::REFUSED;
+use crate::tests::changes::replaces::REPLACES;
+use crate::tests::changes::updates::UPDATES;
 use std::alloc::Global;
 use std::process::Abort;
 use std::test::Fail;
@@ -87,8 +91,24 @@ fn check_change(rt: &impl Abort, alloc: Global, change: &Change) -> Result<(), F
 }
 
 #[test]
-fn changes(rt: HostRuntime) -> Result<(), Fail> {
-    for change in &ACTIONS {
+fn replaces_objects(rt: HostRuntime) -> Result<(), Fail> {
+    for change in &REPLACES {
+        check_change(&rt, rt.alloc(), change)?;
+    }
+    Ok(())
+}
+
+#[test]
+fn updates_objects(rt: HostRuntime) -> Result<(), Fail> {
+    for change in &UPDATES {
+        check_change(&rt, rt.alloc(), change)?;
+    }
+    Ok(())
+}
+
+#[test]
+fn destroys_objects(rt: HostRuntime) -> Result<(), Fail> {
+    for change in &DESTROYS {
         check_change(&rt, rt.alloc(), change)?;
     }
     Ok(())
