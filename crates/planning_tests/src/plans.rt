@@ -136,7 +136,7 @@ static PLANS: [(&str, Option<&str>, &str); 60] = [
     (
         "{\"resource\": {\"sim_net\": {\"a\": {\"count\": 3, \"cidr\": \"${count.index}\"}}, \"sim_host\": {\"h\": {\"name\": \"h\", \"net\": \"${sim_net.a[3].id}\"}}}}",
         None,
-        "+ sim_net.a[0] {\"cidr\": Text(\"0\"), \"id\": Unknown, \"tag\": Null}\n+ sim_net.a[1] {\"cidr\": Text(\"1\"), \"id\": Unknown, \"tag\": Null}\n+ sim_net.a[2] {\"cidr\": Text(\"2\"), \"id\": Unknown, \"tag\": Null}\nerror 9 at sim_host.h.net: Evaluate(Missing)\n",
+        "error 9 at sim_host.h.net: Evaluate(Missing)\n",
     ),
     (
         "{\"resource\": {\"sim_net\": {\"a\": {\"count\": 3, \"cidr\": \"${count.index}\"}}, \"sim_host\": {\"h\": {\"count\": \"${length(sim_net.a)}\", \"name\": \"h\"}}}}",
@@ -181,7 +181,7 @@ static PLANS: [(&str, Option<&str>, &str); 60] = [
     (
         "{\"resource\": {\"sim_net\": {\"a\": {\"count\": 2, \"cidr\": \"${[1][count.index]}\"}}}}",
         None,
-        "+ sim_net.a[0] {\"cidr\": Text(\"1\"), \"id\": Unknown, \"tag\": Null}\nerror 9 at sim_net.a[1].cidr: Evaluate(Missing)\n",
+        "error 9 at sim_net.a[1].cidr: Evaluate(Missing)\n",
     ),
     (
         "{\"resource\": {\"sim_net\": {\"a\": {\"count\": 2, \"cidr\": \"x\", \"tagg\": 1}}}}",
@@ -241,7 +241,7 @@ static PLANS: [(&str, Option<&str>, &str); 60] = [
     (
         "{\"resource\": {\"sim_net\": {\"a\": {\"cidr\": \"x\"}}, \"sim_host\": {\"h\": {\"for_each\": {\"k\": \"${sim_net.a.cidr + 1}\"}, \"name\": \"h\"}}}}",
         None,
-        "+ sim_net.a {\"cidr\": Text(\"x\"), \"id\": Unknown, \"tag\": Null}\nerror 9 at sim_host.h[\"k\"]: Evaluate(WrongKind)\n",
+        "error 9 at sim_host.h[\"k\"]: Evaluate(WrongKind)\n",
     ),
     (
         "{\"resource\": {\"sim_net\": {\"a\": {}}}}",
@@ -286,7 +286,7 @@ static PLANS: [(&str, Option<&str>, &str); 60] = [
     (
         "{\"resource\": {\"sim_net\": {\"a\": {\"count\": 2, \"cidr\": \"${[\\\"x\\\"][count.index]}\"}}, \"sim_host\": {\"h\": {\"net\": \"${sim_net.a[0].id}\"}}}}",
         None,
-        "+ sim_net.a[0] {\"cidr\": Text(\"x\"), \"id\": Unknown, \"tag\": Null}\nerror 9 at sim_net.a[1].cidr: Evaluate(Missing)\n",
+        "error 9 at sim_net.a[1].cidr: Evaluate(Missing)\n",
     ),
     (
         "{\"resource\": {\"sim_net\": {\"a\": {}}, \"sim_host\": {\"h\": {\"depends_on\": [\"sim_net.a\"]}}}}",
@@ -301,7 +301,7 @@ static PLANS: [(&str, Option<&str>, &str); 60] = [
     (
         "{\"output\": {\"o\": {\"value\": \"${sim_net.a.cidr + 1}\"}}, \"resource\": {\"sim_net\": {\"a\": {\"cidr\": \"x\"}}}}",
         None,
-        "+ sim_net.a {\"cidr\": Text(\"x\"), \"id\": Unknown, \"tag\": Null}\nerror 9 at output.o: Evaluate(WrongKind)\n",
+        "error 9 at output.o: Evaluate(WrongKind)\n",
     ),
     (
         "{\"output\": {\"o\": {\"value\": \"${sim_net.a[0].id}\"}}, \"resource\": {\"sim_net\": {\"a\": {\"count\": 0, \"cidr\": \"${count.index}\"}}}}",
