@@ -3,7 +3,7 @@ use Rattle.std.proofs.Common.{◌≡◌, List, ap}
 use Rattle.std.specs.Option.{option_map_or}
 use Rattle.std.specs.Prelude.{Option, Some, None}
 use Rattle.tf_address.specs.Label.{LabelView}
-use Rattle.tf_outcomes.specs.Outcome.{called}
+use Rattle.tf_outcome.specs.Outcome.{called}
 use Rattle.tf_protocol.specs.Meaning.{Asked, Answer, Meaning, schema_in}
 use Rattle.tf_protocol.specs.Schema.{SchemaView}
 use Rattle.tf_protocol.specs.declared.verdict.Verdict.{Verdict}

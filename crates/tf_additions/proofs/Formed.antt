@@ -14,7 +14,7 @@ use Rattle.tf_protocol.specs.Verdict.{same_names, is_allowed, fits, fits_in, wel
 use Rattle.tf_value.proofs.Conjunction.{and-first, and-second, and-both}
 use Rattle.tf_value.specs.Known.{known, known_entries}
 use Rattle.tf_value.specs.Stored.{may_be_stored, each_may_be_stored}
-use Rattle.tf_outcomes.specs.Fallback.{has_stored_attributes}
+use Rattle.tf_outcome.specs.Fallback.{has_stored_attributes}
 
 fits-stored : (a : AttributeView) (t : Tree) → fits a t ≡ true → may_be_stored t ≡ true
 fits-stored a t h = and-first (may_be_stored t) (is_allowed a t) h

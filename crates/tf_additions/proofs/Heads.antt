@@ -3,8 +3,8 @@ use Rattle.std.proofs.Common.{◌≡◌, ◌∙◌, ◌<◌, ◌+◌, ◌++◌, 
 use Rattle.std.proofs.lemmas.List.{map-append}
 use Rattle.tf_action_data.specs.Action.{ActionView}
 use Rattle.tf_config_data.specs.Names.{NameView, Meant, a_block, meant_at}
-use Rattle.tf_plans_data.specs.Fits.{IsDeclared, is_apply}
-use Rattle.tf_plans_data.specs.Plan.{PlanView}
+use Rattle.tf_plan_data.specs.Fits.{IsDeclared, is_apply}
+use Rattle.tf_plan_data.specs.Plan.{PlanView}
 use Rattle.tf_additions.specs.Head.{AreHeads, Head, IsHeadOf}
 use Rattle.tf_additions.proofs.Lists.{take-next}
 

@@ -2,7 +2,7 @@
 use Rattle.std.proofs.Common.{◌≡◌, List, Option, Some, None, ap, ◌∙◌, subst}
 use Rattle.std.specs.Prelude.{IsSomeAnd, option_and_then}
 use Rattle.std.specs.Option.{option_map_or}
-use Rattle.tf_outcomes.specs.Outcome.{skipped, called, call_of, call_of_provider}
+use Rattle.tf_outcome.specs.Outcome.{skipped, called, call_of, call_of_provider}
 use Rattle.tf_protocol.specs.Meaning.{Asked, Answer, Meaning, first_with, schema_in}
 use Rattle.tf_protocol.specs.Schema.{SchemaView}
 use Rattle.tf_protocol.specs.Verdict.{verdict_on}

@@ -14,7 +14,7 @@ use Rattle.tf_state_after.specs.Ends.{changed, unchanged}
 use Rattle.tf_state_after.specs.Saved.{as_saved, formed_in, left_by_destroy, object_replied, object_there}
 use Rattle.tf_value.specs.Nulls.{with_nulls}
 use Rattle.tf_state_data.specs.declared.object.Object.{Object}
-use Rattle.tf_outcomes.specs.Fallback.{has_stored_attributes}
+use Rattle.tf_outcome.specs.Fallback.{has_stored_attributes}
 use Rattle.tf_value.specs.Tree.{Tree, tree_of}
 use Rattle.tf_additions.specs.Change.{MayBeLeft, MayBeSaved, as_applied, saved_by}
 

@@ -4,7 +4,7 @@ use Rattle.std.specs.List.{filter_map}
 use Rattle.std.specs.Prelude.{◌<◌, ◌^◌, List, [], ◌∷◌, Option, Some, None, ⊤}
 use Rattle.tf_address.specs.Label.{LabelView}
 use Rattle.tf_next_state.specs.Events.{ApplyView, DestroyView}
-use Rattle.tf_outcomes.specs.Outcome.{Done, called}
+use Rattle.tf_outcome.specs.Outcome.{Done, called}
 use Rattle.tf_protocol.specs.Meaning.{Asked, Answer, Meaning, schema_in}
 use Rattle.tf_protocol.specs.Schema.{SchemaView}
 use Rattle.tf_protocol.specs.declared.request.Op.{Op}

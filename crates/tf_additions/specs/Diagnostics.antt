@@ -1,8 +1,9 @@
 -- What an apply tells of actions that aren't good.
 use Rattle.std.specs.Prelude.{ℕ, nat_lt, if◌then◌else◌, List, [], ◌∷◌, ◌++◌, map, codes, Option, Some, string_bytes, slice_index_or}
 use Rattle.tf_action_data.specs.Action.{ActionView}
-use Rattle.tf_outcomes.specs.Message.{fault_message}
-use Rattle.tf_outcomes.specs.Outcome.{Done, skipped, excused, faulted, called, op_of}
+use Rattle.tf_outcome.specs.Excuse.{Moment, by_stop}
+use Rattle.tf_outcome.specs.Message.{fault_message}
+use Rattle.tf_outcome.specs.Outcome.{Done, skipped, excused, faulted, called, op_of}
 use Rattle.tf_protocol.specs.Meaning.{Asked, Answer, failed}
 use Rattle.tf_protocol.specs.declared.request.Op.{Op}
 use Rattle.tf_protocol.specs.declared.verdict.Verdict.{Verdict}
@@ -50,10 +51,15 @@ diagnostics_of_verdict place op asked answer (verdict.Contradicted n) = told_at 
 diagnostics_of_verdict place op asked answer verdict.Malformed = told_at place op 23 (codes "malformed reply")
 diagnostics_of_verdict place op asked answer _ = []
 
--- want of memory is 26; what is wrong with a request is 24; a skipped action has none
+-- want of memory is 26, and an action that was left is 27
+abbrev pub diagnostics_of_excuse : List ℕ → Op → Moment → List DiagnosticView
+diagnostics_of_excuse place op by_stop = told_at place op 27 (codes "left")
+diagnostics_of_excuse place op _ = told_at place op 26 (codes "no memory")
+
+-- what is wrong with a request is 24; a skipped action has none
 abbrev pub diagnostics_at : List ℕ → Op → Done → List DiagnosticView
 diagnostics_at place op skipped = []
-diagnostics_at place op (excused moment) = told_at place op 26 (codes "no memory")
+diagnostics_at place op (excused moment) = diagnostics_of_excuse place op moment
 diagnostics_at place op (faulted why) = told_at place op 24 (fault_message why)
 diagnostics_at place op (called asked answer v) = diagnostics_of_verdict place op asked answer v
 

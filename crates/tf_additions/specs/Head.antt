@@ -4,9 +4,9 @@ use Rattle.std.specs.Option.{option_map_or}
 use Rattle.tf_action_data.specs.Action.{ActionView, StepView, replacement}
 use Rattle.tf_address.specs.Label.{LabelView}
 use Rattle.tf_address.specs.ObjectId.{ObjectIdView}
-use Rattle.tf_outcomes.specs.Outcome.{op_of}
-use Rattle.tf_plans_data.specs.Fits.{is_apply, deposed_key}
-use Rattle.tf_plans_data.specs.Plan.{PlanView, plan_names}
+use Rattle.tf_outcome.specs.Outcome.{op_of}
+use Rattle.tf_plan_data.specs.Fits.{is_apply, deposed_key}
+use Rattle.tf_plan_data.specs.Plan.{PlanView, plan_names}
 use Rattle.tf_protocol.specs.declared.request.Op.{Op}
 use Rattle.tf_state_after.specs.After.{object_at}
 use Rattle.tf_state_after.specs.DeposedKey.{IsDeposedKey}

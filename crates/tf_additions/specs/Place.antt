@@ -1,8 +1,8 @@
 -- Where a diagnostic of an action stands.
 use Rattle.std.specs.Prelude.{ℕ, List, ◌++◌, codes, Option, Some, None}
 use Rattle.tf_action_data.specs.Action.{ActionView}
-use Rattle.tf_plans_data.specs.Address.{address_text}
-use Rattle.tf_plans_data.specs.Fits.{deposed_key}
+use Rattle.tf_plan_data.specs.Address.{address_text}
+use Rattle.tf_plan_data.specs.Fits.{deposed_key}
 
 -- an address, and behind it of a deposed object ` (deposed KEY)`
 abbrev pub with_key : List ℕ → Option (List ℕ) → List ℕ

@@ -3,9 +3,9 @@
 ghost use Rattle.std.specs.Prelude.{◌≡◌, true, None, Option, Some, codes, map, option_map, string_bytes, IfSome, IsSome};
 ghost use Rattle.tf_address.specs.Label.{label_of};
 ghost use Rattle.tf_change.specs.Instance.{instance_fault_of};
-ghost use Rattle.tf_outcomes.specs.Ended.{done_or_skipped};
-ghost use Rattle.tf_outcomes.specs.Message.{fault_message};
-ghost use Rattle.tf_outcomes.specs.Fallback.{has_stored_attributes};
+ghost use Rattle.tf_outcome.specs.Ended.{done_or_skipped};
+ghost use Rattle.tf_outcome.specs.Message.{fault_message};
+ghost use Rattle.tf_outcome.specs.Fallback.{has_stored_attributes};
 ghost use Rattle.tf_protocol.specs.Meaning.{Answer, Asked, asked, answered};
 ghost use Rattle.tf_protocol.specs.Schema.{SchemaView};
 ghost use Rattle.tf_protocol.specs.Verdict.{verdict_on};
@@ -28,7 +28,7 @@ use crate::rooms::{Room, Target};
 use crate::telling::telling;
 use tf_address::Label;
 use tf_next_state::{Apply, Destroy};
-use tf_outcomes::{Asking, Ended, Faulted, Judged};
+use tf_outcome::{Asking, Ended, Faulted, Judged};
 use tf_provider::{Op, Provider, Schema, Verdict, schema_for};
 use tf_state_after::{Applied, Left, Saved, left_by_destroy, saved_by_create, saved_by_update};
 use tf_state_data::Object;
@@ -47,6 +47,7 @@ pub fn conclude<'p>(
         Some(Ended::Skipped) => nothing(room),
         Some(Ended::NotAsked) => want_of_memory(room),
         Some(Ended::NotServed) => want_of_memory(room),
+        Some(Ended::Left) => left(room),
         Some(Ended::Faulted(faulted)) => fault(room, faulted),
         Some(Ended::Called(judged)) => {
             match schema_for(providers, judged.asking.request.type_name.as_str()) {
@@ -86,6 +87,26 @@ fn want_of_memory<'p>(room: Room<'p>) -> Addition<'p>
     Addition {
         change: unchanged(label, target),
         diagnostic: told(place, op, Some((26, message))),
+    }
+}
+
+/// What is told of an action that was left because of a stop.
+fn left<'p>(room: Room<'p>) -> Addition<'p>
+    ensures change { change_of result.change ≡ change_by (room_head room.entry).label (room_head room.entry).target nothing unchanged }
+    ensures diagnostic { option_map diagnostic_of result.diagnostic
+        ≡ Some (record { code = 27; place = (room_head room.entry).place; verb = Some room.entry.op; message = codes "left" }) }
+{
+    let Room {
+        place,
+        op,
+        label,
+        target,
+        mut message,
+    } = room;
+    message.push_str("left").unwrap();
+    Addition {
+        change: unchanged(label, target),
+        diagnostic: told(place, op, Some((27, message))),
     }
 }
 

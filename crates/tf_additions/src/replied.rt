@@ -2,7 +2,7 @@
 
 ghost use Rattle.std.specs.Bool.{OnTrue};
 ghost use Rattle.std.specs.Prelude.{◌≡◌, option_and_then, option_map, string_bytes, IfSome};
-ghost use Rattle.tf_outcomes.specs.Fallback.{has_stored_attributes};
+ghost use Rattle.tf_outcome.specs.Fallback.{has_stored_attributes};
 ghost use Rattle.tf_protocol.specs.Meaning.{answered};
 ghost use Rattle.tf_state.specs.Valid.{IsAttributes};
 ghost use Rattle.tf_state_after.specs.Saved.{formed_in, if_formed};

@@ -1,7 +1,7 @@
 //! What is told of a call, without taking memory.
 
 ghost use Rattle.std.specs.Prelude.{◌≡◌, ◌++◌, ℕ, [], true, List, Option, Some, codes, option_map, string_bytes, string_capacity};
-ghost use Rattle.tf_outcomes.specs.Room.{message_fits};
+ghost use Rattle.tf_outcome.specs.Room.{message_fits};
 ghost use Rattle.tf_protocol.specs.Meaning.{Answer, Asked};
 ghost use Rattle.tf_protocol.specs.declared.request.Op.{Op};
 ghost use Rattle.tf_value.specs.Tree.{tree_of};

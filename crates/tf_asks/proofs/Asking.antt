@@ -14,17 +14,17 @@ use Rattle.tf_environment.specs.Standing.{environment, rule}
 use Rattle.tf_graph.proofs.Solving.{solution-exists, solution-unique}
 use Rattle.tf_graph.specs.Solutions.{Ranked}
 use Rattle.tf_action_data.specs.Action.{ActionView}
-use Rattle.tf_plans_data.specs.Fits.{IsOfBlock}
-use Rattle.tf_plans_data.specs.Plan.{PlanView, plan_names}
+use Rattle.tf_plan_data.specs.Fits.{IsOfBlock}
+use Rattle.tf_plan_data.specs.Plan.{PlanView, plan_names}
 use Rattle.tf_protocol.specs.Meaning.{Asked, Meaning, schema_in}
 use Rattle.tf_protocol.specs.Schema.{SchemaView}
 use Rattle.tf_protocol.specs.Verdict.{has_attributes}
 use Rattle.tf_request.specs.Requests.{IsRequest}
 use Rattle.tf_value.specs.Tree.{Tree, tree_of}
 use Rattle.tf_value.specs.declared.value.Value.{Value}
-use Rattle.tf_outcomes.proofs.Requests.{requests_exist}
-use Rattle.tf_outcomes.specs.Asked.{asked_for}
-use Rattle.tf_outcomes.specs.Outcome.{Done, skipped, Requests, AreRequests, call_with, comes_of}
+use Rattle.tf_outcome.proofs.Requests.{requests_exist}
+use Rattle.tf_outcome.specs.Asked.{asked_for}
+use Rattle.tf_outcome.specs.Outcome.{Done, skipped, Requests, AreRequests, call_with, comes_of}
 
 -- what is asked by the definition is what any requests say
 pub is_requested : (plan : PlanView) (requests : Requests) → Ranked (directly_before (plan_names plan)) → AreRequests plan requests

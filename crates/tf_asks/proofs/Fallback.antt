@@ -10,7 +10,7 @@ use Rattle.tf_value.specs.Measure.{max_weight, max_depth}
 use Rattle.tf_value.specs.Nulls.{with_nulls, entries_with_nulls}
 use Rattle.tf_value.specs.Stored.{each_may_be_stored, may_be_planned}
 use Rattle.tf_value.specs.Tree.{Tree, map, Entries, no_entries, entry}
-use Rattle.tf_outcomes.specs.Fallback.{has_stored_attributes, is_fallback}
+use Rattle.tf_outcome.specs.Fallback.{has_stored_attributes, is_fallback}
 
 nulls-stored : (es : Entries) → each_may_be_planned es ≡ true → each_may_be_stored (entries_with_nulls es) ≡ true
 nulls-stored no_entries h = refl

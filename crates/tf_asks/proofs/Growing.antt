@@ -15,7 +15,7 @@ use Rattle.tf_environment.specs.Laws.{Grows, HaveGrown, StandingsExist, Standing
 use Rattle.tf_environment.specs.Shape.{ShapeView}
 use Rattle.tf_environment.specs.Stages.{applying}
 use Rattle.tf_environment.specs.Standing.{StandingView, AreStandings, environment, environment_at, together}
-use Rattle.tf_plans_data.specs.Plan.{PlanView, plan_names}
+use Rattle.tf_plan_data.specs.Plan.{PlanView, plan_names}
 use Rattle.tf_protocol.specs.Meaning.{Asked, Meaning}
 use Rattle.tf_protocol.specs.Schema.{SchemaView}
 use Rattle.tf_value.specs.Known.{known}
@@ -23,7 +23,7 @@ use Rattle.tf_value.specs.Laws.{KnownStays}
 use Rattle.tf_value.specs.Refinement.{Refines, RefinesEntries}
 use Rattle.tf_value.specs.Tree.{Tree, Entries, no_entries, entry, map, get, part_at}
 use Rattle.tf_asks.specs.Laws.{IsAnsweredPlan, KnownAttributesStay, RefinesWhere, RequestsRefine}
-use Rattle.tf_outcomes.specs.Asked.{asked_by_step, create_of, ignored_by, unless_faulty, update_of}
+use Rattle.tf_outcome.specs.Asked.{asked_by_step, create_of, ignored_by, unless_faulty, update_of}
 
 -- ---- what names stand for
 

@@ -13,13 +13,13 @@ use Rattle.tf_decision.specs.Kept.{kept_object}
 use Rattle.tf_decision.specs.Laws.{CreatesAreFirst, ReplacesHaveACause, UpdatesDiffer}
 use Rattle.tf_decision.specs.Prior.{PriorFaultView, first_unfit}
 use Rattle.tf_environment.specs.Standing.{environment}
-use Rattle.tf_plans_data.specs.Plan.{plan_names}
+use Rattle.tf_plan_data.specs.Plan.{plan_names}
 use Rattle.tf_protocol.specs.Meaning.{Asked}
 use Rattle.tf_protocol.specs.Schema.{SchemaView}
 use Rattle.tf_state_data.specs.Record.{RecordView}
 use Rattle.tf_value.specs.Tree.{Tree}
 use Rattle.tf_asks.specs.Laws.{PlannedObjectsAreAsked, planned_object}
-use Rattle.tf_outcomes.specs.Asked.{asked_by_step, create_of, destroy_of, ignored_by, update_of}
+use Rattle.tf_outcome.specs.Asked.{asked_by_step, create_of, destroy_of, ignored_by, update_of}
 
 -- ---- what was decided
 

@@ -2,8 +2,8 @@
 use Rattle.std.specs.Prelude.{Result, Ok, Err}
 use Rattle.tf_change.specs.Instance.{InstanceFaultView, instance_fault_of}
 use Rattle.tf_protocol.specs.Meaning.{Asked, asked}
-use Rattle.tf_outcomes.specs.declared.asking.Asking.{Asking}
-use Rattle.tf_outcomes.specs.declared.ended.Faulted.{Faulted}
+use Rattle.tf_outcome.specs.declared.asking.Asking.{Asking}
+use Rattle.tf_outcome.specs.declared.ended.Faulted.{Faulted}
 
 -- what is asked, or what is wrong with it
 abbrev pub asked_by : Result Asking Faulted → Result Asked InstanceFaultView

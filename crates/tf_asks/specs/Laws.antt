@@ -11,14 +11,14 @@ use Rattle.tf_decision.specs.Decision.{DecisionView, decision}
 use Rattle.tf_environment.specs.Laws.{AreAnswered}
 use Rattle.tf_environment.specs.Standing.{StandingView, AreStandings, environment}
 use Rattle.tf_graph.specs.Solutions.{Ranked}
-use Rattle.tf_plans_data.specs.Plan.{PlanView, plan_names}
+use Rattle.tf_plan_data.specs.Plan.{PlanView, plan_names}
 use Rattle.tf_protocol.specs.Meaning.{Asked, Meaning}
 use Rattle.tf_protocol.specs.Schema.{SchemaView}
 use Rattle.tf_state_data.specs.Record.{RecordView}
 use Rattle.tf_value.specs.Known.{known}
 use Rattle.tf_value.specs.Refinement.{Refines}
 use Rattle.tf_value.specs.Tree.{Tree, part_at}
-use Rattle.tf_outcomes.specs.Asked.{AreRequests, Requests, asked_for}
+use Rattle.tf_outcome.specs.Asked.{AreRequests, Requests, asked_for}
 
 -- No name needs itself, names stand in the plan for so much, and the object that each instance stands for there refines to
 -- the one that it stands for in the apply: what its provider answered, or the prior one where nothing is planned for it.

@@ -2,12 +2,12 @@
 
 ghost use Rattle.std.specs.Prelude.{◌≡◌, ◌++◌, IfOk, codes, string_bytes};
 ghost use Rattle.tf_change.specs.Instance.{instance_fault_of};
-ghost use Rattle.tf_outcomes.specs.Message.{argument_text, evaluation_text, fault_message};
+ghost use Rattle.tf_outcome.specs.Message.{argument_text, evaluation_text, fault_message};
 
 use std::alloc::{AllocError, Global};
 use tf_change::{ArgumentFault, InstanceFault};
 use tf_operators::EvalFault;
-use tf_outcomes::Faulted;
+use tf_outcome::Faulted;
 
 /// An action for which nothing can be asked, with the message that tells why.
 ///

@@ -2,10 +2,10 @@
 use Rattle.std.proofs.Common.{◌≡◌, ◌<◌, ◌∙◌, [], ℕ, true, List, length, if◌then◌else◌, sym, ap}
 use Rattle.tf_graph.specs.Digraph.{predecessors_of}
 use Rattle.tf_graph.specs.Solutions.{seen_by}
-use Rattle.tf_plans_data.specs.Plan.{PlanView}
+use Rattle.tf_plan_data.specs.Plan.{PlanView}
 use Rattle.tf_protocol.specs.Meaning.{Meaning}
-use Rattle.tf_outcomes.specs.Excuse.{before_call, during_call}
-use Rattle.tf_outcomes.specs.Outcome.{Done, skipped, excused, faulted, called, Requests, all_good, call_at, is_faulted, rule}
+use Rattle.tf_outcome.specs.Excuse.{before_call, during_call, by_stop}
+use Rattle.tf_outcome.specs.Outcome.{Done, skipped, excused, faulted, called, Requests, all_good, call_at, is_faulted, rule}
 use Rattle.tf_cells.specs.Ideal.{IsIdeal, AgreesWith}
 use Rattle.tf_cells.specs.Laws.{CallsAreTrue, ExcusesAreTrue}
 use Rattle.tf_cells.specs.Sight.{AreShown}
@@ -29,6 +29,7 @@ ideal-good ms plan nodes seen requests ideal shown is = ap all_good (sym (shown.
 agrees : (before : ℕ → List ℕ) (ideal : ℕ → Done) (n : ℕ) (d : Done) → d ≡ ideal n → all_good (seen_by ideal (before n)) ≡ true → AgreesWith before ideal n d
 agrees before ideal n skipped same good = tt
 agrees before ideal n (excused before_call) same good = tt
+agrees before ideal n (excused by_stop) same good = tt
 agrees before ideal n (excused during_call) same good = (good, ap is_faulted (sym same))
 agrees before ideal n (faulted why) same good = same
 agrees before ideal n (called asked answer v) same good = same

@@ -3,16 +3,16 @@ use Rattle.std.proofs.Common.{◌≡◌, ◌<◌, ◌∙◌, ◌∷◌, [], ℕ,
 use Rattle.tf_graph.proofs.Solving.{solution-exists}
 use Rattle.tf_graph.specs.Digraph.{predecessors_of}
 use Rattle.tf_graph.specs.Solutions.{Ranked, seen_by}
-use Rattle.tf_outcomes.specs.Excuse.{Moment, during_call, excuse_of}
-use Rattle.tf_outcomes.specs.Outcome.{Done, skipped, excused, faulted, called, Requests, AreRequests, is_good, all_good, call_at, done_at, is_faulted, or_excused, rule}
-use Rattle.tf_outcomes.specs.declared.excuse.Excuse.{Excuse}
-use Rattle.tf_plans_data.specs.Plan.{PlanView}
+use Rattle.tf_outcome.specs.Excuse.{Moment, during_call, excuse_of}
+use Rattle.tf_outcome.specs.Outcome.{Done, skipped, excused, faulted, called, Requests, AreRequests, is_good, all_good, call_at, done_at, excuse_in, is_faulted, or_excused, rule}
+use Rattle.tf_outcome.specs.declared.excuse.Excuse.{Excuse}
+use Rattle.tf_plan_data.specs.Plan.{PlanView}
 use Rattle.tf_protocol.specs.Meaning.{Meaning}
 use Rattle.tf_value.proofs.Conjunction.{and-first, and-second}
 use Rattle.tf_cells.proofs.Calls.{rule-calls}
 use Rattle.tf_cells.proofs.Truth.{good-is}
 use Rattle.tf_cells.specs.Ideal.{IsIdeal, AgreesWith}
-use Rattle.tf_cells.specs.Laws.{is_skipped, excuse_in, FitTogether, TrueEndsAreOutcomes, ExcusedHaveNoFault}
+use Rattle.tf_cells.specs.Laws.{is_skipped, FitTogether, TrueEndsAreOutcomes, ExcusedHaveNoFault}
 
 -- where all that is seen is good, and good results are the ideal ones, the ideal is seen
 good-seen : (results ideal : ℕ → Done) (nodes : List ℕ) → ((a : ℕ) → is_good (results a) ≡ true → results a ≡ ideal a) → all_good (seen_by results nodes) ≡ true → seen_by results nodes ≡ seen_by ideal nodes

@@ -4,11 +4,11 @@ use Rattle.std.proofs.Math.Decide.{ℕ_discrete}
 use Rattle.std.proofs.Math.Logic.{dite}
 use Rattle.std.proofs.lemmas.List.{get_or_append_left, get_or_push, get_or-set_same, get_or-set_other, length_push, length-replicate, length-set}
 use Rattle.std.specs.Prelude.{slice_set}
-use Rattle.tf_plans_data.specs.Plan.{PlanView}
+use Rattle.tf_plan_data.specs.Plan.{PlanView}
 use Rattle.tf_protocol.specs.Meaning.{Meaning}
-use Rattle.tf_outcomes.specs.Ended.{done_of, done_or_skipped, dones_of}
-use Rattle.tf_outcomes.specs.Outcome.{done_at}
-use Rattle.tf_outcomes.specs.declared.ended.Ended.{Ended}
+use Rattle.tf_outcome.specs.Ended.{done_of, done_or_skipped, dones_of}
+use Rattle.tf_outcome.specs.Outcome.{done_at}
+use Rattle.tf_outcome.specs.declared.ended.Ended.{Ended}
 use Rattle.tf_cells.specs.Ideal.{IsTrueTo, IsNumbered}
 use Rattle.tf_cells.specs.TakingOut.{IsTakenOut}
 

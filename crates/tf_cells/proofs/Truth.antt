@@ -1,11 +1,11 @@
 -- What a true end says of each ideal.
 use Rattle.std.proofs.Common.{◌≡◌, ℕ, true, List, Result, Ok, Err, IfOk, IsTrue, ap, ◌∙◌}
-use Rattle.tf_plans_data.specs.Plan.{PlanView}
+use Rattle.tf_plan_data.specs.Plan.{PlanView}
 use Rattle.tf_protocol.specs.Meaning.{Meaning}
 use Rattle.tf_value.specs.Tree.{tree_of}
 use Rattle.tf_value.specs.declared.value.Value.{Value}
-use Rattle.tf_outcomes.specs.Outcome.{Done, skipped, excused, faulted, called, is_good}
-use Rattle.tf_outcomes.specs.Objects.{object_of}
+use Rattle.tf_outcome.specs.Outcome.{Done, skipped, excused, faulted, called, is_good}
+use Rattle.tf_outcome.specs.Objects.{object_of}
 use Rattle.tf_cells.specs.Ideal.{InEachIdeal, IsTrueTo}
 
 -- a good end is the ideal one

@@ -2,10 +2,10 @@
 use Rattle.std.specs.Prelude.{◌≡◌, ◌<◌, ℕ, true, false, List, [], length, slice_index, ⊤}
 use Rattle.tf_graph.specs.Digraph.{predecessors_of}
 use Rattle.tf_graph.specs.Solutions.{Solves, seen_by}
-use Rattle.tf_plans_data.specs.Plan.{PlanView}
+use Rattle.tf_plan_data.specs.Plan.{PlanView}
 use Rattle.tf_protocol.specs.Meaning.{Meaning}
-use Rattle.tf_outcomes.specs.Excuse.{before_call, during_call}
-use Rattle.tf_outcomes.specs.Outcome.{Done, skipped, excused, Requests, AreRequests, all_good, is_faulted, rule}
+use Rattle.tf_outcome.specs.Excuse.{before_call, during_call, by_stop}
+use Rattle.tf_outcome.specs.Outcome.{Done, skipped, excused, Requests, AreRequests, all_good, is_faulted, rule}
 
 -- Ideal outcomes are those of a plan where nothing is excused.
 abbrev pub IsIdeal : List Meaning → PlanView → Requests → (ℕ → Done) → Type 0
@@ -16,11 +16,12 @@ abbrev pub InEachIdeal : List Meaning → PlanView → ((ℕ → Done) → Type 
 InEachIdeal ms plan Holds = (requests : Requests) (ideal : ℕ → Done) → IsIdeal ms plan requests ideal → Holds ideal
 
 -- An end of an action agrees with ideal outcomes: a call and a fault are the ideal ones. Where it was excused during its
--- call, all before it is good in the ideal, and its request has no fault there. Of one that was skipped or excused before
--- its call nothing is said.
+-- call, all before it is good in the ideal, and its request has no fault there. Of one that was skipped, excused before
+-- its call or left nothing is said.
 abbrev pub AgreesWith : (ℕ → List ℕ) → (ℕ → Done) → ℕ → Done → Type 0
 AgreesWith before ideal n skipped = ⊤
 AgreesWith before ideal n (excused before_call) = ⊤
+AgreesWith before ideal n (excused by_stop) = ⊤
 AgreesWith before ideal n (excused during_call) = (all_good (seen_by ideal (before n)) ≡ true) × (is_faulted (ideal n) ≡ false)
 AgreesWith before ideal n d = d ≡ ideal n
 

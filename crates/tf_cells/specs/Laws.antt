@@ -1,12 +1,12 @@
 -- Which ends are true, by what is seen of the actions before; and what true ends of all actions are.
-use Rattle.std.specs.Prelude.{◌≡◌, ◌<◌, ℕ, Bool, true, false, not, List, length, Option, Some, None}
+use Rattle.std.specs.Prelude.{◌≡◌, ◌<◌, ℕ, Bool, true, false, not, List, length}
 use Rattle.tf_graph.specs.Digraph.{predecessors_of}
 use Rattle.tf_graph.specs.Solutions.{Ranked, seen_by}
-use Rattle.tf_plans_data.specs.Plan.{PlanView}
+use Rattle.tf_plan_data.specs.Plan.{PlanView}
 use Rattle.tf_protocol.specs.Meaning.{Meaning}
-use Rattle.tf_outcomes.specs.Excuse.{Moment, during_call, excuse_of}
-use Rattle.tf_outcomes.specs.Outcome.{Done, skipped, excused, Requests, AreOutcomes, AreRequests, all_good, call_at, done_at, is_faulted}
-use Rattle.tf_outcomes.specs.declared.excuse.Excuse.{Excuse}
+use Rattle.tf_outcome.specs.Excuse.{during_call, excuse_of}
+use Rattle.tf_outcome.specs.Outcome.{Done, skipped, excused, Requests, AreOutcomes, AreRequests, all_good, call_at, done_at, excuse_in, is_faulted}
+use Rattle.tf_outcome.specs.declared.excuse.Excuse.{Excuse}
 use Rattle.tf_cells.specs.Ideal.{IsTrueTo}
 use Rattle.tf_cells.specs.Sight.{AreShown}
 
@@ -29,11 +29,6 @@ ExcusesAreTrue =
 abbrev pub is_skipped : Done → Bool
 is_skipped skipped = true
 is_skipped _ = false
-
--- the moment at which an action was excused, if it was
-abbrev pub excuse_in : Done → Option Moment
-excuse_in (excused m) = Some m
-excuse_in _ = None
 
 -- Ends of all actions fit together: each is true, and an action is skipped exactly where one directly before it isn't
 -- good.

@@ -1,7 +1,7 @@
 -- What is read from a cell.
 use Rattle.std.specs.Prelude.{ℕ, Option, Some}
-use Rattle.tf_outcomes.specs.Ended.{done_of}
-use Rattle.tf_outcomes.specs.Outcome.{Done, skipped}
+use Rattle.tf_outcome.specs.Ended.{done_of}
+use Rattle.tf_outcome.specs.Outcome.{Done, skipped}
 use Rattle.tf_cells.specs.declared.kept.Kept.{Kept}
 use Rattle.tf_cells.specs.declared.reading.Reading.{Reading}
 

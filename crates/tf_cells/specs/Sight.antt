@@ -1,8 +1,8 @@
 -- What is seen of some actions.
 use Rattle.std.specs.Prelude.{◌≡◌, ℕ, true, List, map, ⊤}
 use Rattle.tf_graph.specs.Solutions.{seen_by}
-use Rattle.tf_outcomes.specs.Outcome.{Done, all_good}
-use Rattle.tf_plans_data.specs.Plan.{PlanView}
+use Rattle.tf_outcome.specs.Outcome.{Done, all_good}
+use Rattle.tf_plan_data.specs.Plan.{PlanView}
 use Rattle.tf_protocol.specs.Meaning.{Meaning}
 use Rattle.tf_cells.specs.Ideal.{InEachIdeal}
 use Rattle.tf_cells.specs.Reading.{seen_in}

@@ -1,10 +1,10 @@
 -- Ends that are taken out of their cells, from the last cell on.
 use Rattle.std.specs.Prelude.{◌≡◌, ◌≤◌, ◌<◌, ℕ, List, length, Option, None, slice_index_or}
-use Rattle.tf_plans_data.specs.Plan.{PlanView}
+use Rattle.tf_plan_data.specs.Plan.{PlanView}
 use Rattle.tf_protocol.specs.Meaning.{Meaning}
-use Rattle.tf_outcomes.specs.Ended.{dones_of}
-use Rattle.tf_outcomes.specs.Outcome.{done_at}
-use Rattle.tf_outcomes.specs.declared.ended.Ended.{Ended}
+use Rattle.tf_outcome.specs.Ended.{dones_of}
+use Rattle.tf_outcome.specs.Outcome.{done_at}
+use Rattle.tf_outcome.specs.declared.ended.Ended.{Ended}
 use Rattle.tf_cells.specs.Ideal.{IsTrueTo, IsNumbered}
 
 -- So far: the cells that are left are those of the first actions, whose places are free; what stands in a place is true

@@ -1,12 +1,12 @@
 //! What a cell holds.
 
 ghost use Rattle.tf_cells.specs.Ideal.{IsTrueTo};
-ghost use Rattle.tf_outcomes.specs.Ended.{done_of};
+ghost use Rattle.tf_outcome.specs.Ended.{done_of};
 
 use crate::naming::Naming;
 use counted_slot::Fits;
 use std::marker::PhantomData;
-use tf_outcomes::Ended;
+use tf_outcome::Ended;
 
 /// What came of an action, in its cell.
 pub(crate) struct Kept<N: Naming> {

@@ -1,7 +1,7 @@
 //! Which walk some cells are of.
 
 ghost use Rattle.std.specs.Prelude.{List, []};
-ghost use Rattle.tf_plans_data.specs.Plan.{PlanView};
+ghost use Rattle.tf_plan_data.specs.Plan.{PlanView};
 ghost use Rattle.tf_protocol.specs.Meaning.{Meaning};
 ghost use Rattle.tf_cells.specs.NoPlan.{no_plan};
 

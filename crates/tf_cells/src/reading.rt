@@ -2,9 +2,9 @@
 
 ghost use Rattle.std.specs.Option.{option_map_or};
 ghost use Rattle.std.specs.Prelude.{◌≡◌, IfOk, IfSome, IsTrue, is_some, true, false};
-ghost use Rattle.tf_outcomes.specs.Ended.{done_of};
-ghost use Rattle.tf_outcomes.specs.Outcome.{is_good};
-ghost use Rattle.tf_outcomes.specs.Objects.{object_of};
+ghost use Rattle.tf_outcome.specs.Ended.{done_of};
+ghost use Rattle.tf_outcome.specs.Outcome.{is_good};
+ghost use Rattle.tf_outcome.specs.Objects.{object_of};
 ghost use Rattle.tf_value.specs.Tree.{tree_of};
 ghost use Rattle.tf_cells.specs.Ideal.{IsTrueTo, InEachIdeal};
 
@@ -12,7 +12,7 @@ use crate::kept::Kept;
 use crate::naming::Naming;
 use counted_slot::Claim;
 use std::alloc::{AllocError, Global};
-use tf_outcomes::Ended;
+use tf_outcome::Ended;
 use tf_protocol::{Reply, Verdict};
 use tf_value::{Value, copy};
 

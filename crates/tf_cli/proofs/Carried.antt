@@ -2,15 +2,16 @@
 use Rattle.std.proofs.Common.{◌≡◌, ◌∙◌, ℕ, Bool, true, false, not, if◌then◌else◌, List, refl, sym, ap, subst, string_bytes, arith}
 use Rattle.std.specs.Prelude.{◌==◌, ◌+◌, ◌↔◌, IfOk}
 use Rattle.tf_next_state.specs.StateAfter.{is_same, next_serial}
-use Rattle.tf_outcomes.specs.Outcome.{AreRequests, Done, Requests}
+use Rattle.tf_outcome.specs.Outcome.{AreRequests, Done, Requests}
 use Rattle.tf_outputs.specs.Outputs.{OutputDone}
-use Rattle.tf_plans_data.specs.Plan.{PlanView}
-use Rattle.tf_plans_text.specs.Text.{plan_text}
+use Rattle.tf_plan_data.specs.Plan.{PlanView}
+use Rattle.tf_plan_text.specs.Text.{plan_text}
 use Rattle.tf_protocol.specs.Meaning.{Meaning}
-use Rattle.tf_reports.specs.Report.{IsTold, IsWalked, report_of}
-use Rattle.tf_reports.specs.Savable.{HasNames}
-use Rattle.tf_reports.specs.declared.report.Walked.{Walked}
-use Rattle.tf_reports.specs.declared.report.Walked.TheVariants.{Whole, Torn}
+use Rattle.tf_report.specs.Report.{IsTold, report_of}
+use Rattle.tf_report.specs.Savable.{HasNames}
+use Rattle.tf_run.specs.Run.{IsRun}
+use Rattle.tf_report.specs.declared.report.Walked.{Walked}
+use Rattle.tf_report.specs.declared.report.Walked.TheVariants.{Whole, Torn}
 use Rattle.tf_state_data.specs.Equality.{same_state, state_Decides}
 use Rattle.tf_state_data.specs.State.{StateView, state_of}
 use Rattle.tf_state.specs.Text.{state_text}
@@ -38,8 +39,10 @@ changed-exactly prior after changed serial is = (
 )
 
 -- what the report of a walk tells
-told_of : (ms : List Meaning) (plan : PlanView) (w : Walked) (requests : Requests) → AreRequests plan requests → IsWalked ms plan w → (done : List Done) × (outputs : List OutputDone) × IsTold ms plan done outputs (report_of w)
-told_of ms plan (Torn report) requests are walked = absurd walked
+told_of : (ms : List Meaning) (plan : PlanView) (w : Walked) (requests : Requests) → AreRequests plan requests → IsRun ms plan w → (done : List Done) × (outputs : List OutputDone) × IsTold ms plan done outputs (report_of w)
+told_of ms plan (Torn report) requests are walked =
+    let found = walked requests are in
+    (found.0, found.1, found.2.told)
 told_of ms plan (Whole report) requests are walked =
     let found = walked requests are in
     (found.0, found.1, found.2.told)
@@ -47,7 +50,7 @@ told_of ms plan (Whole report) requests are walked =
 pub is_carried_out : (ms : List Meaning) (plan : PlanView) (walked : Walked) (a : Applied) (requests : Requests)
     → AreRequests plan requests → HasNames plan → IsValid plan.prior
     → string_bytes a.plan ≡ plan_text plan.late plan.actions
-    → IsWalked ms plan walked
+    → IsRun ms plan walked
     → a.walked ≡ walked
     → IfOk a.state (λ text. string_bytes text ≡ state_text (state_of (report_of walked).state))
     → a.changed ≡ not ((state_of (report_of walked).state).serial == plan.prior.serial)
@@ -57,7 +60,7 @@ is_carried_out ms plan walked a requests are named valid shown was_walked same t
     let exactly = changed-exactly plan.prior (state_of (report_of walked).state) a.changed told.2.state.after.serial changed in
     record {
       shown = shown;
-      walked = subst (λ (w : Walked). IsWalked ms plan w) (sym same) was_walked;
+      walked = subst (λ (w : Walked). IsRun ms plan w) (sym same) was_walked;
       valid = rw same (told.2.valid named valid);
       text = subst (λ (w : Walked). IfOk a.state (λ text. string_bytes text ≡ state_text (state_of (report_of w).state))) (sym same) text;
       changed = subst (λ (w : Walked). (a.changed ≡ false) ↔ (state_of (report_of w).state ≡ plan.prior)) (sym same) exactly;

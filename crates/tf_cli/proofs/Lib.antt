@@ -1,3 +1,4 @@
 mod Carried
 mod Planned
 mod Writes
+mod Numbered

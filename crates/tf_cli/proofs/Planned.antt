@@ -3,10 +3,10 @@ use Rattle.std.proofs.Common.{◌≡◌, ℕ, List, Ok, Err, Result}
 use Rattle.std.specs.Prelude.{IfOk}
 use Rattle.tf_config_data.specs.Config.{ConfigView}
 use Rattle.tf_inputs.specs.Texts.{StandFor, Texts}
-use Rattle.tf_plans.specs.Plan.{IsPlan}
-use Rattle.tf_plans.specs.declared.refused.Refused.{Refused}
-use Rattle.tf_plans_data.specs.Plan.{plan_of}
-use Rattle.tf_plans_data.specs.declared.plan.Plan.{Plan}
+use Rattle.tf_plan.specs.Plan.{IsPlan}
+use Rattle.tf_plan.specs.declared.refused.Refused.{Refused}
+use Rattle.tf_plan_data.specs.Plan.{plan_of}
+use Rattle.tf_plan_data.specs.declared.plan.Plan.{Plan}
 use Rattle.tf_protocol.specs.Meaning.{Meaning}
 use Rattle.tf_state_data.specs.State.{StateView}
 use Rattle.tf_value.specs.Tree.{Entries}

@@ -3,11 +3,12 @@ use Rattle.std.specs.Prelude.{◌≡◌, ◌↔◌, ℕ, false, List, IfOk, stri
 use Rattle.tf_cli.specs.declared.applied.Applied.{Applied}
 use Rattle.tf_config_data.specs.Config.{ConfigView}
 use Rattle.tf_inputs.specs.Texts.{Texts, StandFor}
-use Rattle.tf_plans.specs.Plan.{IsPlan}
-use Rattle.tf_plans_data.specs.Plan.{PlanView}
-use Rattle.tf_plans_text.specs.Text.{plan_text}
+use Rattle.tf_plan.specs.Plan.{IsPlan}
+use Rattle.tf_plan_data.specs.Plan.{PlanView}
+use Rattle.tf_plan_text.specs.Text.{plan_text}
 use Rattle.tf_protocol.specs.Meaning.{Meaning}
-use Rattle.tf_reports.specs.Report.{IsWalked, report_of}
+use Rattle.tf_report.specs.Report.{report_of}
+use Rattle.tf_run.specs.Run.{IsRun}
 use Rattle.tf_state_data.specs.State.{StateView, state_of}
 use Rattle.tf_state.specs.Text.{state_text}
 use Rattle.tf_state.specs.Valid.{IsValid}
@@ -32,11 +33,12 @@ pub record IsPlanText (ms : List Meaning) (texts : Texts) (text : List ℕ) : Ty
 abbrev pub state_in : Applied → StateView
 state_in a = state_of (report_of a.walked).state
 
--- The answer for a plan: its text; the report of a walk that carries it out; the text of the state after, where there
--- was memory for it; and whether that state isn't the prior one. The state after is valid, so its text reads back as it.
+-- The answer for a plan: its text; the report of a walk that carries it out, whole or with a journal that is withheld; the
+-- text of the state after, where there was memory for it; and whether that state isn't the prior one. The state after is
+-- valid, so its text reads back as it.
 pub record IsCarriedOut (ms : List Meaning) (plan : PlanView) (a : Applied) : Type 0 where
   pub shown : string_bytes a.plan ≡ plan_text plan.late plan.actions
-  pub walked : IsWalked ms plan a.walked
+  pub walked : IsRun ms plan a.walked
   pub valid : IsValid (state_in a)
   pub text : IfOk a.state (λ text. string_bytes text ≡ state_text (state_in a))
   pub changed : (a.changed ≡ false) ↔ (state_in a ≡ plan.prior)

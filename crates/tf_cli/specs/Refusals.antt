@@ -1,15 +1,18 @@
 -- What is refused of the texts that a user gives.
-use Rattle.std.specs.Prelude.{◌≡◌, ◌≢◌, ◌⊎◌, List, [], ◌∷◌, map, ℕ}
+use Rattle.std.specs.Prelude.{◌≡◌, ◌≢◌, ◌⊎◌, false, List, [], ◌∷◌, map, ℕ}
 use Rattle.tf_config_data.specs.Config.{ConfigView}
 use Rattle.tf_inputs.specs.Refusals.{IsToldOf}
 use Rattle.tf_inputs.specs.Texts.{Texts, StandFor}
-use Rattle.tf_plans.specs.Refused.{AreRefused}
-use Rattle.tf_plans.specs.declared.refused.Refused.{Refused}
-use Rattle.tf_plans.specs.declared.refused.Refused.TheVariants.{NoMemory, These}
+use Rattle.tf_plan.specs.Refused.{AreRefused}
+use Rattle.tf_plan.specs.declared.refused.Refused.{Refused}
+use Rattle.tf_plan.specs.declared.refused.Refused.TheVariants.{NoMemory, These}
 use Rattle.tf_protocol.specs.Meaning.{Meaning}
-use Rattle.tf_refusal.specs.Refusal.{Told, no_memory, told}
+use Rattle.tf_plan_data.specs.Plan.{PlanView}
+use Rattle.tf_refusal.specs.Refusal.{Told, no_memory, told, workers}
+use Rattle.tf_run.specs.Run.{are_workers}
 use Rattle.tf_state_data.specs.State.{StateView}
 use Rattle.tf_value.specs.Tree.{Entries}
+use Rattle.tf_cli.specs.Applies.{IsPlanOf}
 
 -- Texts that can't be read are refused by what is told of them, alone.
 pub record IsRefusedAlone (texts : Texts) (tolds : List Told) : Type 0 where
@@ -30,6 +33,17 @@ pub record IsPlanRefused (ms : List Meaning) (texts : Texts) (tolds : List Told)
 -- what is refused of texts, in the order of tests
 abbrev pub AreRefusals : List Meaning → Texts → List Told → Type 0
 AreRefusals ms texts tolds = IsRefusedAlone texts tolds ⊎ IsPlanRefused ms texts tolds
+
+-- The texts have a plan, and it may not be carried out by so many workers; nothing else is refused.
+pub record IsRefusedByNumber (ms : List Meaning) (texts : Texts) (lineage : List ℕ) (count : ℕ) (tolds : List Told) : Type 0 where
+  pub plan : PlanView
+  pub planned : IsPlanOf ms texts lineage plan
+  pub wrong : are_workers count ≡ false
+  pub alone : tolds ≡ workers ∷ []
+
+-- what is refused of an apply of texts by so many workers
+abbrev pub AreApplyRefusals : List Meaning → Texts → List ℕ → ℕ → List Told → Type 0
+AreApplyRefusals ms texts lineage count tolds = AreRefusals ms texts tolds ⊎ IsRefusedByNumber ms texts lineage count tolds
 
 -- the one refusal of texts, or want of memory
 abbrev pub RefusesBy : Told → Refused → Type 0

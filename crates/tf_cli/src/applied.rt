@@ -1,7 +1,7 @@
 //! What an apply answers.
 
 use std::alloc::AllocError;
-use tf_walks::Walked;
+use tf_report::Walked;
 
 /// What came of an apply. What was created may be known from here alone, so it can be neither copied nor let go:
 /// a pattern that names each of its fields takes it apart.

@@ -1,46 +1,56 @@
 //! From the texts that the user gives to what came of carrying out their plan.
 
-ghost use Rattle.std.specs.Prelude.{◌≡◌, ◌==◌, not, map, option_map, IfOk, IfErr, string_bytes};
+ghost use Rattle.std.specs.Prelude.{◌≡◌, ◌==◌, not, true, map, option_map, IfOk, IfErr, string_bytes};
 ghost use Rattle.tf_cli.specs.Applies.{IsApplied};
-ghost use Rattle.tf_cli.specs.Refusals.{AreRefusals};
+ghost use Rattle.tf_cli.specs.Refusals.{AreApplyRefusals};
 ghost use Rattle.tf_inputs.specs.Texts.{the_texts};
-ghost use Rattle.tf_plans.specs.Refused.{Tells};
-ghost use Rattle.tf_reports.specs.Report.{report_of};
+ghost use Rattle.tf_plan.specs.Refused.{Tells};
+ghost use Rattle.tf_report.specs.Report.{report_of};
+ghost use Rattle.tf_run.specs.Run.{are_workers};
 ghost use Rattle.tf_state_data.specs.State.{state_of};
 ghost use Rattle.tf_state.specs.Text.{state_text};
 
 use crate::applied::Applied;
-use crate::planning::plan_of_texts;
+use crate::planning::{one_refusal, plan_of_texts};
 use std::alloc::Global;
+use std::sync::Wait;
+use std::thread::Threads;
 use tf_config::blocks_have_names;
-use tf_outcomes::laws::requests_exist;
-use tf_plans::Refused;
-use tf_plans_text::plan_text;
+use tf_outcome::laws::requests_exist;
+use tf_plan::Refused;
+use tf_plan_text::plan_text;
 use tf_provider::Provider;
+use tf_report::Walked;
+use tf_run::run;
 use tf_state::write;
-use tf_walks::{Walked, run_one};
+use tf_stop::Stop;
 
-/// Plans a configuration beside a prior state, and carries the plan out by one thread, without waiting. Its variables
-/// have the values that the variables file and their defaults give; where no state is given, nothing exists yet, and
-/// the lineage is that of the new state. Where it refuses, no provider was asked for anything but schemas.
-pub fn apply_text(
+/// Plans a configuration beside a prior state, and carries the plan out by so many workers, 1 to 64, of which the calling
+/// thread is one; it may wait. Its variables have the values that the variables file and their defaults give; where no state
+/// is given, nothing exists yet, and the lineage is that of the new state. Once the flag is set, no further provider is
+/// called. Where it refuses, no provider was asked for anything but schemas.
+pub fn apply_text<R: Threads + Wait + Sync>(
+    rt: &R,
     alloc: Global,
     config: &[u8],
     vars: Option<&[u8]>,
     state: Option<&[u8]>,
     lineage: &str,
     providers: &[Box<dyn Provider + Sync>],
+    workers: usize,
+    stop: &Stop,
 ) -> Result<Applied, Refused>
     ensures applied { IfOk result (IsApplied (map (λ b. meaning b) providers.now) (the_texts config.now (option_map (λ s. s.now) vars.entry) (option_map (λ s. s.now) state.entry)) lineage.now) }
-    ensures refused { IfErr result (Tells (AreRefusals (map (λ b. meaning b) providers.now) (the_texts config.now (option_map (λ s. s.now) vars.entry) (option_map (λ s. s.now) state.entry)))) }
+    ensures workers { IfOk result (λ _. are_workers workers ≡ true) }
+    ensures refused { IfErr result (Tells (AreApplyRefusals (map (λ b. meaning b) providers.now) (the_texts config.now (option_map (λ s. s.now) vars.entry) (option_map (λ s. s.now) state.entry)) lineage.now workers)) }
 {
     blocks_have_names();
     requests_exist();
     let plan = plan_of_texts(alloc, config, vars, state, lineage, providers)?;
     let text = plan_text(alloc, plan.actions.as_slice(), plan.late.as_slice())?;
-    match run_one(alloc, &plan, providers) {
+    match run(rt, alloc, &plan, providers, workers, stop) {
         Ok(walked) => Ok(answer_of(alloc, text, plan.prior.serial(), walked)),
-        Err(_) => Err(Refused::NoMemory),
+        Err(refusal) => Err(one_refusal(alloc, refusal)),
     }
 }
 

@@ -5,18 +5,18 @@ ghost use Rattle.tf_action_data.specs.Action.{action_of};
 ghost use Rattle.tf_cli.specs.Applies.{IsPlanOf, IsPlanText};
 ghost use Rattle.tf_cli.specs.Refusals.{AreRefusals, RefusesBy};
 ghost use Rattle.tf_inputs.specs.Texts.{the_texts};
-ghost use Rattle.tf_plans.specs.Refused.{Tells};
-ghost use Rattle.tf_plans_data.specs.Fits.{FitsTogether};
-ghost use Rattle.tf_plans_data.specs.Plan.{plan_of};
-ghost use Rattle.tf_plans_data.specs.Served.{AreServed};
+ghost use Rattle.tf_plan.specs.Refused.{Tells};
+ghost use Rattle.tf_plan_data.specs.Fits.{FitsTogether};
+ghost use Rattle.tf_plan_data.specs.Plan.{plan_of};
+ghost use Rattle.tf_plan_data.specs.Served.{AreServed};
 ghost use Rattle.tf_refusal.specs.Refusal.{told};
 ghost use Rattle.tf_state.specs.Valid.{IsValid};
 ghost use Rattle.tf_state_data.specs.State.{state_of};
 
 use std::alloc::Global;
 use tf_inputs::{Inputs, read_texts};
-use tf_plans::{Plan, Refused, plan};
-use tf_plans_text::plan_text as text_of_plan;
+use tf_plan::{Plan, Refused, plan};
+use tf_plan_text::plan_text as text_of_plan;
 use tf_provider::Provider;
 use tf_refusal::Refusal;
 
@@ -67,7 +67,7 @@ pub fn plan_of_texts(
 }
 
 /// The list of one refusal, or want of memory.
-fn one_refusal(alloc: Global, refusal: Refusal) -> Refused
+pub fn one_refusal(alloc: Global, refusal: Refusal) -> Refused
     ensures { RefusesBy (told refusal) result }
 {
     match refusal {

@@ -13,10 +13,11 @@ use crate::lines::{RefusalLine, verb_text};
 use crate::saving::{SaveFault, save, save_all};
 use itoa::Buffer;
 use std::io::Write;
-use tf_plans::Refused;
+use tf_outcome::Outcome;
+use tf_plan::Refused;
 use tf_provider::Verdict;
 use tf_refusal::Refusal;
-use tf_walks::{Diagnostic, Outcome, Report, Walked};
+use tf_report::{Diagnostic, Report, Walked};
 
 /// Prints all that `apply` prints before it writes the state file, and answers the status so far: 1 where
 /// something is refused, 3 where the state has changed and there is no text of it, 2 where some action or output

@@ -12,7 +12,7 @@ use std::io::{ErrorKind, Write};
 use std::process::ExitCode;
 use std::{env, fs, io};
 use tf_options::{Options, options};
-use tf_plans::Refused;
+use tf_plan::Refused;
 
 /// What a program was given.
 #[derive(Drop)]

@@ -1,5 +1,5 @@
 -- What the options are, by what `clap` finds in the words.
-use Rattle.std.specs.Prelude.{◌≡◌, ℕ, List, Option, MatchOption, codes, option_map, unwrap_or, string_bytes}
+use Rattle.std.specs.Prelude.{◌≡◌, ℕ, List, Option, Some, None, MatchOption, codes, option_map, unwrap_or, string_bytes}
 use Rattle.std.specs.Str.Parse.{digits_value, without_leading_plus}
 use Rattle.clap.specs.Words.{IsUnsignedIn, Row, Text, first_of, one_of}
 use Rattle.tf_options.specs.declared.words.Options.{Options}
@@ -13,6 +13,11 @@ given_or name default rows = unwrap_or (first_of name rows) default
 abbrev pub IsWorkers : Option Text → ℕ → Type 0
 IsWorkers given n = MatchOption given (n ≡ 10) (λ text. IsUnsignedIn 1 64 text → n ≡ digits_value 10 (without_leading_plus text))
 
+-- A text is the decimal form of a number of calls, 0 to 2,000, and this is the number. (Any other text is refused.) Where
+-- no text is given, no number is said.
+abbrev pub IsStop : Option Text → Option ℕ → Type 0
+IsStop given calls = MatchOption given (calls ≡ None) (λ text. IsUnsignedIn 0 2000 text → calls ≡ Some (digits_value 10 (without_leading_plus text)))
+
 -- Each option has the value that was given for it, or its default. For the variables' values there is no file
 -- where none is given.
 pub record Reads (o : Options) (rows : List Row) : Type 0 where
@@ -21,3 +26,4 @@ pub record Reads (o : Options) (rows : List Row) : Type 0 where
   pub state : string_bytes o.state ≡ given_or (codes "state") (codes "terraform.tfstate") rows
   pub lineage : string_bytes o.lineage ≡ given_or (codes "lineage") (codes "00000000-0000-0000-0000-000000000000") rows
   pub parallelism : IsWorkers (one_of (codes "parallelism") rows) o.parallelism
+  pub stop_after : IsStop (one_of (codes "stop-after") rows) o.stop_after

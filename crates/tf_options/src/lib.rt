@@ -7,6 +7,7 @@
 //! | `--state FILE` | the state; a file that isn't there is no state | `terraform.tfstate` |
 //! | `--lineage TEXT` | the lineage of a new state | `00000000-0000-0000-0000-000000000000` |
 //! | `--parallelism N` | how many workers, 1 to 64 | 10 |
+//! | `--stop-after N` | after how many calls to stop, 0 to 2,000 | doesn't stop |
 #![tactic(auto)]
 
 mod reading;

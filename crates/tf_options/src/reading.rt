@@ -1,9 +1,9 @@
 //! Reading the words of a command line.
 
-ghost use Rattle.std.specs.Prelude.{◌≡◌, ◌≤◌, false, IfOk, codes, map, option_map, string_bytes};
+ghost use Rattle.std.specs.Prelude.{◌≡◌, ◌≤◌, false, IfOk, IfSome, codes, map, option_map, string_bytes};
 ghost use Rattle.clap.specs.Words.{FailsBy, app_of, fault_of, first_of, found_of, matches_of, one_of, rows_of, rule_of};
-ghost use Rattle.tf_options.specs.Command.{default_rule, option_rule, options_app, workers_rule};
-ghost use Rattle.tf_options.specs.Reads.{IsWorkers, Reads, given_or};
+ghost use Rattle.tf_options.specs.Command.{default_rule, option_rule, options_app, stop_rule, workers_rule};
+ghost use Rattle.tf_options.specs.Reads.{IsStop, IsWorkers, Reads, given_or};
 
 use crate::words::Options;
 use clap::{Arg, ArgMatches, Command, Error};
@@ -20,6 +20,7 @@ const LINEAGE: &str = "00000000-0000-0000-0000-000000000000";
 pub fn options(alloc: Global, words: &[String]) -> Result<Options, Error>
     ensures reads { IfOk result (λ o. Reads o (matches_of options_app (map (λ w. string_bytes w) words.now))) }
     ensures workers { IfOk result (λ o. (1 ≤ o.parallelism) × (o.parallelism ≤ 64)) }
+    ensures stop { IfOk result (λ o. IfSome o.stop_after (λ n. n ≤ 2000)) }
     ensures refuses { FailsBy (fault_of options_app (map (λ w. string_bytes w) words.now)) result }
 {
     let matches = parsed(alloc, words)?;
@@ -48,7 +49,8 @@ fn command<'a>(alloc: Global) -> Result<Command<'a>, AllocError>
             LINEAGE,
             "The lineage of a new state",
         ))?
-        .arg(workers_option(alloc))
+        .arg(workers_option(alloc))?
+        .arg(stop_option(alloc))
 }
 
 fn workers_option<'a>(alloc: Global) -> Arg<'a>
@@ -58,6 +60,19 @@ fn workers_option<'a>(alloc: Global) -> Arg<'a>
     default_option(alloc, "parallelism", "N", "10", "How many workers, 1 to 64").value_parser(
         clap::value_parser!(u64).range(1..=64),
     )
+}
+
+fn stop_option<'a>(alloc: Global) -> Arg<'a>
+    ensures rule { rule_of result ≡ stop_rule }
+    ensures local { result.global ≡ false }
+{
+    option(
+        alloc,
+        "stop-after",
+        "N",
+        "After how many calls to stop, 0 to 2000",
+    )
+    .value_parser(clap::value_parser!(u64).range(0..=2000))
 }
 
 fn default_option<'a>(
@@ -86,6 +101,7 @@ fn option<'a>(alloc: Global, name: &'a str, value: &'a str, help: &'a str) -> Ar
 fn options_in(alloc: Global, matches: &ArgMatches<'_>) -> Result<Options, AllocError>
     ensures reads { IfOk result (λ o. Reads o (rows_of (found_of matches.now))) }
     ensures workers { IfOk result (λ o. (1 ≤ o.parallelism) × (o.parallelism ≤ 64)) }
+    ensures stop { IfOk result (λ o. IfSome o.stop_after (λ n. n ≤ 2000)) }
 {
     Ok(Options {
         config: value_or(alloc, matches, "config", CONFIG)?,
@@ -93,6 +109,7 @@ fn options_in(alloc: Global, matches: &ArgMatches<'_>) -> Result<Options, AllocE
         state: value_or(alloc, matches, "state", STATE)?,
         lineage: value_or(alloc, matches, "lineage", LINEAGE)?,
         parallelism: workers_in(matches),
+        stop_after: stop_in(matches),
     })
 }
 
@@ -127,5 +144,15 @@ fn workers_in(matches: &ArgMatches<'_>) -> usize
     match matches.get_one::<usize>("parallelism") {
         Some(workers) if workers >= 1 && workers <= 64 => workers,
         _ => 10,
+    }
+}
+
+fn stop_in(matches: &ArgMatches<'_>) -> Option<usize>
+    ensures within { IfSome result (λ n. n ≤ 2000) }
+    ensures reads { IsStop (one_of (codes "stop-after") (rows_of (found_of matches.now))) result }
+{
+    match matches.get_one::<usize>("stop-after") {
+        Some(calls) if calls <= 2000 => Some(calls),
+        _ => None,
     }
 }

@@ -13,4 +13,6 @@ pub struct Options {
     pub lineage: String,
     /// How many workers carry out a plan, 1 to 64.
     pub parallelism: usize,
+    /// After how many calls of providers the walk is to stop, 0 to 2,000; where nothing is said, it doesn't stop.
+    pub stop_after: Option<usize>,
 }

@@ -5,10 +5,10 @@ use Rattle.tf_action_data.specs.Action.{ActionView}
 use Rattle.tf_graph.specs.Digraph.{Digraph, predecessors_of}
 use Rattle.tf_graph.specs.Order.{IsInOrder}
 use Rattle.tf_journal.specs.Entries.{actions_of}
-use Rattle.tf_outcomes.specs.Journal.{IsOfAction, verdict_in}
-use Rattle.tf_reports.specs.declared.report.Report.{Report}
-use Rattle.tf_reports.specs.declared.report.Walked.{Walked}
-use Rattle.tf_reports.specs.declared.report.Walked.TheVariants.{Whole, Torn}
+use Rattle.tf_outcome.specs.Journal.{IsOfAction, verdict_in}
+use Rattle.tf_report.specs.declared.report.Report.{Report}
+use Rattle.tf_report.specs.declared.report.Walked.{Walked}
+use Rattle.tf_report.specs.declared.report.Walked.TheVariants.{Whole, Torn}
 use Rattle.tf_settle.specs.Told.{verdict_told}
 
 -- A journal holds exactly the calls that its report tells of, each once with its verdict, none before one that it depends

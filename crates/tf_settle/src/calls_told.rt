@@ -2,11 +2,11 @@
 
 ghost use Rattle.std.specs.Prelude.{◌≡◌, ◌↔◌, IsTrue, All, Some, false, is_some, length};
 ghost use Rattle.tf_claim.specs.Claims.{how_many};
-ghost use Rattle.tf_outcomes.specs.Excuse.{excuse_of};
+ghost use Rattle.tf_outcome.specs.Excuse.{excuse_of};
 ghost use Rattle.tf_settle.specs.Told.{is_during, verdict_told};
 
 use tf_journal::Entry;
-use tf_outcomes::{Excuse, Outcome};
+use tf_outcome::{Excuse, Outcome};
 use tf_provider::Verdict;
 
 /// Whether each entry has the verdict that is told of its action.
@@ -72,6 +72,7 @@ fn was_called(excused: &[Excuse], action: usize) -> bool
         match excuse {
             Excuse::Before(place) if *place == action => return false,
             Excuse::During(place) if *place == action => return true,
+            Excuse::Left(place) if *place == action => return false,
             _ => {}
         }
     }

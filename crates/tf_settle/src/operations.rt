@@ -3,11 +3,11 @@
 ghost use Rattle.std.specs.List.{AllByRecursion};
 ghost use Rattle.std.specs.Prelude.{◌≡◌, ◌↔◌, IsTrue, false, map};
 ghost use Rattle.tf_action_data.specs.Action.{action_of, step_of};
-ghost use Rattle.tf_outcomes.specs.Asked.{op_of};
-ghost use Rattle.tf_outcomes.specs.Journal.{IsOfAction, op_at};
+ghost use Rattle.tf_outcome.specs.Asked.{op_of};
+ghost use Rattle.tf_outcome.specs.Journal.{IsOfAction, op_at};
 
 use tf_journal::Entry;
-use tf_plans_data::{Action, Step};
+use tf_plan_data::{Action, Step};
 use tf_protocol::Op;
 
 /// Whether each entry says what its action has its provider do.

@@ -6,8 +6,8 @@ ghost use Rattle.tf_settle.specs.Settled.{AreCallsTold, IsJournalTold, IsSettled
 
 use crate::calls_told::{are_told, count_told};
 use crate::operations::are_of_actions;
-use tf_plans_data::{Action, Plan};
-use tf_reports::{Report, Walked};
+use tf_plan_data::{Action, Plan};
+use tf_report::{Report, Walked};
 
 /// Compares the journal of a report on a plan with the report's outcomes and excuses: `Whole` exactly where it holds the
 /// calls that they tell of, each once with its verdict and with what its provider was to do by the plan, none before one that

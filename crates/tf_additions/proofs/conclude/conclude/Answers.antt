@@ -1,8 +1,8 @@
 use Rattle.std.proofs.Common.{◌≡◌, ◌∙◌, sym, ap, map, Some, string_bytes, option_map, subst}
 use Rattle.tf_protocol.specs.Meaning.{asked, answered, schema_in}
 use Rattle.tf_additions.specs.Addition.{IsJudged}
-use Rattle.tf_outcomes.specs.Ended.{done_or_skipped}
-use Rattle.tf_outcomes.specs.declared.ended.Ended.TheVariants as ended
+use Rattle.tf_outcome.specs.Ended.{done_or_skipped}
+use Rattle.tf_outcome.specs.declared.ended.Ended.TheVariants as ended
 use Rattle.tf_additions.proofs.Judged.{judged-by}
 use Rattle.tf_additions.proofs.conclude.conclude.Goals as goal
 

@@ -1,7 +1,7 @@
 use Rattle.std.proofs.Common.{◌≡◌, ◌∙◌, sym, subst, Option, option_map}
 use Rattle.std.specs.Prelude.{IfSome}
 use Rattle.tf_address.specs.Label.{label_of}
-use Rattle.tf_outcomes.proofs.Fallback.{fallback-is, fallback-stored}
+use Rattle.tf_outcome.proofs.Fallback.{fallback-is, fallback-stored}
 use Rattle.tf_protocol.specs.Meaning.{asked, answered}
 use Rattle.tf_state.specs.Valid.{IsAttributes}
 use Rattle.tf_state_after.specs.Saved.{left_by_destroy}

@@ -1,7 +1,7 @@
 use Rattle.std.proofs.Common.{ap}
 use Rattle.tf_action_data.specs.Action.{action_of, step_of}
-use Rattle.tf_plans_data.specs.Fits.{is_apply}
-use Rattle.tf_plans_data.specs.Plan.{plan_names, plan_of}
+use Rattle.tf_plan_data.specs.Fits.{is_apply}
+use Rattle.tf_plan_data.specs.Plan.{plan_names, plan_of}
 use Rattle.tf_additions.proofs.Heads.{declared-within}
 use Rattle.tf_additions.proofs.rooming.target_for.Goals as goal
 

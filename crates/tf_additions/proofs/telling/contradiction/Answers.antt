@@ -6,7 +6,7 @@ use Rattle.tf_value.specs.Tree.{keys_of, entries_view, tree_of}
 use Rattle.tf_value.specs.Tree as tree
 use Rattle.tf_value.proofs.Views.{tree_of-Map}
 use Rattle.tf_additions.specs.Diagnostics.{name_at}
-use Rattle.tf_outcomes.specs.Room.{message_fits}
+use Rattle.tf_outcome.specs.Room.{message_fits}
 use Rattle.tf_value.proofs.Conjunction.{and-second}
 use Rattle.tf_additions.proofs.Named.{named-there, holds-there, named-beyond, pushed}
 use Rattle.tf_additions.proofs.telling.contradiction.Goals as goal

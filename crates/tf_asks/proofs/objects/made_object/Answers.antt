@@ -4,12 +4,12 @@ use Rattle.tf_change.specs.Instance.{instance_of}
 use Rattle.tf_change.specs.declared.instance.InstanceFault.{InstanceFault}
 use Rattle.tf_environment.specs.Views.{shapes_of}
 use Rattle.tf_names.specs.Table.{names_in}
-use Rattle.tf_plans_data.specs.Plan.{plan_of}
+use Rattle.tf_plan_data.specs.Plan.{plan_of}
 use Rattle.tf_protocol.specs.Verdict.{has_attributes}
 use Rattle.tf_request.specs.Requests.{IsRequest}
 use Rattle.tf_value.specs.Tree.{tree_of}
 use Rattle.tf_value.specs.declared.value.Value.{Value}
-use Rattle.tf_outcomes.specs.Asked.{AreRequests, Requests}
+use Rattle.tf_outcome.specs.Asked.{AreRequests, Requests}
 use Rattle.tf_asks.proofs.Asking.{asked_by_plan, has_all-made, if_ok-weaker, is_requested}
 use Rattle.tf_asks.proofs.objects.made_object.Goals as goal
 

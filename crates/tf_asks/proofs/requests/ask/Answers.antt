@@ -4,12 +4,12 @@ use Rattle.tf_action_data.specs.declared.step.Step.{Step}
 use Rattle.tf_config_data.specs.Config.{config_of}
 use Rattle.tf_config_data.specs.Names.{meant_at, names_of}
 use Rattle.tf_decision.specs.Kept.{kept_object}
-use Rattle.tf_plans_data.specs.Plan.{plan_of}
+use Rattle.tf_plan_data.specs.Plan.{plan_of}
 use Rattle.tf_asks.proofs.Asking.{if_ok-weaker}
 use Rattle.tf_asks.specs.AskedBy.{asked_by}
-use Rattle.tf_outcomes.specs.Asked.{AreRequests, Requests, asked_by_step, asked_for, ignored_by, unless_faulty, update_of}
-use Rattle.tf_outcomes.specs.declared.asking.Asking.{Asking}
-use Rattle.tf_outcomes.specs.declared.ended.Faulted.{Faulted}
+use Rattle.tf_outcome.specs.Asked.{AreRequests, Requests, asked_by_step, asked_for, ignored_by, unless_faulty, update_of}
+use Rattle.tf_outcome.specs.declared.asking.Asking.{Asking}
+use Rattle.tf_outcome.specs.declared.ended.Faulted.{Faulted}
 use Rattle.tf_asks.proofs.requests.ask.Goals as goal
 
 pub returns-in-Update-clause-asked : goal.returns-in-Update-clause-asked

@@ -1,11 +1,11 @@
 use Rattle.std.proofs.Common.{◌≡◌, Some, Result, map, sym}
 use Rattle.tf_action_data.specs.Action.{action_of}
-use Rattle.tf_plans_data.specs.Plan.{plan_names, plan_of}
+use Rattle.tf_plan_data.specs.Plan.{plan_names, plan_of}
 use Rattle.tf_protocol.specs.Meaning.{schema_in}
-use Rattle.tf_outcomes.specs.Asked.{asked_for}
-use Rattle.tf_outcomes.specs.Outcome.{Requests, AreRequests, call_with, comes_of}
-use Rattle.tf_outcomes.specs.declared.asking.Asking.{Asking}
-use Rattle.tf_outcomes.specs.declared.ended.Faulted.{Faulted}
+use Rattle.tf_outcome.specs.Asked.{asked_for}
+use Rattle.tf_outcome.specs.Outcome.{Requests, AreRequests, call_with, comes_of}
+use Rattle.tf_outcome.specs.declared.asking.Asking.{Asking}
+use Rattle.tf_outcome.specs.declared.ended.Faulted.{Faulted}
 use Rattle.tf_asks.specs.AskedBy.{asked_by}
 use Rattle.tf_asks.proofs.Asking.{asked-with, if_ok-weaker}
 use Rattle.tf_asks.proofs.requests.ask_provider.Goals as goal

@@ -11,7 +11,7 @@ use Rattle.tf_request.proofs.Requesting.{resource_below}
 use Rattle.tf_request.specs.Requests.{is_resource}
 use Rattle.tf_value.specs.Tree.{tree_of}
 use Rattle.tf_value.specs.declared.value.Value.{Value}
-use Rattle.tf_outcomes.specs.Asked.{ignored_by}
+use Rattle.tf_outcome.specs.Asked.{ignored_by}
 use Rattle.tf_asks.proofs.requests.ask_update.Goals as goal
 
 pub kept-requires : goal.kept-requires

@@ -1,14 +1,19 @@
-use Rattle.std.proofs.Common.{◌≡◌, ◌∙◌, ℕ, false, not, map, ap, ap₂, sym, subst, string_bytes, slice_index_or}
+use Rattle.std.proofs.Common.{rules, ◌≡◌, ◌∙◌, ℕ, false, not, map, option_map, ap, ap₂, sym, subst, string_bytes, slice_index_or}
 use Rattle.std.specs.List.{AllByRecursion}
-use Rattle.std.specs.Prelude.{◌==◌}
+use Rattle.std.specs.Prelude.{◌==◌, IfErr}
 use Rattle.tf_action_data.specs.Action.{action_of}
 use Rattle.tf_config_data.specs.Config.{ConfigView}
-use Rattle.tf_plans_data.specs.Plan.{plan_of}
-use Rattle.tf_plans_text.specs.Text.{plan_text}
-use Rattle.tf_reports.specs.Report.{report_of}
-use Rattle.tf_reports.specs.Savable.{IsNamed}
+use Rattle.tf_plan_data.specs.Plan.{plan_of}
+use Rattle.tf_plan_text.specs.Text.{plan_text}
+use Rattle.tf_report.specs.Report.{report_of}
+use Rattle.tf_report.specs.Savable.{IsNamed}
 use Rattle.tf_state_data.specs.State.{state_of}
+use Rattle.tf_inputs.specs.Texts.{the_texts}
+use Rattle.tf_plan.specs.Refused.{Tells}
+use Rattle.tf_refusal.specs.Refusal.{told}
+use Rattle.tf_cli.specs.Refusals.{AreRefusals}
 use Rattle.tf_cli.proofs.Carried.{is_carried_out}
+use Rattle.tf_cli.proofs.Numbered.{refused-first, refused-walk}
 use Rattle.tf_cli.proofs.applying.apply_text.Goals as goal
 
 pub returns-in-Ok-clause-applied : goal.returns-in-Ok-clause-applied
@@ -28,3 +33,16 @@ returns-in-Ok-clause-applied g c =
           c.in-Ok.ensures.walked c.answer_of.ensures.walked c.answer_of.ensures.text
           (c.answer_of.ensures.changed ∙ ap (λ (n : ℕ). not ((state_of (report_of c.in-Ok.walked).state).serial == n)) c.serial.ensures);
     }
+
+pub returns-in_err-plan-clause-refused : goal.returns-in_err-plan-clause-refused
+returns-in_err-plan-clause-refused g c =
+    let ms = map (λ b. (goal.Provider-dyn g (b.vtable, b.value)).meaning b.value) c.args.providers.now in
+    let texts = the_texts c.args.config.now (option_map (λ s. s.now) c.args.vars) (option_map (λ s. s.now) c.args.state) in
+    let before : IfErr c.from_residual.result (Tells (AreRefusals ms texts)) = search rules in
+    refused-first ms texts c.args.lineage.now c.args.workers c.from_residual.result before
+
+pub returns-clause-refused : goal.returns-clause-refused
+returns-clause-refused g c =
+    let ms = map (λ b. (goal.Provider-dyn g (b.vtable, b.value)).meaning b.value) c.args.providers.now in
+    let texts = the_texts c.args.config.now (option_map (λ s. s.now) c.args.vars) (option_map (λ s. s.now) c.args.state) in
+    refused-walk ms texts c.args.lineage.now c.args.workers (plan_of c.in_ok-plan.plan) c.in_ok-plan.ensures.planned (told c.in-Err.refusal) c.in-Err.ensures.refused c.one_refusal.result c.one_refusal.ensures

@@ -1,5 +1,5 @@
 use Rattle.std.proofs.Common.{ℕ, refl, arith, sym, ◌∙◌, subst}
-use Rattle.tf_outcomes.specs.Ended.{done_of}
+use Rattle.tf_outcome.specs.Ended.{done_of}
 use Rattle.tf_cells.specs.Ideal.{IsTrueTo}
 use Rattle.tf_cells.proofs.cells.Cells.publish.Goals as goal
 

@@ -1,8 +1,8 @@
 use Rattle.std.proofs.Common.{rules, ◌≡◌, ◌<◌, ◌+◌, ◌∙◌, ℕ, List, Option, Some, length, sym, ap, subst, arith}
 use Rattle.std.proofs.lemmas.List.{length_push}
 use Rattle.std.specs.Prelude.{slice_set}
-use Rattle.tf_outcomes.specs.Ended.{done_of}
-use Rattle.tf_outcomes.specs.declared.ended.Ended.{Ended}
+use Rattle.tf_outcome.specs.Ended.{done_of}
+use Rattle.tf_outcome.specs.declared.ended.Ended.{Ended}
 use Rattle.tf_cells.specs.Ideal.{IsTrueTo}
 use Rattle.tf_cells.specs.TakingOut.{IsTakenOut}
 use Rattle.tf_cells.proofs.Taking.{none-taken, one-less, last-cell, one-placed}

@@ -1,6 +1,6 @@
 use Rattle.std.proofs.Common.{◌≡◌, ℕ, Some, IfSome, sym, ap, ◌∙◌, subst}
-use Rattle.tf_outcomes.specs.Ended.{done_of}
-use Rattle.tf_outcomes.specs.Outcome.{Done}
+use Rattle.tf_outcome.specs.Ended.{done_of}
+use Rattle.tf_outcome.specs.Outcome.{Done}
 use Rattle.tf_cells.specs.Ideal.{IsTrueTo}
 use Rattle.tf_cells.specs.Reading.{done_held}
 use Rattle.tf_cells.proofs.reading.Reading.ended.Goals as goal

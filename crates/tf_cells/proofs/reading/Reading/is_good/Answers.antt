@@ -1,5 +1,5 @@
 use Rattle.std.proofs.Common.{sym, ap, ◌∙◌}
-use Rattle.tf_outcomes.specs.Outcome.{is_good}
+use Rattle.tf_outcome.specs.Outcome.{is_good}
 use Rattle.tf_cells.specs.Reading.{done_in}
 use Rattle.tf_cells.proofs.Truth.{good-is}
 use Rattle.tf_cells.proofs.reading.Reading.is_good.Goals as goal

@@ -1,5 +1,5 @@
 use Rattle.std.proofs.Common.{◌≡◌, IfOk, subst}
-use Rattle.tf_outcomes.specs.Objects.{object_of}
+use Rattle.tf_outcome.specs.Objects.{object_of}
 use Rattle.tf_value.specs.Tree.{tree_of}
 use Rattle.tf_cells.proofs.Truth.{object-is}
 use Rattle.tf_cells.specs.Reading.{done_in}

@@ -1,0 +1,15 @@
+-- What is known where all that names stand for is known.
+use Rattle.std.specs.Prelude.{◌≡◌, ℕ, true, List, Ok}
+use Rattle.tf_syntax.specs.ExprTree as expr
+use Rattle.tf_value.specs.Known.{known}
+use Rattle.tf_value.specs.Tree.{Tree}
+use Rattle.tf_eval.specs.Environment.{Environment}
+use Rattle.tf_eval.specs.ExprMeaning.{meaning}
+
+-- each reference that has a value has a known one
+abbrev pub IsKnown : Environment → Type 0
+IsKnown env = (first name : List ℕ) (v : Tree) → env first name ≡ Ok v → known v ≡ true
+
+-- Where all that names stand for is known, what an expression means is known.
+abbrev pub ExpressionsStayKnown : Type 0
+ExpressionsStayKnown = (env : Environment) (e : expr.Tree) (v : Tree) → IsKnown env → meaning env e ≡ Ok v → known v ≡ true

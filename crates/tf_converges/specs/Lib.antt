@@ -1,0 +1,5 @@
+pub mod Known
+pub mod Instances
+pub mod Rest
+pub mod Converges
+pub mod Quiet

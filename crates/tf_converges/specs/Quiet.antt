@@ -1,0 +1,25 @@
+-- What an apply without an action changes.
+use Rattle.std.specs.Prelude.{◌≡◌, ℕ, Bool, List, [], Option, Some, None}
+use Rattle.tf_address.specs.Label.{LabelView}
+use Rattle.tf_address.specs.ObjectId.{ObjectIdView}
+use Rattle.tf_outcome.specs.Outcome.{Done}
+use Rattle.tf_plan_data.specs.Plan.{PlanView}
+use Rattle.tf_protocol.specs.Meaning.{Meaning}
+use Rattle.tf_report.specs.Report.{IsStateOf}
+use Rattle.tf_state_after.specs.After.{renewed}
+use Rattle.tf_state_data.specs.Record.{RecordView}
+use Rattle.tf_state_data.specs.State.{StateView, record_in}
+use Rattle.tf_value.specs.Tree.{Entries}
+
+-- No object is known still, or the same one, whose record may be given other dependencies and another flag.
+abbrev pub IsRenewed : Option RecordView → Option RecordView → Type 0
+IsRenewed None after = after ≡ None
+IsRenewed (Some r) after = (dependencies : List (List ℕ)) × (late : Bool) × (after ≡ Some (renewed dependencies late r))
+
+-- An apply of a plan without actions makes, changes and forgets no object: of each the record stays, but for the dependencies and
+-- the flag `create_before_destroy` that it is given anew.
+abbrev pub QuietAppliesKeepObjects : Type 0
+QuietAppliesKeepObjects =
+    (ms : List Meaning) (plan : PlanView) (done : List Done) (outputs : Entries) (after : StateView)
+    → plan.actions ≡ [] → IsStateOf ms plan done outputs after
+    → (label : LabelView) (id : ObjectIdView) → IsRenewed (record_in label id plan.prior) (record_in label id after)

@@ -1,0 +1,5 @@
+pub mod Calling
+pub mod Fallback
+pub mod Judging
+pub mod Lookup
+pub mod Requests

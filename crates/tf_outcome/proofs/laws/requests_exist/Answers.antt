@@ -1,0 +1,8 @@
+use Rattle.tf_outcome.proofs.Requests.{requests_exist, requests_one}
+use Rattle.tf_outcome.proofs.laws.requests_exist.Goals as goal
+
+pub returns : goal.returns
+returns c = record {
+  exist = requests_exist c.standings_are_one.ensures.exist c.standings_are_one.ensures.one;
+  one = requests_one c.standings_are_one.ensures.exist;
+}

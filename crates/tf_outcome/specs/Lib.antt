@@ -1,0 +1,12 @@
+pub mod Asked
+pub mod Done
+pub mod Ended
+pub mod Excuse
+pub mod Fallback
+pub mod Journal
+pub mod Laws
+pub mod Message
+pub mod Objects
+pub mod Outcome
+pub mod Room
+pub mod Run

@@ -1,0 +1,16 @@
+//! What becomes of the actions of a plan that is carried out: the rule by which each is skipped, excused, faulted or
+//! called (`specs/Outcome.antt`), and what the walk keeps of it until it is reported.
+#![tactic(auto)]
+
+mod answered;
+mod asking;
+mod ended;
+mod excuse;
+pub mod laws;
+mod recorded;
+
+pub use answered::{Answered, applies_to, prior_object};
+pub use asking::Asking;
+pub use ended::{Ended, Faulted, Judged};
+pub use excuse::{Excuse, Outcome};
+pub use recorded::ended_by;

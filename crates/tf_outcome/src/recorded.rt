@@ -1,0 +1,48 @@
+//! What came of a call, once it is recorded.
+
+ghost use Rattle.std.specs.Prelude.{◌≡◌, [], true, option_map, string_bytes, string_capacity};
+ghost use Rattle.tf_protocol.specs.Meaning.{asked, answered};
+ghost use Rattle.tf_value.specs.Tree.{tree_of};
+ghost use Rattle.tf_outcome.specs.Ended.{done_by, done_of};
+ghost use Rattle.tf_outcome.specs.Fallback.{is_fallback};
+ghost use Rattle.tf_outcome.specs.Room.{message_fits};
+
+use crate::asking::Asking;
+use crate::ended::{Ended, Judged};
+use tf_claim::Finished;
+use tf_provider::{Parts, Recorded, Verdict};
+use tf_state_data::Object;
+
+/// What came of a recorded call, and the right to report its action as done. It takes what was had before the call beside
+/// its request: an empty text with room for each message about the reply, and what a create saves where the reply can't
+/// be used.
+pub fn ended_by(recorded: Recorded, message: String, fallback: Option<Object>) -> (Ended, Finished)
+    requires blank { string_bytes message ≡ [] }
+    requires fits { message_fits (string_capacity message) (option_map tree_of recorded.request.object) ≡ true }
+    requires stands_in { is_fallback recorded.request.op (option_map tree_of recorded.request.object) (option_map (λ o. tree_of o.value) fallback) ≡ true }
+    ensures finished { result.1 ≡ recorded.action }
+    ensures ended { done_of result.0 ≡ done_by (asked recorded.request) (answered recorded.reply) recorded.verdict }
+{
+    let Parts {
+        finished,
+        request,
+        reply,
+        verdict,
+    } = recorded.into_parts();
+    match verdict {
+        Verdict::Excused => (Ended::NotServed, finished),
+        verdict => {
+            let asking = Asking {
+                request,
+                message,
+                fallback,
+            };
+            let judged = Judged {
+                asking,
+                reply,
+                verdict,
+            };
+            (Ended::Called(judged), finished)
+        }
+    }
+}

@@ -1,0 +1,49 @@
+-- What is refused of names, outputs and resources, by the stage that refuses it.
+use Rattle.std.proofs.Common.{◌≤◌, inl, inr, ℕ, List, length, subst}
+use Rattle.tf_action_data.specs.Action.{ActionView}
+use Rattle.tf_config_data.specs.Names.{NameView}
+use Rattle.tf_environment.specs.Shape.{ShapeView}
+use Rattle.tf_plan.proofs.Refusing.{tells-weaker}
+use Rattle.tf_plan.specs.Plan.{max_actions}
+use Rattle.tf_plan.specs.Planned.{AreInstances, IsPlanned, PlannedView, unrefused}
+use Rattle.tf_plan.specs.Refused.{AreRefusedIn, AreRefusedOf, AreRefusedOfSome, AreUnplanned, HasManyPairs, Tells}
+use Rattle.tf_plan.specs.declared.refused.Refused.{Refused}
+use Rattle.tf_protocol.specs.Meaning.{Meaning}
+use Rattle.tf_refusal.specs.Refusal.{Told}
+use Rattle.tf_state_data.specs.Resource.{ResourceView}
+use Rattle.tf_syntax.specs.ExprTree as expr
+use Rattle.tf_value.specs.Tree.{Entries}
+
+module _ (ms : List Meaning) (resources : List ResourceView) (variables : Entries) (names : List NameView) (outputs : expr.Entries) (shapes : ℕ → ShapeView) (instances : AreInstances variables names shapes) where
+  refused-in : (tolds : List Told) (planned : PlannedView) → IsPlanned ms resources variables names outputs shapes planned → AreRefusedIn planned tolds → AreUnplanned ms resources variables names outputs tolds
+  refused-in tolds planned is (inl h) =
+      inl
+      (record {
+        shapes = shapes;
+        actions = planned.actions;
+        instances = instances;
+        planned = subst (IsPlanned ms resources variables names outputs shapes) (λ i. record { actions = planned.actions; refusals = h.1 i }) is;
+        some = h.0;
+      })
+  refused-in tolds planned is (inr h) =
+      inr
+      (inl
+      (record {
+        shapes = shapes;
+        actions = planned.actions;
+        instances = instances;
+        planned = subst (IsPlanned ms resources variables names outputs shapes) (λ i. record { actions = planned.actions; refusals = h.0 i }) is;
+        many = h.1;
+        refused = h.2;
+      }))
+
+  pub unplanned : (refused : Refused) → Tells (AreRefusedOfSome (IsPlanned ms resources variables names outputs shapes)) refused → Tells (AreRefusedOf ms resources variables names outputs) refused
+  unplanned refused told =
+      tells-weaker (AreRefusedOfSome (IsPlanned ms resources variables names outputs shapes)) (AreRefusedOf ms resources variables names outputs) refused
+      (λ tolds h. inr (refused-in tolds h.0 h.1 h.2)) told
+
+  pub many_pairs : (actions : List ActionView) (refused : Refused) → IsPlanned ms resources variables names outputs shapes (unrefused actions) → length actions ≤ max_actions → Tells (HasManyPairs names resources actions) refused
+      → Tells (AreRefusedOf ms resources variables names outputs) refused
+  many_pairs actions refused planned few told =
+      tells-weaker (HasManyPairs names resources actions) (AreRefusedOf ms resources variables names outputs) refused
+      (λ tolds h. inr (inr (inr (record { shapes = shapes; actions = actions; instances = instances; planned = planned; few = few; pairs = h })))) told

@@ -1,0 +1,16 @@
+pub mod Distinct
+pub mod Objects
+pub mod Ranges
+pub mod Steps
+pub mod Listing
+pub mod About
+pub mod Members
+pub mod Counting
+pub mod Blocks
+pub mod Existing
+pub mod Refusing
+pub mod Tying
+pub mod Sameness
+pub mod Wanting
+pub mod Declaring
+pub mod Fitting

@@ -1,0 +1,58 @@
+-- What the stages of a plan refuse.
+use Rattle.std.proofs.Common.{◌≡◌, inl, inr, ℕ, true, false, Bool, if◌then◌else◌, List, [], ◌∷◌, map, Option, None, Some, Ok, Err, refl, ap, ◌∙◌}
+use Rattle.tf_config_data.specs.Config.{BlockView}
+use Rattle.tf_config_data.specs.Names.{NameView, Meant, a_local, a_block, meant_at, directly_before}
+use Rattle.tf_environment.specs.Stages.{expansion}
+use Rattle.tf_environment.specs.Standing.{StandingView, AreStandings, all_stand, environment}
+use Rattle.tf_environment.specs.Shape.{one}
+use Rattle.tf_environment.specs.declared.repetition.RepetitionFault.{RepetitionFault}
+use Rattle.tf_eval.specs.Environment.{Environment}
+use Rattle.tf_expand.specs.Expanding.{shape_in}
+use Rattle.tf_expand.specs.Told.{Refuses}
+use Rattle.tf_expand.specs.declared.expansion.ExpansionFault.{ExpansionFault}
+use Rattle.tf_expand.specs.declared.expansion.ExpansionFault.TheVariants.{OutOfMemory, Resource, TooMany}
+use Rattle.tf_graph.specs.Solutions.{seen_by}
+use Rattle.tf_names.specs.Needs.{IsAcyclic, IsDependence}
+use Rattle.tf_names.specs.declared.dependence.Dependence.{Dependence}
+use Rattle.tf_refusal.specs.Refusal.{Told, told}
+use Rattle.tf_value.specs.Tree.{Entries}
+use Rattle.tf_plan.proofs.Existing.{some_standings}
+use Rattle.tf_plan.specs.Refused.{AreUnexpanded, IsPlaced, Tells, TellsFault}
+use Rattle.tf_plan.specs.declared.refused.Refused.{Refused}
+use Rattle.tf_plan.specs.declared.refused.Refused.TheVariants.{NoMemory, These}
+
+-- what is refused in the expansion is a resource
+is_block : (m : Option Meant) (env : Environment) (why : RepetitionFault) → shape_in m env ≡ Err why → (block : BlockView) × (m ≡ Some (a_block block))
+is_block None env why h = absurd (cc)
+is_block (Some (a_local e)) env why h = absurd (cc)
+is_block (Some (a_block block)) env why h = (block, refl)
+
+refused_block : (yes : Bool) (m : Option Meant) (env : Environment) (why : RepetitionFault) → (if yes then shape_in m env else Ok one) ≡ Err why → (block : BlockView) × (m ≡ Some (a_block block))
+refused_block true m env why h = is_block m env why h
+refused_block false m env why h = absurd (cc)
+
+placed : (variables : Entries) (names : List NameView) (standings : ℕ → StandingView) (fault : ExpansionFault) → Refuses variables names standings fault → IsPlaced names fault
+placed variables names standings OutOfMemory h = tt
+placed variables names standings TooMany h = tt
+placed variables names standings (Resource n why) h =
+    (h.inside, refused_block (all_stand (seen_by standings (directly_before names n))) (meant_at names n) (environment variables names standings) why h.refused)
+
+-- a fault of an expansion is that of a resource, where it is one's
+pub fault-placed : (variables : Entries) (names : List NameView) (d : Dependence) (fault : ExpansionFault) → IsDependence names d → IsAcyclic d
+    → ((standings : ℕ → StandingView) → AreStandings expansion variables names standings → Refuses variables names standings fault) → IsPlaced names fault
+fault-placed variables names d fault is acyclic refuses =
+    let standings = some_standings expansion variables names d is acyclic in
+    placed variables names standings.0 fault (refuses standings.0 standings.1)
+
+-- what is told of a fault of an expansion
+pub fault-told : (variables : Entries) (names : List NameView) (fault : ExpansionFault) (t : Told) (tolds : List Told)
+    → ((standings : ℕ → StandingView) → AreStandings expansion variables names standings → Refuses variables names standings fault) → TellsFault names fault t → tolds ≡ t ∷ [] → AreUnexpanded variables names tolds
+fault-told variables names OutOfMemory t tolds refuses h is = absurd h
+fault-told variables names TooMany t tolds refuses h is = inr (record { many = refuses; refused = is ∙ ap (λ u. u ∷ []) h })
+fault-told variables names (Resource n why) t tolds refuses h is =
+    inl (record { place = n; why = why; block = h.0; is_block = h.1; first = refuses; refused = is ∙ ap (λ u. u ∷ []) h.2 })
+
+-- what refuses for one reason refuses for a weaker one
+pub tells-weaker : (P Q : List Told → Type 0) (refused : Refused) → ((tolds : List Told) → P tolds → Q tolds) → Tells P refused → Tells Q refused
+tells-weaker P Q NoMemory f h = tt
+tells-weaker P Q (These refusals) f h = f (map told refusals.items) h

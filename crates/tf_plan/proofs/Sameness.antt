@@ -1,0 +1,84 @@
+-- Where each name stands for the same, the same is planned.
+use Rattle.std.proofs.Common.{◌≡◌, ◌∙◌, ◌<◌, ◌++◌, ℕ, Option, Some, None, Result, Ok, Err, IfOk, List, [], ◌∷◌, map, length, if◌then◌else◌, refl, sym, ap}
+use Rattle.std.specs.List.{AllByRecursion}
+use Rattle.std.specs.Prelude.{codes, fold, slice_get}
+use Rattle.std.specs.Str.{bytes_eq}
+use Rattle.std.specs.declared.alloc.AllocError.{AllocError}
+use Rattle.tf_address_order.specs.Order.{AreInAddressOrder}
+use Rattle.tf_config_data.specs.Names.{NameView, Meant, a_local, a_block, meant_at, refers_at, directly_before, place_before, place_of, places}
+use Rattle.tf_deciding.specs.Deciding.{DecidedView, with_block}
+use Rattle.tf_deciding.specs.Stage.{deciding}
+use Rattle.tf_deciding.specs.Whole.{decided, nothing_decided, with_meant, with_numbered}
+use Rattle.tf_environment.proofs.Places.{all_places}
+use Rattle.tf_environment.specs.Shape.{ShapeView}
+use Rattle.tf_environment.specs.Standing.{StandingView, AreStandings, all_stand, answer_at, environment, or_missing}
+use Rattle.tf_eval.specs.ExprMeaning.{meaning}
+use Rattle.tf_graph.proofs.Solving.{seen_by-same}
+use Rattle.tf_graph.specs.Solutions.{seen_by}
+use Rattle.tf_operators.specs.Answer.{Answer, present_value}
+use Rattle.tf_plan.specs.Outputs.{output_fault, output_refusal, output_refusals}
+use Rattle.tf_plan.specs.Planned.{IsPlanned, planned_in, planned_of}
+use Rattle.tf_plan.specs.Told.{instance_told}
+use Rattle.tf_plan.specs.declared.deciding.Planned.{Planned}
+use Rattle.tf_protocol.specs.Meaning.{Meaning}
+use Rattle.tf_resources.specs.Numbering.{NumberedView, a_name, an_orphan, numbered}
+use Rattle.tf_state_data.specs.Resource.{ResourceView}
+use Rattle.tf_syntax.specs.ExprNames.{named_by}
+use Rattle.tf_syntax.specs.ExprTree as expr
+use Rattle.tf_value.specs.Tree.{Entries, get}
+
+module _ (variables : Entries) (names : List NameView) (kept standings : ℕ → StandingView) (same : (n : ℕ) → n < length names → kept n ≡ standings n) where
+  answer-same : (o : Option ℕ) → AllByRecursion (λ a. kept a ≡ standings a) (place_before o []) → answer_at kept o ≡ answer_at standings o
+  answer-same None h = refl
+  answer-same (Some n) h = ap or_missing h.0
+
+  reference-same : (first name : List ℕ) → environment variables names kept first name ≡ environment variables names standings first name
+  reference-same first name =
+      ap (λ (a : Answer). if bytes_eq first (codes "var") then present_value (get name variables) else a)
+      (answer-same (place_of names (first, name)) (all_places (λ a. kept a ≡ standings a) names ((first, name) ∷ []) same))
+
+  -- references stand for the same
+  environment-same : environment variables names kept ≡ environment variables names standings
+  environment-same i = λ first name. reference-same first name i
+
+  seen-same : (n : ℕ) → seen_by kept (directly_before names n) ≡ seen_by standings (directly_before names n)
+  seen-same n = seen_by-same kept standings (directly_before names n) (all_places (λ a. kept a ≡ standings a) names (refers_at (meant_at names n)) same)
+
+  module _ (ms : List Meaning) (resources : List ResourceView) (shapes : ℕ → ShapeView) where
+    meant-same : (n : ℕ) (m : Meant) (d : DecidedView) → with_meant ms resources variables names shapes kept n m d ≡ with_meant ms resources variables names shapes standings n m d
+    meant-same n (a_local e) d = refl
+    meant-same n (a_block block) d = (λ i. if all_stand (seen-same n i) then with_block ms resources n block (environment-same i) (shapes n) d else d)
+
+    numbered-same : (n : ℕ) (o : Option NumberedView) (d : DecidedView) → with_numbered ms resources variables names shapes kept n o d ≡ with_numbered ms resources variables names shapes standings n o d
+    numbered-same n None d = refl
+    numbered-same n (Some (a_name name)) d = meant-same n name.meant d
+    numbered-same n (Some (an_orphan r)) d = refl
+
+    decided-same : (all : List NumberedView) (order : List ℕ) → decided ms resources variables names shapes kept all order ≡ decided ms resources variables names shapes standings all order
+    decided-same all order = (λ i. fold (λ d n. numbered-same n (slice_get all n) d i) nothing_decided order)
+
+  output-same : (name : List ℕ) (e : expr.Tree) → output_refusal variables names kept name e ≡ output_refusal variables names standings name e
+  output-same name e =
+      let seen : seen_by kept (places names (named_by e)) ≡ seen_by standings (places names (named_by e)) =
+      seen_by-same kept standings (places names (named_by e)) (all_places (λ a. kept a ≡ standings a) names (named_by e) same) in
+      (λ i. if all_stand (seen i) then output_fault name (meaning (environment-same i) e) else [])
+
+  outputs-same : (outputs : expr.Entries) → output_refusals variables names kept outputs ≡ output_refusals variables names standings outputs
+  outputs-same expr.no_entries = refl
+  outputs-same (expr.entry name e es) = (λ i. output-same name e i ++ outputs-same es i)
+
+  pub planned-same : (ms : List Meaning) (resources : List ResourceView) (outputs : expr.Entries) (shapes : ℕ → ShapeView) (order : List ℕ)
+      → planned_in ms resources variables names outputs shapes order kept ≡ planned_in ms resources variables names outputs shapes order standings
+  planned-same ms resources outputs shapes order =
+      let d = decided-same ms resources shapes (numbered names resources) order in
+      let told = outputs-same outputs in
+      (λ i. record { actions = (d i).actions; refusals = map instance_told (d i).refusals ++ told i })
+
+-- what is planned where names stand for the very standings
+pub planned-is : (ms : List Meaning) (resources : List ResourceView) (variables : Entries) (names : List NameView) (outputs : expr.Entries) (shapes : ℕ → ShapeView) (order : List ℕ) (kept : ℕ → StandingView)
+    (result : Result Planned AllocError) → AreInAddressOrder (numbered names resources) order
+    → ((standings : ℕ → StandingView) → AreStandings (deciding ms resources shapes) variables names standings → (n : ℕ) → n < length names → kept n ≡ standings n)
+    → IfOk result (λ p. planned_of p ≡ planned_in ms resources variables names outputs shapes order kept) → IfOk result (λ p. IsPlanned ms resources variables names outputs shapes (planned_of p))
+planned-is ms resources variables names outputs shapes order kept (Ok p) sorted same is =
+    record { places = order; in_order = sorted; decided = λ standings s. sym (planned-same variables names kept standings (same standings s) ms resources outputs shapes order) ∙ sym is }
+planned-is ms resources variables names outputs shapes order kept (Err e) sorted same is = is

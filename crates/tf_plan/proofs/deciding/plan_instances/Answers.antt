@@ -1,0 +1,16 @@
+use Rattle.std.proofs.Common.{map}
+use Rattle.tf_address_order.specs.Order.{AreInAddressOrder}
+use Rattle.tf_environment.specs.Views.{shapes_of, standings_of}
+use Rattle.tf_plan.proofs.Sameness.{planned-is}
+use Rattle.tf_plan.specs.Given.{names_given, outputs_given, resources_given, variables_given}
+use Rattle.tf_resources.specs.Numbering.{numbered}
+use Rattle.tf_plan.proofs.deciding.plan_instances.Goals as goal
+
+pub returns : goal.returns
+returns g c =
+    let ms = map (λ b. (goal.Provider-dyn g (b.vtable, b.value)).meaning b.value) c.args.providers.now in
+    let names = names_given c.args.given.now in
+    let resources = resources_given c.args.given.now in
+    let sorted : AreInAddressOrder (numbered names resources) c.in_ok-places.places.items = rw c.requires.numbered at c.in_ok-places.ensures in
+    planned-is ms resources (variables_given c.args.given.now) names (outputs_given c.args.given.now) (shapes_of c.args.shapes.now) c.in_ok-places.places.items (standings_of c.in_ok-kept.kept.items) c.plan_places.result
+    sorted c.in_ok-kept.ensures (rw (c.as_slice.ensures.value, c.as_slice-2.ensures.value) at c.plan_places.ensures)

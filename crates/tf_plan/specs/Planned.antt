@@ -1,0 +1,57 @@
+-- What is planned of a configuration beside a prior state, and what is refused.
+use Rattle.std.specs.Prelude.{◌≡◌, ℕ, List, [], ◌++◌, map}
+use Rattle.tf_action_data.specs.Action.{ActionView, action_of}
+use Rattle.tf_address_order.specs.Order.{AreInAddressOrder}
+use Rattle.tf_config_data.specs.Names.{NameView}
+use Rattle.tf_deciding.specs.Deciding.{DecidedView}
+use Rattle.tf_deciding.specs.Stage.{deciding}
+use Rattle.tf_deciding.specs.Whole.{decided}
+use Rattle.tf_environment.specs.Shape.{ShapeView}
+use Rattle.tf_environment.specs.Stages.{expansion}
+use Rattle.tf_environment.specs.Standing.{StandingView, AreStandings}
+use Rattle.tf_expand.specs.Expanding.{AreExpanded}
+use Rattle.tf_plan.specs.Outputs.{output_refusals}
+use Rattle.tf_plan.specs.Told.{instance_told}
+use Rattle.tf_plan.specs.declared.deciding.Planned.{Planned}
+use Rattle.tf_protocol.specs.Meaning.{Meaning}
+use Rattle.tf_refusal.specs.Refusal.{Told, told}
+use Rattle.tf_resources.specs.Numbering.{numbered}
+use Rattle.tf_state_data.specs.Resource.{ResourceView}
+use Rattle.tf_syntax.specs.ExprTree as expr
+use Rattle.tf_value.specs.Tree.{Entries}
+
+-- the actions that are planned, and all that is refused
+pub record PlannedView : Type 0 where
+  pub actions : List ActionView
+  pub refusals : List Told
+
+-- these actions, and nothing to refuse
+abbrev pub unrefused : List ActionView → PlannedView
+unrefused actions = record { actions = actions; refusals = [] }
+
+-- The instances of each resource are those of the expansion, and there aren't more of them than may be.
+abbrev pub AreInstances : Entries → List NameView → (ℕ → ShapeView) → Type 0
+AreInstances variables names shapes =
+    (standings : ℕ → StandingView) → AreStandings expansion variables names standings → AreExpanded variables names standings shapes
+
+-- what is decided, and what is refused: of instances in the order in which they were decided, then of outputs
+abbrev pub with_outputs : Entries → List NameView → (ℕ → StandingView) → expr.Entries → DecidedView → PlannedView
+with_outputs variables names standings outputs d =
+    record { actions = d.actions; refusals = map instance_told d.refusals ++ output_refusals variables names standings outputs }
+
+-- what is planned and what is refused, with the resources in the order of these places
+abbrev pub planned_in : List Meaning → List ResourceView → Entries → List NameView → expr.Entries → (ℕ → ShapeView) → List ℕ → (ℕ → StandingView) → PlannedView
+planned_in ms resources variables names outputs shapes places standings =
+    with_outputs variables names standings outputs (decided ms resources variables names shapes standings (numbered names resources) places)
+
+-- What is planned of these instances beside the resources of a state, and what is refused, where names stand for what is
+-- decided, and the resources of both are taken in address order.
+pub record IsPlanned (ms : List Meaning) (resources : List ResourceView) (variables : Entries) (names : List NameView) (outputs : expr.Entries) (shapes : ℕ → ShapeView) (planned : PlannedView) : Type 0 where
+  pub places : List ℕ
+  pub in_order : AreInAddressOrder (numbered names resources) places
+  pub decided : (standings : ℕ → StandingView) → AreStandings (deciding ms resources shapes) variables names standings
+      → planned_in ms resources variables names outputs shapes places standings ≡ planned
+
+-- without where it lies in memory
+abbrev pub planned_of : Planned → PlannedView
+planned_of p = record { actions = map action_of p.actions.items; refusals = map told p.refusals.items }

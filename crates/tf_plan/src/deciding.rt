@@ -1,0 +1,136 @@
+//! What is planned of the instances of a configuration and a prior state together.
+
+ghost use Rattle.std.specs.Prelude.{◌≡◌, ◌<◌, ℕ, IfOk, length, map};
+ghost use Rattle.tf_deciding.specs.Deciding.{decided_of};
+ghost use Rattle.tf_deciding.specs.Stage.{deciding};
+ghost use Rattle.tf_deciding.specs.Whole.{decided};
+ghost use Rattle.tf_environment.specs.Standing.{StandingView, AreStandings};
+ghost use Rattle.tf_environment.specs.Views.{shapes_of, standings_of};
+ghost use Rattle.tf_plan.specs.Given.{IsGiven, names_given, outputs_given, resources_given, variables_given};
+ghost use Rattle.tf_plan.specs.Planned.{IsPlanned, planned_in, planned_of};
+ghost use Rattle.tf_resources.specs.Numbering.{numbered};
+
+use crate::outputs::add_outputs;
+use crate::telling::refusals_of;
+use std::alloc::{AllocError, Global};
+use std::collections::BTreeMap;
+use tf_action_data::Action;
+use tf_address_order::address_order;
+use tf_deciding::{Decided, DecidedObjects, Deciding, decide_all};
+use tf_environment::{Declarations, Shape, Standing, standings};
+use tf_protocol::Provider;
+use tf_refusal::Refusal;
+use tf_resources::Numbering;
+use tf_state_data::State;
+use tf_syntax::Expr;
+
+/// What is planned, and what is refused. Where anything is refused, nothing may be called.
+#[derive(Drop)]
+pub(crate) struct Planned {
+    /// The actions of the instances that aren't refused, in address order.
+    pub(crate) actions: Vec<Action>,
+    /// All that is refused: instances in address order, then outputs in byte order of their names.
+    pub(crate) refusals: Vec<Refusal>,
+}
+
+/// What is planned: a configuration beside a prior state.
+#[derive(Drop)]
+pub(crate) struct Given<'a, 'd, 'n, 'm> {
+    /// The names of the configuration, which needs which, and the values of its variables.
+    pub(crate) declared: &'a Declarations<'d, 'n>,
+    /// Its outputs.
+    pub(crate) outputs: &'a BTreeMap<String, Expr>,
+    /// The prior state.
+    pub(crate) prior: &'a State,
+    /// The numbers of the resources of both.
+    pub(crate) numbering: &'a Numbering<'m>,
+}
+
+/// Plans the instances of a configuration and of a prior state together, where names stand for what is decided of them.
+pub(crate) fn plan_instances(
+    alloc: Global,
+    given: &Given,
+    shapes: &[Shape],
+    providers: &[Box<dyn Provider + Sync>],
+) -> Result<Planned, AllocError>
+    requires { IsGiven given.now }
+    ensures { IfOk result (λ planned. IsPlanned (map (λ b. meaning b) providers.now) (resources_given given.now) (variables_given given.now) (names_given given.now) (outputs_given given.now)
+        (shapes_of shapes.now) (planned_of planned)) }
+{
+    let kept = stage_standings(alloc, given, shapes, providers)?;
+    let places = address_order(alloc, given.numbering)?;
+    plan_places(
+        alloc,
+        given,
+        shapes,
+        providers,
+        kept.as_slice(),
+        places.as_slice(),
+    )
+}
+
+/// What each name stands for in the plan.
+fn stage_standings(
+    alloc: Global,
+    given: &Given,
+    shapes: &[Shape],
+    providers: &[Box<dyn Provider + Sync>],
+) -> Result<Vec<Standing>, AllocError>
+    requires { IsGiven given.now }
+    ensures { IfOk result (λ kept. (standings : ℕ → StandingView)
+        → AreStandings (deciding (map (λ b. meaning b) providers.now) (resources_given given.now) (shapes_of shapes.now)) (variables_given given.now) (names_given given.now) standings
+        → (n : ℕ) → n < length (names_given given.now) → standings_of kept.items n ≡ standings n) }
+{
+    let stage = Deciding {
+        shapes,
+        objects: DecidedObjects {
+            state: given.prior,
+            providers,
+        },
+    };
+    let wanted = vec![in alloc; true; given.declared.names.len()]?;
+    standings(alloc, &stage, given.declared, wanted.as_slice())
+}
+
+/// Plans the instances of what stands at these places, in their order, where names stand for these standings.
+fn plan_places(
+    alloc: Global,
+    given: &Given,
+    shapes: &[Shape],
+    providers: &[Box<dyn Provider + Sync>],
+    kept: &[Standing],
+    places: &[usize],
+) -> Result<Planned, AllocError>
+    requires { IsGiven given.now }
+    ensures { IfOk result (λ planned. planned_of planned ≡ planned_in (map (λ b. meaning b) providers.now) (resources_given given.now) (variables_given given.now) (names_given given.now) (outputs_given given.now)
+        (shapes_of shapes.now) places.now (standings_of kept.now)) }
+{
+    let decided = decide_places(alloc, given, shapes, providers, kept, places)?;
+    let Decided { actions, refusals } = decided;
+    let mut refusals = refusals_of(alloc, refusals)?;
+    add_outputs(alloc, &mut refusals, given.declared, kept, given.outputs)?;
+    Ok(Planned { actions, refusals })
+}
+
+/// Decides the instances of what stands at these places, in their order.
+fn decide_places(
+    alloc: Global,
+    given: &Given,
+    shapes: &[Shape],
+    providers: &[Box<dyn Provider + Sync>],
+    kept: &[Standing],
+    places: &[usize],
+) -> Result<Decided, AllocError>
+    requires { IsGiven given.now }
+    ensures { IfOk result (λ d. decided_of d ≡ decided (map (λ b. meaning b) providers.now) (resources_given given.now) (variables_given given.now) (names_given given.now)
+        (shapes_of shapes.now) (standings_of kept.now) (numbered (names_given given.now) (resources_given given.now)) places.now) }
+{
+    let stage = Deciding {
+        shapes,
+        objects: DecidedObjects {
+            state: given.prior,
+            providers,
+        },
+    };
+    decide_all(alloc, &stage, given.declared, kept, given.numbering, places)
+}

@@ -1,0 +1,103 @@
+//! What is refused alone: a resource whose instances can't be told, and what is more than may be.
+
+ghost use Rattle.std.specs.Prelude.{◌≡◌, ◌<◌, ◌∷◌, [], IfOk, length, string_bytes};
+ghost use Rattle.tf_address.specs.Label.{label_of};
+ghost use Rattle.tf_names.specs.Table.{names_in};
+ghost use Rattle.tf_plan.specs.Refused.{IsPlaced, Tells, TellsFault, beyond_limit, instances_refusal};
+ghost use Rattle.tf_refusal.specs.Refusal.{bare, fault, kind, told};
+ghost use Rattle.tf_refusal.specs.Code.{evaluate};
+
+use crate::refused::Refused;
+use std::alloc::{AllocError, Global};
+use tf_address::Label;
+use tf_environment::RepetitionFault;
+use tf_eval::EvalFault;
+use tf_expand::ExpansionFault;
+use tf_names::{Named, Names};
+use tf_refusal::code::{BAD_COUNT, BAD_FOR_EACH, EVALUATE, LIMIT, UNKNOWN_INSTANCES};
+use tf_refusal::{Detail, Refusal};
+
+/// The refusal of a fault of the expansion.
+///
+/// # Errors
+///
+/// Only where memory runs out, or ran out in the expansion.
+pub(crate) fn expansion_refusal(
+    alloc: Global,
+    names: &Names<'_>,
+    fault: ExpansionFault,
+) -> Result<Refusal, AllocError>
+    requires { IsPlaced (names_in names.now) fault }
+    ensures { IfOk result (λ refusal. TellsFault (names_in names.now) fault (told refusal)) }
+{
+    match fault {
+        ExpansionFault::OutOfMemory => Err(AllocError),
+        ExpansionFault::TooMany => limit_refusal(alloc),
+        ExpansionFault::Resource(place, why) => match names.at(place) {
+            Named::Resource(label, _) => instances_refusal(alloc, label, why),
+            Named::Local(_, _) => unreachable!(),
+        },
+    }
+}
+
+/// The refusal of a resource whose instances can't be told.
+fn instances_refusal(
+    alloc: Global,
+    label: &Label,
+    why: RepetitionFault,
+) -> Result<Refusal, AllocError>
+    ensures { IfOk result (λ refusal. told refusal ≡ instances_refusal (label_of label.now) why) }
+{
+    let place = label.to_string(alloc)?;
+    match why {
+        RepetitionFault::BadCount => Ok(bare(BAD_COUNT, place)),
+        RepetitionFault::BadForEach => Ok(bare(BAD_FOR_EACH, place)),
+        RepetitionFault::UnknownInstances => Ok(bare(UNKNOWN_INSTANCES, place)),
+        RepetitionFault::Evaluation(why) => Ok(evaluation(place, why)),
+    }
+}
+
+/// The refusal of what is more than may be.
+///
+/// # Errors
+///
+/// Only where memory runs out.
+pub(crate) fn limit_refusal(alloc: Global) -> Result<Refusal, AllocError>
+    ensures { IfOk result (λ refusal. told refusal ≡ beyond_limit) }
+{
+    let place = String::from_str(alloc, "configuration")?;
+    Ok(bare(LIMIT, place))
+}
+
+/// An evaluation at a place failed.
+pub(crate) fn evaluation(place: String, why: EvalFault) -> Refusal
+    ensures { told result ≡ fault evaluate (string_bytes place) (kind why) }
+{
+    Refusal::Fault {
+        code: EVALUATE,
+        place,
+        detail: Detail::Kind(why),
+    }
+}
+
+/// A fault at a place of which nothing more is told.
+pub(crate) fn bare(code: u8, place: String) -> Refusal
+    ensures { told result ≡ fault code (string_bytes place) bare }
+{
+    Refusal::Fault {
+        code,
+        place,
+        detail: Detail::Bare,
+    }
+}
+
+/// The answer that tells of one refusal.
+///
+/// # Errors
+///
+/// Only where memory runs out.
+pub(crate) fn alone(alloc: Global, refusal: Refusal) -> Result<Refused, AllocError>
+    ensures { IfOk result (Tells (λ tolds. tolds ≡ told refusal ∷ [])) }
+{
+    Ok(Refused::These(vec![in alloc; refusal]?))
+}

@@ -1,0 +1,19 @@
+//! The planner: what is done for a configuration beside a prior state, in which order, and the text that tells the user.
+//!
+//! The stages of a plan are crates of their own: the instances (`tf_expand`), what is decided of them or refused
+//! (`tf_deciding`), which resources are late, and the order (`tf_precedence`). `plan` is the door to them.
+#![tactic(auto)]
+
+mod deciding;
+mod faults;
+mod ordering;
+mod outputs;
+mod planner;
+mod refused;
+mod telling;
+
+pub use planner::{MAX_ACTIONS, plan};
+pub use refused::Refused;
+pub use tf_plan_data::{Action, Plan, Step, address_text};
+pub use tf_plan_text::plan_text;
+pub use tf_precedence::Order;

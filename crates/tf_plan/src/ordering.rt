@@ -1,0 +1,103 @@
+//! Which resources of a plan are late, and which of its actions is before which.
+
+ghost use Rattle.std.specs.Prelude.{◌≡◌, ◌≤◌, IfOk, IfErr, false, length, map, slice_index_or};
+ghost use Rattle.tf_action_data.specs.Action.{action_of};
+ghost use Rattle.tf_action_data.specs.Precedence.{ordered};
+ghost use Rattle.tf_names.specs.Needs.{IsAcyclic, IsDependence, needs_in};
+ghost use Rattle.tf_names.specs.Table.{names_in};
+ghost use Rattle.tf_plan.specs.Ordered.{IsOrdered, action_pairs, max_pairs, ties_by};
+ghost use Rattle.tf_plan.specs.Refused.{AreManyPairsBy, HasManyPairs, Tells};
+ghost use Rattle.tf_precedence.specs.Ties.{AreSound};
+ghost use Rattle.tf_resources.specs.Numbering.{numbered};
+ghost use Rattle.tf_resources.specs.Table.{numbered_in, resources_in};
+
+use crate::faults::{alone, limit_refusal};
+use crate::refused::Refused;
+use std::alloc::{AllocError, Global};
+use tf_action_data::Action;
+use tf_environment::Declarations;
+use tf_graph::MAX_NODES;
+use tf_names::Dependence;
+use tf_precedence::{Order, OrderFault, Stored, Ties, lateness};
+use tf_resources::Numbering;
+
+/// The order of a plan's actions.
+#[derive(Drop)]
+pub(crate) struct Ordered {
+    /// For each resource whether it is late.
+    pub(crate) late: Vec<bool>,
+    /// Which action is before which.
+    pub(crate) order: Order,
+}
+
+/// The order of these actions, or the refusal of so many pairs.
+pub(crate) fn order_actions(
+    alloc: Global,
+    declared: &Declarations,
+    numbering: &Numbering<'_>,
+    actions: &[Action],
+) -> Result<Ordered, Refused>
+    requires dependence { IsDependence (names_in declared.now.names.now) declared.now.dependence.now }
+    requires acyclic { IsAcyclic declared.now.dependence.now }
+    requires numbered { numbered_in numbering.now ≡ numbered (names_in declared.now.names.now) (resources_in numbering.now) }
+    requires few_numbers { length (numbered_in numbering.now) ≤ MAX_NODES }
+    requires few { length actions.now ≤ MAX_NODES }
+    ensures ordered { IfOk result (λ o. IsOrdered (names_in declared.now.names.now) (resources_in numbering.now) (needs_in declared.now.dependence.now)
+        (λ n. slice_index_or o.late.items n false) (map action_of actions.now) o.order) }
+    ensures refused { IfErr result (Tells (HasManyPairs (names_in declared.now.names.now) (resources_in numbering.now) (map action_of actions.now))) }
+{
+    let stored = numbering.stored(alloc)?;
+    let marked = numbering.marked(alloc)?;
+    let needs = declared.dependence.graph();
+    let late = lateness(alloc, needs, stored.graph(), marked.as_slice())?;
+    let order = order_by(
+        alloc,
+        declared.dependence,
+        &stored,
+        late.as_slice(),
+        actions,
+    )?;
+    Ok(Ordered { late, order })
+}
+
+/// The order of these actions by what ties their resources together, or the refusal of so many pairs.
+fn order_by(
+    alloc: Global,
+    dependence: &Dependence,
+    stored: &Stored,
+    late: &[bool],
+    actions: &[Action],
+) -> Result<Order, Refused>
+    requires few { length actions.now ≤ MAX_NODES }
+    requires sound { AreSound (ties_by dependence.now stored.now late.now) }
+    ensures nodes { IfOk result (λ o. o.nodes ≡ length actions.now) }
+    ensures edges { IfOk result (λ o. o.edges ≡ action_pairs (ties_by dependence.now stored.now late.now) (map action_of actions.now)) }
+    ensures few { IfOk result (λ o. length o.edges ≤ max_pairs) }
+    ensures refused { IfErr result (Tells (AreManyPairsBy (ties_by dependence.now stored.now late.now) (map action_of actions.now))) }
+{
+    let ties = Ties {
+        by_configuration: dependence.table(),
+        by_state: stored.table(),
+        late,
+    };
+    let ordered = ordered_of(alloc, actions)?;
+    match Order::new(alloc, &ties, ordered.as_slice()) {
+        Ok(order) => Ok(order),
+        Err(OrderFault::OutOfMemory) => Err(Refused::NoMemory),
+        Err(OrderFault::TooMany) => {
+            let beyond = limit_refusal(alloc)?;
+            Err(alone(alloc, beyond)?)
+        }
+    }
+}
+
+/// The actions as their order sees them.
+fn ordered_of(alloc: Global, actions: &[Action]) -> Result<Vec<tf_precedence::Action>, AllocError>
+    ensures { IfOk result (λ seen. seen.items ≡ map ordered (map action_of actions.now)) }
+{
+    let mut seen = Vec::with_capacity(alloc, actions.len())?;
+    for action in actions {
+        seen.push(action.ordered())?;
+    }
+    Ok(seen)
+}

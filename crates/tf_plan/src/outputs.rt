@@ -1,0 +1,66 @@
+//! What is refused of outputs.
+
+ghost use Rattle.std.specs.Prelude.{◌≡◌, ◌++◌, OnOk, map};
+ghost use Rattle.tf_environment.specs.Views.{standings_of};
+ghost use Rattle.tf_names.specs.Table.{names_in};
+ghost use Rattle.tf_plan.specs.Outputs.{output_refusal, output_refusals};
+ghost use Rattle.tf_refusal.specs.Refusal.{told};
+ghost use Rattle.tf_syntax.specs.ExprTree.{entries_view as expressions_view, tree_of};
+ghost use Rattle.tf_value.specs.Tree.{entries_view};
+
+use crate::faults::evaluation;
+use std::alloc::{AllocError, Global};
+use std::collections::BTreeMap;
+use tf_environment::{Declarations, NamesScope, Standing, all_stand};
+use tf_eval::{EvalFault, eval_expr};
+use tf_refusal::Refusal;
+use tf_syntax::Expr;
+
+/// Adds what is refused of outputs, where names stand for these standings.
+pub(crate) fn add_outputs(
+    alloc: Global,
+    refusals: &mut Vec<Refusal>,
+    declared: &Declarations,
+    kept: &[Standing],
+    outputs: &BTreeMap<String, Expr>,
+) -> Result<(), AllocError>
+    ensures { OnOk result (map told refusals.new.items ≡ map told refusals.old.items
+        ++ output_refusals (entries_view declared.now.variables.now.entries) (names_in declared.now.names.now) (standings_of kept.now) (expressions_view outputs.now.entries)) }
+{
+    for (name, expr) in outputs.iter() {
+        add_output(alloc, refusals, declared, kept, name.as_str(), expr)?;
+    }
+    Ok(())
+}
+
+/// Adds the refusal of an output whose value can't be evaluated, where all that it refers to stands for something.
+fn add_output(
+    alloc: Global,
+    refusals: &mut Vec<Refusal>,
+    declared: &Declarations,
+    kept: &[Standing],
+    name: &str,
+    expr: &Expr,
+) -> Result<(), AllocError>
+    ensures { OnOk result (map told refusals.new.items ≡ map told refusals.old.items
+        ++ output_refusal (entries_view declared.now.variables.now.entries) (names_in declared.now.names.now) (standings_of kept.now) name.now (tree_of expr.now)) }
+{
+    let named = declared.names.named_in(alloc, expr)?;
+    if !all_stand(kept, named.as_slice()) {
+        return Ok(());
+    }
+    let scope = NamesScope {
+        variables: declared.variables,
+        names: declared.names,
+        standings: kept,
+    };
+    match eval_expr(alloc, expr, &scope) {
+        Ok(_) => Ok(()),
+        Err(EvalFault::OutOfMemory) => Err(AllocError),
+        Err(why) => {
+            let place = format!(in alloc; "output.{name}")?;
+            refusals.push(evaluation(place, why))?;
+            Ok(())
+        }
+    }
+}

@@ -1,0 +1,71 @@
+-- What each plan that is made of a configuration and a prior state keeps to.
+use Rattle.std.specs.Prelude.{◌≡◌, ◌+◌, ◌<◌, ◌^◌, ℕ, Bool, true, false, List, Option, None, Some, map, slice_get, ⊤}
+use Rattle.std.specs.List.{AllByRecursion}
+use Rattle.tf_action_data.specs.Action.{ActionView, StepView, create, update, replacement, replaced, destroyed, deposed_destroyed, action_of}
+use Rattle.tf_address.specs.Label.{LabelView}
+use Rattle.tf_address.specs.ObjectId.{InstanceKeyView, single, number, name}
+use Rattle.tf_config_data.specs.Config.{BlockView, config_of}
+use Rattle.tf_config_data.specs.Names.{NameView, a_block, meant_at, names_of}
+use Rattle.tf_names.specs.Needs.{IsAcyclic, IsDependence}
+use Rattle.tf_resources.specs.Numbering.{NumberedView, numbered, place_in}
+use Rattle.tf_state_data.specs.State.{state_of}
+use Rattle.tf_plan_data.specs.declared.plan.Plan.{Plan}
+
+-- it creates or updates an object
+abbrev pub is_apply : StepView → Bool
+is_apply (create asked) = true
+is_apply (update prior asked names) = true
+is_apply (replacement asked names) = true
+is_apply (replaced prior) = false
+is_apply (destroyed prior) = false
+is_apply (deposed_destroyed key prior) = false
+
+-- the key of the deposed object that a step destroys; none where it is about the current object
+abbrev pub deposed_key : StepView → Option (List ℕ)
+deposed_key (deposed_destroyed key prior) = Some key
+deposed_key _ = None
+
+-- an action's resource is the one at its number
+abbrev pub IsPlaced : List NumberedView → ActionView → Type 0
+IsPlaced all a = place_in all a.label ≡ Some a.resource
+
+-- the number of an instance is below the most instances that a configuration may have
+abbrev pub IsNumbered : InstanceKeyView → Type 0
+IsNumbered single = ⊤
+IsNumbered (number n) = n < 2000
+IsNumbered (name s) = ⊤
+
+-- What a create or an update is of: a block that stands at the place of its resource, and an instance that it may have.
+pub record IsOfBlock (names : List NameView) (a : ActionView) : Type 0 where
+  pub block : BlockView
+  pub stands : meant_at names a.resource ≡ Some (a_block block)
+  pub own : block.label ≡ a.label
+  pub numbered : IsNumbered a.key
+
+abbrev pub IsDeclared : List NameView → ActionView → Type 0
+IsDeclared names a = is_apply a.step ≡ true → IsOfBlock names a
+
+-- What an action is about: an instance, whether an object is made or changed or else destroyed, and of a destroyed deposed
+-- object its key.
+pub record AboutView : Type 0 where
+  pub label : LabelView
+  pub key : InstanceKeyView
+  pub applies : Bool
+  pub deposed : Option (List ℕ)
+
+abbrev pub about : ActionView → AboutView
+about a = record { label = a.label; key = a.key; applies = is_apply a.step; deposed = deposed_key a.step }
+
+-- no two actions are about the same
+abbrev pub AreApart : List ActionView → Type 0
+AreApart actions = (i j : ℕ) (a b : ActionView) → slice_get actions i ≡ Some a → slice_get actions j ≡ Some b → about a ≡ about b → i ≡ j
+
+-- The parts of a plan fit together, as those of each plan that is made of a configuration and a state do. The serial after
+-- the prior one is a serial too.
+pub record FitsTogether (p : Plan) : Type 0 where
+  pub dependence : IsDependence (names_of (config_of p.config)) p.dependence
+  pub acyclic : IsAcyclic p.dependence
+  pub placed : AllByRecursion (IsPlaced (numbered (names_of (config_of p.config)) (state_of p.prior).resources)) (map action_of p.actions.items)
+  pub declared : AllByRecursion (IsDeclared (names_of (config_of p.config))) (map action_of p.actions.items)
+  pub apart : AreApart (map action_of p.actions.items)
+  pub serial : (state_of p.prior).serial + 1 < 2 ^ 32

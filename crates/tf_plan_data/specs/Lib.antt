@@ -1,0 +1,4 @@
+pub mod Address
+pub mod Fits
+pub mod Plan
+pub mod Served

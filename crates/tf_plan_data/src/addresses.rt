@@ -1,0 +1,61 @@
+//! The address of an instance, as a text.
+
+ghost use Rattle.std.specs.Prelude.{◌≡◌, ◌++◌, ◌∷◌, [], IfOk, decimal, string_bytes};
+ghost use Rattle.json.specs.Print.{quoted};
+ghost use Rattle.tf_address.specs.Label.{label_of, label_text};
+ghost use Rattle.tf_address.specs.ObjectId.{instance_key_of};
+ghost use Rattle.tf_plan_data.specs.Address.{address_text};
+
+use serde_json::Value as Json;
+use std::alloc::{AllocError, Global};
+use tf_address::{InstanceKey, Label};
+
+/// The address of an instance: `TYPE.NAME`, `TYPE.NAME[0]` or `TYPE.NAME["key"]`, the key as a compact JSON text.
+///
+/// # Errors
+///
+/// Only where memory runs out.
+pub fn address_text(alloc: Global, label: &Label, key: &InstanceKey) -> Result<String, AllocError>
+    ensures { IfOk result (λ text. string_bytes text ≡ address_text (label_of label.now) (instance_key_of key.now)) }
+{
+    match key {
+        InstanceKey::Single => label.to_string(alloc),
+        InstanceKey::Number(number) => numbered(alloc, label, *number),
+        InstanceKey::Name(name) => named(alloc, label, name.as_str()),
+    }
+}
+
+fn numbered(alloc: Global, label: &Label, number: u64) -> Result<String, AllocError>
+    ensures { IfOk result (λ text. string_bytes text ≡ label_text (label_of label.now) ++ 91 ∷ (decimal number ++ 93 ∷ [])) }
+{
+    let digits = digits(alloc, number)?;
+    in_brackets(alloc, label, digits.as_str())
+}
+
+fn named(alloc: Global, label: &Label, name: &str) -> Result<String, AllocError>
+    ensures { IfOk result (λ text. string_bytes text ≡ label_text (label_of label.now) ++ 91 ∷ (quoted name.now ++ 93 ∷ [])) }
+{
+    let quoted = in_quotes(alloc, name)?;
+    in_brackets(alloc, label, quoted.as_str())
+}
+
+/// A resource's address, and behind it a text in brackets.
+fn in_brackets(alloc: Global, label: &Label, text: &str) -> Result<String, AllocError>
+    ensures { IfOk result (λ whole. string_bytes whole ≡ label_text (label_of label.now) ++ 91 ∷ (text.now ++ 93 ∷ [])) }
+{
+    format!(in alloc; "{label}[{text}]")
+}
+
+/// A text in quotes, with JSON's escapes.
+fn in_quotes(alloc: Global, text: &str) -> Result<String, AllocError>
+    ensures { IfOk result (λ quoted_text. string_bytes quoted_text ≡ quoted text.now) }
+{
+    let json = Json::String(String::from_str(alloc, text)?);
+    json.to_string(alloc)
+}
+
+fn digits(alloc: Global, number: u64) -> Result<String, AllocError>
+    ensures { IfOk result (λ text. string_bytes text ≡ decimal number) }
+{
+    number.to_string(alloc)
+}

@@ -1,0 +1,36 @@
+//! A plan: what is to be done, in which order, and what it is planned from.
+
+ghost use Rattle.std.specs.Prelude.{◌≡◌, vec_len};
+
+use std::collections::BTreeMap;
+use tf_action_data::Action;
+use tf_config_data::Config;
+use tf_environment::Shape;
+use tf_names::Dependence;
+use tf_precedence::Order;
+use tf_state_data::State;
+use tf_value::Value;
+
+/// A plan. An action is named by its place in the list of actions, which are in address order. What it is planned from
+/// is kept, as requests and outputs are worked out from it when the plan is carried out.
+#[derive(Drop)]
+pub struct Plan {
+    /// The state that the plan starts from.
+    pub prior: State,
+    /// The configuration.
+    pub config: Config,
+    /// The variables' values by name.
+    pub variables: BTreeMap<String, Value>,
+    /// Which name of the configuration needs which.
+    pub dependence: Dependence,
+    /// How the instances of each resource stand together, by the place of its name.
+    pub shapes: Vec<Shape>,
+    /// For each resource of configuration and prior state together, by its number (`tf_resources`), whether it is late:
+    /// what replaces an object of it is created before that object is destroyed.
+    pub late: Vec<bool>,
+    /// The actions, in address order.
+    pub actions: Vec<Action>,
+    /// Which action is before which.
+    pub order: Order,
+    pub ghost counted: { order.nodes ≡ vec_len actions },
+}

@@ -1,0 +1,4 @@
+pub mod Fitting
+pub mod Prepared
+pub mod Run
+pub mod Walk

@@ -1,0 +1,80 @@
+//! Where what comes of actions is kept.
+
+ghost use Rattle.std.specs.Prelude.{◌≡◌, ◌≤◌, [], None, IfOk, replicate, vec_capacity};
+
+use std::alloc::{AllocError, Global};
+use tf_cells::{Cells, Naming};
+use tf_outcome::{Ended, Judged};
+
+/// The cells of some actions, and the list into which they are taken out. What came of an action may not be let go, so
+/// neither may this.
+pub(crate) struct Board<N: Naming> {
+    pub cells: Cells<N>,
+    pub results: Vec<Option<Ended>>,
+}
+
+impl<N: Naming> Board<N> {
+    /// The board of so many actions, of which nothing came yet.
+    ///
+    /// # Errors
+    ///
+    /// Only where memory runs out.
+    pub fn new(alloc: Global, count: usize) -> Result<Board<N>, AllocError>
+        ensures cells { IfOk result (λ board. board.cells ≡ count) }
+        ensures results { IfOk result (λ board. board.results.items ≡ replicate count None) }
+    {
+        let results = Vec::with_capacity(alloc, count)?;
+        match Cells::new(alloc, count) {
+            Ok(cells) => Ok(Board {
+                cells,
+                results: not_ended(results, count),
+            }),
+            Err(AllocError) => {
+                results.destroy_empty();
+                Err(AllocError)
+            }
+        }
+    }
+
+    /// Gives up a board before anything came of an action.
+    pub fn discard(self)
+        requires { self.results.items ≡ replicate self.cells None }
+    {
+        let Board { cells, mut results } = self;
+        cells.take_out(&mut results);
+        while let Some(popped) = results.pop() {
+            match popped {
+                Some(ended) => forget(ended),
+                None => {}
+            }
+        }
+        results.destroy_empty();
+    }
+}
+
+/// A list of so many actions, none of which has ended, in an empty one with room for them.
+fn not_ended(mut results: Vec<Option<Ended>>, count: usize) -> Vec<Option<Ended>>
+    requires empty { results.items ≡ [] }
+    requires room { count ≤ vec_capacity results }
+    ensures { result.items ≡ replicate count None }
+{
+    for _ in 0..count {
+        results.push_reserved(None);
+    }
+    results
+}
+
+/// Forgets what came of an action.
+fn forget(ended: Ended) {
+    match ended {
+        Ended::Called(judged) => {
+            let Judged {
+                asking: _,
+                reply: _,
+                verdict: _,
+            } = judged;
+        }
+        Ended::Faulted(_) => {}
+        Ended::Skipped | Ended::NotAsked | Ended::NotServed | Ended::Left => {}
+    }
+}

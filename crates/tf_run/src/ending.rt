@@ -1,0 +1,57 @@
+//! The end of a walk: what came of all actions, reported and compared with the journal.
+
+ghost use Rattle.std.specs.Prelude.{◌≡◌, List, None, map, replicate};
+ghost use Rattle.tf_names.specs.Table.{names_in};
+ghost use Rattle.tf_plan_data.specs.Fits.{FitsTogether};
+ghost use Rattle.tf_plan_data.specs.Plan.{plan_names, plan_of};
+ghost use Rattle.tf_report.specs.Furnished.{IsFurnished};
+ghost use Rattle.tf_run.specs.Run.{IsRun};
+
+use crate::fitting::demand_fit;
+use std::alloc::Global;
+use std::sync::Wait;
+use tf_cells::{Cells, Naming};
+use tf_environment::Declarations;
+use tf_journal::Journal;
+use tf_names::Names;
+use tf_outcome::Ended;
+use tf_plan_data::Plan;
+use tf_provider::Provider;
+use tf_report::{Furnished, Walked, report_of};
+use tf_settle::settle;
+
+/// The report on a plan whose actions have all ended, by their cells: whole exactly where the journal is that of the calls,
+/// and else torn. It has no answer that says that there was no memory.
+pub(crate) fn conclude<N: Naming, R: Wait>(
+    rt: &R,
+    alloc: Global,
+    plan: &Plan,
+    names: &Names<'_>,
+    providers: &[Box<dyn Provider + Sync>],
+    furnished: Furnished<'_>,
+    cells: Cells<N>,
+    mut results: Vec<Option<Ended>>,
+    journal: Journal,
+) -> Walked
+    requires fits { FitsTogether plan.now }
+    requires meanings { N.meanings ≡ map (λ b. meaning b) providers.now }
+    requires plan { N.plan ≡ plan_of plan.now }
+    requires names { names_in names.now ≡ plan_names (plan_of plan.now) }
+    requires furnished { IsFurnished plan.now furnished }
+    requires cells { cells ≡ plan.now.order.nodes }
+    requires results { results.items ≡ replicate plan.now.order.nodes None }
+    requires journal { journal.graph ≡ plan.now.order }
+    ensures { IsRun (map (λ b. meaning b) providers.now) (plan_of plan.now) result }
+{
+    cells.take_out(&mut results);
+    demand_fit(rt, plan.order.graph(), &results);
+    let declared = Declarations {
+        variables: &plan.variables,
+        names,
+        dependence: &plan.dependence,
+    };
+    let report = report_of(
+        alloc, plan, &declared, providers, furnished, results, journal,
+    );
+    settle(plan, report)
+}

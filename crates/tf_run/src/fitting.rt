@@ -1,0 +1,87 @@
+//! Whether the ends of all actions fit together.
+
+ghost use Rattle.std.specs.List.{list_all};
+ghost use Rattle.std.specs.Prelude.{◌≡◌, ◌<◌, ℕ, All, IsTrue, length};
+ghost use Rattle.tf_cells.specs.Laws.{is_skipped};
+ghost use Rattle.tf_outcome.specs.Ended.{done_or_skipped, dones_of};
+ghost use Rattle.tf_outcome.specs.Outcome.{done_at, is_good};
+ghost use Rattle.tf_run.specs.Fitting.{IsSkippedRightly, AreSkippedRightly};
+
+use std::sync::Wait;
+use tf_graph::Graph;
+use tf_outcome::Ended;
+use tf_protocol::Verdict;
+
+/// Returns where each action is skipped exactly where one directly before it isn't good. Of ends that don't fit together
+/// nothing can be reported, so it waits for ever there.
+pub(crate) fn demand_fit<R: Wait>(rt: &R, order: &Graph, results: &[Option<Ended>])
+    requires { length results.now ≡ order.now.nodes }
+    ensures { AreSkippedRightly order.now (dones_of results.now) }
+{
+    if all_fit(order, results) {
+        return;
+    }
+    for _ in rt.forever() {}
+    unreachable!()
+}
+
+/// Whether each action is skipped exactly where one directly before it isn't good.
+fn all_fit(order: &Graph, results: &[Option<Ended>]) -> bool
+    requires { length results.now ≡ order.now.nodes }
+    ensures { IsTrue result → AreSkippedRightly order.now (dones_of results.now) }
+{
+    for action in 0..order.nodes() {
+        let fits = fits(order, results, action);
+        if !fits {
+            return false;
+        }
+    }
+    true
+}
+
+/// Whether an action is skipped exactly where one directly before it isn't good.
+fn fits(order: &Graph, results: &[Option<Ended>], action: usize) -> bool
+    requires sized { length results.now ≡ order.now.nodes }
+    requires within { action < order.now.nodes }
+    ensures { IsTrue result → IsSkippedRightly order.now (dones_of results.now) action }
+{
+    is_skipped_at(results, action) != are_good(results, order.predecessors(action))
+}
+
+/// Whether an action was skipped.
+fn is_skipped_at(results: &[Option<Ended>], action: usize) -> bool
+    requires { action < length results.now }
+    ensures { result ≡ is_skipped (done_at (dones_of results.now) action) }
+{
+    is_skipped(&results[action])
+}
+
+/// Whether each of some actions is good.
+fn are_good(results: &[Option<Ended>], actions: &[usize]) -> bool
+    requires { All (λ n. n < length results.now) actions.now }
+    ensures { result ≡ list_all (λ n. is_good (done_at (dones_of results.now) n)) actions.now }
+{
+    for action in actions {
+        if !is_good(&results[*action]) {
+            return false;
+        }
+    }
+    true
+}
+
+/// Whether an action is good; one of which nothing came isn't.
+fn is_good(ended: &Option<Ended>) -> bool
+    ensures { result ≡ is_good (done_or_skipped ended.now) }
+{
+    match ended {
+        Some(Ended::Called(judged)) => judged.verdict == Verdict::Good,
+        _ => false,
+    }
+}
+
+/// Whether an action was skipped; one of which nothing came was.
+fn is_skipped(ended: &Option<Ended>) -> bool
+    ensures { result ≡ is_skipped (done_or_skipped ended.now) }
+{
+    matches!(ended, None | Some(Ended::Skipped))
+}

@@ -1,0 +1,16 @@
+//! Carrying out a plan by many workers, which share claims, result cells and hints. What they did is compared and reported
+//! once they are joined.
+#![tactic(auto)]
+
+mod board;
+mod bound;
+mod ending;
+mod fitting;
+mod many;
+mod prepared;
+mod progress;
+mod sharing;
+mod walk;
+mod worker;
+
+pub use many::{MOST_WORKERS, run};

@@ -1,0 +1,143 @@
+//! Carrying out a plan by many workers.
+
+ghost use Rattle.std.specs.Prelude.{◌≡◌, List, map, true, IfOk, MatchBool, MatchResult};
+ghost use Rattle.tf_action_data.specs.Action.{action_of};
+ghost use Rattle.tf_plan_data.specs.Fits.{FitsTogether};
+ghost use Rattle.tf_plan_data.specs.Plan.{plan_of};
+ghost use Rattle.tf_plan_data.specs.Served.{AreServed};
+ghost use Rattle.tf_refusal.specs.Refusal.{no_memory, told, workers as wrong_workers};
+ghost use Rattle.tf_run.specs.Prepared.{IsPrepared};
+ghost use Rattle.tf_run.specs.Run.{IsRun, are_workers};
+
+use crate::board::Board;
+use crate::ending::conclude;
+use crate::prepared::{Prepared, Team, prepare};
+use crate::progress::Progress;
+use crate::sharing::share_out;
+use crate::walk::{Grounds, Walk};
+use std::alloc::{AllocError, Global};
+use std::marker::Brand;
+use std::sync::{Mutex, Wait};
+use std::thread::Threads;
+use tf_cells::Naming;
+use tf_plan_data::Plan;
+use tf_provider::Provider;
+use tf_refusal::Refusal;
+use tf_report::Walked;
+use tf_stop::Stop;
+use tf_workers::Log;
+
+/// The most workers that a walk may have.
+pub const MOST_WORKERS: usize = 64;
+
+/// Carries out a plan by so many workers, of which the calling thread is one; a worker that can't be started is done
+/// without. Every action is ended once, after all that stand before it; once `stop` is set, none that hasn't begun is called.
+/// The parts of the plan fit together, and some provider in the list has the type of each action. Refused, before the first
+/// call, only where `workers` isn't 1 to 64 or there is no memory for the walk; after the first call, no memory is taken for
+/// what a reply says. It may wait.
+///
+/// # Errors
+///
+/// `Workers` where `workers` isn't 1 to 64, and else only where memory runs out.
+pub fn run<R: Threads + Wait + Sync>(
+    rt: &R,
+    alloc: Global,
+    plan: &Plan,
+    providers: &[Box<dyn Provider + Sync>],
+    workers: usize,
+    stop: &Stop,
+) -> Result<Walked, Refusal>
+    requires fits { FitsTogether plan.now }
+    requires served { AreServed (map (λ b. meaning b) providers.now) (map action_of plan.now.actions.items) }
+    ensures walked { IfOk result (IsRun (map (λ b. meaning b) providers.now) (plan_of plan.now)) }
+    ensures refused { MatchResult result
+        (λ _. are_workers workers ≡ true)
+        (λ r. MatchBool (are_workers workers) (told r ≡ no_memory) (told r ≡ wrong_workers)) }
+{
+    if !are_workers(workers) {
+        return Err(Refusal::Workers);
+    }
+    match run_as::<Brand, R>(rt, alloc, plan, providers, workers, stop) {
+        Ok(walked) => Ok(walked),
+        Err(AllocError) => Err(Refusal::OutOfMemory),
+    }
+}
+
+/// Whether a walk may have so many workers.
+fn are_workers(workers: usize) -> bool
+    ensures { result ≡ are_workers workers }
+{
+    1 <= workers && workers <= MOST_WORKERS
+}
+
+/// Carries out a plan, under a name of the walk.
+fn run_as<N: Naming + Send + Sync, R: Threads + Wait + Sync>(
+    rt: &R,
+    alloc: Global,
+    plan: &Plan,
+    providers: &[Box<dyn Provider + Sync>],
+    workers: usize,
+    stop: &Stop,
+) -> Result<Walked, AllocError>
+    requires fits { FitsTogether plan.now }
+    requires meanings { N.meanings ≡ map (λ b. meaning b) providers.now }
+    requires plan { N.plan ≡ plan_of plan.now }
+    requires served { AreServed (map (λ b. meaning b) providers.now) (map action_of plan.now.actions.items) }
+    ensures { IfOk result (IsRun (map (λ b. meaning b) providers.now) (plan_of plan.now)) }
+{
+    let prepared = prepare::<N>(alloc, plan, workers)?;
+    Ok(carry_out(rt, alloc, plan, providers, stop, prepared))
+}
+
+/// The report on a plan that is carried out. It has no answer that says that there was no memory.
+fn carry_out<N: Naming + Send + Sync, R: Threads + Wait + Sync>(
+    rt: &R,
+    alloc: Global,
+    plan: &Plan,
+    providers: &[Box<dyn Provider + Sync>],
+    stop: &Stop,
+    prepared: Prepared<'_, N>,
+) -> Walked
+    requires fits { FitsTogether plan.now }
+    requires meanings { N.meanings ≡ map (λ b. meaning b) providers.now }
+    requires plan { N.plan ≡ plan_of plan.now }
+    requires served { AreServed (map (λ b. meaning b) providers.now) (map action_of plan.now.actions.items) }
+    requires prepared { IsPrepared plan.now prepared }
+    ensures { IsRun (map (λ b. meaning b) providers.now) (plan_of plan.now) result }
+{
+    let Prepared {
+        names,
+        claims,
+        team,
+        journal,
+        board,
+        furnished,
+    } = prepared;
+    let Team {
+        desk,
+        others,
+        thieves,
+    } = team;
+    let Board { cells, results } = board;
+    let journal = Mutex::new(Log::new(journal));
+    let progress = Progress::new();
+    let ground = Grounds {
+        plan,
+        names: &names,
+        cells: &cells,
+    };
+    let walk = Walk {
+        alloc,
+        stop,
+        claims: &claims,
+        journal: &journal,
+        thieves: thieves.as_slice(),
+        progress: &progress,
+    };
+    let seat = share_out(rt, &walk, &ground, providers, desk, others);
+    let _ = claims.close(seat);
+    let journal = journal.into_inner().into_journal();
+    conclude(
+        rt, alloc, plan, &names, providers, furnished, cells, results, journal,
+    )
+}

@@ -1,0 +1,92 @@
+//! What the workers of a walk share.
+
+ghost use Rattle.std.specs.Prelude.{◌≡◌, ℕ, List};
+
+use crate::bound::InPlan;
+use crate::progress::Progress;
+use std::alloc::Global;
+use std::sync::Mutex;
+use tf_cells::{Cells, Naming};
+use tf_claim::{Claims, Seat};
+use tf_hints::{Hints, Thief};
+use tf_names::Names;
+use tf_plan_data::Plan;
+use tf_stop::Stop;
+use tf_workers::Log;
+
+/// What one worker has of its own: its seat at the claims, and its hints.
+#[derive(Drop)]
+pub(crate) struct Desk<N: Naming> {
+    pub seat: Seat,
+    pub hints: Hints<InPlan<N>>,
+}
+
+/// What all workers of a walk share, beside the providers and what they read.
+#[derive(Drop)]
+pub(crate) struct Walk<'a, N: Naming> {
+    pub alloc: Global,
+    pub stop: &'a Stop,
+    pub claims: &'a Claims,
+    pub journal: &'a Mutex<Log<N>>,
+    pub thieves: &'a [Thief<InPlan<N>>],
+    pub progress: &'a Progress,
+}
+
+/// What workers read: the plan, the names of its configuration, and the cells. They reach it through this trait, so that it
+/// may be shared is shown once, where the threads start.
+pub(crate) trait Ground<N: Naming> {
+    ghost use Rattle.tf_config_data.specs.Names.{NameView};
+    ghost use Rattle.tf_names.specs.Table.{names_in};
+    ghost use Rattle.tf_plan_data.specs.declared.plan.Plan.{Plan};
+
+    /// The plan.
+    ghost planned: { Self → Plan };
+
+    /// The names of its configuration.
+    ghost named: { Self → List NameView };
+
+    /// How many cells there are.
+    ghost count: { Self → ℕ };
+
+    /// The plan.
+    fn plan(&self) -> &Plan
+        ensures { result.now ≡ planned self.now };
+
+    /// The names of its configuration.
+    fn names(&self) -> &Names<'_>
+        ensures { names_in result.now ≡ named self.now };
+
+    /// The cells.
+    fn cells(&self) -> &Cells<N>
+        ensures { result.now ≡ count self.now };
+}
+
+/// A plan, the names of its configuration, and cells.
+#[derive(Drop)]
+pub(crate) struct Grounds<'a, N: Naming> {
+    pub plan: &'a Plan,
+    pub names: &'a Names<'a>,
+    pub cells: &'a Cells<N>,
+}
+
+impl<N: Naming> Ground<N> for Grounds<'_, N> {
+    ghost use Rattle.tf_names.specs.Table.{names_in};
+
+    ghost planned = { λ g. g.plan.now };
+
+    ghost named = { λ g. names_in g.names.now };
+
+    ghost count = { λ g. g.cells.now };
+
+    fn plan(&self) -> &Plan {
+        self.plan
+    }
+
+    fn names(&self) -> &Names<'_> {
+        self.names
+    }
+
+    fn cells(&self) -> &Cells<N> {
+        self.cells
+    }
+}

@@ -1,0 +1,34 @@
+//! Claims on the actions of a book, by one thread.
+
+ghost use Rattle.std.specs.Prelude.{◌≡◌, ◌<◌, ℕ, true, false, MatchOption};
+ghost use Rattle.tf_claim.specs.Ledger.{IsKept, is_claimable, is_taken, moved, stage_in};
+ghost use Rattle.tf_claim.specs.declared.book.Stage.TheVariants as stage;
+
+use tf_claim::{Book, Finished, Permit};
+
+/// A permit for some action that may be claimed, which is then taken; `None` where there is none.
+pub fn next_permit(book: &mut Book) -> Option<Permit>
+    ensures claimed { MatchOption result
+        ((book.new ≡ book.old) × ((n : ℕ) → n < book.old.graph.nodes → is_claimable book.old n ≡ false))
+        (λ permit. (permit < book.old.graph.nodes) × (is_claimable book.old permit ≡ true)
+        × (book.new ≡ moved book.old permit stage.Taken)) }
+    ensures kept { IsKept book.new }
+{
+    for action in 0..book.graph().nodes() {
+        if let Some(permit) = book.claim(action) {
+            return Some(permit);
+        }
+    }
+    None
+}
+
+/// Reports a taken action as done.
+pub fn close(book: &mut Book, finished: Finished)
+    requires { is_taken (stage_in book.old.stages finished) ≡ true }
+    ensures { book.new ≡ moved book.old finished stage.Done }
+{
+    match book.finish(finished) {
+        Ok(()) => {}
+        Err(_) => unreachable!(),
+    }
+}

@@ -1,0 +1,93 @@
+//! Carrying out a plan by one thread.
+
+ghost use Rattle.std.specs.Prelude.{◌≡◌, List, map, IfOk, IfErr};
+ghost use Rattle.tf_action_data.specs.Action.{action_of};
+ghost use Rattle.tf_plan_data.specs.Fits.{FitsTogether};
+ghost use Rattle.tf_plan_data.specs.Plan.{plan_of};
+ghost use Rattle.tf_plan_data.specs.Served.{AreServed};
+ghost use Rattle.tf_refusal.specs.Refusal.{no_memory, told};
+ghost use Rattle.tf_outcome.specs.Journal.{IsJournal};
+ghost use Rattle.tf_outcome.specs.Outcome.{Done, Requests, AreRequests};
+ghost use Rattle.tf_outputs.specs.Outputs.{OutputDone};
+ghost use Rattle.tf_report.specs.Report.{IsReport, IsWalked};
+ghost use Rattle.tf_walk.specs.Prepared.{IsPrepared};
+
+use crate::prepared::{Prepared, prepare};
+use crate::walk::walk;
+use std::alloc::{AllocError, Global};
+use tf_environment::Declarations;
+use tf_plan_data::Plan;
+use tf_provider::Provider;
+use tf_refusal::Refusal;
+use tf_report::{Report, Walked, report_of};
+use tf_stop::Stop;
+
+/// Carries out a plan by one thread, without waiting: every action is ended once, after all that stand before
+/// it. The parts of the plan fit together, and some provider in the list has the type of each action. Of an action that
+/// may be called the flag is looked at once, before its request is made: where it is set, the action is left. Refused, before
+/// the first call, only where there is no memory for the report; after the first call, no memory is taken for what a
+/// reply says.
+///
+/// # Errors
+///
+/// Only where memory runs out.
+pub fn run_one(
+    alloc: Global,
+    plan: &Plan,
+    providers: &[Box<dyn Provider + Sync>],
+    stop: &Stop,
+) -> Result<Walked, Refusal>
+    requires fits { FitsTogether plan.now }
+    requires served { AreServed (map (λ b. meaning b) providers.now) (map action_of plan.now.actions.items) }
+    ensures walked { IfOk result (IsWalked (map (λ b. meaning b) providers.now) (plan_of plan.now)) }
+    ensures refused { IfErr result (λ r. told r ≡ no_memory) }
+{
+    match prepare(alloc, plan) {
+        Ok(prepared) => Ok(Walked::Whole(carry_out(alloc, plan, providers, prepared, stop))),
+        Err(AllocError) => Err(Refusal::OutOfMemory),
+    }
+}
+
+/// The report on a plan that is carried out. It has no answer that says that there was no memory.
+fn carry_out(
+    alloc: Global,
+    plan: &Plan,
+    providers: &[Box<dyn Provider + Sync>],
+    prepared: Prepared<'_>,
+    stop: &Stop,
+) -> Report
+    requires fits { FitsTogether plan.now }
+    requires served { AreServed (map (λ b. meaning b) providers.now) (map action_of plan.now.actions.items) }
+    requires prepared { IsPrepared plan.now prepared }
+    ensures { (requests : Requests) → AreRequests (plan_of plan.now) requests
+        → (done : List Done) × (outputs : List OutputDone)
+        × IsReport (map (λ b. meaning b) providers.now) requests (plan_of plan.now) done outputs result
+        × IsJournal (plan_of plan.now) done result.journal.entries }
+{
+    let Prepared {
+        names,
+        mut book,
+        mut journal,
+        furnished,
+        mut results,
+    } = prepared;
+    walk(
+        alloc,
+        plan,
+        &names,
+        providers,
+        &mut book,
+        &mut journal,
+        &mut results,
+        stop,
+    );
+    let _entries = journal.entries();
+    let declared = Declarations {
+        variables: &plan.variables,
+        names: &names,
+        dependence: &plan.dependence,
+    };
+    report_of(
+        alloc, plan, &declared, providers, furnished, results, journal,
+    )
+}

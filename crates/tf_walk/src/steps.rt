@@ -1,0 +1,110 @@
+//! The end of one action.
+
+ghost use Rattle.std.specs.List.{list_all};
+ghost use Rattle.std.specs.Prelude.{◌≡◌, ◌<◌, None, Some, length, map, option_map, slice_get, IsSomeAnd, IsTrue};
+ghost use Rattle.tf_config_data.specs.Config.{config_of};
+ghost use Rattle.tf_config_data.specs.Names.{names_of};
+ghost use Rattle.tf_graph.specs.Digraph.{predecessors_of};
+ghost use Rattle.tf_graph.specs.Solutions.{seen_by};
+ghost use Rattle.tf_journal.specs.Entries.{fault_of};
+ghost use Rattle.tf_names.specs.Table.{names_in};
+ghost use Rattle.tf_action_data.specs.Action.{action_of};
+ghost use Rattle.tf_plan_data.specs.Fits.{FitsTogether};
+ghost use Rattle.tf_plan_data.specs.Plan.{plan_of};
+ghost use Rattle.tf_plan_data.specs.Served.{AreServed};
+ghost use Rattle.tf_protocol.specs.Meaning.{asked, schema_in};
+ghost use Rattle.tf_protocol.specs.Verdict.{asks_fully};
+ghost use Rattle.tf_outcome.specs.Ended.{done_of};
+ghost use Rattle.tf_outcome.specs.Journal.{op_at};
+ghost use Rattle.tf_outcome.specs.Outcome.{Requests, AreRequests, call_of, is_good};
+ghost use Rattle.tf_outcome.specs.Run.{IsRun};
+ghost use Rattle.tf_walk.specs.Ends.{Enters, IsEnd, IsSoFar, done_in, end_at};
+
+use crate::calls::{are_good, make_call};
+use std::alloc::{AllocError, Global};
+use tf_asks::ask_provider;
+use tf_claim::{Finished, Permit, waive};
+use tf_journal::Journal;
+use tf_names::Names;
+use tf_outcome::{Answered, Asking, Ended};
+use tf_plan_data::Plan;
+use tf_provider::{Provider, first_provider};
+use tf_stop::Stop;
+
+/// Ends a claimed action: skips it where an action directly before it isn't good; leaves it where the walk is to stop by
+/// then; excuses it where memory for its request is refused; tells what is wrong where its request has a fault; and else
+/// calls its provider.
+pub fn end_action(
+    alloc: Global,
+    plan: &Plan,
+    names: &Names<'_>,
+    providers: &[Box<dyn Provider + Sync>],
+    journal: &mut Journal,
+    results: &[Option<Ended>],
+    stop: &Stop,
+    permit: Permit,
+) -> (Ended, Finished)
+    requires fits { FitsTogether plan.now }
+    requires names { names_in names.now ≡ names_of (config_of plan.now.config) }
+    requires served { AreServed (map (λ b. meaning b) providers.now) (map action_of plan.now.actions.items) }
+    requires so_far { IsSoFar (map (λ b. meaning b) providers.now) (plan_of plan.now) (map (option_map done_of) results.now) journal.old.entries }
+    requires free { end_at (map (option_map done_of) results.now) permit ≡ None }
+    requires within { permit < length plan.now.actions.items }
+    requires graph { journal.old.graph ≡ plan.now.order }
+    ensures finished { result.1 ≡ permit }
+    ensures ended { (requests : Requests) → AreRequests (plan_of plan.now) requests → IsEnd (map (λ b. meaning b) providers.now) requests (plan_of plan.now) permit
+        (seen_by (done_in (map (option_map done_of) results.now)) (predecessors_of plan.now.order permit)) (done_of result.0) }
+    ensures entered { Enters permit (op_at (map action_of plan.now.actions.items) permit) (done_of result.0) journal.old.entries journal.new.entries }
+    ensures same_graph { journal.new.graph ≡ journal.old.graph }
+{
+    let action = permit.action();
+    if !is_due(plan, results, action) {
+        return (Ended::Skipped, waive(permit));
+    }
+    if stop.is_set() {
+        return (Ended::Left, waive(permit));
+    }
+    let actions = plan.actions.as_slice();
+    let seen = Answered {
+        names,
+        prior: &plan.prior,
+        actions,
+        seen: plan.order.graph().predecessors(action),
+        results,
+    };
+    match ask_provider(alloc, plan, names, providers, &actions[action], &seen) {
+        Err(AllocError) => (Ended::NotAsked, waive(permit)),
+        Ok(Err(faulted)) => (Ended::Faulted(faulted), waive(permit)),
+        Ok(Ok(asking)) => serve(providers, journal, permit, asking),
+    }
+}
+
+/// Whether all that stands directly before an action is good, so that it may be called.
+fn is_due(plan: &Plan, results: &[Option<Ended>], action: usize) -> bool
+    requires within { action < plan.now.order.nodes }
+    requires sized { length results.now ≡ plan.now.order.nodes }
+    ensures { result ≡ list_all (λ n. is_good (done_in (map (option_map done_of) results.now) n)) (predecessors_of plan.now.order action) }
+{
+    are_good(results, plan.order.graph().predecessors(action))
+}
+
+/// Calls the first provider that has the type of a request.
+fn serve(
+    providers: &[Box<dyn Provider + Sync>],
+    journal: &mut Journal,
+    permit: Permit,
+    asking: Asking,
+) -> (Ended, Finished)
+    requires served { IsSomeAnd (schema_in (asked asking.request).type_name (map (λ b. meaning b) providers.now)) (λ s. IsTrue (asks_fully (asked asking.request) s)) }
+    requires within { permit < journal.old.graph.nodes }
+    requires fits { fault_of journal.old permit ≡ None }
+    ensures finished { result.1 ≡ permit }
+    ensures ended { IsRun (call_of (map (λ b. meaning b) providers.now) (asked asking.request)) (done_of result.0) }
+    ensures entered { Enters permit (Some (asked asking.request).op) (done_of result.0) journal.old.entries journal.new.entries }
+    ensures same_graph { journal.new.graph ≡ journal.old.graph }
+{
+    match first_provider(providers, asking.request.type_name.as_str()) {
+        None => (Ended::Skipped, waive(permit)),
+        Some(provider) => make_call(provider, journal, permit, asking),
+    }
+}

@@ -1,0 +1,69 @@
+//! The walk of one thread.
+
+ghost use Rattle.std.specs.Prelude.{◌≡◌, ◌<◌, None, Some, map, option_map, length, slice_set};
+ghost use Rattle.tf_config_data.specs.Config.{config_of};
+ghost use Rattle.tf_config_data.specs.Names.{names_of};
+ghost use Rattle.tf_names.specs.Table.{names_in};
+ghost use Rattle.tf_action_data.specs.Action.{action_of};
+ghost use Rattle.tf_plan_data.specs.Fits.{FitsTogether};
+ghost use Rattle.tf_plan_data.specs.Plan.{plan_of};
+ghost use Rattle.tf_plan_data.specs.Served.{AreServed};
+ghost use Rattle.tf_outcome.specs.Ended.{done_of};
+ghost use Rattle.tf_walk.specs.Ends.{AllHaveEnded, IsSoFar, IsStaged, end_at};
+
+use crate::claims::{close, next_permit};
+use crate::steps::end_action;
+use std::alloc::Global;
+use std::mem;
+use tf_claim::Book;
+use tf_journal::Journal;
+use tf_names::Names;
+use tf_outcome::Ended;
+use tf_plan_data::Plan;
+use tf_provider::Provider;
+use tf_stop::Stop;
+
+/// Takes every action of a plan to its end; once the walk is to stop, no further provider is called.
+pub fn walk(
+    alloc: Global,
+    plan: &Plan,
+    names: &Names<'_>,
+    providers: &[Box<dyn Provider + Sync>],
+    book: &mut Book,
+    journal: &mut Journal,
+    results: &mut [Option<Ended>],
+    stop: &Stop,
+)
+    requires fits { FitsTogether plan.now }
+    requires names { names_in names.now ≡ names_of (config_of plan.now.config) }
+    requires served { AreServed (map (λ b. meaning b) providers.now) (map action_of plan.now.actions.items) }
+    requires so_far { IsSoFar (map (λ b. meaning b) providers.now) (plan_of plan.now) (map (option_map done_of) results.old) journal.old.entries }
+    requires staged { IsStaged book.old.stages (map (option_map done_of) results.old) }
+    requires book { book.old.graph ≡ plan.now.order }
+    requires graph { journal.old.graph ≡ plan.now.order }
+    ensures so_far { IsSoFar (map (λ b. meaning b) providers.now) (plan_of plan.now) (map (option_map done_of) results.new) journal.new.entries }
+    ensures all { AllHaveEnded (plan_of plan.now) (map (option_map done_of) results.new) }
+    ensures graph { journal.new.graph ≡ plan.now.order }
+{
+    let _order = plan.order.graph();
+    while let Some(permit) = next_permit(book) {
+        let action = permit.action();
+        let (ended, finished) = end_action(
+            alloc, plan, names, providers, journal, results, stop, permit,
+        );
+        keep(results, action, ended);
+        close(book, finished);
+    }
+}
+
+/// Keeps what came of an action, of which nothing is kept yet.
+fn keep(results: &mut [Option<Ended>], action: usize, ended: Ended)
+    requires within { action < length results.old }
+    requires free { end_at (map (option_map done_of) results.old) action ≡ None }
+    ensures { results.new ≡ slice_set results.old action (Some ended) }
+{
+    match mem::replace(&mut results[action], Some(ended)) {
+        None => {}
+        Some(_) => unreachable!(),
+    }
+}
