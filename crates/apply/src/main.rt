@@ -1,29 +1,45 @@
 //! Plans a configuration, carries the plan out, and writes the state.
 #![tactic(auto)]
 
+mod stopping;
+
+use crate::stopping::Stopping;
 use std::fs::OpenFile;
 use std::process::ExitCode;
+use std::sync::{Arc, Wait};
+use std::thread::Threads;
 use std::{fs, io};
 use tf_cli::program::{Given, run};
-use tf_cli::{Applied, Refused, Report, SaveFault, apply_text, save, show};
+use tf_cli::{Applied, Refused, Report, SaveFault, Stop, apply_text, save, show};
 use tf_provider::Provider;
-use tf_sim::Sim;
 
 fn main(rt: HostRuntime) -> io::Result<ExitCode> {
-    run(&rt, carry_out)
+    run(&rt, |host, given| carry_out(host, &rt, given))
 }
 
-/// Carries the plan out, shows what came of it, and writes the state where that has changed.
-fn carry_out(rt: &HostRuntime, given: &Given) -> io::Result<ExitCode> {
+/// Carries the plan out by threads, shows what came of it, and writes the state where that has changed.
+fn carry_out<R: Threads + Wait + Sync>(
+    rt: &HostRuntime,
+    threads: &R,
+    given: &Given,
+) -> io::Result<ExitCode> {
+    let stop = Arc::new(rt.alloc(), Stop::new())?;
+    if given.options.stop_after == Some(0) {
+        stop.set();
+    }
+    let sim = Stopping::new(rt.alloc(), given.options.stop_after, Arc::try_clone(&stop)?)?;
     let mut providers: Vec<Box<dyn Provider + Sync>> = Vec::new(rt.alloc());
-    providers.push(Box::new(rt.alloc(), Sim::new(rt.alloc())?)?)?;
+    providers.push(Box::new(rt.alloc(), sim)?)?;
     let answer = apply_text(
+        threads,
         rt.alloc(),
         given.config.as_slice(),
         given.vars_bytes(),
         given.state_bytes(),
         given.options.lineage.as_str(),
         providers.as_slice(),
+        given.options.parallelism,
+        &stop,
     );
     let status = show(&answer, &mut rt.stdout(), &mut rt.stderr());
     let status = match state_to_write(answer) {

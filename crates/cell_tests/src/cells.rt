@@ -7,7 +7,7 @@ use std::test::Fail;
 use std::thread;
 use std::thread::Threads;
 use tf_cells::{Cells, Naming};
-use tf_outcomes::{Ended, Judged};
+use tf_outcome::{Ended, Judged};
 
 /// How an end is called here.
 #[derive(Clone, Copy, Debug, PartialEq, Eq)]
@@ -16,6 +16,7 @@ enum Kind {
     NotAsked,
     NotServed,
     Faulted,
+    Left,
     Called,
 }
 
@@ -26,6 +27,7 @@ fn kind_of(ended: Ended) -> Kind {
         Ended::NotAsked => Kind::NotAsked,
         Ended::NotServed => Kind::NotServed,
         Ended::Faulted(_) => Kind::Faulted,
+        Ended::Left => Kind::Left,
         Ended::Called(judged) => {
             let Judged {
                 asking: _,

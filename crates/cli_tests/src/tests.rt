@@ -8,3 +8,5 @@ mod plans;
 mod refusals;
 mod replies;
 mod shown;
+mod states;
+mod workers;

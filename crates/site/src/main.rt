@@ -4,26 +4,35 @@
 
 use std::io;
 use std::process::ExitCode;
+use std::sync::Wait;
+use std::thread::Threads;
 use tf_cli::program::{Given, run};
-use tf_cli::{Applied, Refused, Report, apply_text, save, show};
+use tf_cli::{Applied, Refused, Report, Stop, apply_text, save, show};
 use tf_provider::Provider;
 use tf_sim::Sim;
 
 fn main(rt: HostRuntime) -> io::Result<ExitCode> {
-    run(&rt, carry_out)
+    run(&rt, |host, given| carry_out(host, &rt, given))
 }
 
-/// Carries the plan out, shows what came of it, and prints the state where that has changed.
-fn carry_out(rt: &HostRuntime, given: &Given) -> io::Result<ExitCode> {
+/// Carries the plan out by threads, shows what came of it, and prints the state where that has changed.
+fn carry_out<R: Threads + Wait + Sync>(
+    rt: &HostRuntime,
+    threads: &R,
+    given: &Given,
+) -> io::Result<ExitCode> {
     let mut providers: Vec<Box<dyn Provider + Sync>> = Vec::new(rt.alloc());
     providers.push(Box::new(rt.alloc(), Sim::new(rt.alloc())?)?)?;
     let answer = apply_text(
+        threads,
         rt.alloc(),
         given.config.as_slice(),
         given.vars_bytes(),
         given.state_bytes(),
         given.options.lineage.as_str(),
         providers.as_slice(),
+        given.options.parallelism,
+        &Stop::new(),
     );
     let status = show(&answer, &mut rt.stdout(), &mut rt.stderr());
     if let Some(text) = changed_state(answer) {

@@ -3,10 +3,15 @@
 #![tactic(auto)]
 
 use std::process::ExitCode;
+use std::sync::Wait;
+use std::thread::Threads;
 use std::{env, fs, io};
-use tf_cli::{Applied, Refused, Report, apply_text, save, show};
+use tf_cli::{Applied, Refused, Report, Stop, apply_text, save, show};
 use tf_provider::Provider;
 use tf_sim::Sim;
+
+/// How many workers carry out each plan.
+const WORKERS: usize = 10;
 
 const LINEAGE: &str = "00000000-0000-0000-0000-000000000000";
 
@@ -16,7 +21,7 @@ fn main(rt: HostRuntime) -> io::Result<ExitCode> {
     for file in words.iter().skip(1) {
         println!(rt; "# {file}")?;
         let config = fs::read(&rt, file.as_str())?;
-        if let Some(text) = carry_out(&rt, config.as_slice(), &state)? {
+        if let Some(text) = carry_out(&rt, &rt, config.as_slice(), &state)? {
             state = Some(text);
         }
     }
@@ -26,10 +31,11 @@ fn main(rt: HostRuntime) -> io::Result<ExitCode> {
     Ok(ExitCode::SUCCESS)
 }
 
-/// Carries a configuration's plan out beside a state, and shows what came of it; the text of the state after, where that is
+/// Carries a configuration's plan out beside a state, by threads, and shows what came of it; the text of the state after, where that is
 /// another one.
-fn carry_out(
+fn carry_out<R: Threads + Wait + Sync>(
     rt: &HostRuntime,
+    threads: &R,
     config: &[u8],
     state: &Option<String>,
 ) -> io::Result<Option<String>> {
@@ -37,12 +43,15 @@ fn carry_out(
     providers.push(Box::new(rt.alloc(), Sim::new(rt.alloc())?)?)?;
     let prior = state.as_ref().map(|text| text.as_str().as_bytes());
     let answer = apply_text(
+        threads,
         rt.alloc(),
         config,
         None,
         prior,
         LINEAGE,
         providers.as_slice(),
+        WORKERS,
+        &Stop::new(),
     );
     show(&answer, &mut rt.stdout(), &mut rt.stdout());
     Ok(changed_state(answer))

@@ -1,6 +1,6 @@
 //! What comes of an apply, byte for byte.
 
-use crate::tests::applying::{CONFIG, NOTHING, Texts, watch_apply};
+use crate::tests::applying::{CONFIG, Manner, NOTHING, Texts, watch_apply, watch_manner};
 use std::alloc::{AllocError, Global};
 use std::test::Fail;
 
@@ -57,7 +57,7 @@ static APPLIES: [(&str, &str, &str, u8, &str, usize); 5] = [
 #[test]
 fn applies(rt: HostRuntime) -> Result<(), Fail> {
     for (config, output, errors, status, state, calls) in &APPLIES {
-        let seen = watch_apply(rt.alloc(), Texts::of(config), false)?;
+        let seen = watch_apply(&rt, rt.alloc(), Texts::of(config), 2)?;
         assert_eq!(rt; seen.output.as_str(), *output, "{config}");
         assert_eq!(rt; seen.errors.as_str(), *errors, "{config}");
         assert_eq!(rt; seen.status, *status, "{config}");
@@ -70,7 +70,7 @@ fn applies(rt: HostRuntime) -> Result<(), Fail> {
 
 #[test]
 fn excuses_a_provider_without_memory(rt: HostRuntime) -> Result<(), Fail> {
-    let seen = watch_apply(rt.alloc(), Texts::of(CONFIG), true)?;
+    let seen = watch_manner(&rt, rt.alloc(), Texts::of(CONFIG), 1, Manner::Forgetful)?;
     assert_eq!(rt;
         seen.errors.as_str(),
         "error 26 at sim_net.a create: no memory\n"
@@ -101,7 +101,7 @@ fn creates_many(rt: HostRuntime) -> Result<(), Fail> {
     let nets = blocks_of(rt.alloc(), "sim_net", "{\"cidr\": \"x\"}")?;
     let hosts = blocks_of(rt.alloc(), "sim_host", "{\"name\": \"h\", \"size\": 1}")?;
     let config = format!(in rt.alloc(); "{{\"resource\": {{{nets}, {hosts}}}}}")?;
-    let seen = watch_apply(rt.alloc(), Texts::of(config.as_str()), false)?;
+    let seen = watch_apply(&rt, rt.alloc(), Texts::of(config.as_str()), 2)?;
     assert_eq!(rt; seen.errors.as_str(), "");
     assert!(rt;
         seen.output.ends_with("\nApply complete! Resources: 400 added, 0 changed, 0 destroyed.\n")
@@ -115,7 +115,7 @@ fn creates_many(rt: HostRuntime) -> Result<(), Fail> {
 fn applies_templates(rt: HostRuntime) -> Result<(), Fail> {
     let config =
         "{\"resource\": {\"sim_host\": {\"h\": {\"name\": \"n${1 + 2}\", \"size\": \"${10 * 10}\"}}}}";
-    let seen = watch_apply(rt.alloc(), Texts::of(config), false)?;
+    let seen = watch_apply(&rt, rt.alloc(), Texts::of(config), 2)?;
     assert_eq!(rt;
         seen.output.as_str(),
         "+ sim_host.h\n    id = (known after apply)\n    name = \"n3\"\n    size = 100\nPlan: 1 to add, 0 to change, 0 to destroy.\nApply complete! Resources: 1 added, 0 changed, 0 destroyed.\n"

@@ -3,19 +3,35 @@
 use std::alloc::{AllocError, Global};
 use std::fmt::Debug;
 use std::process::Abort;
-use std::sync::Arc;
 use std::sync::atomic::{AtomicUsize, Ordering};
+use std::sync::{Arc, Wait};
 use std::test::Fail;
-use tf_cli::{Applied, Refused, Report, apply_text, plan_text, print_refused, show};
+use std::thread::Threads;
+use tf_cli::{Applied, Refused, Report, Stop, Walked, apply_text, plan_text, print_refused, show};
 use tf_provider::{Provider, Reply, Request, Schema};
 use tf_sim::Sim;
 
-/// The provider `sim`, which counts its calls and may be without memory at each.
+/// By how many workers what is applied is applied.
+pub static WORKERS: [usize; 3] = [1, 2, 64];
+
+/// What is special about a provider.
+#[derive(Clone, Copy, PartialEq, Eq)]
+pub enum Manner {
+    /// Nothing.
+    Plain,
+    /// It is without memory at each call.
+    Forgetful,
+    /// It stops the walk before so many calls of it return.
+    Stops(usize),
+}
+
+/// The provider `sim`, which counts its calls.
 #[derive(Drop)]
 struct Watched {
     sim: Sim,
     calls: Arc<AtomicUsize>,
-    forgetful: bool,
+    manner: Manner,
+    stop: Arc<Stop>,
 }
 
 impl Provider for Watched {
@@ -28,11 +44,17 @@ impl Provider for Watched {
     }
 
     fn apply(&self, request: &Request) -> Reply {
-        self.calls.fetch_add(1, Ordering::SeqCst);
-        if self.forgetful {
-            Reply::NoMemory
-        } else {
-            self.sim.apply(request)
+        let before = self.calls.fetch_add(1, Ordering::SeqCst);
+        match self.manner {
+            Manner::Plain => self.sim.apply(request),
+            Manner::Forgetful => Reply::NoMemory,
+            Manner::Stops(after) => {
+                let reply = self.sim.apply(request);
+                if after.checked_sub(1) == Some(before) {
+                    self.stop.set();
+                }
+                reply
+            }
         }
     }
 }
@@ -59,6 +81,16 @@ impl<'a> Texts<'a> {
             state: None,
         }
     }
+
+    /// A configuration and the text of a prior state.
+    pub fn after(config: &'a str, state: &'a str) -> Texts<'a> {
+        let state = Some(state.as_bytes());
+        Texts {
+            config: config.as_bytes(),
+            vars: None,
+            state,
+        }
+    }
 }
 
 /// What an apply prints and answers.
@@ -70,8 +102,12 @@ pub struct Seen {
     /// The text of the state after, where nothing is refused.
     pub state: String,
     pub changed: bool,
+    /// Whether the journal can be relied on.
+    pub whole: bool,
     /// How each action ended, in action order.
     pub outcomes: String,
+    /// What is excused.
+    pub excused: String,
     pub calls: usize,
     /// The actions in the journal.
     pub journal: Vec<usize>,
@@ -79,34 +115,61 @@ pub struct Seen {
     pub journal_text: String,
 }
 
-/// Applies a configuration.
-pub fn watch_apply(alloc: Global, texts: Texts<'_>, forgetful: bool) -> Result<Seen, Fail> {
+/// Applies a configuration by so many workers.
+pub fn watch_apply<R: Threads + Wait + Sync>(
+    rt: &R,
+    alloc: Global,
+    texts: Texts<'_>,
+    workers: usize,
+) -> Result<Seen, Fail> {
+    watch_manner(rt, alloc, texts, workers, Manner::Plain)
+}
+
+/// The same, by such a provider.
+pub fn watch_manner<R: Threads + Wait + Sync>(
+    rt: &R,
+    alloc: Global,
+    texts: Texts<'_>,
+    workers: usize,
+    manner: Manner,
+) -> Result<Seen, Fail> {
     let calls = Arc::new(alloc, AtomicUsize::new(0))?;
+    let stop = Arc::new(alloc, Stop::new())?;
+    if manner == Manner::Stops(0) {
+        stop.set();
+    }
     let watched = Watched {
         sim: Sim::new(alloc)?,
         calls: Arc::try_clone(&calls)?,
-        forgetful,
+        manner,
+        stop: Arc::try_clone(&stop)?,
     };
-    let mut seen = apply_by(alloc, texts, Box::new(alloc, watched)?)?;
+    let mut providers: Vec<Box<dyn Provider + Sync>> = Vec::new(alloc);
+    providers.push(Box::new(alloc, watched)?)?;
+    let mut seen = apply_by(rt, alloc, texts, &providers, workers, &stop)?;
     seen.calls = calls.load(Ordering::SeqCst);
     Ok(seen)
 }
 
-/// Applies a configuration by a provider whose calls aren't counted.
-pub fn apply_by(
+/// Applies a configuration by providers whose calls aren't counted.
+pub fn apply_by<R: Threads + Wait + Sync>(
+    rt: &R,
     alloc: Global,
     texts: Texts<'_>,
-    provider: Box<dyn Provider + Sync>,
+    providers: &[Box<dyn Provider + Sync>],
+    workers: usize,
+    stop: &Stop,
 ) -> Result<Seen, Fail> {
-    let mut providers: Vec<Box<dyn Provider + Sync>> = Vec::new(alloc);
-    providers.push(provider)?;
     let answer = apply_text(
+        rt,
         alloc,
         texts.config,
         texts.vars,
         texts.state,
         "L",
-        &providers,
+        providers,
+        workers,
+        stop,
     );
     let mut output = Vec::new(alloc);
     let mut errors = Vec::new(alloc);
@@ -114,7 +177,9 @@ pub fn apply_by(
     let After {
         state,
         changed,
+        whole,
         outcomes,
+        excused,
         journal,
     } = state_after(alloc, answer)?;
     Ok(Seen {
@@ -123,7 +188,9 @@ pub fn apply_by(
         status,
         state,
         changed,
+        whole,
         outcomes,
+        excused,
         calls: 0,
         journal_text: listed(alloc, journal.as_slice())?,
         journal,
@@ -136,8 +203,12 @@ pub struct After {
     /// The text of the state, where nothing is refused and there was memory for it.
     state: String,
     changed: bool,
+    /// Whether the journal can be relied on.
+    whole: bool,
     /// How each action ended, in action order.
     outcomes: String,
+    /// What is excused.
+    excused: String,
     /// The actions in the journal.
     journal: Vec<usize>,
 }
@@ -148,7 +219,9 @@ pub fn state_after(alloc: Global, answer: Result<Applied, Refused>) -> Result<Af
         return Ok(After {
             state: String::new(alloc),
             changed: false,
+            whole: true,
             outcomes: String::new(alloc),
+            excused: String::new(alloc),
             journal: Vec::new(alloc),
         });
     };
@@ -158,12 +231,13 @@ pub fn state_after(alloc: Global, answer: Result<Applied, Refused>) -> Result<Af
         state,
         changed,
     } = applied;
+    let whole = is_whole(&walked);
     let Report {
         state: _,
         outcomes,
         diagnostics: _,
         journal,
-        excused: _,
+        excused,
         good: _,
     } = walked.into_report();
     let mut called = Vec::new(alloc);
@@ -176,9 +250,18 @@ pub fn state_after(alloc: Global, answer: Result<Applied, Refused>) -> Result<Af
             Err(AllocError) => String::new(alloc),
         },
         changed,
+        whole,
         outcomes: listed(alloc, outcomes.as_slice())?,
+        excused: listed(alloc, excused.as_slice())?,
         journal: called,
     })
+}
+
+fn is_whole(walked: &Walked) -> bool {
+    match walked {
+        Walked::Whole(_) => true,
+        Walked::Torn(_) => false,
+    }
 }
 
 /// Things one after another, with commas.
@@ -207,15 +290,15 @@ pub fn planned(alloc: Global, texts: Texts<'_>) -> Result<String, Fail> {
 }
 
 /// Checks that a plan and an apply are refused with these lines, and that no provider was called.
-pub fn check_refused(
-    rt: &impl Abort,
+pub fn check_refused<R: Abort + Threads + Wait + Sync>(
+    rt: &R,
     alloc: Global,
     texts: Texts<'_>,
     errors: &str,
 ) -> Result<(), Fail> {
     let said = planned(alloc, texts)?;
     assert_eq!(rt; said.as_str(), errors);
-    let seen = watch_apply(alloc, texts, false)?;
+    let seen = watch_apply(rt, alloc, texts, 2)?;
     assert_eq!(rt; seen.output.as_str(), "", "{errors}");
     assert_eq!(rt; seen.errors.as_str(), errors);
     assert_eq!(rt; seen.status, 1, "{errors}");

@@ -2,11 +2,12 @@
 
 mod destroys;
 mod kept;
+mod pairs;
 mod refused;
 mod replaces;
 mod updates;
 
-use crate::tests::applying::{Texts, check_refused, planned, watch_apply};
+use crate::tests::applying::{Texts, WORKERS, check_refused, planned, watch_apply};
 use crate::tests::changes::destroys::DESTROYS;
 use crate::tests::changes::kept::KEPT;
 use crate::tests::changes::refused::REFUSED;
@@ -14,7 +15,9 @@ use crate::tests::changes::replaces::REPLACES;
 use crate::tests::changes::updates::UPDATES;
 use std::alloc::Global;
 use std::process::Abort;
+use std::sync::Wait;
 use std::test::Fail;
+use std::thread::Threads;
 
 /// The state that is there before.
 #[derive(Clone, Copy)]
@@ -44,15 +47,19 @@ pub struct Change {
 }
 
 /// The text of a prior state.
-fn prior_text(alloc: Global, prior: Prior) -> Result<String, Fail> {
+fn prior_text<R: Threads + Wait + Sync>(
+    rt: &R,
+    alloc: Global,
+    prior: Prior,
+) -> Result<String, Fail> {
     match prior {
-        Prior::After(config) => Ok(watch_apply(alloc, Texts::of(config), false)?.state),
+        Prior::After(config) => Ok(watch_apply(rt, alloc, Texts::of(config), 1)?.state),
         Prior::Text(text) => Ok(String::from_str(alloc, text)?),
     }
 }
 
 /// A text without its line breaks and what stands before the first mark of each line.
-fn squeezed(alloc: Global, text: &str) -> Result<String, Fail> {
+pub fn squeezed(alloc: Global, text: &str) -> Result<String, Fail> {
     let mut joined = String::new(alloc);
     for line in text.lines() {
         joined.push_str(line.trim_start())?;
@@ -60,21 +67,32 @@ fn squeezed(alloc: Global, text: &str) -> Result<String, Fail> {
     Ok(joined)
 }
 
-/// A configuration and the text of a prior state.
-fn texts<'a>(config: &'a str, prior: &'a String) -> Texts<'a> {
-    Texts {
-        config: config.as_bytes(),
-        vars: None,
-        state: Some(prior.as_str().as_bytes()),
-    }
-}
-
-fn check_change(rt: &impl Abort, alloc: Global, change: &Change) -> Result<(), Fail> {
-    let prior = prior_text(alloc, change.prior)?;
-    let texts = texts(change.config, &prior);
+fn check_change<R: Abort + Threads + Wait + Sync>(
+    rt: &R,
+    alloc: Global,
+    change: &Change,
+) -> Result<(), Fail> {
+    let prior = prior_text(rt, alloc, change.prior)?;
+    let texts = Texts::after(change.config, prior.as_str());
     let said = planned(alloc, texts)?;
     assert_eq!(rt; said.as_str(), change.plan, "{}", change.config);
-    let seen = watch_apply(alloc, texts, false)?;
+    for workers in WORKERS {
+        check_applied(rt, alloc, change, texts, workers)?;
+    }
+    Ok(())
+}
+
+/// Checks what an apply by so many workers comes to.
+fn check_applied<R: Abort + Threads + Wait + Sync>(
+    rt: &R,
+    alloc: Global,
+    change: &Change,
+    texts: Texts<'_>,
+    workers: usize,
+) -> Result<(), Fail> {
+    let seen = watch_apply(rt, alloc, texts, workers)?;
+    assert!(rt; seen.whole, "{}", change.config);
+    assert!(rt; seen.excused.is_empty(), "{}", change.config);
     let output = format!(in alloc; "{}{}", change.plan, change.summary)?;
     assert_eq!(rt; seen.output.as_str(), output.as_str(), "{}", change.config);
     assert_eq!(rt; seen.errors.as_str(), change.errors, "{}", change.config);
@@ -125,8 +143,13 @@ fn keeps_what_is_there(rt: HostRuntime) -> Result<(), Fail> {
 #[test]
 fn refuses_changes(rt: HostRuntime) -> Result<(), Fail> {
     for (prior, config, errors) in &REFUSED {
-        let prior = prior_text(rt.alloc(), *prior)?;
-        check_refused(&rt, rt.alloc(), texts(config, &prior), errors)?;
+        let prior = prior_text(&rt, rt.alloc(), *prior)?;
+        check_refused(
+            &rt,
+            rt.alloc(),
+            Texts::after(config, prior.as_str()),
+            errors,
+        )?;
     }
     Ok(())
 }

@@ -1,7 +1,7 @@
 //! Each call is in the journal. `tools/each_allocation/run.sh` runs this test once for each of its allocations, with
 //! that one refused.
 
-use crate::tests::applying::{Texts, watch_apply};
+use crate::tests::applying::{Texts, WORKERS, watch_apply};
 use std::test::Fail;
 
 // Configurations in which some actions are good, some aren't and some are never called.
@@ -36,8 +36,10 @@ static CONFIGS: [&str; 3] = [
 #[test]
 fn a_call_is_in_the_journal(rt: HostRuntime) -> Result<(), Fail> {
     for config in &CONFIGS {
-        let seen = watch_apply(rt.alloc(), Texts::of(config), false)?;
-        assert_eq!(rt; seen.calls, seen.journal.len());
+        for workers in WORKERS {
+            let seen = watch_apply(&rt, rt.alloc(), Texts::of(config), workers)?;
+            assert_eq!(rt; seen.calls, seen.journal.len());
+        }
     }
     Ok(())
 }

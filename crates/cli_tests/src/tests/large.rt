@@ -1,20 +1,24 @@
 //! Large configurations: one call for each instance, and none where they are refused.
 
-use crate::tests::applying::{Seen, Texts, check_refused, planned, watch_apply};
+use crate::tests::applying::{Seen, Texts, WORKERS, check_refused, planned, watch_apply};
 use std::alloc::{AllocError, Global};
 use std::process::Abort;
+use std::sync::Wait;
 use std::test::Fail;
+use std::thread::Threads;
 
 const BEYOND: &str = "error 14 at configuration: Limit\n";
 
 // What comes of an apply in which each of this many actions is called once and good.
-fn apply_whole(
-    rt: &impl Abort,
+fn apply_whole<R: Abort + Threads + Wait + Sync>(
+    rt: &R,
     alloc: Global,
     texts: Texts<'_>,
     count: usize,
+    workers: usize,
 ) -> Result<Seen, Fail> {
-    let seen = watch_apply(alloc, texts, false)?;
+    let seen = watch_apply(rt, alloc, texts, workers)?;
+    assert!(rt; seen.whole);
     assert_eq!(rt; seen.errors.as_str(), "");
     assert_eq!(rt; seen.status, 0);
     assert_eq!(rt; seen.calls, count);
@@ -35,7 +39,7 @@ fn counts_hundreds(rt: HostRuntime) -> Result<(), Fail> {
     "sim_net": {"a": {"count": 400, "cidr": "${count.index}"}}
   }
 }"#;
-    let seen = apply_whole(&rt, rt.alloc(), Texts::of(config), 800)?;
+    let seen = apply_whole(&rt, rt.alloc(), Texts::of(config), 800, 1)?;
     for part in [
         "    \"last\": {\n      \"type\": \"string\",\n      \"value\": \"net-399\"\n    },\n    \"number\": {\n      \"type\": \"number\",\n      \"value\": 400\n    }\n",
         "            \"id\": \"host-h0\",\n            \"name\": \"h0\",\n            \"net\": \"net-0\",\n",
@@ -69,7 +73,7 @@ fn takes_hundreds_of_keys(rt: HostRuntime) -> Result<(), Fail> {
     let keys = numbers(rt.alloc(), 300)?;
     let vars = format!(in rt.alloc(); "{{\"keys\": {keys}}}")?;
     let texts = Texts::with_vars(config, Some(vars.as_str()));
-    let seen = apply_whole(&rt, rt.alloc(), texts, 600)?;
+    let seen = apply_whole(&rt, rt.alloc(), texts, 600, 64)?;
     for part in [
         "+ sim_host.h[\"19\"]\n    id = (known after apply)\n    name = \"h19\"\n    net = (known after apply)\n+ sim_host.h[\"190\"]\n",
         "+ sim_net.a[\"29\"]\n    cidr = \"29\"\n    id = (known after apply)\n+ sim_net.a[\"290\"]\n",
@@ -104,7 +108,7 @@ fn chain(alloc: Global, count: usize, size: &str) -> Result<String, AllocError> 
 #[test]
 fn follows_a_chain(rt: HostRuntime) -> Result<(), Fail> {
     let config = chain(rt.alloc(), 200, "100")?;
-    let seen = apply_whole(&rt, rt.alloc(), Texts::of(config.as_str()), 200)?;
+    let seen = apply_whole(&rt, rt.alloc(), Texts::of(config.as_str()), 200, 2)?;
     assert!(rt;
         seen.state.contains(
             "            \"id\": \"host-h199\",\n            \"name\": \"h199\",\n            \"net\": \"host-h198\",\n"
@@ -116,7 +120,7 @@ fn follows_a_chain(rt: HostRuntime) -> Result<(), Fail> {
 #[test]
 fn stops_where_a_chain_breaks(rt: HostRuntime) -> Result<(), Fail> {
     let config = chain(rt.alloc(), 200, "101")?;
-    let seen = watch_apply(rt.alloc(), Texts::of(config.as_str()), false)?;
+    let seen = watch_apply(&rt, rt.alloc(), Texts::of(config.as_str()), 2)?;
     assert_eq!(rt;
         seen.errors.as_str(),
         "error 21 at sim_host.h1 create: size too large\n"
@@ -153,7 +157,7 @@ fn locals(alloc: Global, count: usize, is_doubled: bool) -> Result<String, Alloc
 fn evaluates_a_local_once(rt: HostRuntime) -> Result<(), Fail> {
     for (count, is_doubled, value) in [(63, true, "4611686018427387904"), (2_000, false, "1")] {
         let config = locals(rt.alloc(), count, is_doubled)?;
-        let seen = apply_whole(&rt, rt.alloc(), Texts::of(config.as_str()), 0)?;
+        let seen = apply_whole(&rt, rt.alloc(), Texts::of(config.as_str()), 0, 1)?;
         let kept = format!(in rt.alloc();
             "    \"o\": {{\n      \"type\": \"number\",\n      \"value\": {value}\n    }}\n"
         )?;
@@ -178,7 +182,9 @@ fn pairs(alloc: Global, hosts: usize) -> Result<String, AllocError> {
 #[test]
 fn keeps_the_limit_on_pairs(rt: HostRuntime) -> Result<(), Fail> {
     let config = pairs(rt.alloc(), 447)?;
-    apply_whole(&rt, rt.alloc(), Texts::of(config.as_str()), 894)?;
+    for workers in WORKERS {
+        apply_whole(&rt, rt.alloc(), Texts::of(config.as_str()), 894, workers)?;
+    }
     let config = pairs(rt.alloc(), 448)?;
     check_refused(&rt, rt.alloc(), Texts::of(config.as_str()), BEYOND)?;
     let config = chain(rt.alloc(), 2_000, "1")?;

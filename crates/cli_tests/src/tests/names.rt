@@ -7,10 +7,12 @@ mod order;
 mod outputs;
 mod values;
 
-use crate::tests::applying::{NOTHING, Texts, planned, watch_apply};
+use crate::tests::applying::{Manner, NOTHING, Texts, WORKERS, planned, watch_apply, watch_manner};
 use std::alloc::Global;
 use std::process::Abort;
+use std::sync::Wait;
 use std::test::Fail;
+use std::thread::Threads;
 
 /// A configuration with names, and what comes of it.
 pub struct Row {
@@ -32,18 +34,41 @@ pub struct Row {
 }
 
 /// Checks what is planned of each configuration, and what comes of its apply.
-pub fn check_rows(rt: &impl Abort, alloc: Global, rows: &[Row]) -> Result<(), Fail> {
+pub fn check_rows<R: Abort + Threads + Wait + Sync>(
+    rt: &R,
+    alloc: Global,
+    rows: &[Row],
+) -> Result<(), Fail> {
     for row in rows {
         check_row(rt, alloc, row)?;
     }
     Ok(())
 }
 
-fn check_row(rt: &impl Abort, alloc: Global, row: &Row) -> Result<(), Fail> {
-    let texts = Texts::with_vars(row.config, row.vars);
-    let said = planned(alloc, texts)?;
+fn check_row<R: Abort + Threads + Wait + Sync>(
+    rt: &R,
+    alloc: Global,
+    row: &Row,
+) -> Result<(), Fail> {
+    let said = planned(alloc, Texts::with_vars(row.config, row.vars))?;
     assert_eq!(rt; said.as_str(), row.plan, "{}", row.config);
-    let seen = watch_apply(alloc, texts, false)?;
+    for workers in WORKERS {
+        check_applied(rt, alloc, row, workers)?;
+    }
+    Ok(())
+}
+
+/// Checks what an apply by so many workers comes to.
+fn check_applied<R: Abort + Threads + Wait + Sync>(
+    rt: &R,
+    alloc: Global,
+    row: &Row,
+    workers: usize,
+) -> Result<(), Fail> {
+    let texts = Texts::with_vars(row.config, row.vars);
+    let seen = watch_apply(rt, alloc, texts, workers)?;
+    assert!(rt; seen.whole, "{}", row.config);
+    assert!(rt; seen.excused.is_empty(), "{}", row.config);
     let output = format!(in alloc; "{}{}", row.plan, row.summary)?;
     assert_eq!(rt; seen.output.as_str(), output.as_str(), "{}", row.config);
     assert_eq!(rt; seen.errors.as_str(), row.errors, "{}", row.config);
@@ -66,7 +91,7 @@ fn excuses_what_has_no_memory(rt: HostRuntime) -> Result<(), Fail> {
     "sim_net": {"a": {"cidr": "x"}, "b": {"cidr": "y"}}
   }
 }"#;
-    let seen = watch_apply(rt.alloc(), Texts::of(config), true)?;
+    let seen = watch_manner(&rt, rt.alloc(), Texts::of(config), 2, Manner::Forgetful)?;
     assert_eq!(rt;
         seen.errors.as_str(),
         "error 26 at sim_net.a create: no memory\nerror 26 at sim_net.b create: no memory\n"
@@ -102,7 +127,7 @@ fn excuses_what_has_no_memory(rt: HostRuntime) -> Result<(), Fail> {
 fn calls_what_is_needed_first(rt: HostRuntime) -> Result<(), Fail> {
     let config =
         r#"{"resource": {"sim_net": {"a": {"cidr": "x"}}, "sim_host": {"h": {"name": "h", "net": "${sim_net.a.id}"}}}}"#;
-    let seen = watch_apply(rt.alloc(), Texts::of(config), false)?;
+    let seen = watch_apply(&rt, rt.alloc(), Texts::of(config), 2)?;
     assert_eq!(rt; seen.journal.as_slice(), [1, 0].as_slice());
     let config = r#"{
   "resource": {
@@ -114,7 +139,7 @@ fn calls_what_is_needed_first(rt: HostRuntime) -> Result<(), Fail> {
     }
   }
 }"#;
-    let seen = watch_apply(rt.alloc(), Texts::of(config), false)?;
+    let seen = watch_apply(&rt, rt.alloc(), Texts::of(config), 2)?;
     assert_eq!(rt; seen.journal.len(), 4);
     assert_eq!(rt; seen.journal.first().copied(), Some(0));
     assert_eq!(rt; seen.journal.last().copied(), Some(3));

@@ -9,7 +9,9 @@ mod variables;
 use crate::tests::applying::{Texts, check_refused, planned};
 use std::alloc::{AllocError, Global};
 use std::process::Abort;
+use std::sync::Wait;
 use std::test::Fail;
+use std::thread::Threads;
 
 // Texts that are refused, and what is told.
 static REFUSED: [(&str, &str); 25] = [
@@ -160,8 +162,8 @@ fn refuses_a_prior_state(rt: HostRuntime) -> Result<(), Fail> {
 }
 
 /// Checks that plans and applies of configurations with these variables files are refused with these lines.
-fn check_all(
-    rt: &impl Abort,
+fn check_all<R: Abort + Threads + Wait + Sync>(
+    rt: &R,
     alloc: Global,
     refused: &[(&str, Option<&str>, &str)],
 ) -> Result<(), Fail> {

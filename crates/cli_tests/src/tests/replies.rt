@@ -7,6 +7,7 @@ use crate::tests::applying::{CONFIG, NOTHING, Texts, apply_by};
 use std::alloc::{AllocError, Global};
 use std::collections::BTreeMap;
 use std::test::Fail;
+use tf_cli::Stop;
 use tf_provider::{Provider, Reply, Request, Schema};
 use tf_sim::Sim;
 use tf_value::{Value, copy};
@@ -151,7 +152,10 @@ fn answers_of_each_kind(rt: HostRuntime) -> Result<(), Fail> {
             message,
             object,
         };
-        let seen = apply_by(alloc, Texts::of(CONFIG), Box::new(alloc, scripted)?)?;
+        let mut providers: Vec<Box<dyn Provider + Sync>> = Vec::new(alloc);
+        providers.push(Box::new(alloc, scripted)?)?;
+        let stop = Stop::new();
+        let seen = apply_by(&rt, alloc, Texts::of(CONFIG), &providers, 2, &stop)?;
         let state = net_state(alloc, *cidr, *id, *status)?;
         assert_eq!(rt; seen.errors.as_str(), *errors, "{said:?}");
         assert_eq!(rt; seen.state.as_str(), state.as_str(), "{said:?}");

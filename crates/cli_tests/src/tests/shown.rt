@@ -3,16 +3,32 @@
 use crate::tests::applying::{CONFIG, state_after};
 use std::alloc::{AllocError, Global};
 use std::io;
+use std::sync::Wait;
 use std::test::Fail;
-use tf_cli::{Applied, Refused, apply_text, show};
+use std::thread::Threads;
+use tf_cli::{Applied, Refused, Stop, apply_text, show};
 use tf_provider::Provider;
 use tf_sim::Sim;
 
 // The answer of an apply for whose state there was no memory.
-fn stateless(alloc: Global, config: &[u8]) -> Result<Result<Applied, Refused>, Fail> {
+fn stateless<R: Threads + Wait + Sync>(
+    rt: &R,
+    alloc: Global,
+    config: &[u8],
+) -> Result<Result<Applied, Refused>, Fail> {
     let mut providers: Vec<Box<dyn Provider + Sync>> = Vec::new(alloc);
     providers.push(Box::new(alloc, Sim::new(alloc)?)?)?;
-    let answer = apply_text(alloc, config, None, None, "L", &providers);
+    let answer = apply_text(
+        rt,
+        alloc,
+        config,
+        None,
+        None,
+        "L",
+        &providers,
+        1,
+        &Stop::new(),
+    );
     match answer {
         Ok(
             Applied {
@@ -34,7 +50,7 @@ fn stateless(alloc: Global, config: &[u8]) -> Result<Result<Applied, Refused>, F
 #[test]
 fn tells_that_a_state_is_not_written(rt: HostRuntime) -> Result<(), Fail> {
     for (config, errors, status) in [(CONFIG, "error: state not written\n", 3), ("{}", "", 0)] {
-        let answer = stateless(rt.alloc(), config.as_bytes())?;
+        let answer = stateless(&rt, rt.alloc(), config.as_bytes())?;
         let mut output = Vec::new(rt.alloc());
         let mut told = Vec::new(rt.alloc());
         let shown = show(&answer, &mut output, &mut told);
@@ -107,7 +123,7 @@ fn show_narrow(
 fn shows_what_has_room(rt: HostRuntime) -> Result<(), Fail> {
     let config =
         "{\"resource\": {\"sim_net\": {\"b\": {\"cidr\": \"bad\"}, \"a\": {\"cidr\": \"bad\"}}}}";
-    let answer = stateless(rt.alloc(), config.as_bytes())?;
+    let answer = stateless(&rt, rt.alloc(), config.as_bytes())?;
     let (output, errors, status) = show_narrow(rt.alloc(), &answer, 1000);
     for room in 0..300 {
         let (out, err, status_then) = show_narrow(rt.alloc(), &answer, room);

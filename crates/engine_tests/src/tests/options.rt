@@ -21,6 +21,7 @@ fn reads_defaults(rt: HostRuntime) -> Result<(), Fail> {
         "00000000-0000-0000-0000-000000000000"
     );
     assert_eq!(rt; read.parallelism, 10);
+    assert_eq!(rt; read.stop_after, None);
     Ok(())
 }
 
@@ -37,6 +38,8 @@ fn reads_all(rt: HostRuntime) -> Result<(), Fail> {
         "b",
         "--lineage",
         "L",
+        "--stop-after",
+        "2000",
     ];
     let read = read(rt.alloc(), &words)?;
     assert_eq!(rt; read.config.as_str(), "a");
@@ -44,6 +47,7 @@ fn reads_all(rt: HostRuntime) -> Result<(), Fail> {
     assert_eq!(rt; read.state.as_str(), "b");
     assert_eq!(rt; read.lineage.as_str(), "L");
     assert_eq!(rt; read.parallelism, 64);
+    assert_eq!(rt; read.stop_after, Some(2000));
     Ok(())
 }
 
@@ -58,7 +62,9 @@ fn refuses_words(rt: HostRuntime) -> Result<(), Fail> {
     for words in [
         ["apply", "--vars"].as_slice(),
         ["apply", "--vars", "v", "--vars", "w"].as_slice(),
-        ["apply", "--stop-after", "1"].as_slice(),
+        ["apply", "--stop-after", "2001"].as_slice(),
+        ["apply", "--stop-after=-1"].as_slice(),
+        ["apply", "--refresh"].as_slice(),
     ] {
         assert!(rt; read(rt.alloc(), words).is_err());
     }

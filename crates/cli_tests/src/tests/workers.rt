@@ -1,0 +1,290 @@
+//! Many workers: that they call at the same time, and how a walk is stopped.
+
+use crate::tests::applying::{
+    Manner, NOTHING, Seen, Texts, WORKERS, apply_by, watch_apply, watch_manner,
+};
+use crate::tests::changes::squeezed;
+use std::alloc::Global;
+use std::collections::BTreeMap;
+use std::process::Abort;
+use std::sync::atomic::{AtomicBool, AtomicUsize, Ordering};
+use std::sync::{Arc, Wait};
+use std::test::Fail;
+use std::thread::Threads;
+use tf_cli::Stop;
+use tf_provider::{Provider, Reply, Request, Schema};
+use tf_sim::Sim;
+use tf_value::Value;
+
+/// The provider of one type without attributes. Its call sets its own flag and looks for those of the others, at most so
+/// many times, and counts a miss for each that it doesn't see.
+#[derive(Drop)]
+struct Meeting {
+    alloc: Global,
+    type_name: String,
+    schema: Schema,
+    own: Arc<AtomicBool>,
+    others: Vec<Arc<AtomicBool>>,
+    misses: Arc<AtomicUsize>,
+    turns: usize,
+}
+
+impl Provider for Meeting {
+    ghost use Rattle.std.specs.Prelude.{Some, None, string_bytes, if◌then◌else◌};
+    ghost use Rattle.std.specs.Str.{bytes_eq};
+    ghost use Rattle.tf_protocol.specs.Meaning.{object};
+    ghost use Rattle.tf_value.specs.Tree.{map, no_entries};
+
+    ghost meaning = { λ m. record { answer = λ _. object (map no_entries); schema_of = λ name. if bytes_eq name (string_bytes m.type_name) then Some m.schema else None } };
+
+    fn schema(&self, type_name: &str) -> Option<&Schema> {
+        if type_name == self.type_name.as_str() {
+            Some(&self.schema)
+        } else {
+            None
+        }
+    }
+
+    fn apply(&self, _request: &Request) -> Reply {
+        self.own.store(true, Ordering::SeqCst);
+        for other in &self.others {
+            if !is_seen(other, self.turns) {
+                self.misses.fetch_add(1, Ordering::SeqCst);
+            }
+        }
+        Reply::Object(Value::Map(BTreeMap::new(self.alloc)))
+    }
+}
+
+/// Whether a flag is set, which is looked at so many times at most.
+fn is_seen(flag: &AtomicBool, turns: usize) -> bool {
+    for _ in 0..turns {
+        if flag.load(Ordering::SeqCst) {
+            return true;
+        }
+    }
+    false
+}
+
+/// How many flags weren't seen where so many creates, of a provider each, are called by as many workers.
+fn misses_of<R: Threads + Wait + Sync>(
+    rt: &R,
+    alloc: Global,
+    config: &str,
+    count: usize,
+    turns: usize,
+) -> Result<(usize, Seen), Fail> {
+    let misses = Arc::new(alloc, AtomicUsize::new(0))?;
+    let mut flags = Vec::new(alloc);
+    for _ in 0..count {
+        flags.push(Arc::new(alloc, AtomicBool::new(false))?)?;
+    }
+    let mut providers: Vec<Box<dyn Provider + Sync>> = Vec::new(alloc);
+    for (place, own) in flags.iter().enumerate() {
+        let mut others = Vec::new(alloc);
+        for (other, flag) in flags.iter().enumerate() {
+            if other != place {
+                others.push(Arc::try_clone(flag)?)?;
+            }
+        }
+        let meeting = Meeting {
+            alloc,
+            type_name: format!(in alloc; "t{place}")?,
+            schema: Schema::new(alloc, 0, Vec::new(alloc))?,
+            own: Arc::try_clone(own)?,
+            others,
+            misses: Arc::try_clone(&misses)?,
+            turns,
+        };
+        providers.push(Box::new(alloc, meeting)?)?;
+    }
+    let seen = apply_by(
+        rt,
+        alloc,
+        Texts::of(config),
+        &providers,
+        count,
+        &Stop::new(),
+    )?;
+    Ok((misses.load(Ordering::SeqCst), seen))
+}
+
+#[test]
+fn two_calls_meet(rt: HostRuntime) -> Result<(), Fail> {
+    let two = r#"{"resource": {"t0": {"a": {}}, "t1": {"a": {}}}}"#;
+    let four =
+        r#"{"resource": {"t0": {"a": {}}, "t1": {"a": {}}, "t2": {"a": {}}, "t3": {"a": {}}}}"#;
+    for (config, count, turns) in [(two, 2, 10_000_000), (four, 4, 100_000_000)] {
+        let (misses, seen) = misses_of(&rt, rt.alloc(), config, count, turns)?;
+        assert_eq!(rt; misses, 0, "{count}");
+        assert_eq!(rt; seen.errors.as_str(), "", "{count}");
+        assert_eq!(rt; seen.journal.len(), count, "{count}");
+        assert!(rt; seen.whole, "{count}");
+    }
+    Ok(())
+}
+
+/// The provider `sim`, whose create of the net with cidr `a` waits, but not for ever, until that with cidr `net-b` has begun.
+#[derive(Drop)]
+struct Waiting {
+    sim: Sim,
+    begun: AtomicBool,
+    misses: Arc<AtomicUsize>,
+}
+
+impl Provider for Waiting {
+    ghost use Rattle.tf_sim.specs.Table.{sim_meaning};
+
+    ghost meaning = { λ _. sim_meaning };
+
+    fn schema(&self, type_name: &str) -> Option<&Schema> {
+        self.sim.schema(type_name)
+    }
+
+    fn apply(&self, request: &Request) -> Reply {
+        match cidr_of(request) {
+            Some("a") if !is_seen(&self.begun, 10_000_000) => {
+                self.misses.fetch_add(1, Ordering::SeqCst);
+            }
+            Some("net-b") => self.begun.store(true, Ordering::SeqCst),
+            _ => {}
+        }
+        self.sim.apply(request)
+    }
+}
+
+fn cidr_of(request: &Request) -> Option<&str> {
+    match &request.object {
+        Some(object) => match object.get("cidr") {
+            Some(Value::Text(cidr)) => Some(cidr.as_str()),
+            _ => None,
+        },
+        None => None,
+    }
+}
+
+#[test]
+fn second_ends_first(rt: HostRuntime) -> Result<(), Fail> {
+    let alloc = rt.alloc();
+    let misses = Arc::new(alloc, AtomicUsize::new(0))?;
+    let waiting = Waiting {
+        sim: Sim::new(alloc)?,
+        begun: AtomicBool::new(false),
+        misses: Arc::try_clone(&misses)?,
+    };
+    let mut providers: Vec<Box<dyn Provider + Sync>> = Vec::new(alloc);
+    providers.push(Box::new(alloc, waiting)?)?;
+    let config =
+        r#"{"resource": {"sim_net": {"a": {"cidr": "a"}, "b": {"cidr": "b"}, "c": {"cidr": "${sim_net.b.id}"}}}}"#;
+    let seen = apply_by(&rt, alloc, Texts::of(config), &providers, 2, &Stop::new())?;
+    assert_eq!(rt; misses.load(Ordering::SeqCst), 0);
+    assert_eq!(rt; seen.errors.as_str(), "");
+    assert!(rt; seen.whole);
+    let places = seen.journal.as_slice();
+    assert_eq!(rt; places.len(), 3);
+    assert!(rt;
+        places.iter().position(|action| *action == 1)
+            < places.iter().position(|action| *action == 0)
+    );
+    Ok(())
+}
+
+/// A configuration whose walk is stopped, and what comes of it.
+struct Stopped {
+    /// What was applied before, if anything was.
+    before: Option<&'static str>,
+    config: &'static str,
+    /// Before the return of which call it is stopped.
+    after: usize,
+    errors: &'static str,
+    summary: &'static str,
+    outcomes: &'static str,
+    excused: &'static str,
+    /// The resources of the state after.
+    resources: &'static str,
+    serial: u32,
+}
+
+const PROVIDED: &str = r#""provider": "provider[\"registry.terraform.io/hashicorp/sim\"]""#;
+
+static STOPPED: [Stopped; 3] = [
+    // The net is created, and then nothing is called any more.
+    Stopped {
+        before: None,
+        config: r#"{"resource": {"sim_net": {"a": {"cidr": "x"}}, "sim_host": {"h": {"name": "h", "net": "${sim_net.a.id}"}}}}"#,
+        after: 1,
+        errors: "error 27 at sim_host.h create: left\n",
+        summary: "Apply incomplete. Resources: 1 added, 0 changed, 0 destroyed.\n",
+        outcomes: "Excused, Judged(Good)",
+        excused: "Left(0)",
+        resources: r#"{"instances": [{"attributes": {"cidr": "x","id": "net-x","tag": null},"schema_version": 0}],"mode": "managed","name": "a",PROVIDER,"type": "sim_net"}"#,
+        serial: 1,
+    },
+    // Nothing is called, and what waits for what is left is skipped.
+    Stopped {
+        before: None,
+        config: r#"{"resource": {"sim_host": {"a": {"name": "a"}, "b": {"name": "b", "net": "${sim_host.a.id}"}, "c": {"name": "c", "net": "${sim_host.a.id}"}, "d": {"name": "d", "net": "${sim_host.b.id}-${sim_host.c.id}"}}}}"#,
+        after: 0,
+        errors: "error 27 at sim_host.a create: left\n",
+        summary: "Apply incomplete. Resources: 0 added, 0 changed, 0 destroyed.\n",
+        outcomes: "Excused, Skipped, Skipped, Skipped",
+        excused: "Left(0)",
+        resources: "",
+        serial: 0,
+    },
+    // What was to be destroyed last becomes deposed.
+    Stopped {
+        before: Some(
+            r#"{"resource": {"sim_net": {"a": {"cidr": "x"}}, "sim_host": {"h": {"name": "h", "net": "${sim_net.a.id}"}}}}"#,
+        ),
+        config: r#"{"resource": {"sim_net": {"a": {"cidr": "y", "lifecycle": {"create_before_destroy": true}}}, "sim_host": {"h": {"name": "h", "net": "${sim_net.a.id}"}}}}"#,
+        after: 1,
+        errors: "error 27 at sim_host.h update: left\n",
+        summary: "Apply incomplete. Resources: 1 added, 0 changed, 0 destroyed.\n",
+        outcomes: "Excused, Judged(Good), Skipped",
+        excused: "Left(0)",
+        resources: r#"{"instances": [{"attributes": {"id": "host-h","name": "h","net": "net-x","size": null},"dependencies": ["sim_net.a"],"schema_version": 0}],"mode": "managed","name": "h",PROVIDER,"type": "sim_host"},{"instances": [{"attributes": {"cidr": "y","id": "net-y","tag": null},"create_before_destroy": true,"schema_version": 0},{"attributes": {"cidr": "x","id": "net-x","tag": null},"deposed": "00000002","schema_version": 0}],"mode": "managed","name": "a",PROVIDER,"type": "sim_net"}"#,
+        serial: 2,
+    },
+];
+
+fn check_stopped<R: Abort + Threads + Wait + Sync>(
+    rt: &R,
+    alloc: Global,
+    row: &Stopped,
+    workers: usize,
+) -> Result<(), Fail> {
+    let prior = match row.before {
+        Some(before) => watch_apply(rt, alloc, Texts::of(before), workers)?.state,
+        None => String::from_str(alloc, NOTHING)?,
+    };
+    let texts = Texts::after(row.config, prior.as_str());
+    let seen = watch_manner(rt, alloc, texts, workers, Manner::Stops(row.after))?;
+    assert_eq!(rt; seen.errors.as_str(), row.errors, "{workers}");
+    assert!(rt; seen.output.ends_with(row.summary), "{workers}");
+    assert_eq!(rt; seen.outcomes.as_str(), row.outcomes, "{workers}");
+    assert_eq!(rt; seen.excused.as_str(), row.excused, "{workers}");
+    assert_eq!(rt; seen.status, 2, "{workers}");
+    assert_eq!(rt; seen.calls, row.after, "{workers}");
+    assert_eq!(rt; seen.journal.len(), row.after, "{workers}");
+    assert!(rt; seen.whole, "{workers}");
+    let resources = row.resources.replace(alloc, "PROVIDER", PROVIDED)?;
+    let serial = row.serial;
+    let state = format!(in alloc;
+        "{{\"lineage\": \"L\",\"outputs\": {{}},\"resources\": [{resources}],\"serial\": {serial},\"terraform_version\": \"1.0.0\",\"version\": 4}}"
+    )?;
+    let squeezed = squeezed(alloc, seen.state.as_str())?;
+    assert_eq!(rt; squeezed.as_str(), state.as_str(), "{workers}");
+    assert_eq!(rt; seen.changed, row.after != 0, "{workers}");
+    Ok(())
+}
+
+#[test]
+fn stops(rt: HostRuntime) -> Result<(), Fail> {
+    for row in &STOPPED {
+        for workers in WORKERS {
+            check_stopped(&rt, rt.alloc(), row, workers)?;
+        }
+    }
+    Ok(())
+}

@@ -1,0 +1,170 @@
+//! Plans, their texts and orders, or what is refused, through the planner's door.
+
+ghost use Rattle.std.specs.Prelude.{◌≤◌, ◌<◌, ◌+◌, ◌^◌, IfOk, length};
+ghost use Rattle.tf_config_data.specs.Config.{config_of};
+ghost use Rattle.tf_config_data.specs.Names.{names_of};
+ghost use Rattle.tf_names.specs.Needs.{IsAcyclic, IsDependence};
+ghost use Rattle.tf_state_data.specs.State.{state_of};
+
+use std::alloc::{AllocError, Global};
+use std::collections::BTreeMap;
+use tf_config::{Config, read};
+use tf_names::{Dependence, Names, judge};
+use tf_plan::{Plan, Refused, plan, plan_text};
+use tf_protocol::Provider;
+use tf_refusal::code::{BAD_STATE, LIMIT};
+use tf_refusal::{Detail, Refusal};
+use tf_sim::Sim;
+use tf_state_data::State;
+use tf_value::Value;
+use tf_variables::read_vars;
+
+/// The text of the plan of a configuration from a state, none where its text is empty; or a line for each refusal.
+pub(crate) fn text_of(alloc: Global, config: &str, state: &str) -> Result<String, AllocError> {
+    match planned(alloc, config, None, state) {
+        Ok(plan) => plan_text(alloc, plan.actions.as_slice(), plan.late.as_slice()),
+        Err(Refused::NoMemory) => Err(AllocError),
+        Err(Refused::These(refusals)) => lines(alloc, refusals.as_slice()),
+    }
+}
+
+/// The pairs of actions of which the first is before the second, by their places in the plan; or a line for each refusal.
+pub(crate) fn order_of(alloc: Global, config: &str, state: &str) -> Result<String, AllocError> {
+    match planned(alloc, config, None, state) {
+        Ok(plan) => pairs(alloc, plan.order.graph().edges()),
+        Err(Refused::NoMemory) => Err(AllocError),
+        Err(Refused::These(refusals)) => lines(alloc, refusals.as_slice()),
+    }
+}
+
+/// How many such pairs there are; or a line for each refusal.
+pub(crate) fn count_of(alloc: Global, config: &str, state: &str) -> Result<String, AllocError> {
+    match planned(alloc, config, None, state) {
+        Ok(plan) => {
+            let count = plan.order.graph().edges().len();
+            format!(in alloc; "{count}\n")
+        }
+        Err(Refused::NoMemory) => Err(AllocError),
+        Err(Refused::These(refusals)) => lines(alloc, refusals.as_slice()),
+    }
+}
+
+/// The plan of a configuration, with a variables file where there is one, from a state, none where its text is empty.
+pub(crate) fn planned(
+    alloc: Global,
+    config: &str,
+    file: Option<&str>,
+    state: &str,
+) -> Result<Plan, Refused> {
+    let providers = sims(alloc)?;
+    planned_by(alloc, config, file, state, providers.as_slice())
+}
+
+fn sims(alloc: Global) -> Result<Vec<Box<dyn Provider + Sync>>, AllocError> {
+    let mut providers: Vec<Box<dyn Provider + Sync>> = Vec::new(alloc);
+    providers.push(Box::new(alloc, Sim::new(alloc)?)?)?;
+    Ok(providers)
+}
+
+/// The same, by other providers.
+pub(crate) fn planned_by(
+    alloc: Global,
+    config: &str,
+    file: Option<&str>,
+    state: &str,
+    providers: &[Box<dyn Provider + Sync>],
+) -> Result<Plan, Refused> {
+    let config = match read(alloc, config.as_bytes()) {
+        Ok(config) => config,
+        Err(refusal) => return Err(these(alloc, refusal)?),
+    };
+    let variables = match variables_of(alloc, file, &config) {
+        Ok(variables) => variables,
+        Err(refusal) => return Err(these(alloc, refusal)?),
+    };
+    let prior = match read_prior(alloc, state) {
+        Ok(prior) => prior,
+        Err(refusal) => return Err(these(alloc, refusal)?),
+    };
+    let dependence = match dependence_of(alloc, &config, &prior) {
+        Ok(dependence) => dependence,
+        Err(refusal) => return Err(these(alloc, refusal)?),
+    };
+    plan(alloc, prior, config, variables, dependence, providers)
+}
+
+fn variables_of(
+    alloc: Global,
+    file: Option<&str>,
+    config: &Config,
+) -> Result<BTreeMap<String, Value>, Refusal> {
+    match file {
+        Some(file) => read_vars(alloc, Some(file.as_bytes()), config),
+        None => read_vars(alloc, None, config),
+    }
+}
+
+fn these(alloc: Global, refusal: Refusal) -> Result<Refused, AllocError> {
+    Ok(Refused::These(vec![in alloc; refusal]?))
+}
+
+/// The state of a text, and the empty one of an empty text.
+fn read_prior(alloc: Global, text: &str) -> Result<State, Refusal>
+    ensures { IfOk result (λ state. (state_of state).serial + 1 < 2 ^ 32) }
+{
+    if text.is_empty() {
+        return Ok(State::empty(alloc, "L")?);
+    }
+    match tf_state::read(alloc, text.as_bytes()) {
+        Ok(state) => {
+            if state.serial() < u32::MAX {
+                Ok(state)
+            } else {
+                Err(refusal_at(LIMIT, String::from_str(alloc, "state")?))
+            }
+        }
+        Err(_) => Err(refusal_at(BAD_STATE, String::from_str(alloc, "state")?)),
+    }
+}
+
+/// Which name of a configuration needs which, where these and the resources of the state are few enough.
+fn dependence_of(alloc: Global, config: &Config, prior: &State) -> Result<Dependence, Refusal>
+    ensures dependence { IfOk result (IsDependence (names_of (config_of config.now))) }
+    ensures acyclic { IfOk result IsAcyclic }
+    ensures few { IfOk result (λ _. length (names_of (config_of config.now)) + length (state_of prior.now).resources ≤ 8000) }
+{
+    // Whoever has read both knows that there are few.
+    let count = Names::new(alloc, config)?.len();
+    if count > 8000 || prior.resources().len() > 8000 - count {
+        return Err(refusal_at(LIMIT, String::from_str(alloc, "names")?));
+    }
+    let (_names, dependence) = judge(alloc, config)?;
+    Ok(dependence)
+}
+
+fn refusal_at(code: u8, place: String) -> Refusal {
+    Refusal::Fault {
+        code,
+        place,
+        detail: Detail::Bare,
+    }
+}
+
+/// A line for each refusal.
+pub(crate) fn lines(alloc: Global, refusals: &[Refusal]) -> Result<String, AllocError> {
+    let mut text = String::new(alloc);
+    for refusal in refusals {
+        let line = format!(in alloc; "{refusal}\n")?;
+        text.push_str(line.as_str())?;
+    }
+    Ok(text)
+}
+
+fn pairs(alloc: Global, edges: &[(usize, usize)]) -> Result<String, AllocError> {
+    let mut text = String::new(alloc);
+    for (before, after) in edges {
+        let line = format!(in alloc; "{before} -> {after}\n")?;
+        text.push_str(line.as_str())?;
+    }
+    Ok(text)
+}

@@ -1,0 +1,7 @@
+//! Tests of walks by many workers beside the walk by one thread, over public calls. They start threads.
+#![tactic(auto)]
+
+#[cfg(test)]
+mod runs;
+#[cfg(test)]
+mod telling;

@@ -1,0 +1,123 @@
+//! Plans that are walked many times, by different numbers of workers.
+
+ghost use Rattle.std.specs.Prelude.{map};
+ghost use Rattle.tf_action_data.specs.Action.{action_of};
+ghost use Rattle.tf_plan_data.specs.Fits.{FitsTogether};
+ghost use Rattle.tf_plan_data.specs.Served.{AreServed};
+
+use crate::telling::{Told, tell_of};
+use std::alloc::Global;
+use std::process::Abort;
+use std::sync::Wait;
+use std::test::Fail;
+use std::thread::Threads;
+use tf_inputs::{Inputs, read_texts};
+use tf_plan::plan;
+use tf_plan_data::Plan;
+use tf_provider::Provider;
+use tf_run::run;
+use tf_sim::Sim;
+use tf_stop::Stop;
+use tf_walk::run_one;
+
+/// Hosts of which one comes first, one last, and two between them in either order.
+const DIAMOND: &str =
+    r#"{"resource": {"sim_host": {"a": {"name": "a"}, "b": {"name": "b", "net": "${sim_host.a.id}"}, "c": {"name": "c", "net": "${sim_host.a.id}"}, "d": {"name": "d", "net": "${sim_host.b.id}-${sim_host.c.id}"}}}}"#;
+
+/// The same, of which one of the two fails.
+const BROKEN: &str =
+    r#"{"resource": {"sim_host": {"a": {"name": "a"}, "b": {"name": "b", "net": "${sim_host.a.id}", "size": 101}, "c": {"name": "c", "net": "${sim_host.a.id}"}, "d": {"name": "d", "net": "${sim_host.b.id}-${sim_host.c.id}"}}}}"#;
+
+/// The state of a net, and of a host on it.
+const BEFORE: &str =
+    r#"{"version": 4, "serial": 1, "lineage": "L", "resources": [{"mode": "managed", "type": "sim_net", "name": "a", "provider": "p", "instances": [{"schema_version": 0, "attributes": {"cidr": "x", "id": "net-x", "tag": null}}]}, {"mode": "managed", "type": "sim_host", "name": "h", "provider": "p", "instances": [{"schema_version": 0, "attributes": {"id": "host-h", "name": "h", "net": "net-x", "size": null}, "dependencies": ["sim_net.a"]}]}]}"#;
+
+/// Another net, created before the old one is destroyed.
+const LATE: &str =
+    r#"{"resource": {"sim_net": {"a": {"cidr": "y", "lifecycle": {"create_before_destroy": true}}}, "sim_host": {"h": {"name": "h", "net": "${sim_net.a.id}"}}}}"#;
+
+/// Another net and another host, both created before the old ones are destroyed.
+const BOTH_LATE: &str =
+    r#"{"resource": {"sim_net": {"a": {"cidr": "y"}}, "sim_host": {"h": {"name": "g", "net": "${sim_net.a.id}", "lifecycle": {"create_before_destroy": true}}}}}"#;
+
+/// Hosts that all wait for all nets.
+const WIDE: &str =
+    r#"{"resource": {"sim_net": {"a": {"count": 447, "cidr": "${count.index}"}}, "sim_host": {"h": {"count": 447, "name": "h", "depends_on": ["sim_net.a"]}}}}"#;
+
+/// Checks that walks by many workers come to what the walk of one thread comes to.
+fn check_runs<R: Abort + Threads + Wait + Sync>(
+    rt: &R,
+    alloc: Global,
+    config: &str,
+    state: Option<&str>,
+    times: usize,
+) -> Result<(), Fail> {
+    let mut providers: Vec<Box<dyn Provider + Sync>> = Vec::new(alloc);
+    providers.push(Box::new(alloc, Sim::new(alloc)?)?)?;
+    let state = state.map(|text| text.as_bytes());
+    let Ok(inputs) = read_texts(alloc, config.as_bytes(), None, state, "L") else {
+        return Err("the texts are refused".into());
+    };
+    let Inputs {
+        config,
+        values,
+        dependence,
+        prior,
+    } = inputs;
+    let Ok(plan) = plan(alloc, prior, config, values, dependence, &providers) else {
+        return Err("the plan is refused".into());
+    };
+    let Ok(walked) = run_one(alloc, &plan, &providers, &Stop::new()) else {
+        return Err("no memory".into());
+    };
+    let one = tell_of(alloc, walked)?;
+    for workers in [2, 4, 64] {
+        for _ in 0..times {
+            check_run(rt, alloc, &plan, &providers, workers, &one)?;
+        }
+    }
+    Ok(())
+}
+
+/// Checks that a walk by so many workers comes to what another came to.
+fn check_run<R: Abort + Threads + Wait + Sync>(
+    rt: &R,
+    alloc: Global,
+    plan: &Plan,
+    providers: &[Box<dyn Provider + Sync>],
+    workers: usize,
+    one: &Told,
+) -> Result<(), Fail>
+    requires fits { FitsTogether plan.now }
+    requires served { AreServed (map (λ b. meaning b) providers.now) (map action_of plan.now.actions.items) }
+{
+    let Ok(walked) = run(rt, alloc, plan, providers, workers, &Stop::new()) else {
+        return Err("no memory".into());
+    };
+    let many = tell_of(alloc, walked)?;
+    assert!(rt; many.whole, "{workers}");
+    assert_eq!(rt; many.excused.as_str(), "", "{workers}");
+    assert_eq!(rt; many.outcomes.as_str(), one.outcomes.as_str(), "{workers}");
+    assert_eq!(rt; many.calls, one.calls, "{workers}");
+    assert_eq!(rt; many.state.as_str(), one.state.as_str(), "{workers}");
+    Ok(())
+}
+
+#[test]
+fn small_plans_come_to_the_same(rt: HostRuntime) -> Result<(), Fail> {
+    for (config, state) in [
+        (DIAMOND, None),
+        (BROKEN, None),
+        (LATE, Some(BEFORE)),
+        (BOTH_LATE, Some(BEFORE)),
+        ("{}", Some(BEFORE)),
+    ] {
+        check_runs(&rt, rt.alloc(), config, state, 100)?;
+    }
+    Ok(())
+}
+
+#[test]
+fn a_wide_plan_comes_to_the_same(rt: HostRuntime) -> Result<(), Fail> {
+    check_runs(&rt, rt.alloc(), WIDE, None, 3)
+}

@@ -1,3 +1,0 @@
-pub mod Fallback
-pub mod Lookup
-pub mod Requests

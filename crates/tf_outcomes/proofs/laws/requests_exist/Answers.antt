@@ -1,8 +1,0 @@
-use Rattle.tf_outcomes.proofs.Requests.{requests_exist, requests_one}
-use Rattle.tf_outcomes.proofs.laws.requests_exist.Goals as goal
-
-pub returns : goal.returns
-returns c = record {
-  exist = requests_exist c.standings_are_one.ensures.exist c.standings_are_one.ensures.one;
-  one = requests_one c.standings_are_one.ensures.exist;
-}

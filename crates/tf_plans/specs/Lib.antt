@@ -1,7 +1,0 @@
-pub mod Told
-pub mod Outputs
-pub mod Given
-pub mod Planned
-pub mod Ordered
-pub mod Plan
-pub mod Refused

@@ -1,4 +1,0 @@
-pub mod Address
-pub mod Fits
-pub mod Plan
-pub mod Served

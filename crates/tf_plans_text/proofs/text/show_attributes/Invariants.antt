@@ -1,9 +1,0 @@
--- the text so far, with the lines of the attributes that are left
-use Rattle.std.proofs.Common.{◌≡◌, ◌++◌, string_bytes}
-use Rattle.tf_plans_text.specs.Text.{attribute_lines}
-use Rattle.tf_value.specs.Tree.{entries_view}
-use Rattle.tf_plans_text.proofs.text.show_attributes.Given as goal
-
-abbrev pub invariant-loop-name : goal.invariant-loop-name
-invariant-loop-name l =
-    string_bytes l.text ++ attribute_lines (entries_view l.name-iterator) ≡ string_bytes l.fn.text ++ attribute_lines (entries_view l.attributes.entries)

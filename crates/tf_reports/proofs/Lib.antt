@@ -1,9 +1,0 @@
-pub mod Addresses
-pub mod Apart
-pub mod Assembled
-pub mod Complete
-pub mod Fine
-pub mod Labels
-pub mod Sound
-pub mod Told
-pub mod Joined

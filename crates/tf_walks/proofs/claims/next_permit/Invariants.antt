@@ -1,7 +1,0 @@
--- none of the actions passed may be claimed
-use Rattle.std.proofs.Common.{◌≡◌, ◌<◌, ℕ, false}
-use Rattle.tf_claim.specs.Ledger.{is_claimable}
-use Rattle.tf_walks.proofs.claims.next_permit.Given as goal
-
-abbrev pub invariant-loop-action : goal.invariant-loop-action
-invariant-loop-action l = (l.book ≡ l.fn.book) × ((n : ℕ) → n < l.action → is_claimable l.fn.book n ≡ false)
