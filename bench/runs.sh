@@ -1,7 +1,7 @@
 #!/usr/bin/env bash
 # Times whole plans and applies by the provider sim, from text to text, beside serde_json's parse of the same
-# configuration and print of the same state in the same run, for configurations of several sizes. Prints the best of
-# three times each and the ratio. Wants `rt` and `python3`; works in a copy of the repository, of which what is proved
+# configuration and prior state and print of the same state in the same run, for configurations of several sizes, and
+# for what is changed of them. Prints the best of three times each and the ratio. Wants `rt` and `python3`; works in a copy of the repository, of which what is proved
 # and built is taken over, and the rest proved and built first.
 set -euo pipefail
 here="$(cd "$(dirname "$0")" && pwd)"
@@ -15,17 +15,32 @@ echo 'bench_runs: tf_cli tf_provider tf_sim serde_json anyhow' >> "$work/repo/cr
 program="$work/repo/crates/bench_runs/out/bench_runs"
 python3 "$here/runs/make.py" independent 1 > "$work/config"
 (cd "$work/repo/crates/bench_runs" && rt run < "$work/config") > "$work/log" 2>&1 || { tail -20 "$work/log"; exit 1; }
-printf '%-12s %6s %8s %8s %10s %10s %10s %7s\n' shape blocks bytes state 'json (us)' 'plan (us)' 'apply (us)' ratio
+printf '%-18s %6s %8s %8s %10s %10s %10s %7s\n' shape blocks bytes state 'json (us)' 'plan (us)' 'apply (us)' ratio
+# Times one configuration, or what is changed of it, with so many blocks.
+row() {
+    local shape="$1" blocks="$2" change="${3:-}"
+    python3 "$here/runs/make.py" "$shape" "$blocks" $change > "$work/config"
+    "$program" < "$work/config" > "$work/times"
+    awk -v shape="$shape $change" -v blocks="$blocks" '
+        !($1 in best) || $2 < best[$1] { best[$1] = $2 }
+        END {
+            printf "%-18s %6d %8d %8d %10d %10d %10d %7.2f\n", shape, blocks, best["bytes"], best["state"], best["json"], best["plan"], best["apply"], best["apply"] / best["json"]
+        }' "$work/times"
+}
+
 for shape in independent chains layers locals pairs indexed; do
     # With 447 after 447 there are 199,809 pairs of which one is before the other, of 200,000 that there may be.
     case "$shape" in pairs | indexed) sizes="224 447 894" ;; *) sizes="500 1000 2000" ;; esac
     for blocks in $sizes; do
-        python3 "$here/runs/make.py" "$shape" "$blocks" > "$work/config"
-        "$program" < "$work/config" > "$work/times"
-        awk -v shape="$shape" -v blocks="$blocks" '
-            !($1 in best) || $2 < best[$1] { best[$1] = $2 }
-            END {
-                printf "%-12s %6d %8d %8d %10d %10d %10d %7.2f\n", shape, blocks, best["bytes"], best["state"], best["json"], best["plan"], best["apply"], best["apply"] / best["json"]
-            }' "$work/times"
+        row "$shape" "$blocks"
+    done
+done
+for shape in chains layers; do
+    for change in nothing updated replaced swapped destroyed; do
+        # There are two actions for each host that is replaced, and 2,000 at most.
+        case "$change" in replaced | swapped) sizes="250 500 1000" ;; *) sizes="500 1000 2000" ;; esac
+        for blocks in $sizes; do
+            row "$shape" "$blocks" "$change"
+        done
     done
 done

@@ -1,4 +1,5 @@
-"""Prints a configuration of so many instances: SHAPE COUNT.
+"""Prints a configuration of so many instances: SHAPE COUNT. With a CHANGE behind it prints two configurations, with a
+line between them: what was applied before, and what is to be applied then.
 
 independent    hosts that refer to nothing, each with an argument that is worked out
 chains         chains of a hundred hosts, each of which names the one before it
@@ -6,13 +7,23 @@ layers         eight layers of hosts, each of which names ten of the layer befor
 pairs          half of the hosts after all of the other half, by `depends_on`
 indexed        the same, where each names one of the other half by its index
 locals         hosts that name the last of 64 locals, each of which names the one before it twice
+
+nothing        the same twice
+updated        another size of each host
+replaced       another name of each host, which is destroyed and created anew
+swapped        the same, where each host is created anew before the old one is destroyed
+destroyed      no host
 """
 import json
 import sys
 
 
+CHANGE = sys.argv[3] if len(sys.argv) > 3 else None
+NAME, ADDED, MORE = "host", 1, {"lifecycle": {"create_before_destroy": True}} if CHANGE == "swapped" else {}
+
+
 def host(number, **more):
-    return {"name": f"host-{number}", "size": "${1 + %d}" % (number % 50), **more}
+    return {"name": f"{NAME}-{number}", "size": "${%d + %d}" % (ADDED, number % 50), **MORE, **more}
 
 
 def of_hosts(hosts, **more):
@@ -63,4 +74,12 @@ def locals_that_double(count):
 
 
 SHAPES = {"independent": independent, "chains": chains, "layers": layers, "pairs": pairs, "indexed": indexed, "locals": locals_that_double}
-json.dump(SHAPES[sys.argv[1]](int(sys.argv[2])), sys.stdout, indent=2)
+shape, count = SHAPES[sys.argv[1]], int(sys.argv[2])
+json.dump(shape(count), sys.stdout, indent=2)
+if CHANGE:
+    if CHANGE == "updated":
+        ADDED = 2
+    if CHANGE in ("replaced", "swapped"):
+        NAME = "other"
+    print("\n----")
+    json.dump({} if CHANGE == "destroyed" else shape(count), sys.stdout, indent=2)
