@@ -5,3 +5,5 @@
 mod runs;
 #[cfg(test)]
 mod telling;
+#[cfg(test)]
+mod torn;

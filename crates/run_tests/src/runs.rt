@@ -1,6 +1,6 @@
 //! Plans that are walked many times, by different numbers of workers.
 
-ghost use Rattle.std.specs.Prelude.{map};
+ghost use Rattle.std.specs.Prelude.{IfOk, map};
 ghost use Rattle.tf_action_data.specs.Action.{action_of};
 ghost use Rattle.tf_plan_data.specs.Fits.{FitsTogether};
 ghost use Rattle.tf_plan_data.specs.Served.{AreServed};
@@ -19,6 +19,18 @@ use tf_run::run;
 use tf_sim::Sim;
 use tf_stop::Stop;
 use tf_walk::run_one;
+
+/// Two nets, and a host on each.
+const NETS: &str =
+    r#"{"resource": {"sim_net": {"a": {"cidr": "x"}, "b": {"cidr": "y"}}, "sim_host": {"g": {"name": "g", "net": "${sim_net.a.id}"}, "h": {"name": "h", "net": "${sim_net.b.id}"}}}}"#;
+
+/// The same, of which one host fails.
+const FAILING: &str =
+    r#"{"resource": {"sim_net": {"a": {"cidr": "x"}, "b": {"cidr": "y"}}, "sim_host": {"g": {"name": "g", "net": "${sim_net.a.id}", "size": 101}, "h": {"name": "h", "net": "${sim_net.b.id}"}}}}"#;
+
+/// The same, of which one net has a fault once the id of the other is known.
+const FAULTED: &str =
+    r#"{"resource": {"sim_net": {"a": {"cidr": "x"}, "b": {"cidr": "${sim_net.a.id + 1}"}}, "sim_host": {"g": {"name": "g", "net": "${sim_net.a.id}"}, "h": {"name": "h", "net": "${sim_net.b.id}"}}}}"#;
 
 /// Hosts of which one comes first, one last, and two between them in either order.
 const DIAMOND: &str =
@@ -44,16 +56,16 @@ const BOTH_LATE: &str =
 const WIDE: &str =
     r#"{"resource": {"sim_net": {"a": {"count": 447, "cidr": "${count.index}"}}, "sim_host": {"h": {"count": 447, "name": "h", "depends_on": ["sim_net.a"]}}}}"#;
 
-/// Checks that walks by many workers come to what the walk of one thread comes to.
-fn check_runs<R: Abort + Threads + Wait + Sync>(
-    rt: &R,
+/// The plan of a configuration and a state.
+pub(crate) fn plan_texts(
     alloc: Global,
     config: &str,
     state: Option<&str>,
-    times: usize,
-) -> Result<(), Fail> {
-    let mut providers: Vec<Box<dyn Provider + Sync>> = Vec::new(alloc);
-    providers.push(Box::new(alloc, Sim::new(alloc)?)?)?;
+    providers: &[Box<dyn Provider + Sync>],
+) -> Result<Plan, Fail>
+    ensures fits { IfOk result FitsTogether }
+    ensures served { IfOk result (λ p. AreServed (map (λ b. meaning b) providers.now) (map action_of p.actions.items)) }
+{
     let state = state.map(|text| text.as_bytes());
     let Ok(inputs) = read_texts(alloc, config.as_bytes(), None, state, "L") else {
         return Err("the texts are refused".into());
@@ -64,13 +76,31 @@ fn check_runs<R: Abort + Threads + Wait + Sync>(
         dependence,
         prior,
     } = inputs;
-    let Ok(plan) = plan(alloc, prior, config, values, dependence, &providers) else {
-        return Err("the plan is refused".into());
-    };
+    match plan(alloc, prior, config, values, dependence, providers) {
+        Ok(plan) => Ok(plan),
+        Err(_) => Err("the plan is refused".into()),
+    }
+}
+
+/// Checks that walks by many workers come to what the walk of one thread comes to, and that actions end so, in action order.
+fn check_runs<R: Abort + Threads + Wait + Sync>(
+    rt: &R,
+    alloc: Global,
+    config: &str,
+    state: Option<&str>,
+    outcomes: Option<&str>,
+    times: usize,
+) -> Result<(), Fail> {
+    let mut providers: Vec<Box<dyn Provider + Sync>> = Vec::new(alloc);
+    providers.push(Box::new(alloc, Sim::new(alloc)?)?)?;
+    let plan = plan_texts(alloc, config, state, &providers)?;
     let Ok(walked) = run_one(alloc, &plan, &providers, &Stop::new()) else {
         return Err("no memory".into());
     };
     let one = tell_of(alloc, walked)?;
+    if let Some(outcomes) = outcomes {
+        assert_eq!(rt; one.outcomes.as_str(), outcomes);
+    }
     for workers in [2, 4, 64] {
         for _ in 0..times {
             check_run(rt, alloc, &plan, &providers, workers, &one)?;
@@ -112,12 +142,30 @@ fn small_plans_come_to_the_same(rt: HostRuntime) -> Result<(), Fail> {
         (BOTH_LATE, Some(BEFORE)),
         ("{}", Some(BEFORE)),
     ] {
-        check_runs(&rt, rt.alloc(), config, state, 100)?;
+        check_runs(&rt, rt.alloc(), config, state, None, 100)?;
     }
     Ok(())
 }
 
 #[test]
 fn a_wide_plan_comes_to_the_same(rt: HostRuntime) -> Result<(), Fail> {
-    check_runs(&rt, rt.alloc(), WIDE, None, 3)
+    check_runs(&rt, rt.alloc(), WIDE, None, None, 3)
+}
+
+#[test]
+fn nets_and_hosts_come_to_the_same(rt: HostRuntime) -> Result<(), Fail> {
+    let good = "Judged(Good);Judged(Good);Judged(Good);Judged(Good);";
+    check_runs(&rt, rt.alloc(), NETS, None, Some(good), 1000)
+}
+
+#[test]
+fn one_that_fails_comes_to_the_same(rt: HostRuntime) -> Result<(), Fail> {
+    let one_failed = "Judged(Failed);Judged(Good);Judged(Good);Judged(Good);";
+    check_runs(&rt, rt.alloc(), FAILING, None, Some(one_failed), 1000)
+}
+
+#[test]
+fn one_that_waits_for_a_fault_comes_to_the_same(rt: HostRuntime) -> Result<(), Fail> {
+    let one_skipped = "Judged(Good);Skipped;Judged(Good);ArgumentFault;";
+    check_runs(&rt, rt.alloc(), FAULTED, None, Some(one_skipped), 1000)
 }

@@ -4,6 +4,7 @@
 
 mod board;
 mod bound;
+mod countdown;
 mod ending;
 mod fitting;
 mod many;

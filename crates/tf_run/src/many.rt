@@ -108,6 +108,7 @@ fn carry_out<N: Naming + Send + Sync, R: Threads + Wait + Sync>(
     let Prepared {
         names,
         claims,
+        countdown,
         team,
         journal,
         board,
@@ -132,6 +133,7 @@ fn carry_out<N: Naming + Send + Sync, R: Threads + Wait + Sync>(
         claims: &claims,
         journal: &journal,
         thieves: thieves.as_slice(),
+        countdown: &countdown,
         progress: &progress,
     };
     let seat = share_out(rt, &walk, &ground, providers, desk, others);

@@ -2,10 +2,12 @@
 
 ghost use Rattle.std.specs.Prelude.{◌≡◌, All, IfOk};
 ghost use Rattle.tf_plan_data.specs.Fits.{FitsTogether};
+ghost use Rattle.tf_plan_data.specs.Plan.{plan_of};
 ghost use Rattle.tf_run.specs.Prepared.{IsPrepared};
 
 use crate::board::Board;
 use crate::bound::InPlan;
+use crate::countdown::Countdown;
 use crate::walk::Desk;
 use std::alloc::{AllocError, Global};
 use tf_cells::Naming;
@@ -16,11 +18,12 @@ use tf_names::Names;
 use tf_plan_data::Plan;
 use tf_report::{Furnished, furnish};
 
-/// All that a walk needs memory for: the names of the plan's configuration, the claims on its actions, a desk for each
-/// worker, the journal, the board, and all that the report needs.
+/// All that a walk needs memory for: the names of the plan's configuration, the claims on its actions, how many actions each
+/// of them waits for, a desk for each worker, the journal, the board, and all that the report needs.
 pub(crate) struct Prepared<'p, N: Naming> {
     pub names: Names<'p>,
     pub claims: Claims,
+    pub countdown: Countdown<N>,
     pub team: Team<N>,
     pub journal: Journal,
     pub board: Board<N>,
@@ -45,12 +48,14 @@ pub(crate) fn prepare<'p, N: Naming>(
     plan: &'p Plan,
     workers: usize,
 ) -> Result<Prepared<'p, N>, AllocError>
-    requires { FitsTogether plan.now }
+    requires fits { FitsTogether plan.now }
+    requires plan { N.plan ≡ plan_of plan.now }
     ensures { IfOk result (IsPrepared plan.now) }
 {
     let order = plan.order.graph();
     let names = Names::new(alloc, &plan.config)?;
     let (claims, seat) = Claims::new(alloc, order)?;
+    let countdown = Countdown::new(alloc, order)?;
     let team = team_of(alloc, &claims, seat, workers)?;
     let journal = Journal::with_room(alloc, order)?;
     let board = Board::new(alloc, order.nodes())?;
@@ -58,6 +63,7 @@ pub(crate) fn prepare<'p, N: Naming>(
         Ok(furnished) => Ok(Prepared {
             names,
             claims,
+            countdown,
             team,
             journal,
             board,
@@ -107,6 +113,7 @@ fn desk_of<N: Naming>(
     ensures { IfOk result (λ desk. desk.seat ≡ seat) }
 {
     let hints = Hints::new(alloc, HINTS)?;
+    let place = thieves.len();
     thieves.push(hints.thief()?)?;
-    Ok(Desk { seat, hints })
+    Ok(Desk { seat, hints, place })
 }

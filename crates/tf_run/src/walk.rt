@@ -3,6 +3,7 @@
 ghost use Rattle.std.specs.Prelude.{◌≡◌, ℕ, List};
 
 use crate::bound::InPlan;
+use crate::countdown::Countdown;
 use crate::progress::Progress;
 use std::alloc::Global;
 use std::sync::Mutex;
@@ -14,11 +15,12 @@ use tf_plan_data::Plan;
 use tf_stop::Stop;
 use tf_workers::Log;
 
-/// What one worker has of its own: its seat at the claims, and its hints.
+/// What one worker has of its own: its seat at the claims, its hints, and the place of its own thief in the list of all.
 #[derive(Drop)]
 pub(crate) struct Desk<N: Naming> {
     pub seat: Seat,
     pub hints: Hints<InPlan<N>>,
+    pub place: usize,
 }
 
 /// What all workers of a walk share, beside the providers and what they read.
@@ -29,6 +31,7 @@ pub(crate) struct Walk<'a, N: Naming> {
     pub claims: &'a Claims,
     pub journal: &'a Mutex<Log<N>>,
     pub thieves: &'a [Thief<InPlan<N>>],
+    pub countdown: &'a Countdown<N>,
     pub progress: &'a Progress,
 }
 

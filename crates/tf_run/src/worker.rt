@@ -9,7 +9,7 @@ use crate::walk::{Desk, Ground, Walk};
 use std::sync::Wait;
 use tf_cells::Naming;
 use tf_claim::Seat;
-use tf_hints::Hints;
+use tf_hints::{Hints, Thief};
 use tf_provider::Provider;
 use tf_workers::end_action;
 
@@ -31,21 +31,25 @@ pub(crate) fn work<N: Naming, B: Ground<N>, R: Wait>(
 {
     let all = walk.claims.graph().nodes() as u64;
     for _ in rt.forever() {
-        let ended = walk.progress.ended();
-        if ended >= all {
+        let news = walk.progress.news();
+        if walk.progress.ended() >= all {
             break;
         }
         if !go_on(rt, walk, ground, providers, &mut desk) {
-            walk.progress.wait_past(rt, ended);
+            walk.progress.wait_for_news(rt, news);
         }
     }
-    walk.progress.wake();
-    let Desk { seat, hints: _ } = desk;
+    walk.progress.tell_news(walk.thieves.len());
+    let Desk {
+        seat,
+        hints: _,
+        place: _,
+    } = desk;
     seat
 }
 
-/// Ends an action that may be claimed, if there is one: by a hint of its own, by one of another worker, or else the first
-/// in the list.
+/// Ends an action that may be claimed, if there is one: by a hint of its own, or else the first in the list that no worker
+/// has looked at, or else by a hint of another worker.
 fn go_on<N: Naming, B: Ground<N>, R: Wait>(
     rt: &R,
     walk: &Walk<'_, N>,
@@ -61,8 +65,8 @@ fn go_on<N: Naming, B: Ground<N>, R: Wait>(
     ensures { desk.new.seat.table ≡ desk.old.seat.table }
 {
     follow_own(rt, walk, ground, providers, desk)
+        || look_on(rt, walk, ground, providers, desk)
         || follow_others(rt, walk, ground, providers, desk)
-        || look_at_all(rt, walk, ground, providers, desk)
 }
 
 /// Ends an action by a hint of the worker's own. Hints at actions that can't be claimed are forgotten.
@@ -91,7 +95,36 @@ fn follow_own<N: Naming, B: Ground<N>, R: Wait>(
     unreachable!()
 }
 
-/// Ends an action by a hint that it steals.
+/// Ends an action that can be claimed, of those that no worker has looked at. None is looked at twice, unless a hint is lost.
+/// So a worker that looks at one whose turn hasn't come passes it by: whoever ends the last action before it gives a hint
+/// at it.
+fn look_on<N: Naming, B: Ground<N>, R: Wait>(
+    rt: &R,
+    walk: &Walk<'_, N>,
+    ground: &B,
+    providers: &[Box<dyn Provider + Sync>],
+    desk: &mut Desk<N>,
+) -> bool
+    requires walk { IsOfPlan N.plan (B.planned ground.now) (B.named ground.now) walk.now.claims.now.graph }
+    requires meanings { N.meanings ≡ map (λ b. meaning b) providers.now }
+    requires served { AreServed N.meanings N.plan.actions }
+    requires cells { B.count ground.now ≡ N.plan.order.nodes }
+    requires seat { desk.old.seat.table ≡ walk.now.claims.now.table }
+    ensures { desk.new.seat.table ≡ desk.old.seat.table }
+{
+    let all = walk.claims.graph().nodes();
+    for _ in rt.forever() {
+        let Some(action) = walk.progress.next(all) else {
+            return false;
+        };
+        if end_if_free(rt, walk, ground, providers, desk, action) {
+            return true;
+        }
+    }
+    unreachable!()
+}
+
+/// Ends an action by a hint that it steals, of the worker behind it first.
 fn follow_others<N: Naming, B: Ground<N>, R: Wait>(
     rt: &R,
     walk: &Walk<'_, N>,
@@ -106,23 +139,20 @@ fn follow_others<N: Naming, B: Ground<N>, R: Wait>(
     requires seat { desk.old.seat.table ≡ walk.now.claims.now.table }
     ensures { desk.new.seat.table ≡ desk.old.seat.table }
 {
-    for thief in walk.thieves {
-        if let Some(hint) = thief.steal() {
-            if end_if_free(rt, walk, ground, providers, desk, hint) {
-                return true;
-            }
-        }
-    }
-    false
+    let own = desk.place.min(walk.thieves.len());
+    let (before, behind) = walk.thieves.split_at(own);
+    follow_some(rt, walk, ground, providers, desk, behind)
+        || follow_some(rt, walk, ground, providers, desk, before)
 }
 
-/// Ends the first action that can be claimed.
-fn look_at_all<N: Naming, B: Ground<N>, R: Wait>(
+/// Ends an action by a hint that it steals of some workers.
+fn follow_some<N: Naming, B: Ground<N>, R: Wait>(
     rt: &R,
     walk: &Walk<'_, N>,
     ground: &B,
     providers: &[Box<dyn Provider + Sync>],
     desk: &mut Desk<N>,
+    thieves: &[Thief<InPlan<N>>],
 ) -> bool
     requires walk { IsOfPlan N.plan (B.planned ground.now) (B.named ground.now) walk.now.claims.now.graph }
     requires meanings { N.meanings ≡ map (λ b. meaning b) providers.now }
@@ -131,18 +161,18 @@ fn look_at_all<N: Naming, B: Ground<N>, R: Wait>(
     requires seat { desk.old.seat.table ≡ walk.now.claims.now.table }
     ensures { desk.new.seat.table ≡ desk.old.seat.table }
 {
-    for action in 0..walk.claims.graph().nodes() {
-        if !walk.claims.see(&mut desk.seat, action)
-            && end_if_free(rt, walk, ground, providers, desk, action)
-        {
-            return true;
+    for thief in thieves {
+        if let Some(hint) = thief.steal(rt) {
+            if end_if_free(rt, walk, ground, providers, desk, hint) {
+                return true;
+            }
         }
     }
     false
 }
 
-/// Claims an action, takes it to its end, lets go of what waits for it, and gives hints at that; false where it can't be
-/// claimed. Others are woken where that may be more than one worker does.
+/// Claims an action, takes it to its end, lets go of what waits for it, and gives hints at what is free then; false where it
+/// can't be claimed. Others are woken for what is more than one worker does.
 fn end_if_free<N: Naming, B: Ground<N>, R: Wait>(
     rt: &R,
     walk: &Walk<'_, N>,
@@ -176,19 +206,28 @@ fn end_if_free<N: Naming, B: Ground<N>, R: Wait>(
     walk.claims.finish(&mut desk.seat, finished);
     walk.claims.let_go_from(&mut desk.seat, action);
     let next = walk.claims.graph().successors(action);
-    give_all(&mut desk.hints, next);
-    walk.progress.tell();
-    if next.len() > 1 {
-        walk.progress.wake();
-    }
+    let free = give_hints(walk, &mut desk.hints, next);
+    walk.progress.tell_end(free);
     true
 }
 
-/// Gives hints at some actions.
-fn give_all<N: Naming>(hints: &mut Hints<InPlan<N>>, actions: &[usize])
+/// Gives a hint at each of some actions that wait for nothing more, now that one directly before them has ended. Returns how
+/// many there are. Where a hint is lost, the workers look at all actions anew.
+fn give_hints<N: Naming>(
+    walk: &Walk<'_, N>,
+    hints: &mut Hints<InPlan<N>>,
+    actions: &[usize],
+) -> usize
     requires { All (λ action. action < N.plan.order.nodes) actions.now }
 {
+    let mut free = 0;
     for action in actions {
-        hints.push(*action);
+        if walk.countdown.is_last_before(*action) {
+            free += 1;
+            if !hints.push(*action) {
+                walk.progress.look_anew();
+            }
+        }
     }
+    free
 }

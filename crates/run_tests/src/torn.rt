@@ -1,0 +1,67 @@
+//! Reports with a journal that isn't the one of their walk.
+
+use crate::runs::plan_texts;
+use crate::telling::tell_of;
+use std::alloc::Global;
+use std::process::Abort;
+use std::test::Fail;
+use tf_journal::Journal;
+use tf_provider::Provider;
+use tf_report::Report;
+use tf_settle::settle;
+use tf_sim::Sim;
+use tf_stop::Stop;
+use tf_walk::run_one;
+
+/// Checks whether the report on a configuration that is carried out is whole with a journal in which nothing is.
+fn check_without_calls<R: Abort>(
+    rt: &R,
+    alloc: Global,
+    config: &str,
+    whole: bool,
+) -> Result<(), Fail> {
+    let mut providers: Vec<Box<dyn Provider + Sync>> = Vec::new(alloc);
+    providers.push(Box::new(alloc, Sim::new(alloc)?)?)?;
+    let plan = plan_texts(alloc, config, None, &providers)?;
+    let empty = Journal::with_room(alloc, plan.order.graph())?;
+    let Ok(walked) = run_one(alloc, &plan, &providers, &Stop::new()) else {
+        return Err("no memory".into());
+    };
+    let Report {
+        state,
+        outcomes,
+        diagnostics,
+        journal: _,
+        excused,
+        good,
+    } = walked.into_report();
+    let report = Report {
+        state,
+        outcomes,
+        diagnostics,
+        journal: empty,
+        excused,
+        good,
+    };
+    let told = tell_of(alloc, settle(&plan, report))?;
+    assert_eq!(rt; told.whole, whole);
+    assert_eq!(rt; told.calls, 0);
+    Ok(())
+}
+
+#[test]
+fn a_call_that_is_in_no_journal_tears_the_report(rt: HostRuntime) -> Result<(), Fail> {
+    let config = r#"{"resource": {"sim_net": {"a": {"cidr": "x"}}}}"#;
+    check_without_calls(&rt, rt.alloc(), config, false)
+}
+
+#[test]
+fn a_failed_call_tears_it_too(rt: HostRuntime) -> Result<(), Fail> {
+    let config = r#"{"resource": {"sim_host": {"h": {"name": "h", "size": 101}}}}"#;
+    check_without_calls(&rt, rt.alloc(), config, false)
+}
+
+#[test]
+fn where_nothing_was_called_an_empty_journal_is_whole(rt: HostRuntime) -> Result<(), Fail> {
+    check_without_calls(&rt, rt.alloc(), "{}", true)
+}
