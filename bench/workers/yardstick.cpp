@@ -1,6 +1,7 @@
 // The yardstick of the workers' bench: a plain loop of threads that steal work from one another, over std::thread and
 // std::atomic. `yardstick THREADS MICROS` reads a graph, the number of its nodes and then its edges, and prints how long each
 // of some walks takes, in nanoseconds: each node is done once, after all that stand before it, and looks at a word for so long.
+#include <algorithm>
 #include <atomic>
 #include <chrono>
 #include <cstdint>
@@ -73,12 +74,16 @@ int main(int, char **argv)
         after[from].push_back(to);
         before[to]++;
     }
-    auto start = Clock::now();
-    look(20000000);
-    uint64_t taken = std::chrono::duration_cast<std::chrono::microseconds>(Clock::now() - start).count();
-    uint64_t looks = 20000000 / (taken ? taken : 1) * micros;
-    for (int turn = 0; turn < 5; turn++) {
-        start = Clock::now();
+    uint64_t most = 1;
+    for (int round = 0; round < 20; round++) {
+        auto start = Clock::now();
+        look(1000000);
+        uint64_t taken = std::chrono::duration_cast<std::chrono::nanoseconds>(Clock::now() - start).count();
+        most = std::max<uint64_t>(most, 1000000000 / (taken ? taken : 1));
+    }
+    uint64_t looks = most * micros;
+    for (int turn = 0; turn < 20; turn++) {
+        auto start = Clock::now();
         std::vector<std::atomic<int>> left(nodes);
         std::vector<std::unique_ptr<Deque>> deques;
         for (int i = 0; i < threads; i++)

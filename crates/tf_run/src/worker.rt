@@ -13,8 +13,7 @@ use tf_hints::{Hints, Thief};
 use tf_provider::Provider;
 use tf_workers::end_action;
 
-/// Ends actions, one after another, until all actions have ended. Where there is nothing to do it waits, while no action
-/// ends.
+/// Ends actions, one after another, until all actions have ended. Where there is nothing to do it waits for news.
 pub(crate) fn work<N: Naming, B: Ground<N>, R: Wait>(
     rt: &R,
     walk: &Walk<'_, N>,
@@ -30,6 +29,11 @@ pub(crate) fn work<N: Naming, B: Ground<N>, R: Wait>(
     ensures { result.table ≡ walk.now.claims.now.table }
 {
     let all = walk.claims.graph().nodes() as u64;
+    // What may be claimed is found, though no contract says so. No worker waits before every action was given to one to look
+    // at, which claims it if nothing stands before it. At any other action a worker has a hint that ended the last one before
+    // it, or, where the hint is lost, all actions are given anew; and that worker looks at its own hints, and on, before it
+    // waits. So others are woken only to be quicker, but for the end, when all are. None waits that hasn't looked since the
+    // last news: the news is read before it looks, and told after there is something to find.
     for _ in rt.forever() {
         let news = walk.progress.news();
         if walk.progress.ended() >= all {
