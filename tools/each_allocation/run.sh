@@ -46,7 +46,7 @@ each() {
   shift
   once 0 "$@"
   [ "$status" = 0 ] || { echo "$1 doesn't run: status $status" >&2; exit 1; }
-  all=$(cat "$work/count")
+  all=$(cat "$work/count") && [ "$all" -gt 0 ] || { echo "$1: its allocations weren't counted" >&2; exit 1; }
   echo "$*: $all allocations"
   : > "$work/ends"
   refused=1
