@@ -1,8 +1,9 @@
 #!/bin/sh
 # Runs two programs once for each of their allocations, with that one refused, and says how the runs ended: `apply` on
-# the first example, and a test of `cli_tests`, an apply whose calls are counted. A run that ends in a way that
-# loses something, or in none of the stated ways, is printed, and then the status is 1. Needs gcc; build both first:
-# ./bixundor apply --help, and rt test in crates/cli_tests.
+# the first example, and tests of `cli_tests`, applies whose calls are counted, where nothing was and from a prior
+# state; each by 1 and by 2 workers. The order of two workers' allocations isn't fixed, so the same number may refuse
+# another one in another run. A run that ends in a way that loses something, or in none of the stated ways, is printed,
+# and then the status is 1. Needs gcc; build both first: ./bixundor apply --help, and rt test in crates/cli_tests.
 here=$(cd "$(dirname "$0")" && pwd) || exit 1
 root=$here/../..
 work=$(mktemp -d) || exit 1
@@ -45,8 +46,8 @@ each() {
   shift
   once 0 "$@"
   [ "$status" = 0 ] || { echo "$1 doesn't run: status $status" >&2; exit 1; }
-  all=$(cat "$work/count")
-  echo "$1: $all allocations"
+  all=$(cat "$work/count") && [ "$all" -gt 0 ] || { echo "$1: its allocations weren't counted" >&2; exit 1; }
+  echo "$*: $all allocations"
   : > "$work/ends"
   refused=1
   while [ "$refused" -le "$all" ]; do
@@ -64,6 +65,10 @@ each() {
 }
 
 bad=0
-each end_of_apply "$apply" --config "$root/examples/first/main.tf.json"
-each end_of_counted "$counted" tests::counted::a_call_is_in_the_journal
+for workers in 1 2; do
+  each end_of_apply "$apply" --config "$root/examples/first/main.tf.json" --parallelism "$workers"
+done
+for test in a_call a_call_of_two_workers a_change a_change_of_two_workers; do
+  each end_of_counted "$counted" "tests::counted::${test}_is_in_the_journal"
+done
 exit "$bad"

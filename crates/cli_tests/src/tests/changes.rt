@@ -1,5 +1,6 @@
 //! Plans and applies from prior states, byte for byte.
 
+mod again;
 mod destroys;
 mod kept;
 mod pairs;
@@ -65,6 +66,23 @@ pub fn squeezed(alloc: Global, text: &str) -> Result<String, Fail> {
         joined.push_str(line.trim_start())?;
     }
     Ok(joined)
+}
+
+const PROVIDED: &str = r#""provider": "provider[\"registry.terraform.io/hashicorp/sim\"]""#;
+
+/// The squeezed text of a state with lineage `L`: its outputs, its resources, in which `PROVIDER` stands for their
+/// provider, and its serial.
+pub fn state_text(
+    alloc: Global,
+    outputs: &str,
+    resources: &str,
+    serial: u32,
+) -> Result<String, Fail> {
+    let resources = resources.replace(alloc, "PROVIDER", PROVIDED)?;
+    let text = format!(in alloc;
+        "{{\"lineage\": \"L\",\"outputs\": {{{outputs}}},\"resources\": [{resources}],\"serial\": {serial},\"terraform_version\": \"1.0.0\",\"version\": 4}}"
+    )?;
+    Ok(text)
 }
 
 fn check_change<R: Abort + Threads + Wait + Sync>(

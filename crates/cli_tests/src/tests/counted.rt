@@ -1,8 +1,12 @@
-//! Each call is in the journal. `tools/each_allocation/run.sh` runs this test once for each of its allocations, with
+//! Each call is in the journal. `tools/each_allocation/run.sh` runs these tests once for each of their allocations, with
 //! that one refused.
 
-use crate::tests::applying::{Texts, WORKERS, watch_apply};
+use crate::tests::applying::{Texts, watch_apply};
+use std::alloc::Global;
+use std::process::Abort;
+use std::sync::Wait;
 use std::test::Fail;
+use std::thread::Threads;
 
 // Configurations in which some actions are good, some aren't and some are never called.
 static CONFIGS: [&str; 3] = [
@@ -33,13 +37,62 @@ static CONFIGS: [&str; 3] = [
 }"#,
 ];
 
-#[test]
-fn a_call_is_in_the_journal(rt: HostRuntime) -> Result<(), Fail> {
-    for config in &CONFIGS {
-        for workers in WORKERS {
-            let seen = watch_apply(&rt, rt.alloc(), Texts::of(config), workers)?;
-            assert_eq!(rt; seen.calls, seen.journal.len());
-        }
+// A state in which b was saved by a create that wasn't good, d is of no block, and e has a deposed object.
+const PRIOR: &str =
+    r#"{"version": 4, "terraform_version": "1.0.0", "serial": 3, "lineage": "L", "outputs": {}, "resources": [{"mode": "managed", "type": "sim_host", "name": "h", "provider": "p", "instances": [{"schema_version": 0, "attributes": {"id": "host-h", "name": "h", "net": "net-x", "size": null}, "dependencies": ["sim_net.a"]}]}, {"mode": "managed", "type": "sim_net", "name": "a", "provider": "p", "instances": [{"schema_version": 0, "attributes": {"cidr": "x", "id": "net-x", "tag": null}}]}, {"mode": "managed", "type": "sim_net", "name": "b", "provider": "p", "instances": [{"schema_version": 0, "status": "tainted", "attributes": {"cidr": "b", "id": "net-b", "tag": "truth"}}]}, {"mode": "managed", "type": "sim_net", "name": "d", "provider": "p", "instances": [{"schema_version": 0, "attributes": {"cidr": "d", "id": "net-d", "tag": null}}]}, {"mode": "managed", "type": "sim_net", "name": "e", "provider": "p", "instances": [{"schema_version": 0, "attributes": {"cidr": "e", "id": "net-e", "tag": null}}, {"deposed": "00000002", "schema_version": 0, "attributes": {"cidr": "w", "id": "net-w", "tag": null}}]}]}"#;
+
+// The net a is replaced late and h is updated between; b is replaced, d is destroyed, and so is what is deposed of e.
+const AFTER: &str =
+    r#"{"output": {"o": {"value": "${sim_net.a.id}"}}, "resource": {"sim_host": {"h": {"name": "h", "net": "${sim_net.a.id}"}}, "sim_net": {"a": {"cidr": "y", "lifecycle": {"create_before_destroy": true}}, "b": {"cidr": "b"}, "e": {"cidr": "e"}}}}"#;
+
+/// Checks that each call is in the journal, and that all of so many calls are made where nothing is refused or excused.
+fn check_counted<R: Abort + Threads + Wait + Sync>(
+    rt: &R,
+    alloc: Global,
+    texts: Texts<'_>,
+    workers: usize,
+    all: usize,
+) -> Result<(), Fail> {
+    let seen = watch_apply(rt, alloc, texts, workers)?;
+    assert!(rt; seen.whole);
+    assert_eq!(rt; seen.calls, seen.journal.len());
+    if seen.status == 1 {
+        assert_eq!(rt; seen.calls, 0);
+    } else if seen.excused.is_empty() {
+        assert_eq!(rt; seen.calls, all);
+    } else {
+        assert_eq!(rt; seen.status, 2);
     }
     Ok(())
+}
+
+fn check_configs<R: Abort + Threads + Wait + Sync>(
+    rt: &R,
+    alloc: Global,
+    workers: usize,
+) -> Result<(), Fail> {
+    for config in &CONFIGS {
+        check_counted(rt, alloc, Texts::of(config), workers, 4)?;
+    }
+    Ok(())
+}
+
+#[test]
+fn a_call_is_in_the_journal(rt: HostRuntime) -> Result<(), Fail> {
+    check_configs(&rt, rt.alloc(), 1)
+}
+
+#[test]
+fn a_call_of_two_workers_is_in_the_journal(rt: HostRuntime) -> Result<(), Fail> {
+    check_configs(&rt, rt.alloc(), 2)
+}
+
+#[test]
+fn a_change_is_in_the_journal(rt: HostRuntime) -> Result<(), Fail> {
+    check_counted(&rt, rt.alloc(), Texts::after(AFTER, PRIOR), 1, 7)
+}
+
+#[test]
+fn a_change_of_two_workers_is_in_the_journal(rt: HostRuntime) -> Result<(), Fail> {
+    check_counted(&rt, rt.alloc(), Texts::after(AFTER, PRIOR), 2, 7)
 }

@@ -7,7 +7,8 @@ mod order;
 mod outputs;
 mod values;
 
-use crate::tests::applying::{Manner, NOTHING, Texts, WORKERS, planned, watch_apply, watch_manner};
+use crate::tests::applying::{Manner, Texts, WORKERS, planned, watch_apply, watch_manner};
+use crate::tests::changes::{squeezed, state_text};
 use std::alloc::Global;
 use std::process::Abort;
 use std::sync::Wait;
@@ -29,8 +30,12 @@ pub struct Row {
     pub outcomes: &'static str,
     /// How many calls the provider gets.
     pub calls: usize,
-    /// The text of the state after.
-    pub state: &'static str,
+    /// The outputs of the state after.
+    pub outputs: &'static str,
+    /// Its resources.
+    pub resources: &'static str,
+    /// Its serial, which is 0 where nothing was changed.
+    pub serial: u32,
 }
 
 /// Checks what is planned of each configuration, and what comes of its apply.
@@ -77,8 +82,10 @@ fn check_applied<R: Abort + Threads + Wait + Sync>(
     assert_eq!(rt; seen.outcomes.as_str(), row.outcomes, "{}", row.config);
     assert_eq!(rt; seen.calls, row.calls, "{}", row.config);
     assert_eq!(rt; seen.journal.len(), row.calls, "{}", row.config);
-    assert_eq!(rt; seen.state.as_str(), row.state, "{}", row.config);
-    assert_eq!(rt; seen.changed, row.state != NOTHING, "{}", row.config);
+    let state = state_text(alloc, row.outputs, row.resources, row.serial)?;
+    let squeezed = squeezed(alloc, seen.state.as_str())?;
+    assert_eq!(rt; squeezed.as_str(), state.as_str(), "{}", row.config);
+    assert_eq!(rt; seen.changed, row.serial != 0, "{}", row.config);
     Ok(())
 }
 

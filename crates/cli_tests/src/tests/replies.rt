@@ -3,10 +3,16 @@
 ghost use Rattle.std.specs.Prelude.{◌≡◌, IfOk, option_map};
 ghost use Rattle.tf_value.specs.Tree.{tree_of};
 
-use crate::tests::applying::{CONFIG, NOTHING, Texts, apply_by};
+use crate::tests::applying::{
+    CONFIG, Manner, NOTHING, Seen, Texts, WORKERS, apply_by, watch_manner,
+};
+use crate::tests::changes::{squeezed, state_text};
 use std::alloc::{AllocError, Global};
 use std::collections::BTreeMap;
+use std::process::Abort;
+use std::sync::Wait;
 use std::test::Fail;
+use std::thread::Threads;
 use tf_cli::Stop;
 use tf_provider::{Provider, Reply, Request, Schema};
 use tf_sim::Sim;
@@ -142,29 +148,164 @@ fn net_state(alloc: Global, cidr: &str, id: &str, status: &str) -> Result<String
     )
 }
 
+/// The provider `sim`, but for its answer.
+fn provider_of(alloc: Global, said: Said) -> Result<Vec<Box<dyn Provider + Sync>>, AllocError> {
+    let (message, object) = script(alloc, said)?;
+    let scripted = Scripted {
+        sim: Sim::new(alloc)?,
+        message,
+        object,
+    };
+    let mut providers: Vec<Box<dyn Provider + Sync>> = Vec::new(alloc);
+    providers.push(Box::new(alloc, scripted)?)?;
+    Ok(providers)
+}
+
 #[test]
 fn answers_of_each_kind(rt: HostRuntime) -> Result<(), Fail> {
     let alloc = rt.alloc();
     for (said, errors, cidr, id, status) in &REPLIES {
-        let (message, object) = script(alloc, *said)?;
-        let scripted = Scripted {
-            sim: Sim::new(alloc)?,
-            message,
-            object,
-        };
-        let mut providers: Vec<Box<dyn Provider + Sync>> = Vec::new(alloc);
-        providers.push(Box::new(alloc, scripted)?)?;
-        let stop = Stop::new();
-        let seen = apply_by(&rt, alloc, Texts::of(CONFIG), &providers, 2, &stop)?;
-        let state = net_state(alloc, *cidr, *id, *status)?;
-        assert_eq!(rt; seen.errors.as_str(), *errors, "{said:?}");
-        assert_eq!(rt; seen.state.as_str(), state.as_str(), "{said:?}");
-        assert_eq!(rt; seen.changed, !cidr.is_empty(), "{said:?}");
-        assert_eq!(rt;
-            seen.status,
-            if errors.is_empty() { 0 } else { 2 },
-            "{said:?}"
-        );
+        for workers in WORKERS {
+            let providers = provider_of(alloc, *said)?;
+            let stop = Stop::new();
+            let seen = apply_by(&rt, alloc, Texts::of(CONFIG), &providers, workers, &stop)?;
+            let state = net_state(alloc, *cidr, *id, *status)?;
+            assert_eq!(rt; seen.errors.as_str(), *errors, "{said:?}");
+            assert_eq!(rt; seen.state.as_str(), state.as_str(), "{said:?}");
+            assert_eq!(rt; seen.changed, !cidr.is_empty(), "{said:?}");
+            assert_eq!(rt;
+                seen.status,
+                if errors.is_empty() { 0 } else { 2 },
+                "{said:?}"
+            );
+        }
     }
     Ok(())
+}
+
+// What there is before.
+const KEPT: &str = r#""cidr": "x","id": "net-x","tag": null"#;
+
+const UPDATED: &str = r#"{"resource": {"sim_net": {"a": {"cidr": "x", "tag": "t"}}}}"#;
+
+const BAD_UPDATE: &str = "error 23 at sim_net.a update: malformed reply\n";
+
+const FAILED_UPDATE: &str = "error 21 at sim_net.a update: m n \n";
+
+// Each kind of answer to an update of the tag, what is told, and the attributes and the serial of what is saved. What
+// an update leaves is never tainted.
+static UPDATES: [(Said, &str, &str, u32); 8] = [
+    (
+        Said::Whole,
+        "error 22 at sim_net.a update: contradicts id\n",
+        r#""cidr": "x","id": "i","tag": null"#,
+        2,
+    ),
+    (Said::WithoutId, BAD_UPDATE, KEPT, 1),
+    (Said::NumberAsId, BAD_UPDATE, KEPT, 1),
+    (
+        Said::AnotherCidr,
+        "error 22 at sim_net.a update: contradicts cidr\n",
+        r#""cidr": "y","id": "i","tag": null"#,
+        2,
+    ),
+    (Said::Gone, BAD_UPDATE, KEPT, 1),
+    (
+        Said::FailedWith,
+        FAILED_UPDATE,
+        r#""cidr": "x","id": "i","tag": null"#,
+        2,
+    ),
+    (Said::FailedWithHalf, FAILED_UPDATE, KEPT, 1),
+    (Said::Failed, FAILED_UPDATE, KEPT, 1),
+];
+
+const BAD_DESTROY: &str = "error 23 at sim_net.a destroy: malformed reply\n";
+
+const FAILED_DESTROY: &str = "error 21 at sim_net.a destroy: m n \n";
+
+// The same of a destroy. An object is no answer to one, whatever it holds.
+static DESTROYS: [(Said, &str, &str, u32); 8] = [
+    (Said::Whole, BAD_DESTROY, KEPT, 1),
+    (Said::WithoutId, BAD_DESTROY, KEPT, 1),
+    (Said::NumberAsId, BAD_DESTROY, KEPT, 1),
+    (Said::AnotherCidr, BAD_DESTROY, KEPT, 1),
+    (Said::Gone, "", "", 2),
+    (
+        Said::FailedWith,
+        FAILED_DESTROY,
+        r#""cidr": "x","id": "i","tag": null"#,
+        2,
+    ),
+    (Said::FailedWithHalf, FAILED_DESTROY, KEPT, 1),
+    (Said::Failed, FAILED_DESTROY, KEPT, 1),
+];
+
+/// The squeezed text of a state with a net of these attributes, or with nothing where there are none.
+fn state_with(alloc: Global, attributes: &str, serial: u32) -> Result<String, Fail> {
+    if attributes.is_empty() {
+        return state_text(alloc, "", "", serial);
+    }
+    let resource = format!(in alloc;
+        "{{\"instances\": [{{\"attributes\": {{{attributes}}},\"schema_version\": 0}}],\"mode\": \"managed\",\"name\": \"a\",PROVIDER,\"type\": \"sim_net\"}}"
+    )?;
+    state_text(alloc, "", resource.as_str(), serial)
+}
+
+/// Checks what is told of an apply from the state with the net, and what it leaves.
+fn check_left<R: Abort + Threads + Wait + Sync>(
+    rt: &R,
+    alloc: Global,
+    seen: &Seen,
+    told: (&str, &str, u32),
+) -> Result<(), Fail> {
+    let (errors, attributes, serial) = told;
+    assert!(rt; seen.whole, "{errors}");
+    assert_eq!(rt; seen.errors.as_str(), errors);
+    let status = if errors.is_empty() { 0 } else { 2 };
+    assert_eq!(rt; seen.status, status, "{errors}");
+    assert_eq!(rt; seen.journal_text.as_str(), "0", "{errors}");
+    let state = state_with(alloc, attributes, serial)?;
+    let left = squeezed(alloc, seen.state.as_str())?;
+    assert_eq!(rt; left.as_str(), state.as_str(), "{errors}");
+    assert_eq!(rt; seen.changed, serial != 1, "{errors}");
+    Ok(())
+}
+
+/// Checks the answers to a change of the net, and what comes of it where the provider is without memory.
+fn check_answers<R: Abort + Threads + Wait + Sync>(
+    rt: &R,
+    alloc: Global,
+    config: &str,
+    rows: &[(Said, &str, &str, u32)],
+    forgetful: &str,
+) -> Result<(), Fail> {
+    let prior = state_with(alloc, KEPT, 1)?;
+    let texts = Texts::after(config, prior.as_str());
+    for workers in WORKERS {
+        for (said, errors, attributes, serial) in rows {
+            let providers = provider_of(alloc, *said)?;
+            let stop = Stop::new();
+            let seen = apply_by(rt, alloc, texts, &providers, workers, &stop)?;
+            check_left(rt, alloc, &seen, (*errors, *attributes, *serial))?;
+            assert!(rt; seen.excused.is_empty(), "{said:?}");
+        }
+        let seen = watch_manner(rt, alloc, texts, workers, Manner::Forgetful)?;
+        check_left(rt, alloc, &seen, (forgetful, KEPT, 1))?;
+        assert_eq!(rt; seen.outcomes.as_str(), "Excused", "{forgetful}");
+        assert_eq!(rt; seen.calls, 1, "{forgetful}");
+    }
+    Ok(())
+}
+
+#[test]
+fn answers_to_updates(rt: HostRuntime) -> Result<(), Fail> {
+    let told = "error 26 at sim_net.a update: no memory\n";
+    check_answers(&rt, rt.alloc(), UPDATED, &UPDATES, told)
+}
+
+#[test]
+fn answers_to_destroys(rt: HostRuntime) -> Result<(), Fail> {
+    let told = "error 26 at sim_net.a destroy: no memory\n";
+    check_answers(&rt, rt.alloc(), "{}", &DESTROYS, told)
 }

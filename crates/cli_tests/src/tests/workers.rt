@@ -3,7 +3,7 @@
 use crate::tests::applying::{
     Manner, NOTHING, Seen, Texts, WORKERS, apply_by, watch_apply, watch_manner,
 };
-use crate::tests::changes::squeezed;
+use crate::tests::changes::{squeezed, state_text};
 use std::alloc::Global;
 use std::collections::BTreeMap;
 use std::process::Abort;
@@ -205,8 +205,6 @@ struct Stopped {
     serial: u32,
 }
 
-const PROVIDED: &str = r#""provider": "provider[\"registry.terraform.io/hashicorp/sim\"]""#;
-
 static STOPPED: [Stopped; 3] = [
     // The net is created, and then nothing is called any more.
     Stopped {
@@ -268,11 +266,7 @@ fn check_stopped<R: Abort + Threads + Wait + Sync>(
     assert_eq!(rt; seen.calls, row.after, "{workers}");
     assert_eq!(rt; seen.journal.len(), row.after, "{workers}");
     assert!(rt; seen.whole, "{workers}");
-    let resources = row.resources.replace(alloc, "PROVIDER", PROVIDED)?;
-    let serial = row.serial;
-    let state = format!(in alloc;
-        "{{\"lineage\": \"L\",\"outputs\": {{}},\"resources\": [{resources}],\"serial\": {serial},\"terraform_version\": \"1.0.0\",\"version\": 4}}"
-    )?;
+    let state = state_text(alloc, "", row.resources, row.serial)?;
     let squeezed = squeezed(alloc, seen.state.as_str())?;
     assert_eq!(rt; squeezed.as_str(), state.as_str(), "{workers}");
     assert_eq!(rt; seen.changed, row.after != 0, "{workers}");

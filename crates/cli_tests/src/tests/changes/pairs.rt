@@ -1,7 +1,7 @@
 //! One resource beside each kind of prior object and each kind of block: what is planned, and the state after.
 
 use crate::tests::applying::{Texts, WORKERS, check_refused, planned, watch_apply};
-use crate::tests::changes::squeezed;
+use crate::tests::changes::{squeezed, state_text};
 use std::alloc::Global;
 use std::process::Abort;
 use std::sync::Wait;
@@ -312,21 +312,12 @@ fn state_of(alloc: Global, records: &str, serial: u32) -> Result<String, Fail> {
     let resource = if records.is_empty() {
         String::new(alloc)
     } else {
-        format!(in alloc; "{BEFORE_RECORDS}{records}{BEHIND_RECORDS}")?
+        format!(in alloc;
+            "{{\"instances\": [{records}],\"mode\": \"managed\",\"name\": \"a\",PROVIDER,\"type\": \"sim_net\"}}"
+        )?
     };
-    Ok(format!(in alloc; "{BEFORE_RESOURCE}{resource}{BEFORE_SERIAL}{serial}{BEHIND_SERIAL}")?)
+    state_text(alloc, "", resource.as_str(), serial)
 }
-
-const BEFORE_RESOURCE: &str = r#"{"lineage": "L","outputs": {},"resources": ["#;
-
-const BEFORE_RECORDS: &str = r#"{"instances": ["#;
-
-const BEHIND_RECORDS: &str =
-    r#"],"mode": "managed","name": "a","provider": "provider[\"registry.terraform.io/hashicorp/sim\"]","type": "sim_net"}"#;
-
-const BEFORE_SERIAL: &str = r#"],"serial": "#;
-
-const BEHIND_SERIAL: &str = r#","terraform_version": "1.0.0","version": 4}"#;
 
 fn check_pair<R: Abort + Threads + Wait + Sync>(
     rt: &R,

@@ -32,71 +32,9 @@ Plan: 4 to add, 0 to change, 0 to destroy.
         errors: "",
         outcomes: "Judged(Good), Judged(Good), Judged(Good), Judged(Good)",
         calls: 4,
-        state: r#"{
-  "lineage": "L",
-  "outputs": {},
-  "resources": [
-    {
-      "instances": [
-        {
-          "attributes": {
-            "id": "host-h",
-            "name": "h",
-            "net": "net-1",
-            "size": null
-          },
-          "dependencies": [
-            "sim_net.a"
-          ],
-          "schema_version": 0
-        }
-      ],
-      "mode": "managed",
-      "name": "h",
-      "provider": "provider[\"registry.terraform.io/hashicorp/sim\"]",
-      "type": "sim_host"
-    },
-    {
-      "instances": [
-        {
-          "attributes": {
-            "cidr": "0",
-            "id": "net-0",
-            "tag": null
-          },
-          "index_key": 0,
-          "schema_version": 0
-        },
-        {
-          "attributes": {
-            "cidr": "1",
-            "id": "net-1",
-            "tag": null
-          },
-          "index_key": 1,
-          "schema_version": 0
-        },
-        {
-          "attributes": {
-            "cidr": "2",
-            "id": "net-2",
-            "tag": null
-          },
-          "index_key": 2,
-          "schema_version": 0
-        }
-      ],
-      "mode": "managed",
-      "name": "a",
-      "provider": "provider[\"registry.terraform.io/hashicorp/sim\"]",
-      "type": "sim_net"
-    }
-  ],
-  "serial": 1,
-  "terraform_version": "1.0.0",
-  "version": 4
-}
-"#,
+        outputs: "",
+        resources: r#"{"instances": [{"attributes": {"id": "host-h","name": "h","net": "net-1","size": null},"dependencies": ["sim_net.a"],"schema_version": 0}],"mode": "managed","name": "h",PROVIDER,"type": "sim_host"},{"instances": [{"attributes": {"cidr": "0","id": "net-0","tag": null},"index_key": 0,"schema_version": 0},{"attributes": {"cidr": "1","id": "net-1","tag": null},"index_key": 1,"schema_version": 0},{"attributes": {"cidr": "2","id": "net-2","tag": null},"index_key": 2,"schema_version": 0}],"mode": "managed","name": "a",PROVIDER,"type": "sim_net"}"#,
+        serial: 1,
     },
     // A count of 0 has no instance, and one of 1 has the instance 0.
     Row {
@@ -117,37 +55,9 @@ Plan: 1 to add, 0 to change, 0 to destroy.
         errors: "",
         outcomes: "Judged(Good)",
         calls: 1,
-        state: r#"{
-  "lineage": "L",
-  "outputs": {},
-  "resources": [
-    {
-      "instances": [
-        {
-          "attributes": {
-            "id": "host-h1",
-            "name": "h1",
-            "net": null,
-            "size": 0
-          },
-          "dependencies": [
-            "sim_net.a"
-          ],
-          "index_key": 0,
-          "schema_version": 0
-        }
-      ],
-      "mode": "managed",
-      "name": "h",
-      "provider": "provider[\"registry.terraform.io/hashicorp/sim\"]",
-      "type": "sim_host"
-    }
-  ],
-  "serial": 1,
-  "terraform_version": "1.0.0",
-  "version": 4
-}
-"#,
+        outputs: "",
+        resources: r#"{"instances": [{"attributes": {"id": "host-h1","name": "h1","net": null,"size": 0},"dependencies": ["sim_net.a"],"index_key": 0,"schema_version": 0}],"mode": "managed","name": "h",PROVIDER,"type": "sim_host"}"#,
+        serial: 1,
     },
     // Numbers are in the order of numbers, and texts in that of bytes.
     Row {
@@ -209,178 +119,9 @@ Plan: 15 to add, 0 to change, 0 to destroy.
         errors: "",
         outcomes: "Judged(Good), Judged(Good), Judged(Good), Judged(Good), Judged(Good), Judged(Good), Judged(Good), Judged(Good), Judged(Good), Judged(Good), Judged(Good), Judged(Good), Judged(Good), Judged(Good), Judged(Good)",
         calls: 15,
-        state: r#"{
-  "lineage": "L",
-  "outputs": {},
-  "resources": [
-    {
-      "instances": [
-        {
-          "attributes": {
-            "id": "host-0",
-            "name": "0",
-            "net": null,
-            "size": null
-          },
-          "index_key": 0,
-          "schema_version": 0
-        },
-        {
-          "attributes": {
-            "id": "host-1",
-            "name": "1",
-            "net": null,
-            "size": null
-          },
-          "index_key": 1,
-          "schema_version": 0
-        },
-        {
-          "attributes": {
-            "id": "host-2",
-            "name": "2",
-            "net": null,
-            "size": null
-          },
-          "index_key": 2,
-          "schema_version": 0
-        },
-        {
-          "attributes": {
-            "id": "host-3",
-            "name": "3",
-            "net": null,
-            "size": null
-          },
-          "index_key": 3,
-          "schema_version": 0
-        },
-        {
-          "attributes": {
-            "id": "host-4",
-            "name": "4",
-            "net": null,
-            "size": null
-          },
-          "index_key": 4,
-          "schema_version": 0
-        },
-        {
-          "attributes": {
-            "id": "host-5",
-            "name": "5",
-            "net": null,
-            "size": null
-          },
-          "index_key": 5,
-          "schema_version": 0
-        },
-        {
-          "attributes": {
-            "id": "host-6",
-            "name": "6",
-            "net": null,
-            "size": null
-          },
-          "index_key": 6,
-          "schema_version": 0
-        },
-        {
-          "attributes": {
-            "id": "host-7",
-            "name": "7",
-            "net": null,
-            "size": null
-          },
-          "index_key": 7,
-          "schema_version": 0
-        },
-        {
-          "attributes": {
-            "id": "host-8",
-            "name": "8",
-            "net": null,
-            "size": null
-          },
-          "index_key": 8,
-          "schema_version": 0
-        },
-        {
-          "attributes": {
-            "id": "host-9",
-            "name": "9",
-            "net": null,
-            "size": null
-          },
-          "index_key": 9,
-          "schema_version": 0
-        },
-        {
-          "attributes": {
-            "id": "host-10",
-            "name": "10",
-            "net": null,
-            "size": null
-          },
-          "index_key": 10,
-          "schema_version": 0
-        }
-      ],
-      "mode": "managed",
-      "name": "h",
-      "provider": "provider[\"registry.terraform.io/hashicorp/sim\"]",
-      "type": "sim_host"
-    },
-    {
-      "instances": [
-        {
-          "attributes": {
-            "cidr": "t",
-            "id": "net-t",
-            "tag": null
-          },
-          "index_key": "10",
-          "schema_version": 0
-        },
-        {
-          "attributes": {
-            "cidr": "n",
-            "id": "net-n",
-            "tag": null
-          },
-          "index_key": "9",
-          "schema_version": 0
-        },
-        {
-          "attributes": {
-            "cidr": "u",
-            "id": "net-u",
-            "tag": null
-          },
-          "index_key": "B",
-          "schema_version": 0
-        },
-        {
-          "attributes": {
-            "cidr": "l",
-            "id": "net-l",
-            "tag": null
-          },
-          "index_key": "a",
-          "schema_version": 0
-        }
-      ],
-      "mode": "managed",
-      "name": "a",
-      "provider": "provider[\"registry.terraform.io/hashicorp/sim\"]",
-      "type": "sim_net"
-    }
-  ],
-  "serial": 1,
-  "terraform_version": "1.0.0",
-  "version": 4
-}
-"#,
+        outputs: "",
+        resources: r#"{"instances": [{"attributes": {"id": "host-0","name": "0","net": null,"size": null},"index_key": 0,"schema_version": 0},{"attributes": {"id": "host-1","name": "1","net": null,"size": null},"index_key": 1,"schema_version": 0},{"attributes": {"id": "host-2","name": "2","net": null,"size": null},"index_key": 2,"schema_version": 0},{"attributes": {"id": "host-3","name": "3","net": null,"size": null},"index_key": 3,"schema_version": 0},{"attributes": {"id": "host-4","name": "4","net": null,"size": null},"index_key": 4,"schema_version": 0},{"attributes": {"id": "host-5","name": "5","net": null,"size": null},"index_key": 5,"schema_version": 0},{"attributes": {"id": "host-6","name": "6","net": null,"size": null},"index_key": 6,"schema_version": 0},{"attributes": {"id": "host-7","name": "7","net": null,"size": null},"index_key": 7,"schema_version": 0},{"attributes": {"id": "host-8","name": "8","net": null,"size": null},"index_key": 8,"schema_version": 0},{"attributes": {"id": "host-9","name": "9","net": null,"size": null},"index_key": 9,"schema_version": 0},{"attributes": {"id": "host-10","name": "10","net": null,"size": null},"index_key": 10,"schema_version": 0}],"mode": "managed","name": "h",PROVIDER,"type": "sim_host"},{"instances": [{"attributes": {"cidr": "t","id": "net-t","tag": null},"index_key": "10","schema_version": 0},{"attributes": {"cidr": "n","id": "net-n","tag": null},"index_key": "9","schema_version": 0},{"attributes": {"cidr": "u","id": "net-u","tag": null},"index_key": "B","schema_version": 0},{"attributes": {"cidr": "l","id": "net-l","tag": null},"index_key": "a","schema_version": 0}],"mode": "managed","name": "a",PROVIDER,"type": "sim_net"}"#,
+        serial: 1,
     },
     // As many hosts as there are nets.
     Row {
@@ -411,76 +152,9 @@ Plan: 4 to add, 0 to change, 0 to destroy.
         errors: "",
         outcomes: "Judged(Good), Judged(Good), Judged(Good), Judged(Good)",
         calls: 4,
-        state: r#"{
-  "lineage": "L",
-  "outputs": {},
-  "resources": [
-    {
-      "instances": [
-        {
-          "attributes": {
-            "id": "host-h",
-            "name": "h",
-            "net": "net-0",
-            "size": null
-          },
-          "dependencies": [
-            "sim_net.a"
-          ],
-          "index_key": 0,
-          "schema_version": 0
-        },
-        {
-          "attributes": {
-            "id": "host-h",
-            "name": "h",
-            "net": "net-1",
-            "size": null
-          },
-          "dependencies": [
-            "sim_net.a"
-          ],
-          "index_key": 1,
-          "schema_version": 0
-        }
-      ],
-      "mode": "managed",
-      "name": "h",
-      "provider": "provider[\"registry.terraform.io/hashicorp/sim\"]",
-      "type": "sim_host"
-    },
-    {
-      "instances": [
-        {
-          "attributes": {
-            "cidr": "0",
-            "id": "net-0",
-            "tag": null
-          },
-          "index_key": 0,
-          "schema_version": 0
-        },
-        {
-          "attributes": {
-            "cidr": "1",
-            "id": "net-1",
-            "tag": null
-          },
-          "index_key": 1,
-          "schema_version": 0
-        }
-      ],
-      "mode": "managed",
-      "name": "a",
-      "provider": "provider[\"registry.terraform.io/hashicorp/sim\"]",
-      "type": "sim_net"
-    }
-  ],
-  "serial": 1,
-  "terraform_version": "1.0.0",
-  "version": 4
-}
-"#,
+        outputs: "",
+        resources: r#"{"instances": [{"attributes": {"id": "host-h","name": "h","net": "net-0","size": null},"dependencies": ["sim_net.a"],"index_key": 0,"schema_version": 0},{"attributes": {"id": "host-h","name": "h","net": "net-1","size": null},"dependencies": ["sim_net.a"],"index_key": 1,"schema_version": 0}],"mode": "managed","name": "h",PROVIDER,"type": "sim_host"},{"instances": [{"attributes": {"cidr": "0","id": "net-0","tag": null},"index_key": 0,"schema_version": 0},{"attributes": {"cidr": "1","id": "net-1","tag": null},"index_key": 1,"schema_version": 0}],"mode": "managed","name": "a",PROVIDER,"type": "sim_net"}"#,
+        serial: 1,
     },
     // A count by a conditional, and one by what another block's count makes.
     Row {
@@ -510,65 +184,9 @@ Plan: 3 to add, 0 to change, 0 to destroy.
         errors: "",
         outcomes: "Judged(Good), Judged(Good), Judged(Good)",
         calls: 3,
-        state: r#"{
-  "lineage": "L",
-  "outputs": {},
-  "resources": [
-    {
-      "instances": [
-        {
-          "attributes": {
-            "id": "host-a0",
-            "name": "a0",
-            "net": null,
-            "size": null
-          },
-          "index_key": 0,
-          "schema_version": 0
-        },
-        {
-          "attributes": {
-            "id": "host-a1",
-            "name": "a1",
-            "net": null,
-            "size": null
-          },
-          "index_key": 1,
-          "schema_version": 0
-        }
-      ],
-      "mode": "managed",
-      "name": "a",
-      "provider": "provider[\"registry.terraform.io/hashicorp/sim\"]",
-      "type": "sim_host"
-    },
-    {
-      "instances": [
-        {
-          "attributes": {
-            "id": "host-b0",
-            "name": "b0",
-            "net": null,
-            "size": null
-          },
-          "dependencies": [
-            "sim_host.a"
-          ],
-          "index_key": 0,
-          "schema_version": 0
-        }
-      ],
-      "mode": "managed",
-      "name": "b",
-      "provider": "provider[\"registry.terraform.io/hashicorp/sim\"]",
-      "type": "sim_host"
-    }
-  ],
-  "serial": 1,
-  "terraform_version": "1.0.0",
-  "version": 4
-}
-"#,
+        outputs: "",
+        resources: r#"{"instances": [{"attributes": {"id": "host-a0","name": "a0","net": null,"size": null},"index_key": 0,"schema_version": 0},{"attributes": {"id": "host-a1","name": "a1","net": null,"size": null},"index_key": 1,"schema_version": 0}],"mode": "managed","name": "a",PROVIDER,"type": "sim_host"},{"instances": [{"attributes": {"id": "host-b0","name": "b0","net": null,"size": null},"dependencies": ["sim_host.a"],"index_key": 0,"schema_version": 0}],"mode": "managed","name": "b",PROVIDER,"type": "sim_host"}"#,
+        serial: 1,
     },
 ];
 

@@ -39,53 +39,9 @@ Plan: 4 to add, 0 to change, 0 to destroy.
         errors: "error 21 at sim_host.b create: size too large\n",
         outcomes: "Judged(Good), Judged(Failed), Judged(Good), Skipped",
         calls: 3,
-        state: r#"{
-  "lineage": "L",
-  "outputs": {},
-  "resources": [
-    {
-      "instances": [
-        {
-          "attributes": {
-            "id": "host-a",
-            "name": "a",
-            "net": null,
-            "size": null
-          },
-          "schema_version": 0
-        }
-      ],
-      "mode": "managed",
-      "name": "a",
-      "provider": "provider[\"registry.terraform.io/hashicorp/sim\"]",
-      "type": "sim_host"
-    },
-    {
-      "instances": [
-        {
-          "attributes": {
-            "id": "host-c",
-            "name": "c",
-            "net": "host-a",
-            "size": null
-          },
-          "dependencies": [
-            "sim_host.a"
-          ],
-          "schema_version": 0
-        }
-      ],
-      "mode": "managed",
-      "name": "c",
-      "provider": "provider[\"registry.terraform.io/hashicorp/sim\"]",
-      "type": "sim_host"
-    }
-  ],
-  "serial": 1,
-  "terraform_version": "1.0.0",
-  "version": 4
-}
-"#,
+        outputs: "",
+        resources: r#"{"instances": [{"attributes": {"id": "host-a","name": "a","net": null,"size": null},"schema_version": 0}],"mode": "managed","name": "a",PROVIDER,"type": "sim_host"},{"instances": [{"attributes": {"id": "host-c","name": "c","net": "host-a","size": null},"dependencies": ["sim_host.a"],"schema_version": 0}],"mode": "managed","name": "c",PROVIDER,"type": "sim_host"}"#,
+        serial: 1,
     },
     // A net whose reply contradicts what was asked is kept as tainted, and its host is skipped.
     Row {
@@ -105,33 +61,9 @@ Plan: 2 to add, 0 to change, 0 to destroy.
         errors: "error 22 at sim_net.a create: contradicts tag\n",
         outcomes: "Skipped, Judged(Contradicted(2))",
         calls: 1,
-        state: r#"{
-  "lineage": "L",
-  "outputs": {},
-  "resources": [
-    {
-      "instances": [
-        {
-          "attributes": {
-            "cidr": "x",
-            "id": "net-x",
-            "tag": "truth"
-          },
-          "schema_version": 0,
-          "status": "tainted"
-        }
-      ],
-      "mode": "managed",
-      "name": "a",
-      "provider": "provider[\"registry.terraform.io/hashicorp/sim\"]",
-      "type": "sim_net"
-    }
-  ],
-  "serial": 1,
-  "terraform_version": "1.0.0",
-  "version": 4
-}
-"#,
+        outputs: "",
+        resources: r#"{"instances": [{"attributes": {"cidr": "x","id": "net-x","tag": "truth"},"schema_version": 0,"status": "tainted"}],"mode": "managed","name": "a",PROVIDER,"type": "sim_net"}"#,
+        serial: 1,
     },
     // One bad instance of a net is enough: each host that needs the net is skipped, by whatever it refers to.
     Row {
@@ -175,66 +107,9 @@ Plan: 7 to add, 0 to change, 0 to destroy.
         errors: "error 21 at sim_net.a[1] create: refused\n",
         outcomes: "Skipped, Skipped, Skipped, Judged(Good), Judged(Good), Judged(Failed), Judged(Good)",
         calls: 4,
-        state: r#"{
-  "lineage": "L",
-  "outputs": {},
-  "resources": [
-    {
-      "instances": [
-        {
-          "attributes": {
-            "id": "host-c",
-            "name": "c",
-            "net": null,
-            "size": null
-          },
-          "schema_version": 0
-        }
-      ],
-      "mode": "managed",
-      "name": "c",
-      "provider": "provider[\"registry.terraform.io/hashicorp/sim\"]",
-      "type": "sim_host"
-    },
-    {
-      "instances": [
-        {
-          "attributes": {
-            "cidr": "x",
-            "id": "net-x",
-            "tag": null
-          },
-          "index_key": 0,
-          "schema_version": 0
-        }
-      ],
-      "mode": "managed",
-      "name": "a",
-      "provider": "provider[\"registry.terraform.io/hashicorp/sim\"]",
-      "type": "sim_net"
-    },
-    {
-      "instances": [
-        {
-          "attributes": {
-            "cidr": "x",
-            "id": "net-x",
-            "tag": null
-          },
-          "schema_version": 0
-        }
-      ],
-      "mode": "managed",
-      "name": "b",
-      "provider": "provider[\"registry.terraform.io/hashicorp/sim\"]",
-      "type": "sim_net"
-    }
-  ],
-  "serial": 1,
-  "terraform_version": "1.0.0",
-  "version": 4
-}
-"#,
+        outputs: "",
+        resources: r#"{"instances": [{"attributes": {"id": "host-c","name": "c","net": null,"size": null},"schema_version": 0}],"mode": "managed","name": "c",PROVIDER,"type": "sim_host"},{"instances": [{"attributes": {"cidr": "x","id": "net-x","tag": null},"index_key": 0,"schema_version": 0}],"mode": "managed","name": "a",PROVIDER,"type": "sim_net"},{"instances": [{"attributes": {"cidr": "x","id": "net-x","tag": null},"schema_version": 0}],"mode": "managed","name": "b",PROVIDER,"type": "sim_net"}"#,
+        serial: 1,
     },
     // An argument that turns out not to fit isn't asked for: a text for a number.
     Row {
@@ -270,52 +145,9 @@ Plan: 4 to add, 0 to change, 0 to destroy.
         errors: "error 24 at sim_host.a create: size: BadArgument\n",
         outcomes: "ArgumentFault, Skipped, Judged(Good), Judged(Good)",
         calls: 2,
-        state: r#"{
-  "lineage": "L",
-  "outputs": {},
-  "resources": [
-    {
-      "instances": [
-        {
-          "attributes": {
-            "id": "host-c",
-            "name": "c",
-            "net": "net-x",
-            "size": null
-          },
-          "dependencies": [
-            "sim_net.a"
-          ],
-          "schema_version": 0
-        }
-      ],
-      "mode": "managed",
-      "name": "c",
-      "provider": "provider[\"registry.terraform.io/hashicorp/sim\"]",
-      "type": "sim_host"
-    },
-    {
-      "instances": [
-        {
-          "attributes": {
-            "cidr": "x",
-            "id": "net-x",
-            "tag": null
-          },
-          "schema_version": 0
-        }
-      ],
-      "mode": "managed",
-      "name": "a",
-      "provider": "provider[\"registry.terraform.io/hashicorp/sim\"]",
-      "type": "sim_net"
-    }
-  ],
-  "serial": 1,
-  "terraform_version": "1.0.0",
-  "version": 4
-}
-"#,
+        outputs: "",
+        resources: r#"{"instances": [{"attributes": {"id": "host-c","name": "c","net": "net-x","size": null},"dependencies": ["sim_net.a"],"schema_version": 0}],"mode": "managed","name": "c",PROVIDER,"type": "sim_host"},{"instances": [{"attributes": {"cidr": "x","id": "net-x","tag": null},"schema_version": 0}],"mode": "managed","name": "a",PROVIDER,"type": "sim_net"}"#,
+        serial: 1,
     },
     // One that turns out to have no value; of two the first in byte order is told.
     Row {
@@ -349,32 +181,9 @@ error 24 at sim_host.b create: size: Evaluate(WrongKind)
 "#,
         outcomes: "ArgumentFault, ArgumentFault, Judged(Good)",
         calls: 1,
-        state: r#"{
-  "lineage": "L",
-  "outputs": {},
-  "resources": [
-    {
-      "instances": [
-        {
-          "attributes": {
-            "cidr": "x",
-            "id": "net-x",
-            "tag": null
-          },
-          "schema_version": 0
-        }
-      ],
-      "mode": "managed",
-      "name": "a",
-      "provider": "provider[\"registry.terraform.io/hashicorp/sim\"]",
-      "type": "sim_net"
-    }
-  ],
-  "serial": 1,
-  "terraform_version": "1.0.0",
-  "version": 4
-}
-"#,
+        outputs: "",
+        resources: r#"{"instances": [{"attributes": {"cidr": "x","id": "net-x","tag": null},"schema_version": 0}],"mode": "managed","name": "a",PROVIDER,"type": "sim_net"}"#,
+        serial: 1,
     },
     // A required argument that turns out to be null.
     Row {
@@ -392,32 +201,9 @@ Plan: 2 to add, 0 to change, 0 to destroy.
         errors: "error 24 at sim_host.h create: name: BadArgument\n",
         outcomes: "ArgumentFault, Judged(Good)",
         calls: 1,
-        state: r#"{
-  "lineage": "L",
-  "outputs": {},
-  "resources": [
-    {
-      "instances": [
-        {
-          "attributes": {
-            "cidr": "x",
-            "id": "net-x",
-            "tag": null
-          },
-          "schema_version": 0
-        }
-      ],
-      "mode": "managed",
-      "name": "a",
-      "provider": "provider[\"registry.terraform.io/hashicorp/sim\"]",
-      "type": "sim_net"
-    }
-  ],
-  "serial": 1,
-  "terraform_version": "1.0.0",
-  "version": 4
-}
-"#,
+        outputs: "",
+        resources: r#"{"instances": [{"attributes": {"cidr": "x","id": "net-x","tag": null},"schema_version": 0}],"mode": "managed","name": "a",PROVIDER,"type": "sim_net"}"#,
+        serial: 1,
     },
     // `for_each` that turns out to have no value is told before any argument, of each instance.
     Row {
@@ -453,32 +239,9 @@ error 24 at sim_host.h["k"] create: for_each: Evaluate(Missing)
 "#,
         outcomes: "ArgumentFault, ArgumentFault, Judged(Good)",
         calls: 1,
-        state: r#"{
-  "lineage": "L",
-  "outputs": {},
-  "resources": [
-    {
-      "instances": [
-        {
-          "attributes": {
-            "cidr": "x",
-            "id": "net-x",
-            "tag": null
-          },
-          "schema_version": 0
-        }
-      ],
-      "mode": "managed",
-      "name": "a",
-      "provider": "provider[\"registry.terraform.io/hashicorp/sim\"]",
-      "type": "sim_net"
-    }
-  ],
-  "serial": 1,
-  "terraform_version": "1.0.0",
-  "version": 4
-}
-"#,
+        outputs: "",
+        resources: r#"{"instances": [{"attributes": {"cidr": "x","id": "net-x","tag": null},"schema_version": 0}],"mode": "managed","name": "a",PROVIDER,"type": "sim_net"}"#,
+        serial: 1,
     },
     // Each fault of an apply, in the order of addresses.
     Row {
@@ -537,66 +300,9 @@ error 21 at sim_net.c["k"] create: refused
 "#,
         outcomes: "Judged(Failed), ArgumentFault, Skipped, Judged(Failed), Judged(Contradicted(2)), Judged(Good), Judged(Failed), Judged(Good)",
         calls: 6,
-        state: r#"{
-  "lineage": "L",
-  "outputs": {},
-  "resources": [
-    {
-      "instances": [
-        {
-          "attributes": {
-            "cidr": "x",
-            "id": "net-x",
-            "tag": "truth"
-          },
-          "schema_version": 0,
-          "status": "tainted"
-        }
-      ],
-      "mode": "managed",
-      "name": "b",
-      "provider": "provider[\"registry.terraform.io/hashicorp/sim\"]",
-      "type": "sim_net"
-    },
-    {
-      "instances": [
-        {
-          "attributes": {
-            "cidr": "w",
-            "id": "net-w",
-            "tag": null
-          },
-          "index_key": "j",
-          "schema_version": 0
-        }
-      ],
-      "mode": "managed",
-      "name": "c",
-      "provider": "provider[\"registry.terraform.io/hashicorp/sim\"]",
-      "type": "sim_net"
-    },
-    {
-      "instances": [
-        {
-          "attributes": {
-            "cidr": "z",
-            "id": "net-z",
-            "tag": null
-          },
-          "schema_version": 0
-        }
-      ],
-      "mode": "managed",
-      "name": "d",
-      "provider": "provider[\"registry.terraform.io/hashicorp/sim\"]",
-      "type": "sim_net"
-    }
-  ],
-  "serial": 1,
-  "terraform_version": "1.0.0",
-  "version": 4
-}
-"#,
+        outputs: "",
+        resources: r#"{"instances": [{"attributes": {"cidr": "x","id": "net-x","tag": "truth"},"schema_version": 0,"status": "tainted"}],"mode": "managed","name": "b",PROVIDER,"type": "sim_net"},{"instances": [{"attributes": {"cidr": "w","id": "net-w","tag": null},"index_key": "j","schema_version": 0}],"mode": "managed","name": "c",PROVIDER,"type": "sim_net"},{"instances": [{"attributes": {"cidr": "z","id": "net-z","tag": null},"schema_version": 0}],"mode": "managed","name": "d",PROVIDER,"type": "sim_net"}"#,
+        serial: 1,
     },
 ];
 

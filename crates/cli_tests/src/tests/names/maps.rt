@@ -1,6 +1,5 @@
 //! Several instances of one block by `for_each`, over maps and sets.
 
-use crate::tests::applying::NOTHING;
 use crate::tests::names::{Row, check_rows};
 use std::test::Fail;
 
@@ -21,42 +20,9 @@ Plan: 2 to add, 0 to change, 0 to destroy.
         errors: "",
         outcomes: "Judged(Good), Judged(Good)",
         calls: 2,
-        state: r#"{
-  "lineage": "L",
-  "outputs": {},
-  "resources": [
-    {
-      "instances": [
-        {
-          "attributes": {
-            "cidr": "y",
-            "id": "net-y",
-            "tag": null
-          },
-          "index_key": "j",
-          "schema_version": 0
-        },
-        {
-          "attributes": {
-            "cidr": "x",
-            "id": "net-x",
-            "tag": null
-          },
-          "index_key": "k",
-          "schema_version": 0
-        }
-      ],
-      "mode": "managed",
-      "name": "a",
-      "provider": "provider[\"registry.terraform.io/hashicorp/sim\"]",
-      "type": "sim_net"
-    }
-  ],
-  "serial": 1,
-  "terraform_version": "1.0.0",
-  "version": 4
-}
-"#,
+        outputs: "",
+        resources: r#"{"instances": [{"attributes": {"cidr": "y","id": "net-y","tag": null},"index_key": "j","schema_version": 0},{"attributes": {"cidr": "x","id": "net-x","tag": null},"index_key": "k","schema_version": 0}],"mode": "managed","name": "a",PROVIDER,"type": "sim_net"}"#,
+        serial: 1,
     },
     // An empty map has none.
     Row {
@@ -67,7 +33,9 @@ Plan: 2 to add, 0 to change, 0 to destroy.
         errors: "",
         outcomes: "",
         calls: 0,
-        state: NOTHING,
+        outputs: "",
+        resources: "",
+        serial: 0,
     },
     // A value of the map that isn't known in the plan.
     Row {
@@ -91,53 +59,9 @@ Plan: 2 to add, 0 to change, 0 to destroy.
         errors: "",
         outcomes: "Judged(Good), Judged(Good)",
         calls: 2,
-        state: r#"{
-  "lineage": "L",
-  "outputs": {},
-  "resources": [
-    {
-      "instances": [
-        {
-          "attributes": {
-            "id": "host-h",
-            "name": "h",
-            "net": "net-x",
-            "size": null
-          },
-          "dependencies": [
-            "sim_net.a"
-          ],
-          "index_key": "k",
-          "schema_version": 0
-        }
-      ],
-      "mode": "managed",
-      "name": "h",
-      "provider": "provider[\"registry.terraform.io/hashicorp/sim\"]",
-      "type": "sim_host"
-    },
-    {
-      "instances": [
-        {
-          "attributes": {
-            "cidr": "x",
-            "id": "net-x",
-            "tag": null
-          },
-          "schema_version": 0
-        }
-      ],
-      "mode": "managed",
-      "name": "a",
-      "provider": "provider[\"registry.terraform.io/hashicorp/sim\"]",
-      "type": "sim_net"
-    }
-  ],
-  "serial": 1,
-  "terraform_version": "1.0.0",
-  "version": 4
-}
-"#,
+        outputs: "",
+        resources: r#"{"instances": [{"attributes": {"id": "host-h","name": "h","net": "net-x","size": null},"dependencies": ["sim_net.a"],"index_key": "k","schema_version": 0}],"mode": "managed","name": "h",PROVIDER,"type": "sim_host"},{"instances": [{"attributes": {"cidr": "x","id": "net-x","tag": null},"schema_version": 0}],"mode": "managed","name": "a",PROVIDER,"type": "sim_net"}"#,
+        serial: 1,
     },
     // A set's texts are keys and values.
     Row {
@@ -157,42 +81,9 @@ Plan: 2 to add, 0 to change, 0 to destroy.
         errors: "",
         outcomes: "Judged(Good), Judged(Good)",
         calls: 2,
-        state: r#"{
-  "lineage": "L",
-  "outputs": {},
-  "resources": [
-    {
-      "instances": [
-        {
-          "attributes": {
-            "cidr": "x",
-            "id": "net-x",
-            "tag": "x"
-          },
-          "index_key": "x",
-          "schema_version": 0
-        },
-        {
-          "attributes": {
-            "cidr": "y",
-            "id": "net-y",
-            "tag": "y"
-          },
-          "index_key": "y",
-          "schema_version": 0
-        }
-      ],
-      "mode": "managed",
-      "name": "a",
-      "provider": "provider[\"registry.terraform.io/hashicorp/sim\"]",
-      "type": "sim_net"
-    }
-  ],
-  "serial": 1,
-  "terraform_version": "1.0.0",
-  "version": 4
-}
-"#,
+        outputs: "",
+        resources: r#"{"instances": [{"attributes": {"cidr": "x","id": "net-x","tag": "x"},"index_key": "x","schema_version": 0},{"attributes": {"cidr": "y","id": "net-y","tag": "y"},"index_key": "y","schema_version": 0}],"mode": "managed","name": "a",PROVIDER,"type": "sim_net"}"#,
+        serial: 1,
     },
     // Keys with quotes, line feeds and letters beyond ASCII stand in addresses as JSON texts.
     Row {
@@ -213,51 +104,9 @@ Plan: 3 to add, 0 to change, 0 to destroy.
         errors: "",
         outcomes: "Judged(Good), Judged(Good), Judged(Good)",
         calls: 3,
-        state: r#"{
-  "lineage": "L",
-  "outputs": {},
-  "resources": [
-    {
-      "instances": [
-        {
-          "attributes": {
-            "cidr": "0",
-            "id": "net-0",
-            "tag": null
-          },
-          "index_key": "",
-          "schema_version": 0
-        },
-        {
-          "attributes": {
-            "cidr": "1",
-            "id": "net-1",
-            "tag": null
-          },
-          "index_key": "a\"b\n",
-          "schema_version": 0
-        },
-        {
-          "attributes": {
-            "cidr": "2",
-            "id": "net-2",
-            "tag": null
-          },
-          "index_key": "é.x[0]",
-          "schema_version": 0
-        }
-      ],
-      "mode": "managed",
-      "name": "a",
-      "provider": "provider[\"registry.terraform.io/hashicorp/sim\"]",
-      "type": "sim_net"
-    }
-  ],
-  "serial": 1,
-  "terraform_version": "1.0.0",
-  "version": 4
-}
-"#,
+        outputs: "",
+        resources: r#"{"instances": [{"attributes": {"cidr": "0","id": "net-0","tag": null},"index_key": "","schema_version": 0},{"attributes": {"cidr": "1","id": "net-1","tag": null},"index_key": "a\"b\n","schema_version": 0},{"attributes": {"cidr": "2","id": "net-2","tag": null},"index_key": "é.x[0]","schema_version": 0}],"mode": "managed","name": "a",PROVIDER,"type": "sim_net"}"#,
+        serial: 1,
     },
     // Over a map of objects from a variable, with `merge` and a conditional.
     Row {
@@ -291,42 +140,9 @@ Plan: 2 to add, 0 to change, 0 to destroy.
         errors: "",
         outcomes: "Judged(Good), Judged(Good)",
         calls: 2,
-        state: r#"{
-  "lineage": "L",
-  "outputs": {},
-  "resources": [
-    {
-      "instances": [
-        {
-          "attributes": {
-            "cidr": "1",
-            "id": "net-1",
-            "tag": null
-          },
-          "index_key": "a",
-          "schema_version": 0
-        },
-        {
-          "attributes": {
-            "cidr": "2",
-            "id": "net-2",
-            "tag": "t"
-          },
-          "index_key": "b",
-          "schema_version": 0
-        }
-      ],
-      "mode": "managed",
-      "name": "n",
-      "provider": "provider[\"registry.terraform.io/hashicorp/sim\"]",
-      "type": "sim_net"
-    }
-  ],
-  "serial": 1,
-  "terraform_version": "1.0.0",
-  "version": 4
-}
-"#,
+        outputs: "",
+        resources: r#"{"instances": [{"attributes": {"cidr": "1","id": "net-1","tag": null},"index_key": "a","schema_version": 0},{"attributes": {"cidr": "2","id": "net-2","tag": "t"},"index_key": "b","schema_version": 0}],"mode": "managed","name": "n",PROVIDER,"type": "sim_net"}"#,
+        serial: 1,
     },
     // The same without the second one.
     Row {
@@ -356,33 +172,9 @@ Plan: 1 to add, 0 to change, 0 to destroy.
         errors: "",
         outcomes: "Judged(Good)",
         calls: 1,
-        state: r#"{
-  "lineage": "L",
-  "outputs": {},
-  "resources": [
-    {
-      "instances": [
-        {
-          "attributes": {
-            "cidr": "1",
-            "id": "net-1",
-            "tag": null
-          },
-          "index_key": "a",
-          "schema_version": 0
-        }
-      ],
-      "mode": "managed",
-      "name": "n",
-      "provider": "provider[\"registry.terraform.io/hashicorp/sim\"]",
-      "type": "sim_net"
-    }
-  ],
-  "serial": 1,
-  "terraform_version": "1.0.0",
-  "version": 4
-}
-"#,
+        outputs: "",
+        resources: r#"{"instances": [{"attributes": {"cidr": "1","id": "net-1","tag": null},"index_key": "a","schema_version": 0}],"mode": "managed","name": "n",PROVIDER,"type": "sim_net"}"#,
+        serial: 1,
     },
     // Over the instances of another block, and over the set of its keys.
     Row {
@@ -424,110 +216,9 @@ Plan: 6 to add, 0 to change, 0 to destroy.
         errors: "",
         outcomes: "Judged(Good), Judged(Good), Judged(Good), Judged(Good), Judged(Good), Judged(Good)",
         calls: 6,
-        state: r#"{
-  "lineage": "L",
-  "outputs": {},
-  "resources": [
-    {
-      "instances": [
-        {
-          "attributes": {
-            "id": "host-j",
-            "name": "j",
-            "net": "net-y",
-            "size": null
-          },
-          "dependencies": [
-            "sim_net.a"
-          ],
-          "index_key": "j",
-          "schema_version": 0
-        },
-        {
-          "attributes": {
-            "id": "host-k",
-            "name": "k",
-            "net": "net-x",
-            "size": null
-          },
-          "dependencies": [
-            "sim_net.a"
-          ],
-          "index_key": "k",
-          "schema_version": 0
-        }
-      ],
-      "mode": "managed",
-      "name": "each",
-      "provider": "provider[\"registry.terraform.io/hashicorp/sim\"]",
-      "type": "sim_host"
-    },
-    {
-      "instances": [
-        {
-          "attributes": {
-            "id": "host-j",
-            "name": "j",
-            "net": "y",
-            "size": null
-          },
-          "dependencies": [
-            "sim_net.a"
-          ],
-          "index_key": "j",
-          "schema_version": 0
-        },
-        {
-          "attributes": {
-            "id": "host-k",
-            "name": "k",
-            "net": "x",
-            "size": null
-          },
-          "dependencies": [
-            "sim_net.a"
-          ],
-          "index_key": "k",
-          "schema_version": 0
-        }
-      ],
-      "mode": "managed",
-      "name": "key",
-      "provider": "provider[\"registry.terraform.io/hashicorp/sim\"]",
-      "type": "sim_host"
-    },
-    {
-      "instances": [
-        {
-          "attributes": {
-            "cidr": "y",
-            "id": "net-y",
-            "tag": null
-          },
-          "index_key": "j",
-          "schema_version": 0
-        },
-        {
-          "attributes": {
-            "cidr": "x",
-            "id": "net-x",
-            "tag": null
-          },
-          "index_key": "k",
-          "schema_version": 0
-        }
-      ],
-      "mode": "managed",
-      "name": "a",
-      "provider": "provider[\"registry.terraform.io/hashicorp/sim\"]",
-      "type": "sim_net"
-    }
-  ],
-  "serial": 1,
-  "terraform_version": "1.0.0",
-  "version": 4
-}
-"#,
+        outputs: "",
+        resources: r#"{"instances": [{"attributes": {"id": "host-j","name": "j","net": "net-y","size": null},"dependencies": ["sim_net.a"],"index_key": "j","schema_version": 0},{"attributes": {"id": "host-k","name": "k","net": "net-x","size": null},"dependencies": ["sim_net.a"],"index_key": "k","schema_version": 0}],"mode": "managed","name": "each",PROVIDER,"type": "sim_host"},{"instances": [{"attributes": {"id": "host-j","name": "j","net": "y","size": null},"dependencies": ["sim_net.a"],"index_key": "j","schema_version": 0},{"attributes": {"id": "host-k","name": "k","net": "x","size": null},"dependencies": ["sim_net.a"],"index_key": "k","schema_version": 0}],"mode": "managed","name": "key",PROVIDER,"type": "sim_host"},{"instances": [{"attributes": {"cidr": "y","id": "net-y","tag": null},"index_key": "j","schema_version": 0},{"attributes": {"cidr": "x","id": "net-x","tag": null},"index_key": "k","schema_version": 0}],"mode": "managed","name": "a",PROVIDER,"type": "sim_net"}"#,
+        serial: 1,
     },
 ];
 

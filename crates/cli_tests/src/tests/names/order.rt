@@ -21,52 +21,9 @@ Plan: 2 to add, 0 to change, 0 to destroy.
         errors: "",
         outcomes: "Judged(Good), Judged(Good)",
         calls: 2,
-        state: r#"{
-  "lineage": "L",
-  "outputs": {},
-  "resources": [
-    {
-      "instances": [
-        {
-          "attributes": {
-            "id": "host-h",
-            "name": "h",
-            "net": "net-x",
-            "size": null
-          },
-          "dependencies": [
-            "sim_net.a"
-          ],
-          "schema_version": 0
-        }
-      ],
-      "mode": "managed",
-      "name": "h",
-      "provider": "provider[\"registry.terraform.io/hashicorp/sim\"]",
-      "type": "sim_host"
-    },
-    {
-      "instances": [
-        {
-          "attributes": {
-            "cidr": "x",
-            "id": "net-x",
-            "tag": null
-          },
-          "schema_version": 0
-        }
-      ],
-      "mode": "managed",
-      "name": "a",
-      "provider": "provider[\"registry.terraform.io/hashicorp/sim\"]",
-      "type": "sim_net"
-    }
-  ],
-  "serial": 1,
-  "terraform_version": "1.0.0",
-  "version": 4
-}
-"#,
+        outputs: "",
+        resources: r#"{"instances": [{"attributes": {"id": "host-h","name": "h","net": "net-x","size": null},"dependencies": ["sim_net.a"],"schema_version": 0}],"mode": "managed","name": "h",PROVIDER,"type": "sim_host"},{"instances": [{"attributes": {"cidr": "x","id": "net-x","tag": null},"schema_version": 0}],"mode": "managed","name": "a",PROVIDER,"type": "sim_net"}"#,
+        serial: 1,
     },
     // Two between a first and a last.
     Row {
@@ -102,95 +59,9 @@ Plan: 4 to add, 0 to change, 0 to destroy.
         errors: "",
         outcomes: "Judged(Good), Judged(Good), Judged(Good), Judged(Good)",
         calls: 4,
-        state: r#"{
-  "lineage": "L",
-  "outputs": {},
-  "resources": [
-    {
-      "instances": [
-        {
-          "attributes": {
-            "id": "host-a",
-            "name": "a",
-            "net": null,
-            "size": null
-          },
-          "schema_version": 0
-        }
-      ],
-      "mode": "managed",
-      "name": "a",
-      "provider": "provider[\"registry.terraform.io/hashicorp/sim\"]",
-      "type": "sim_host"
-    },
-    {
-      "instances": [
-        {
-          "attributes": {
-            "id": "host-b",
-            "name": "b",
-            "net": "host-a",
-            "size": null
-          },
-          "dependencies": [
-            "sim_host.a"
-          ],
-          "schema_version": 0
-        }
-      ],
-      "mode": "managed",
-      "name": "b",
-      "provider": "provider[\"registry.terraform.io/hashicorp/sim\"]",
-      "type": "sim_host"
-    },
-    {
-      "instances": [
-        {
-          "attributes": {
-            "id": "host-c",
-            "name": "c",
-            "net": "host-a",
-            "size": null
-          },
-          "dependencies": [
-            "sim_host.a"
-          ],
-          "schema_version": 0
-        }
-      ],
-      "mode": "managed",
-      "name": "c",
-      "provider": "provider[\"registry.terraform.io/hashicorp/sim\"]",
-      "type": "sim_host"
-    },
-    {
-      "instances": [
-        {
-          "attributes": {
-            "id": "host-d",
-            "name": "d",
-            "net": "host-b-host-c",
-            "size": null
-          },
-          "dependencies": [
-            "sim_host.a",
-            "sim_host.b",
-            "sim_host.c"
-          ],
-          "schema_version": 0
-        }
-      ],
-      "mode": "managed",
-      "name": "d",
-      "provider": "provider[\"registry.terraform.io/hashicorp/sim\"]",
-      "type": "sim_host"
-    }
-  ],
-  "serial": 1,
-  "terraform_version": "1.0.0",
-  "version": 4
-}
-"#,
+        outputs: "",
+        resources: r#"{"instances": [{"attributes": {"id": "host-a","name": "a","net": null,"size": null},"schema_version": 0}],"mode": "managed","name": "a",PROVIDER,"type": "sim_host"},{"instances": [{"attributes": {"id": "host-b","name": "b","net": "host-a","size": null},"dependencies": ["sim_host.a"],"schema_version": 0}],"mode": "managed","name": "b",PROVIDER,"type": "sim_host"},{"instances": [{"attributes": {"id": "host-c","name": "c","net": "host-a","size": null},"dependencies": ["sim_host.a"],"schema_version": 0}],"mode": "managed","name": "c",PROVIDER,"type": "sim_host"},{"instances": [{"attributes": {"id": "host-d","name": "d","net": "host-b-host-c","size": null},"dependencies": ["sim_host.a","sim_host.b","sim_host.c"],"schema_version": 0}],"mode": "managed","name": "d",PROVIDER,"type": "sim_host"}"#,
+        serial: 1,
     },
     // `depends_on` alone: the host waits for all instances, and names the net once.
     Row {
@@ -216,62 +87,9 @@ Plan: 3 to add, 0 to change, 0 to destroy.
         errors: "",
         outcomes: "Judged(Good), Judged(Good), Judged(Good)",
         calls: 3,
-        state: r#"{
-  "lineage": "L",
-  "outputs": {},
-  "resources": [
-    {
-      "instances": [
-        {
-          "attributes": {
-            "id": "host-h",
-            "name": "h",
-            "net": null,
-            "size": null
-          },
-          "dependencies": [
-            "sim_net.a"
-          ],
-          "schema_version": 0
-        }
-      ],
-      "mode": "managed",
-      "name": "h",
-      "provider": "provider[\"registry.terraform.io/hashicorp/sim\"]",
-      "type": "sim_host"
-    },
-    {
-      "instances": [
-        {
-          "attributes": {
-            "cidr": "n0",
-            "id": "net-n0",
-            "tag": null
-          },
-          "index_key": 0,
-          "schema_version": 0
-        },
-        {
-          "attributes": {
-            "cidr": "n1",
-            "id": "net-n1",
-            "tag": null
-          },
-          "index_key": 1,
-          "schema_version": 0
-        }
-      ],
-      "mode": "managed",
-      "name": "a",
-      "provider": "provider[\"registry.terraform.io/hashicorp/sim\"]",
-      "type": "sim_net"
-    }
-  ],
-  "serial": 1,
-  "terraform_version": "1.0.0",
-  "version": 4
-}
-"#,
+        outputs: "",
+        resources: r#"{"instances": [{"attributes": {"id": "host-h","name": "h","net": null,"size": null},"dependencies": ["sim_net.a"],"schema_version": 0}],"mode": "managed","name": "h",PROVIDER,"type": "sim_host"},{"instances": [{"attributes": {"cidr": "n0","id": "net-n0","tag": null},"index_key": 0,"schema_version": 0},{"attributes": {"cidr": "n1","id": "net-n1","tag": null},"index_key": 1,"schema_version": 0}],"mode": "managed","name": "a",PROVIDER,"type": "sim_net"}"#,
+        serial: 1,
     },
     // What a resource needs it needs through others, through locals and in a branch that isn't chosen.
     Row {
@@ -316,129 +134,9 @@ Plan: 6 to add, 0 to change, 0 to destroy.
         errors: "",
         outcomes: "Judged(Good), Judged(Good), Judged(Good), Judged(Good), Judged(Good), Judged(Good)",
         calls: 6,
-        state: r#"{
-  "lineage": "L",
-  "outputs": {},
-  "resources": [
-    {
-      "instances": [
-        {
-          "attributes": {
-            "id": "host-a",
-            "name": "a",
-            "net": "y",
-            "size": null
-          },
-          "dependencies": [
-            "sim_net.a"
-          ],
-          "schema_version": 0
-        }
-      ],
-      "mode": "managed",
-      "name": "a",
-      "provider": "provider[\"registry.terraform.io/hashicorp/sim\"]",
-      "type": "sim_host"
-    },
-    {
-      "instances": [
-        {
-          "attributes": {
-            "id": "host-b",
-            "name": "b",
-            "net": "y",
-            "size": null
-          },
-          "dependencies": [
-            "sim_host.a",
-            "sim_net.a"
-          ],
-          "schema_version": 0
-        }
-      ],
-      "mode": "managed",
-      "name": "b",
-      "provider": "provider[\"registry.terraform.io/hashicorp/sim\"]",
-      "type": "sim_host"
-    },
-    {
-      "instances": [
-        {
-          "attributes": {
-            "id": "host-c",
-            "name": "c",
-            "net": "net-y",
-            "size": null
-          },
-          "dependencies": [
-            "sim_net.b"
-          ],
-          "schema_version": 0
-        }
-      ],
-      "mode": "managed",
-      "name": "c",
-      "provider": "provider[\"registry.terraform.io/hashicorp/sim\"]",
-      "type": "sim_host"
-    },
-    {
-      "instances": [
-        {
-          "attributes": {
-            "id": "host-d",
-            "name": "d",
-            "net": null,
-            "size": 0
-          },
-          "dependencies": [
-            "sim_net.none"
-          ],
-          "schema_version": 0
-        }
-      ],
-      "mode": "managed",
-      "name": "d",
-      "provider": "provider[\"registry.terraform.io/hashicorp/sim\"]",
-      "type": "sim_host"
-    },
-    {
-      "instances": [
-        {
-          "attributes": {
-            "cidr": "x",
-            "id": "net-x",
-            "tag": null
-          },
-          "schema_version": 0
-        }
-      ],
-      "mode": "managed",
-      "name": "a",
-      "provider": "provider[\"registry.terraform.io/hashicorp/sim\"]",
-      "type": "sim_net"
-    },
-    {
-      "instances": [
-        {
-          "attributes": {
-            "cidr": "y",
-            "id": "net-y",
-            "tag": null
-          },
-          "schema_version": 0
-        }
-      ],
-      "mode": "managed",
-      "name": "b",
-      "provider": "provider[\"registry.terraform.io/hashicorp/sim\"]",
-      "type": "sim_net"
-    }
-  ],
-  "serial": 1,
-  "terraform_version": "1.0.0",
-  "version": 4
-}
-"#,
+        outputs: "",
+        resources: r#"{"instances": [{"attributes": {"id": "host-a","name": "a","net": "y","size": null},"dependencies": ["sim_net.a"],"schema_version": 0}],"mode": "managed","name": "a",PROVIDER,"type": "sim_host"},{"instances": [{"attributes": {"id": "host-b","name": "b","net": "y","size": null},"dependencies": ["sim_host.a","sim_net.a"],"schema_version": 0}],"mode": "managed","name": "b",PROVIDER,"type": "sim_host"},{"instances": [{"attributes": {"id": "host-c","name": "c","net": "net-y","size": null},"dependencies": ["sim_net.b"],"schema_version": 0}],"mode": "managed","name": "c",PROVIDER,"type": "sim_host"},{"instances": [{"attributes": {"id": "host-d","name": "d","net": null,"size": 0},"dependencies": ["sim_net.none"],"schema_version": 0}],"mode": "managed","name": "d",PROVIDER,"type": "sim_host"},{"instances": [{"attributes": {"cidr": "x","id": "net-x","tag": null},"schema_version": 0}],"mode": "managed","name": "a",PROVIDER,"type": "sim_net"},{"instances": [{"attributes": {"cidr": "y","id": "net-y","tag": null},"schema_version": 0}],"mode": "managed","name": "b",PROVIDER,"type": "sim_net"}"#,
+        serial: 1,
     },
     // A block that is made before it is destroyed: it and all that it needs have the flag in the state, and what
     // refers to it doesn't.
@@ -476,113 +174,9 @@ Plan: 5 to add, 0 to change, 0 to destroy.
         errors: "",
         outcomes: "Judged(Good), Judged(Good), Judged(Good), Judged(Good), Judged(Good)",
         calls: 5,
-        state: r#"{
-  "lineage": "L",
-  "outputs": {},
-  "resources": [
-    {
-      "instances": [
-        {
-          "attributes": {
-            "id": "host-a",
-            "name": "a",
-            "net": "net-y",
-            "size": null
-          },
-          "create_before_destroy": true,
-          "dependencies": [
-            "sim_net.a",
-            "sim_net.b"
-          ],
-          "schema_version": 0
-        }
-      ],
-      "mode": "managed",
-      "name": "a",
-      "provider": "provider[\"registry.terraform.io/hashicorp/sim\"]",
-      "type": "sim_host"
-    },
-    {
-      "instances": [
-        {
-          "attributes": {
-            "id": "host-b",
-            "name": "b",
-            "net": "host-a",
-            "size": null
-          },
-          "dependencies": [
-            "sim_host.a",
-            "sim_net.a",
-            "sim_net.b"
-          ],
-          "schema_version": 0
-        }
-      ],
-      "mode": "managed",
-      "name": "b",
-      "provider": "provider[\"registry.terraform.io/hashicorp/sim\"]",
-      "type": "sim_host"
-    },
-    {
-      "instances": [
-        {
-          "attributes": {
-            "cidr": "x",
-            "id": "net-x",
-            "tag": null
-          },
-          "create_before_destroy": true,
-          "schema_version": 0
-        }
-      ],
-      "mode": "managed",
-      "name": "a",
-      "provider": "provider[\"registry.terraform.io/hashicorp/sim\"]",
-      "type": "sim_net"
-    },
-    {
-      "instances": [
-        {
-          "attributes": {
-            "cidr": "y",
-            "id": "net-y",
-            "tag": null
-          },
-          "create_before_destroy": true,
-          "dependencies": [
-            "sim_net.a"
-          ],
-          "schema_version": 0
-        }
-      ],
-      "mode": "managed",
-      "name": "b",
-      "provider": "provider[\"registry.terraform.io/hashicorp/sim\"]",
-      "type": "sim_net"
-    },
-    {
-      "instances": [
-        {
-          "attributes": {
-            "cidr": "z",
-            "id": "net-z",
-            "tag": null
-          },
-          "schema_version": 0
-        }
-      ],
-      "mode": "managed",
-      "name": "c",
-      "provider": "provider[\"registry.terraform.io/hashicorp/sim\"]",
-      "type": "sim_net"
-    }
-  ],
-  "serial": 1,
-  "terraform_version": "1.0.0",
-  "version": 4
-}
-"#,
+        outputs: "",
+        resources: r#"{"instances": [{"attributes": {"id": "host-a","name": "a","net": "net-y","size": null},"create_before_destroy": true,"dependencies": ["sim_net.a","sim_net.b"],"schema_version": 0}],"mode": "managed","name": "a",PROVIDER,"type": "sim_host"},{"instances": [{"attributes": {"id": "host-b","name": "b","net": "host-a","size": null},"dependencies": ["sim_host.a","sim_net.a","sim_net.b"],"schema_version": 0}],"mode": "managed","name": "b",PROVIDER,"type": "sim_host"},{"instances": [{"attributes": {"cidr": "x","id": "net-x","tag": null},"create_before_destroy": true,"schema_version": 0}],"mode": "managed","name": "a",PROVIDER,"type": "sim_net"},{"instances": [{"attributes": {"cidr": "y","id": "net-y","tag": null},"create_before_destroy": true,"dependencies": ["sim_net.a"],"schema_version": 0}],"mode": "managed","name": "b",PROVIDER,"type": "sim_net"},{"instances": [{"attributes": {"cidr": "z","id": "net-z","tag": null},"schema_version": 0}],"mode": "managed","name": "c",PROVIDER,"type": "sim_net"}"#,
+        serial: 1,
     },
     // What is known in the plan stands in the request, and what isn't is what was answered.
     Row {
@@ -615,73 +209,9 @@ Plan: 3 to add, 0 to change, 0 to destroy.
         errors: "",
         outcomes: "Judged(Good), Judged(Good), Judged(Good)",
         calls: 3,
-        state: r#"{
-  "lineage": "L",
-  "outputs": {},
-  "resources": [
-    {
-      "instances": [
-        {
-          "attributes": {
-            "id": "host-x",
-            "name": "x",
-            "net": "net-x",
-            "size": 5
-          },
-          "dependencies": [
-            "sim_net.a"
-          ],
-          "schema_version": 0
-        }
-      ],
-      "mode": "managed",
-      "name": "a",
-      "provider": "provider[\"registry.terraform.io/hashicorp/sim\"]",
-      "type": "sim_host"
-    },
-    {
-      "instances": [
-        {
-          "attributes": {
-            "id": "host-x-5",
-            "name": "x-5",
-            "net": null,
-            "size": 100
-          },
-          "dependencies": [
-            "sim_host.a",
-            "sim_net.a"
-          ],
-          "schema_version": 0
-        }
-      ],
-      "mode": "managed",
-      "name": "b",
-      "provider": "provider[\"registry.terraform.io/hashicorp/sim\"]",
-      "type": "sim_host"
-    },
-    {
-      "instances": [
-        {
-          "attributes": {
-            "cidr": "x",
-            "id": "net-x",
-            "tag": null
-          },
-          "schema_version": 0
-        }
-      ],
-      "mode": "managed",
-      "name": "a",
-      "provider": "provider[\"registry.terraform.io/hashicorp/sim\"]",
-      "type": "sim_net"
-    }
-  ],
-  "serial": 1,
-  "terraform_version": "1.0.0",
-  "version": 4
-}
-"#,
+        outputs: "",
+        resources: r#"{"instances": [{"attributes": {"id": "host-x","name": "x","net": "net-x","size": 5},"dependencies": ["sim_net.a"],"schema_version": 0}],"mode": "managed","name": "a",PROVIDER,"type": "sim_host"},{"instances": [{"attributes": {"id": "host-x-5","name": "x-5","net": null,"size": 100},"dependencies": ["sim_host.a","sim_net.a"],"schema_version": 0}],"mode": "managed","name": "b",PROVIDER,"type": "sim_host"},{"instances": [{"attributes": {"cidr": "x","id": "net-x","tag": null},"schema_version": 0}],"mode": "managed","name": "a",PROVIDER,"type": "sim_net"}"#,
+        serial: 1,
     },
 ];
 

@@ -1,6 +1,5 @@
 //! Outputs, and what the state keeps of them.
 
-use crate::tests::applying::NOTHING;
 use crate::tests::names::{Row, check_rows};
 use std::test::Fail;
 
@@ -14,20 +13,9 @@ static ROWS: [Row; 9] = [
         errors: "",
         outcomes: "",
         calls: 0,
-        state: r#"{
-  "lineage": "L",
-  "outputs": {
-    "o": {
-      "type": "number",
-      "value": 3
-    }
-  },
-  "resources": [],
-  "serial": 1,
-  "terraform_version": "1.0.0",
-  "version": 4
-}
-"#,
+        outputs: r#""o": {"type": "number","value": 3}"#,
+        resources: "",
+        serial: 1,
     },
     // An output of null has no entry; without any other change nothing is written.
     Row {
@@ -38,7 +26,9 @@ static ROWS: [Row; 9] = [
         errors: "",
         outcomes: "",
         calls: 0,
-        state: NOTHING,
+        outputs: "",
+        resources: "",
+        serial: 0,
     },
     // The types of outputs, made from their values alone.
     Row {
@@ -61,95 +51,9 @@ static ROWS: [Row; 9] = [
         errors: "",
         outcomes: "",
         calls: 0,
-        state: r#"{
-  "lineage": "L",
-  "outputs": {
-    "b": {
-      "type": "bool",
-      "value": true
-    },
-    "empty_list": {
-      "type": [
-        "tuple",
-        []
-      ],
-      "value": []
-    },
-    "empty_map": {
-      "type": [
-        "object",
-        {}
-      ],
-      "value": {}
-    },
-    "l": {
-      "type": [
-        "tuple",
-        [
-          "string"
-        ]
-      ],
-      "value": [
-        "1"
-      ]
-    },
-    "mixed": {
-      "type": [
-        "tuple",
-        [
-          "number",
-          "string",
-          "dynamic",
-          "bool",
-          [
-            "tuple",
-            [
-              "string"
-            ]
-          ]
-        ]
-      ],
-      "value": [
-        1,
-        "a",
-        null,
-        true,
-        [
-          "x"
-        ]
-      ]
-    },
-    "s": {
-      "type": "string",
-      "value": "a1"
-    },
-    "tree": {
-      "type": [
-        "object",
-        {
-          "k": [
-            "object",
-            {
-              "a": "dynamic",
-              "b": "number"
-            }
-          ]
-        }
-      ],
-      "value": {
-        "k": {
-          "a": null,
-          "b": 1
-        }
-      }
-    }
-  },
-  "resources": [],
-  "serial": 1,
-  "terraform_version": "1.0.0",
-  "version": 4
-}
-"#,
+        outputs: r#""b": {"type": "bool","value": true},"empty_list": {"type": ["tuple",[]],"value": []},"empty_map": {"type": ["object",{}],"value": {}},"l": {"type": ["tuple",["string"]],"value": ["1"]},"mixed": {"type": ["tuple",["number","string","dynamic","bool",["tuple",["string"]]]],"value": [1,"a",null,true,["x"]]},"s": {"type": "string","value": "a1"},"tree": {"type": ["object",{"k": ["object",{"a": "dynamic","b": "number"}]}],"value": {"k": {"a": null,"b": 1}}}"#,
+        resources: "",
+        serial: 1,
     },
     // A set becomes the list of its texts in byte order, at any depth.
     Row {
@@ -165,61 +69,9 @@ static ROWS: [Row; 9] = [
         errors: "",
         outcomes: "",
         calls: 0,
-        state: r#"{
-  "lineage": "L",
-  "outputs": {
-    "o": {
-      "type": [
-        "tuple",
-        [
-          "string",
-          "string"
-        ]
-      ],
-      "value": [
-        "a",
-        "b"
-      ]
-    },
-    "p": {
-      "type": [
-        "object",
-        {
-          "k": [
-            "tuple",
-            [
-              [
-                "tuple",
-                [
-                  "string",
-                  "string"
-                ]
-              ],
-              [
-                "tuple",
-                []
-              ]
-            ]
-          ]
-        }
-      ],
-      "value": {
-        "k": [
-          [
-            "x",
-            "y"
-          ],
-          []
-        ]
-      }
-    }
-  },
-  "resources": [],
-  "serial": 1,
-  "terraform_version": "1.0.0",
-  "version": 4
-}
-"#,
+        outputs: r#""o": {"type": ["tuple",["string","string"]],"value": ["a","b"]},"p": {"type": ["object",{"k": ["tuple",[["tuple",["string","string"]],["tuple",[]]]]}],"value": {"k": [["x","y"],[]]}}"#,
+        resources: "",
+        serial: 1,
     },
     // An attribute, a whole object, and what locals make of them.
     Row {
@@ -242,56 +94,9 @@ Plan: 1 to add, 0 to change, 0 to destroy.
         errors: "",
         outcomes: "Judged(Good)",
         calls: 1,
-        state: r#"{
-  "lineage": "L",
-  "outputs": {
-    "id": {
-      "type": "string",
-      "value": "net-x"
-    },
-    "net": {
-      "type": [
-        "object",
-        {
-          "cidr": "string",
-          "id": "string",
-          "tag": "dynamic"
-        }
-      ],
-      "value": {
-        "cidr": "x",
-        "id": "net-x",
-        "tag": null
-      }
-    },
-    "tagged": {
-      "type": "string",
-      "value": "no"
-    }
-  },
-  "resources": [
-    {
-      "instances": [
-        {
-          "attributes": {
-            "cidr": "x",
-            "id": "net-x",
-            "tag": null
-          },
-          "schema_version": 0
-        }
-      ],
-      "mode": "managed",
-      "name": "a",
-      "provider": "provider[\"registry.terraform.io/hashicorp/sim\"]",
-      "type": "sim_net"
-    }
-  ],
-  "serial": 1,
-  "terraform_version": "1.0.0",
-  "version": 4
-}
-"#,
+        outputs: r#""id": {"type": "string","value": "net-x"},"net": {"type": ["object",{"cidr": "string","id": "string","tag": "dynamic"}],"value": {"cidr": "x","id": "net-x","tag": null}},"tagged": {"type": "string","value": "no"}"#,
+        resources: r#"{"instances": [{"attributes": {"cidr": "x","id": "net-x","tag": null},"schema_version": 0}],"mode": "managed","name": "a",PROVIDER,"type": "sim_net"}"#,
+        serial: 1,
     },
     // The list and the map of several instances.
     Row {
@@ -326,94 +131,9 @@ Plan: 3 to add, 0 to change, 0 to destroy.
         errors: "",
         outcomes: "Judged(Good), Judged(Good), Judged(Good)",
         calls: 3,
-        state: r#"{
-  "lineage": "L",
-  "outputs": {
-    "all": {
-      "type": [
-        "tuple",
-        [
-          "string"
-        ]
-      ],
-      "value": [
-        "k"
-      ]
-    },
-    "first": {
-      "type": "string",
-      "value": "net-0"
-    },
-    "ids": {
-      "type": [
-        "tuple",
-        [
-          "string",
-          "string",
-          "dynamic"
-        ]
-      ],
-      "value": [
-        "net-1",
-        "net-v",
-        null
-      ]
-    },
-    "number": {
-      "type": "number",
-      "value": 2
-    }
-  },
-  "resources": [
-    {
-      "instances": [
-        {
-          "attributes": {
-            "cidr": "0",
-            "id": "net-0",
-            "tag": null
-          },
-          "index_key": 0,
-          "schema_version": 0
-        },
-        {
-          "attributes": {
-            "cidr": "1",
-            "id": "net-1",
-            "tag": null
-          },
-          "index_key": 1,
-          "schema_version": 0
-        }
-      ],
-      "mode": "managed",
-      "name": "l",
-      "provider": "provider[\"registry.terraform.io/hashicorp/sim\"]",
-      "type": "sim_net"
-    },
-    {
-      "instances": [
-        {
-          "attributes": {
-            "cidr": "v",
-            "id": "net-v",
-            "tag": null
-          },
-          "index_key": "k",
-          "schema_version": 0
-        }
-      ],
-      "mode": "managed",
-      "name": "m",
-      "provider": "provider[\"registry.terraform.io/hashicorp/sim\"]",
-      "type": "sim_net"
-    }
-  ],
-  "serial": 1,
-  "terraform_version": "1.0.0",
-  "version": 4
-}
-"#,
+        outputs: r#""all": {"type": ["tuple",["string"]],"value": ["k"]},"first": {"type": "string","value": "net-0"},"ids": {"type": ["tuple",["string","string","dynamic"]],"value": ["net-1","net-v",null]},"number": {"type": "number","value": 2}"#,
+        resources: r#"{"instances": [{"attributes": {"cidr": "0","id": "net-0","tag": null},"index_key": 0,"schema_version": 0},{"attributes": {"cidr": "1","id": "net-1","tag": null},"index_key": 1,"schema_version": 0}],"mode": "managed","name": "l",PROVIDER,"type": "sim_net"},{"instances": [{"attributes": {"cidr": "v","id": "net-v","tag": null},"index_key": "k","schema_version": 0}],"mode": "managed","name": "m",PROVIDER,"type": "sim_net"}"#,
+        serial: 1,
     },
     // An output that has a fault once all is known is told last, by name, and the apply is incomplete; the others are
     // kept.
@@ -442,37 +162,9 @@ error 24 at output.c: Evaluate(WrongKind)
 "#,
         outcomes: "Judged(Good), Judged(Failed)",
         calls: 2,
-        state: r#"{
-  "lineage": "L",
-  "outputs": {
-    "b": {
-      "type": "string",
-      "value": "net-x"
-    }
-  },
-  "resources": [
-    {
-      "instances": [
-        {
-          "attributes": {
-            "cidr": "x",
-            "id": "net-x",
-            "tag": null
-          },
-          "schema_version": 0
-        }
-      ],
-      "mode": "managed",
-      "name": "a",
-      "provider": "provider[\"registry.terraform.io/hashicorp/sim\"]",
-      "type": "sim_net"
-    }
-  ],
-  "serial": 1,
-  "terraform_version": "1.0.0",
-  "version": 4
-}
-"#,
+        outputs: r#""b": {"type": "string","value": "net-x"}"#,
+        resources: r#"{"instances": [{"attributes": {"cidr": "x","id": "net-x","tag": null},"schema_version": 0}],"mode": "managed","name": "a",PROVIDER,"type": "sim_net"}"#,
+        serial: 1,
     },
     // An output isn't evaluated, and nothing is told of it, where a resource that it names isn't good, through a
     // local or in a branch that isn't chosen too.
@@ -508,37 +200,9 @@ Plan: 3 to add, 0 to change, 0 to destroy.
         errors: "error 21 at sim_net.bad create: refused\n",
         outcomes: "Skipped, Judged(Failed), Judged(Good)",
         calls: 2,
-        state: r#"{
-  "lineage": "L",
-  "outputs": {
-    "other": {
-      "type": "string",
-      "value": "net-x"
-    }
-  },
-  "resources": [
-    {
-      "instances": [
-        {
-          "attributes": {
-            "cidr": "x",
-            "id": "net-x",
-            "tag": null
-          },
-          "schema_version": 0
-        }
-      ],
-      "mode": "managed",
-      "name": "good",
-      "provider": "provider[\"registry.terraform.io/hashicorp/sim\"]",
-      "type": "sim_net"
-    }
-  ],
-  "serial": 1,
-  "terraform_version": "1.0.0",
-  "version": 4
-}
-"#,
+        outputs: r#""other": {"type": "string","value": "net-x"}"#,
+        resources: r#"{"instances": [{"attributes": {"cidr": "x","id": "net-x","tag": null},"schema_version": 0}],"mode": "managed","name": "good",PROVIDER,"type": "sim_net"}"#,
+        serial: 1,
     },
     // One of several instances that isn't good keeps the outputs of all.
     Row {
@@ -559,33 +223,9 @@ Plan: 2 to add, 0 to change, 0 to destroy.
         errors: "error 21 at sim_net.a[1] create: refused\n",
         outcomes: "Judged(Good), Judged(Failed)",
         calls: 2,
-        state: r#"{
-  "lineage": "L",
-  "outputs": {},
-  "resources": [
-    {
-      "instances": [
-        {
-          "attributes": {
-            "cidr": "x",
-            "id": "net-x",
-            "tag": null
-          },
-          "index_key": 0,
-          "schema_version": 0
-        }
-      ],
-      "mode": "managed",
-      "name": "a",
-      "provider": "provider[\"registry.terraform.io/hashicorp/sim\"]",
-      "type": "sim_net"
-    }
-  ],
-  "serial": 1,
-  "terraform_version": "1.0.0",
-  "version": 4
-}
-"#,
+        outputs: "",
+        resources: r#"{"instances": [{"attributes": {"cidr": "x","id": "net-x","tag": null},"index_key": 0,"schema_version": 0}],"mode": "managed","name": "a",PROVIDER,"type": "sim_net"}"#,
+        serial: 1,
     },
 ];
 

@@ -1,6 +1,5 @@
 //! Variables and locals: what their values make of a plan and of a state.
 
-use crate::tests::applying::NOTHING;
 use crate::tests::names::{Row, check_rows};
 use std::test::Fail;
 
@@ -18,32 +17,9 @@ Plan: 1 to add, 0 to change, 0 to destroy.
         errors: "",
         outcomes: "Judged(Good)",
         calls: 1,
-        state: r#"{
-  "lineage": "L",
-  "outputs": {},
-  "resources": [
-    {
-      "instances": [
-        {
-          "attributes": {
-            "cidr": "7",
-            "id": "net-7",
-            "tag": null
-          },
-          "schema_version": 0
-        }
-      ],
-      "mode": "managed",
-      "name": "a",
-      "provider": "provider[\"registry.terraform.io/hashicorp/sim\"]",
-      "type": "sim_net"
-    }
-  ],
-  "serial": 1,
-  "terraform_version": "1.0.0",
-  "version": 4
-}
-"#,
+        outputs: "",
+        resources: r#"{"instances": [{"attributes": {"cidr": "7","id": "net-7","tag": null},"schema_version": 0}],"mode": "managed","name": "a",PROVIDER,"type": "sim_net"}"#,
+        serial: 1,
     },
     // The file comes before the default, and names that aren't declared are ignored, whatever they hold.
     Row {
@@ -59,32 +35,9 @@ Plan: 1 to add, 0 to change, 0 to destroy.
         errors: "",
         outcomes: "Judged(Good)",
         calls: 1,
-        state: r#"{
-  "lineage": "L",
-  "outputs": {},
-  "resources": [
-    {
-      "instances": [
-        {
-          "attributes": {
-            "cidr": "f",
-            "id": "net-f",
-            "tag": "d"
-          },
-          "schema_version": 0
-        }
-      ],
-      "mode": "managed",
-      "name": "a",
-      "provider": "provider[\"registry.terraform.io/hashicorp/sim\"]",
-      "type": "sim_net"
-    }
-  ],
-  "serial": 1,
-  "terraform_version": "1.0.0",
-  "version": 4
-}
-"#,
+        outputs: "",
+        resources: r#"{"instances": [{"attributes": {"cidr": "f","id": "net-f","tag": "d"},"schema_version": 0}],"mode": "managed","name": "a",PROVIDER,"type": "sim_net"}"#,
+        serial: 1,
     },
     // A null in the file is the value: the tag isn't set, though the variable has a default.
     Row {
@@ -99,32 +52,9 @@ Plan: 1 to add, 0 to change, 0 to destroy.
         errors: "",
         outcomes: "Judged(Good)",
         calls: 1,
-        state: r#"{
-  "lineage": "L",
-  "outputs": {},
-  "resources": [
-    {
-      "instances": [
-        {
-          "attributes": {
-            "cidr": "x",
-            "id": "net-x",
-            "tag": null
-          },
-          "schema_version": 0
-        }
-      ],
-      "mode": "managed",
-      "name": "a",
-      "provider": "provider[\"registry.terraform.io/hashicorp/sim\"]",
-      "type": "sim_net"
-    }
-  ],
-  "serial": 1,
-  "terraform_version": "1.0.0",
-  "version": 4
-}
-"#,
+        outputs: "",
+        resources: r#"{"instances": [{"attributes": {"cidr": "x","id": "net-x","tag": null},"schema_version": 0}],"mode": "managed","name": "a",PROVIDER,"type": "sim_net"}"#,
+        serial: 1,
     },
     // Numbers and truth values become texts inside lists and maps of texts, and null stays null.
     Row {
@@ -147,46 +77,9 @@ Plan: 1 to add, 0 to change, 0 to destroy.
         errors: "",
         outcomes: "Judged(Good)",
         calls: 1,
-        state: r#"{
-  "lineage": "L",
-  "outputs": {
-    "m": {
-      "type": [
-        "object",
-        {
-          "k": "string",
-          "none": "dynamic"
-        }
-      ],
-      "value": {
-        "k": "0",
-        "none": null
-      }
-    }
-  },
-  "resources": [
-    {
-      "instances": [
-        {
-          "attributes": {
-            "cidr": "a--1-true",
-            "id": "net-a--1-true",
-            "tag": "0"
-          },
-          "schema_version": 0
-        }
-      ],
-      "mode": "managed",
-      "name": "a",
-      "provider": "provider[\"registry.terraform.io/hashicorp/sim\"]",
-      "type": "sim_net"
-    }
-  ],
-  "serial": 1,
-  "terraform_version": "1.0.0",
-  "version": 4
-}
-"#,
+        outputs: r#""m": {"type": ["object",{"k": "string","none": "dynamic"}],"value": {"k": "0","none": null}}"#,
+        resources: r#"{"instances": [{"attributes": {"cidr": "a--1-true","id": "net-a--1-true","tag": "0"},"schema_version": 0}],"mode": "managed","name": "a",PROVIDER,"type": "sim_net"}"#,
+        serial: 1,
     },
     // Values of each type, by file and by default, and without a type as they are.
     Row {
@@ -215,33 +108,9 @@ Plan: 1 to add, 0 to change, 0 to destroy.
         errors: "",
         outcomes: "Judged(Good)",
         calls: 1,
-        state: r#"{
-  "lineage": "L",
-  "outputs": {},
-  "resources": [
-    {
-      "instances": [
-        {
-          "attributes": {
-            "id": "host-1",
-            "name": "1",
-            "net": "true",
-            "size": 100
-          },
-          "schema_version": 0
-        }
-      ],
-      "mode": "managed",
-      "name": "h",
-      "provider": "provider[\"registry.terraform.io/hashicorp/sim\"]",
-      "type": "sim_host"
-    }
-  ],
-  "serial": 1,
-  "terraform_version": "1.0.0",
-  "version": 4
-}
-"#,
+        outputs: "",
+        resources: r#"{"instances": [{"attributes": {"id": "host-1","name": "1","net": "true","size": 100},"schema_version": 0}],"mode": "managed","name": "h",PROVIDER,"type": "sim_host"}"#,
+        serial: 1,
     },
     // A default is literal: its text isn't a template.
     Row {
@@ -256,32 +125,9 @@ Plan: 1 to add, 0 to change, 0 to destroy.
         errors: "",
         outcomes: "Judged(Good)",
         calls: 1,
-        state: r#"{
-  "lineage": "L",
-  "outputs": {},
-  "resources": [
-    {
-      "instances": [
-        {
-          "attributes": {
-            "cidr": "${1 + 2}",
-            "id": "net-${1 + 2}",
-            "tag": null
-          },
-          "schema_version": 0
-        }
-      ],
-      "mode": "managed",
-      "name": "a",
-      "provider": "provider[\"registry.terraform.io/hashicorp/sim\"]",
-      "type": "sim_net"
-    }
-  ],
-  "serial": 1,
-  "terraform_version": "1.0.0",
-  "version": 4
-}
-"#,
+        outputs: "",
+        resources: r#"{"instances": [{"attributes": {"cidr": "${1 + 2}","id": "net-${1 + 2}","tag": null},"schema_version": 0}],"mode": "managed","name": "a",PROVIDER,"type": "sim_net"}"#,
+        serial: 1,
     },
     // A local that nobody refers to isn't evaluated.
     Row {
@@ -292,7 +138,9 @@ Plan: 1 to add, 0 to change, 0 to destroy.
         errors: "",
         outcomes: "",
         calls: 0,
-        state: NOTHING,
+        outputs: "",
+        resources: "",
+        serial: 0,
     },
     // A local that only such a local refers to isn't evaluated either.
     Row {
@@ -307,32 +155,9 @@ Plan: 1 to add, 0 to change, 0 to destroy.
         errors: "",
         outcomes: "Judged(Good)",
         calls: 1,
-        state: r#"{
-  "lineage": "L",
-  "outputs": {},
-  "resources": [
-    {
-      "instances": [
-        {
-          "attributes": {
-            "cidr": "z",
-            "id": "net-z",
-            "tag": null
-          },
-          "schema_version": 0
-        }
-      ],
-      "mode": "managed",
-      "name": "a",
-      "provider": "provider[\"registry.terraform.io/hashicorp/sim\"]",
-      "type": "sim_net"
-    }
-  ],
-  "serial": 1,
-  "terraform_version": "1.0.0",
-  "version": 4
-}
-"#,
+        outputs: "",
+        resources: r#"{"instances": [{"attributes": {"cidr": "z","id": "net-z","tag": null},"schema_version": 0}],"mode": "managed","name": "a",PROVIDER,"type": "sim_net"}"#,
+        serial: 1,
     },
     // Locals may hold trees, and refer to one another and to variables.
     Row {
@@ -361,33 +186,9 @@ Plan: 1 to add, 0 to change, 0 to destroy.
         errors: "",
         outcomes: "Judged(Good)",
         calls: 1,
-        state: r#"{
-  "lineage": "L",
-  "outputs": {},
-  "resources": [
-    {
-      "instances": [
-        {
-          "attributes": {
-            "id": "host-a-3",
-            "name": "a-3",
-            "net": "a",
-            "size": 4
-          },
-          "schema_version": 0
-        }
-      ],
-      "mode": "managed",
-      "name": "h",
-      "provider": "provider[\"registry.terraform.io/hashicorp/sim\"]",
-      "type": "sim_host"
-    }
-  ],
-  "serial": 1,
-  "terraform_version": "1.0.0",
-  "version": 4
-}
-"#,
+        outputs: "",
+        resources: r#"{"instances": [{"attributes": {"id": "host-a-3","name": "a-3","net": "a","size": 4},"schema_version": 0}],"mode": "managed","name": "h",PROVIDER,"type": "sim_host"}"#,
+        serial: 1,
     },
     // A local that refers to a resource: what is known in the plan stands there, the rest comes with the apply.
     Row {
@@ -412,52 +213,9 @@ Plan: 2 to add, 0 to change, 0 to destroy.
         errors: "",
         outcomes: "Judged(Good), Judged(Good)",
         calls: 2,
-        state: r#"{
-  "lineage": "L",
-  "outputs": {},
-  "resources": [
-    {
-      "instances": [
-        {
-          "attributes": {
-            "id": "host-x",
-            "name": "x",
-            "net": "net-x",
-            "size": null
-          },
-          "dependencies": [
-            "sim_net.a"
-          ],
-          "schema_version": 0
-        }
-      ],
-      "mode": "managed",
-      "name": "h",
-      "provider": "provider[\"registry.terraform.io/hashicorp/sim\"]",
-      "type": "sim_host"
-    },
-    {
-      "instances": [
-        {
-          "attributes": {
-            "cidr": "x",
-            "id": "net-x",
-            "tag": null
-          },
-          "schema_version": 0
-        }
-      ],
-      "mode": "managed",
-      "name": "a",
-      "provider": "provider[\"registry.terraform.io/hashicorp/sim\"]",
-      "type": "sim_net"
-    }
-  ],
-  "serial": 1,
-  "terraform_version": "1.0.0",
-  "version": 4
-}
-"#,
+        outputs: "",
+        resources: r#"{"instances": [{"attributes": {"id": "host-x","name": "x","net": "net-x","size": null},"dependencies": ["sim_net.a"],"schema_version": 0}],"mode": "managed","name": "h",PROVIDER,"type": "sim_host"},{"instances": [{"attributes": {"cidr": "x","id": "net-x","tag": null},"schema_version": 0}],"mode": "managed","name": "a",PROVIDER,"type": "sim_net"}"#,
+        serial: 1,
     },
     // Of two properties of one name the last counts, in the configuration and in the file.
     Row {
@@ -473,32 +231,9 @@ Plan: 1 to add, 0 to change, 0 to destroy.
         errors: "",
         outcomes: "Judged(Good)",
         calls: 1,
-        state: r#"{
-  "lineage": "L",
-  "outputs": {},
-  "resources": [
-    {
-      "instances": [
-        {
-          "attributes": {
-            "cidr": "y",
-            "id": "net-y",
-            "tag": "2"
-          },
-          "schema_version": 0
-        }
-      ],
-      "mode": "managed",
-      "name": "a",
-      "provider": "provider[\"registry.terraform.io/hashicorp/sim\"]",
-      "type": "sim_net"
-    }
-  ],
-  "serial": 1,
-  "terraform_version": "1.0.0",
-  "version": 4
-}
-"#,
+        outputs: "",
+        resources: r#"{"instances": [{"attributes": {"cidr": "y","id": "net-y","tag": "2"},"schema_version": 0}],"mode": "managed","name": "a",PROVIDER,"type": "sim_net"}"#,
+        serial: 1,
     },
     // Only the chosen branch is evaluated.
     Row {
@@ -525,50 +260,9 @@ Plan: 2 to add, 0 to change, 0 to destroy.
         errors: "",
         outcomes: "Judged(Good), Judged(Good)",
         calls: 2,
-        state: r#"{
-  "lineage": "L",
-  "outputs": {},
-  "resources": [
-    {
-      "instances": [
-        {
-          "attributes": {
-            "id": "host-a",
-            "name": "a",
-            "net": null,
-            "size": 7
-          },
-          "schema_version": 0
-        }
-      ],
-      "mode": "managed",
-      "name": "a",
-      "provider": "provider[\"registry.terraform.io/hashicorp/sim\"]",
-      "type": "sim_host"
-    },
-    {
-      "instances": [
-        {
-          "attributes": {
-            "id": "host-b",
-            "name": "b",
-            "net": null,
-            "size": null
-          },
-          "schema_version": 0
-        }
-      ],
-      "mode": "managed",
-      "name": "b",
-      "provider": "provider[\"registry.terraform.io/hashicorp/sim\"]",
-      "type": "sim_host"
-    }
-  ],
-  "serial": 1,
-  "terraform_version": "1.0.0",
-  "version": 4
-}
-"#,
+        outputs: "",
+        resources: r#"{"instances": [{"attributes": {"id": "host-a","name": "a","net": null,"size": 7},"schema_version": 0}],"mode": "managed","name": "a",PROVIDER,"type": "sim_host"},{"instances": [{"attributes": {"id": "host-b","name": "b","net": null,"size": null},"schema_version": 0}],"mode": "managed","name": "b",PROVIDER,"type": "sim_host"}"#,
+        serial: 1,
     },
     // A value that isn't known yet makes what is made of it unknown: a text, a sum, a comparison, a branch.
     Row {
@@ -600,73 +294,9 @@ Plan: 3 to add, 0 to change, 0 to destroy.
         errors: "",
         outcomes: "Judged(Good), Judged(Good), Judged(Good)",
         calls: 3,
-        state: r#"{
-  "lineage": "L",
-  "outputs": {},
-  "resources": [
-    {
-      "instances": [
-        {
-          "attributes": {
-            "id": "host-a",
-            "name": "a",
-            "net": null,
-            "size": null
-          },
-          "schema_version": 0
-        }
-      ],
-      "mode": "managed",
-      "name": "a",
-      "provider": "provider[\"registry.terraform.io/hashicorp/sim\"]",
-      "type": "sim_host"
-    },
-    {
-      "instances": [
-        {
-          "attributes": {
-            "id": "host-b-host-a",
-            "name": "b-host-a",
-            "net": "yes",
-            "size": null
-          },
-          "dependencies": [
-            "sim_host.a"
-          ],
-          "schema_version": 0
-        }
-      ],
-      "mode": "managed",
-      "name": "b",
-      "provider": "provider[\"registry.terraform.io/hashicorp/sim\"]",
-      "type": "sim_host"
-    },
-    {
-      "instances": [
-        {
-          "attributes": {
-            "id": "host-c",
-            "name": "c",
-            "net": "k",
-            "size": 2
-          },
-          "dependencies": [
-            "sim_host.a"
-          ],
-          "schema_version": 0
-        }
-      ],
-      "mode": "managed",
-      "name": "c",
-      "provider": "provider[\"registry.terraform.io/hashicorp/sim\"]",
-      "type": "sim_host"
-    }
-  ],
-  "serial": 1,
-  "terraform_version": "1.0.0",
-  "version": 4
-}
-"#,
+        outputs: "",
+        resources: r#"{"instances": [{"attributes": {"id": "host-a","name": "a","net": null,"size": null},"schema_version": 0}],"mode": "managed","name": "a",PROVIDER,"type": "sim_host"},{"instances": [{"attributes": {"id": "host-b-host-a","name": "b-host-a","net": "yes","size": null},"dependencies": ["sim_host.a"],"schema_version": 0}],"mode": "managed","name": "b",PROVIDER,"type": "sim_host"},{"instances": [{"attributes": {"id": "host-c","name": "c","net": "k","size": 2},"dependencies": ["sim_host.a"],"schema_version": 0}],"mode": "managed","name": "c",PROVIDER,"type": "sim_host"}"#,
+        serial: 1,
     },
     // Texts with quotes, line feeds, letters beyond ASCII and dollar signs.
     Row {
@@ -682,32 +312,9 @@ Plan: 1 to add, 0 to change, 0 to destroy.
         errors: "",
         outcomes: "Judged(Good)",
         calls: 1,
-        state: r#"{
-  "lineage": "L",
-  "outputs": {},
-  "resources": [
-    {
-      "instances": [
-        {
-          "attributes": {
-            "cidr": "${x}-\"\n\u0001é",
-            "id": "net-${x}-\"\n\u0001é",
-            "tag": "%{if}"
-          },
-          "schema_version": 0
-        }
-      ],
-      "mode": "managed",
-      "name": "a",
-      "provider": "provider[\"registry.terraform.io/hashicorp/sim\"]",
-      "type": "sim_net"
-    }
-  ],
-  "serial": 1,
-  "terraform_version": "1.0.0",
-  "version": 4
-}
-"#,
+        outputs: "",
+        resources: r#"{"instances": [{"attributes": {"cidr": "${x}-\"\n\u0001é","id": "net-${x}-\"\n\u0001é","tag": "%{if}"},"schema_version": 0}],"mode": "managed","name": "a",PROVIDER,"type": "sim_net"}"#,
+        serial: 1,
     },
 ];
 
