@@ -62,20 +62,15 @@ fn calls_are_recorded_once(rt: HostRuntime) -> Result<(), Fail> {
     let mut journal = Journal::with_room(alloc, &graph)?;
     assert!(rt; journal.entries().is_empty());
     let mut book = Book::new(alloc, &graph)?;
-    assert_eq!(rt;
-        record_first(&provider, &mut book, &mut journal, destroy(alloc)?),
-        Ok(())
-    );
+    assert!(rt; record_first(&provider, &mut book, &mut journal, destroy(alloc)?).is_ok());
     let entry = Entry {
         action: 0,
         op: Op::Destroy,
         verdict: Verdict::Good,
     };
-    assert_eq!(rt; journal.entries(), [entry].as_slice());
-    assert_eq!(rt; journal.totals(), (0, 0, 1));
+    assert!(rt; journal.entries() == [entry].as_slice() && journal.totals() == (0, 0, 1));
     let mut another = Book::new(alloc, &graph)?;
     let again = record_first(&provider, &mut another, &mut journal, destroy(alloc)?);
-    assert_eq!(rt; again, Err(Some(RecordFault::Twice)));
-    assert_eq!(rt; journal.totals(), (0, 0, 1));
+    assert!(rt; again == Err(Some(RecordFault::Twice)) && journal.totals() == (0, 0, 1));
     Ok(())
 }

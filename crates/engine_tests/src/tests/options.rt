@@ -13,43 +13,45 @@ fn read(alloc: Global, words: &[&str]) -> Result<Options, clap::Error> {
 #[test]
 fn reads_defaults(rt: HostRuntime) -> Result<(), Fail> {
     let read = read(rt.alloc(), &["apply"])?;
-    assert_eq!(rt; read.config.as_str(), "main.tf.json");
-    assert!(rt; read.vars.is_none());
-    assert_eq!(rt; read.state.as_str(), "terraform.tfstate");
-    assert_eq!(rt;
-        read.lineage.as_str(),
-        "00000000-0000-0000-0000-000000000000"
-    );
-    assert_eq!(rt; read.parallelism, 10);
-    assert_eq!(rt; read.stop_after, None);
+    assert!(rt; read.config.as_str() == "main.tf.json" && read.vars.is_none());
+    assert!(rt; read.state.as_str() == "terraform.tfstate");
+    assert!(rt; read.lineage.as_str() == "00000000-0000-0000-0000-000000000000");
+    assert!(rt; read.parallelism == 10 && read.stop_after.is_none());
     Ok(())
 }
 
+static ALL: [&str; 12] = [
+    "apply",
+    "--parallelism=64",
+    "--config",
+    "a",
+    "--vars",
+    "v",
+    "--state",
+    "b",
+    "--lineage",
+    "L",
+    "--stop-after",
+    "2000",
+];
+
 #[test]
 fn reads_all(rt: HostRuntime) -> Result<(), Fail> {
-    let words = [
-        "apply",
-        "--parallelism=64",
-        "--config",
-        "a",
-        "--vars",
-        "v",
-        "--state",
-        "b",
-        "--lineage",
-        "L",
-        "--stop-after",
-        "2000",
-    ];
-    let read = read(rt.alloc(), &words)?;
-    assert_eq!(rt; read.config.as_str(), "a");
-    assert_eq!(rt; read.vars.as_ref().map(|file| file.as_str()), Some("v"));
-    assert_eq!(rt; read.state.as_str(), "b");
-    assert_eq!(rt; read.lineage.as_str(), "L");
-    assert_eq!(rt; read.parallelism, 64);
-    assert_eq!(rt; read.stop_after, Some(2000));
+    let read = read(rt.alloc(), &ALL)?;
+    assert!(rt; read.config.as_str() == "a" && read.state.as_str() == "b");
+    assert!(rt; read.vars.as_ref().is_some_and(|file| file.as_str() == "v"));
+    assert!(rt; read.lineage.as_str() == "L");
+    assert!(rt; read.parallelism == 64 && read.stop_after == Some(2000));
     Ok(())
 }
+
+static REFUSED: [&[&str]; 5] = [
+    &["apply", "--vars"],
+    &["apply", "--vars", "v", "--vars", "w"],
+    &["apply", "--stop-after", "2001"],
+    &["apply", "--stop-after=-1"],
+    &["apply", "--refresh"],
+];
 
 #[test]
 fn refuses_words(rt: HostRuntime) -> Result<(), Fail> {
@@ -59,13 +61,7 @@ fn refuses_words(rt: HostRuntime) -> Result<(), Fail> {
             Err(error) => assert!(rt; error.use_stderr(), "{number}"),
         }
     }
-    for words in [
-        ["apply", "--vars"].as_slice(),
-        ["apply", "--vars", "v", "--vars", "w"].as_slice(),
-        ["apply", "--stop-after", "2001"].as_slice(),
-        ["apply", "--stop-after=-1"].as_slice(),
-        ["apply", "--refresh"].as_slice(),
-    ] {
+    for words in &REFUSED {
         assert!(rt; read(rt.alloc(), words).is_err());
     }
     match read(rt.alloc(), &["apply", "--help"]) {

@@ -127,38 +127,37 @@ fn verdict_on(
     }
 }
 
+static REPLIES: [(Op, Said, Verdict); 14] = [
+    (Op::Create, Said::Net("x", "", "net-x"), Verdict::Good),
+    (
+        Op::Create,
+        Said::Net("y", "", "net-y"),
+        Verdict::Contradicted(0),
+    ),
+    (
+        Op::Create,
+        Said::Net("x", "t", "net-x"),
+        Verdict::Contradicted(2),
+    ),
+    (Op::Update, Said::Net("x", "", "?"), Verdict::Malformed),
+    (Op::Create, Said::Net("", "", "net-x"), Verdict::Malformed),
+    (Op::Create, Said::Net("x", "", "5"), Verdict::Malformed),
+    (Op::Create, Said::Bare, Verdict::Malformed),
+    (Op::Create, Said::Gone, Verdict::Malformed),
+    (Op::Create, Said::Failed, Verdict::Failed),
+    (Op::Create, Said::NoMemory, Verdict::Excused),
+    (Op::Destroy, Said::Gone, Verdict::Good),
+    (Op::Destroy, Said::Net("x", "", "net-x"), Verdict::Malformed),
+    (Op::Destroy, Said::Failed, Verdict::Failed),
+    (Op::Destroy, Said::NoMemory, Verdict::Excused),
+];
+
 #[test]
 fn replies_are_judged(rt: HostRuntime) -> Result<(), Fail> {
     let schema = net_schema(rt.alloc())?;
-    for (op, said, verdict) in [
-        (Op::Create, Said::Net("x", "", "net-x"), Verdict::Good),
-        (
-            Op::Create,
-            Said::Net("y", "", "net-y"),
-            Verdict::Contradicted(0),
-        ),
-        (
-            Op::Create,
-            Said::Net("x", "t", "net-x"),
-            Verdict::Contradicted(2),
-        ),
-        (Op::Update, Said::Net("x", "", "?"), Verdict::Malformed),
-        (Op::Create, Said::Net("", "", "net-x"), Verdict::Malformed),
-        (Op::Create, Said::Net("x", "", "5"), Verdict::Malformed),
-        (Op::Create, Said::Bare, Verdict::Malformed),
-        (Op::Create, Said::Gone, Verdict::Malformed),
-        (Op::Create, Said::Failed, Verdict::Failed),
-        (Op::Create, Said::NoMemory, Verdict::Excused),
-        (Op::Destroy, Said::Gone, Verdict::Good),
-        (Op::Destroy, Said::Net("x", "", "net-x"), Verdict::Malformed),
-        (Op::Destroy, Said::Failed, Verdict::Failed),
-        (Op::Destroy, Said::NoMemory, Verdict::Excused),
-    ] {
-        assert_eq!(rt;
-            verdict_on(rt.alloc(), &schema, op, said)?,
-            Some(verdict),
-            "{said:?}"
-        );
+    for (op, said, verdict) in &REPLIES {
+        let found = verdict_on(rt.alloc(), &schema, *op, *said)?;
+        assert!(rt; found == Some(*verdict), "{said:?}");
     }
     assert!(rt; well_formed(&net(rt.alloc(), "x", "", "")?, &schema));
     assert!(rt; !well_formed(&net(rt.alloc(), "", "", "")?, &schema));
@@ -213,40 +212,39 @@ fn replies_with_sets_are_malformed(rt: HostRuntime) -> Result<(), Fail> {
             Verdict::Malformed,
         ),
     ] {
-        assert_eq!(rt; verdict_on_more(alloc, &schema, more)?, Some(verdict));
+        assert!(rt;
+            verdict_on_more(alloc, &schema, more)? == Some(verdict),
+            "{verdict:?}"
+        );
     }
     Ok(())
 }
 
+static FAULTS: [(&[&str], SchemaFault); 3] = [
+    (&["a", "b", "a"], SchemaFault::Repeated),
+    (&["a", "a", "count"], SchemaFault::Reserved),
+    (&["count", "1"], SchemaFault::NotAName),
+];
+
 #[test]
 fn schemas_are_refused(rt: HostRuntime) -> Result<(), Fail> {
     let alloc = rt.alloc();
-    assert_eq!(rt; fault_of(alloc, &["b", "a"])?, None);
-    assert_eq!(rt;
-        fault_of(alloc, &["a", "b", "a"])?,
-        Some(SchemaFault::Repeated)
-    );
-    assert_eq!(rt;
-        fault_of(alloc, &["a", "a", "count"])?,
-        Some(SchemaFault::Reserved)
-    );
-    assert_eq!(rt;
-        fault_of(alloc, &["count", "1"])?,
-        Some(SchemaFault::NotAName)
-    );
-    assert_eq!(rt; fault_of(alloc, &["1"; 201])?, Some(SchemaFault::TooMany));
+    for (names, fault) in &FAULTS {
+        let found = fault_of(alloc, names)?;
+        assert!(rt; found == Some(*fault), "{fault:?}");
+    }
+    assert!(rt; fault_of(alloc, &["b", "a"])?.is_none());
+    assert!(rt; fault_of(alloc, &["1"; 201])? == Some(SchemaFault::TooMany));
     Ok(())
 }
 
 #[test]
 fn schemas_are_in_byte_order(rt: HostRuntime) -> Result<(), Fail> {
     let schema = net_schema(rt.alloc())?;
-    assert_eq!(rt; schema.version(), 7);
-    let attributes = schema.attributes();
-    assert_eq!(rt; attributes.len(), 3);
-    assert_eq!(rt; attributes[0].name.as_str(), "cidr");
-    assert_eq!(rt; attributes[1].name.as_str(), "id");
-    assert_eq!(rt; attributes[2].name.as_str(), "tag");
+    assert!(rt; schema.version() == 7 && schema.attributes().len() == 3);
+    for (place, name) in ["cidr", "id", "tag"].iter().enumerate() {
+        assert!(rt; schema.attributes()[place].name.as_str() == *name, "{name}");
+    }
     assert!(rt;
         schema
             .attribute("tag")
@@ -332,7 +330,7 @@ fn a_call_spends_its_permit(rt: HostRuntime) -> Result<(), Fail> {
     match try_call(&providers[0], permit, request) {
         Ok(called) => {
             let verdict = settle(&mut book, called.into_recorded());
-            assert_eq!(rt; verdict, Verdict::Good);
+            assert!(rt; verdict == Verdict::Good);
             Ok(())
         }
         Err(permit) => {

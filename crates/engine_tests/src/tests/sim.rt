@@ -58,55 +58,59 @@ fn text_at<'a>(object: &'a Value, key: &str) -> &'a str {
     }
 }
 
+static NETS: [(Op, &str, &str, (&str, &str)); 6] = [
+    (Op::Create, "x", "t", ("t", "net-x")),
+    (Op::Update, "x", "lie", ("truth", "net-x")),
+    (Op::Create, "bad", "t", ("failed", "refused")),
+    (Op::Update, "bad", "t", ("t", "net-bad")),
+    (Op::Destroy, "x", "t", ("gone", "")),
+    (Op::Destroy, "x", "stuck", ("failed", "stuck")),
+];
+
 #[test]
 fn nets_are_answered(rt: HostRuntime) -> Result<(), Fail> {
     let sim = Sim::new(rt.alloc())?;
-    for (op, cidr, tag, wanted) in [
-        (Op::Create, "x", "t", ("t", "net-x")),
-        (Op::Update, "x", "lie", ("truth", "net-x")),
-        (Op::Create, "bad", "t", ("failed", "refused")),
-        (Op::Update, "bad", "t", ("t", "net-bad")),
-        (Op::Destroy, "x", "t", ("gone", "")),
-        (Op::Destroy, "x", "stuck", ("failed", "stuck")),
-    ] {
+    for (op, cidr, tag, wanted) in &NETS {
         let net = object(rt.alloc(), ("cidr", cidr), ("tag", tag), 101)?;
-        let reply = sim.apply(&request(rt.alloc(), op, "sim_net", net)?);
-        assert_eq!(rt; said(&reply), wanted, "{op:?} {cidr} {tag}");
+        let reply = sim.apply(&request(rt.alloc(), *op, "sim_net", net)?);
+        assert!(rt; said(&reply) == *wanted, "{op:?} {cidr} {tag}");
     }
     Ok(())
 }
 
+static HOSTS: [(Op, &str, &str, i64, (&str, &str)); 5] = [
+    (Op::Create, "sim_host", "name", 100, ("lie", "host-h")),
+    (
+        Op::Update,
+        "sim_host",
+        "name",
+        101,
+        ("failed", "size too large"),
+    ),
+    (Op::Destroy, "sim_host", "name", 101, ("gone", "")),
+    (
+        Op::Create,
+        "sim_host",
+        "net",
+        1,
+        ("failed", "malformed request"),
+    ),
+    (
+        Op::Create,
+        "sim_disk",
+        "name",
+        1,
+        ("failed", "unknown type"),
+    ),
+];
+
 #[test]
 fn hosts_are_answered(rt: HostRuntime) -> Result<(), Fail> {
     let sim = Sim::new(rt.alloc())?;
-    for (op, type_name, key, size, wanted) in [
-        (Op::Create, "sim_host", "name", 100, ("lie", "host-h")),
-        (
-            Op::Update,
-            "sim_host",
-            "name",
-            101,
-            ("failed", "size too large"),
-        ),
-        (Op::Destroy, "sim_host", "name", 101, ("gone", "")),
-        (
-            Op::Create,
-            "sim_host",
-            "net",
-            1,
-            ("failed", "malformed request"),
-        ),
-        (
-            Op::Create,
-            "sim_disk",
-            "name",
-            1,
-            ("failed", "unknown type"),
-        ),
-    ] {
-        let host = object(rt.alloc(), (key, "h"), ("tag", "lie"), size)?;
-        let reply = sim.apply(&request(rt.alloc(), op, type_name, host)?);
-        assert_eq!(rt; said(&reply), wanted, "{op:?} {type_name} {key} {size}");
+    for (op, type_name, key, size, wanted) in &HOSTS {
+        let host = object(rt.alloc(), (key, "h"), ("tag", "lie"), *size)?;
+        let reply = sim.apply(&request(rt.alloc(), *op, type_name, host)?);
+        assert!(rt; said(&reply) == *wanted, "{op:?} {type_name} {key} {size}");
     }
     assert!(rt;
         sim.schema("sim_host")

@@ -1,7 +1,7 @@
 //! Small graphs whose answers were worked out by hand.
 
 use std::test::Fail;
-use tf_graph::{Graph, GraphFault};
+use tf_graph::{Closure, Graph, GraphFault};
 
 #[test]
 fn refuses_what_is_no_graph(rt: HostRuntime) -> Result<(), Fail> {
@@ -37,45 +37,68 @@ fn lists_neighbours_as_often_as_the_edge_stands(rt: HostRuntime) -> Result<(), F
     Ok(())
 }
 
+// A diamond; a cycle of three with one before it and one after it; a self-loop with one after it; a cycle of two that is
+// entered twice. Beside each, as digits, the nodes that each node reaches, and those that are left when what has no
+// predecessor left is taken away.
+static GRAPHS: [(usize, &[(usize, usize)], [&str; 5], &str); 4] = [
+    (
+        4,
+        &[(0, 1), (0, 2), (1, 3), (2, 3)],
+        ["123", "3", "3", "", ""],
+        "",
+    ),
+    (
+        5,
+        &[(0, 1), (1, 2), (2, 3), (3, 1), (3, 4)],
+        ["1234", "1234", "1234", "1234", ""],
+        "1234",
+    ),
+    (3, &[(1, 1), (1, 0), (2, 0)], ["", "01", "0", "", ""], "01"),
+    (
+        4,
+        &[(2, 3), (3, 2), (0, 3), (1, 2), (0, 1)],
+        ["123", "23", "23", "23", ""],
+        "23",
+    ),
+];
+
+// Whether a node is among those of the digits.
+fn is_among(digits: &str, node: usize) -> bool {
+    digits.as_bytes().contains(&(b'0' + (node % 10) as u8))
+}
+
+// Whether a node reaches just those of the digits.
+fn reaches_just(closure: &Closure, from: usize, digits: &str) -> bool {
+    for to in 0..5 {
+        if closure.reaches(from, to) != is_among(digits, to) {
+            return false;
+        }
+    }
+    true
+}
+
 #[test]
-fn finds_what_reaches_what_and_what_is_left(rt: HostRuntime) -> Result<(), Fail> {
-    // A diamond; a cycle of three with one before it and one after it; a self-loop with one after it; a cycle of
-    // two that is entered twice; and each row as the digits of the nodes that it reaches.
-    let diamond = [(0, 1), (0, 2), (1, 3), (2, 3)];
-    let cycle = [(0, 1), (1, 2), (2, 3), (3, 1), (3, 4)];
-    let own = [(1, 1), (1, 0), (2, 0)];
-    let two = [(2, 3), (3, 2), (0, 3), (1, 2), (0, 1)];
-    for (nodes, edges, rows, left) in [
-        (4, diamond.as_slice(), ["123", "3", "3", "", ""], ""),
-        (
-            5,
-            cycle.as_slice(),
-            ["1234", "1234", "1234", "1234", ""],
-            "1234",
-        ),
-        (3, own.as_slice(), ["", "01", "0", "", ""], "01"),
-        (4, two.as_slice(), ["123", "23", "23", "23", ""], "23"),
-    ] {
-        let graph = Graph::new(rt.alloc(), nodes, edges)?;
-        let closure = graph.closure(rt.alloc())?;
-        let stripped = graph.strip(rt.alloc())?;
-        assert_eq!(rt; closure.nodes(), nodes);
-        assert_eq!(rt; stripped.len(), nodes);
+fn finds_what_reaches_what(rt: HostRuntime) -> Result<(), Fail> {
+    for (nodes, edges, rows, _left) in &GRAPHS {
+        let closure = Graph::new(rt.alloc(), *nodes, edges)?.closure(rt.alloc())?;
+        assert!(rt; closure.nodes() == *nodes);
         for from in 0..5 {
-            for to in 0..5 {
-                let is_there = rows[from].as_bytes().contains(&(b'0' + to as u8));
-                assert_eq!(rt;
-                    closure.reaches(from, to),
-                    is_there,
-                    "{from} to {to} of {nodes}"
-                );
-            }
-            let is_left = left.as_bytes().contains(&(b'0' + from as u8));
-            assert_eq!(rt;
-                stripped.get(from).copied().unwrap_or(false),
-                is_left,
+            assert!(rt;
+                reaches_just(&closure, from, rows[from]),
                 "{from} of {nodes}"
             );
+        }
+    }
+    Ok(())
+}
+
+#[test]
+fn finds_what_is_left(rt: HostRuntime) -> Result<(), Fail> {
+    for (nodes, edges, _rows, left) in &GRAPHS {
+        let stripped = Graph::new(rt.alloc(), *nodes, edges)?.strip(rt.alloc())?;
+        assert!(rt; stripped.len() == *nodes);
+        for (node, is_left) in stripped.iter().enumerate() {
+            assert!(rt; *is_left == is_among(left, node), "{node} of {nodes}");
         }
     }
     Ok(())

@@ -47,40 +47,41 @@ fn quoted(alloc: Global, bytes: usize) -> Result<String, AllocError> {
     format!(in alloc; "\"{text}\"")
 }
 
+static TEXTS: [(&str, &str); 24] = [
+    (
+        "{\"b\":1,\"a\":{\"d\":[],\"c\":2}}",
+        "{\"a\":{\"c\":2,\"d\":[]},\"b\":1}",
+    ),
+    ("null", "null"),
+    ("true", "true"),
+    ("0", "0"),
+    ("-1", "-1"),
+    ("9223372036854775807", "9223372036854775807"),
+    ("-9223372036854775808", "-9223372036854775808"),
+    ("9223372036854775808", "NotWhole"),
+    ("-9223372036854775809", "NotWhole"),
+    ("18446744073709551615", "NotWhole"),
+    ("18446744073709551616", "NotWhole"),
+    ("-0", "NotWhole"),
+    ("-0.0", "NotWhole"),
+    ("1.0", "NotWhole"),
+    ("1.5", "NotWhole"),
+    ("1e3", "NotWhole"),
+    ("1E3", "NotWhole"),
+    ("\"\"", "\"\""),
+    ("\"a\\u0062\\n\"", "\"ab\\n\""),
+    ("[]", "[]"),
+    ("{}", "{}"),
+    ("[1,[2.5]]", "NotWhole"),
+    ("{\"a\":{\"b\":1e1}}", "NotWhole"),
+    ("[1, \"a\", [null, {}]]", "[1,\"a\",[null,{}]]"),
+];
+
 #[test]
 fn texts(rt: HostRuntime) -> Result<(), Fail> {
-    let table = [
-        (
-            "{\"b\":1,\"a\":{\"d\":[],\"c\":2}}",
-            "{\"a\":{\"c\":2,\"d\":[]},\"b\":1}",
-        ),
-        ("null", "null"),
-        ("true", "true"),
-        ("0", "0"),
-        ("-1", "-1"),
-        ("9223372036854775807", "9223372036854775807"),
-        ("-9223372036854775808", "-9223372036854775808"),
-        ("9223372036854775808", "NotWhole"),
-        ("-9223372036854775809", "NotWhole"),
-        ("18446744073709551615", "NotWhole"),
-        ("18446744073709551616", "NotWhole"),
-        ("-0", "NotWhole"),
-        ("-0.0", "NotWhole"),
-        ("1.0", "NotWhole"),
-        ("1.5", "NotWhole"),
-        ("1e3", "NotWhole"),
-        ("1E3", "NotWhole"),
-        ("\"\"", "\"\""),
-        ("\"a\\u0062\\n\"", "\"ab\\n\""),
-        ("[]", "[]"),
-        ("{}", "{}"),
-        ("[1,[2.5]]", "NotWhole"),
-        ("{\"a\":{\"b\":1e1}}", "NotWhole"),
-        ("[1, \"a\", [null, {}]]", "[1,\"a\",[null,{}]]"),
-    ];
-    for (text, expected) in table {
+    for (text, expected) in &TEXTS {
         let found = written(rt.alloc(), text)?;
-        assert_eq!(rt; found.as_str(), expected, "{text}");
+        assert!(rt; found.as_str() == *expected, "{text}");
     }
     Ok(())
 }
@@ -113,24 +114,25 @@ fn limit_of_weight(rt: HostRuntime) -> Result<(), Fail> {
     Ok(())
 }
 
+static MEASURES: [(&str, u64, u32); 7] = [
+    ("null", 1, 0),
+    ("7", 1, 0),
+    ("\"abc\"", 4, 0),
+    ("[]", 1, 1),
+    ("{}", 1, 1),
+    ("[1,\"ab\",[]]", 6, 2),
+    ("{\"key\":{\"k\":true},\"l\":0}", 9, 2),
+];
+
 #[test]
 fn measures(rt: HostRuntime) -> Result<(), Fail> {
     let alloc = rt.alloc();
-    for (text, weighs, nests) in [
-        ("null", 1, 0),
-        ("7", 1, 0),
-        ("\"abc\"", 4, 0),
-        ("[]", 1, 1),
-        ("{}", 1, 1),
-        ("[1,\"ab\",[]]", 6, 2),
-        ("{\"key\":{\"k\":true},\"l\":0}", 9, 2),
-    ] {
+    for (text, weighs, nests) in &MEASURES {
         let value = read(alloc, text)??;
-        assert_eq!(rt; weight(&value), weighs, "the weight of {text}");
-        assert_eq!(rt; depth(&value), nests, "the depth of {text}");
+        assert!(rt; weight(&value) == *weighs, "the weight of {text}");
+        assert!(rt; depth(&value) == *nests, "the depth of {text}");
     }
-    assert_eq!(rt; weight(&Value::Unknown), 1);
-    assert_eq!(rt; depth(&Value::Unknown), 0);
+    assert!(rt; weight(&Value::Unknown) == 1 && depth(&Value::Unknown) == 0);
     assert!(rt; is_within_limits(&Value::Unknown));
     assert!(rt; MAX_WEIGHT == 1_000_000 && MAX_DEPTH == 32);
     Ok(())
@@ -141,49 +143,104 @@ fn item_and_entry(alloc: Global, first: Value, second: Value) -> Result<Value, A
     pair(alloc, first, entry(alloc, "k", second)?)
 }
 
+// Whether the second refines the first, which is unknown in part, and the third doesn't.
+fn are_refined(planned: &Value, actual: &Value, other: &Value) -> bool {
+    refines(planned, actual)
+        && !refines(actual, planned)
+        && refines(planned, planned)
+        && !refines(planned, other)
+        && !refines(planned, &Value::Unknown)
+        && refines(&Value::Unknown, planned)
+        && is_known(actual)
+        && !is_known(planned)
+        && planned != actual
+        && planned != other
+        && Value::Unknown == Value::Unknown
+}
+
 #[test]
 fn refinement(rt: HostRuntime) -> Result<(), Fail> {
     let alloc = rt.alloc();
     let planned = item_and_entry(alloc, Value::Int(1), Value::Unknown)?;
     let actual = item_and_entry(alloc, Value::Int(1), Value::Bool(true))?;
     let other = item_and_entry(alloc, Value::Int(2), Value::Unknown)?;
-    assert!(rt; refines(&planned, &actual) && !refines(&actual, &planned));
-    assert!(rt; refines(&planned, &planned) && !refines(&planned, &other));
-    assert!(rt; !refines(&planned, &Value::Unknown) && refines(&Value::Unknown, &planned));
-    assert!(rt; is_known(&actual) && !is_known(&planned));
-    assert!(rt; planned != actual && planned != other && Value::Unknown == Value::Unknown);
-    let again = copy(&planned)?;
-    assert!(rt; again == planned && again.clone()? == planned);
+    assert!(rt; are_refined(&planned, &actual, &other));
+    assert!(rt; is_copied(alloc, &actual)? && planned.clone()? == planned);
     Ok(())
 }
+
+// What is so of each set of this weight.
+fn measures_as_a_set(set: &Value, weighs: u64) -> bool {
+    weight(set) == weighs
+        && depth(set) == 1
+        && is_known(set)
+        && !has_no_set(set)
+        && !may_be_stored(set)
+        && is_within_limits(set)
+        && refines(set, set)
+        && refines(&Value::Unknown, set)
+        && set.get("a").is_none()
+}
+
+// Whether a set and the list of its texts are two values.
+fn differs_from(set: &Value, list: &Value) -> bool {
+    list != set && !refines(set, list) && !refines(list, set)
+}
+
+// Whether the copies of a value are equal to it.
+fn is_copied(alloc: Global, value: &Value) -> Result<bool, Fail> {
+    let copied = copy(value)?;
+    let settled = with_nulls(alloc, value)?;
+    Ok(copied == *value && settled == *value)
+}
+
+// Whether a value is written, and sent, as this text.
+fn is_written_as(alloc: Global, value: &Value, form: &str) -> Result<bool, Fail> {
+    let json = to_json(alloc, value)?.to_string(alloc)?;
+    let sent = serde_json::to_string(alloc, value)?;
+    Ok(json.as_str() == form && sent.as_str() == form)
+}
+
+// Whether a set inside a value may be stored only as the list of its texts.
+fn is_listed_inside(alloc: Global, set: Value, list: Value) -> Result<bool, Fail> {
+    let nested = alone(alloc, entry(alloc, "k", set)?)?;
+    let is_stored = has_no_set(&nested) || may_be_stored(&nested);
+    let expected = alone(alloc, entry(alloc, "k", list)?)?;
+    let listed = with_lists(alloc, nested)?;
+    Ok(!is_stored && has_no_set(&listed) && may_be_stored(&listed) && listed == expected)
+}
+
+static SETS: [(&str, u64, &str); 3] = [
+    ("set()", 1, "[]"),
+    ("set(a)", 3, "[\"a\"]"),
+    ("set(a,b)", 5, "[\"a\",\"b\"]"),
+];
 
 #[test]
 fn sets(rt: HostRuntime) -> Result<(), Fail> {
     let alloc = rt.alloc();
-    for (text, weighs, form) in [
-        ("set()", 1, "[]"),
-        ("set(a)", 3, "[\"a\"]"),
-        ("set(a,b)", 5, "[\"a\",\"b\"]"),
-    ] {
+    for (text, weighs, form) in &SETS {
         let set = value(alloc, text)?;
-        assert_eq!(rt; weight(&set), weighs, "the weight of {text}");
-        assert_eq!(rt; depth(&set), 1, "the depth of {text}");
-        assert!(rt; is_known(&set) && copy(&set)? == set && with_nulls(alloc, &set)? == set);
-        assert!(rt; refines(&set, &set) && refines(&Value::Unknown, &set));
-        assert!(rt; !has_no_set(&set) && !may_be_stored(&set) && is_within_limits(&set));
-        assert!(rt; scalar_text(alloc, &set)?.is_none() && set.get("a").is_none());
         let list = read(alloc, form)??;
-        assert!(rt; list != set && !refines(&set, &list) && !refines(&list, &set));
-        let json = to_json(alloc, &set)?.to_string(alloc)?;
-        assert_eq!(rt; json.as_str(), form);
-        assert_eq!(rt; serde_json::to_string(alloc, &set)?.as_str(), form);
-        let nested = alone(alloc, entry(alloc, "k", set)?)?;
-        assert!(rt; !has_no_set(&nested) && !may_be_stored(&nested));
-        let listed = with_lists(alloc, nested)?;
-        assert!(rt; has_no_set(&listed) && may_be_stored(&listed));
-        assert!(rt; listed == alone(alloc, entry(alloc, "k", list)?)?);
+        assert!(rt;
+            measures_as_a_set(&set, *weighs) && differs_from(&set, &list),
+            "{text}"
+        );
+        assert!(rt;
+            is_copied(alloc, &set)? && is_written_as(alloc, &set, form)?,
+            "{text}"
+        );
+        assert!(rt; scalar_text(alloc, &set)?.is_none(), "{text}");
+        assert!(rt; is_listed_inside(alloc, set, list)?, "{text}");
     }
-    assert!(rt; !refines(&set(alloc, &["a"])?, &set(alloc, &["a", "b"])?));
+    Ok(())
+}
+
+#[test]
+fn a_set_is_not_refined_by_a_larger_one(rt: HostRuntime) -> Result<(), Fail> {
+    let smaller = set(rt.alloc(), &["a"])?;
+    let larger = set(rt.alloc(), &["a", "b"])?;
+    assert!(rt; !refines(&smaller, &larger));
     Ok(())
 }
 
@@ -214,29 +271,31 @@ fn unknown_is_not_written(rt: HostRuntime) -> Result<(), Fail> {
     Ok(())
 }
 
+static SENT: [&str; 11] = [
+    "null",
+    "false",
+    "0",
+    "-1",
+    "9223372036854775807",
+    "-9223372036854775808",
+    "\"a\\n\\\"\"",
+    "[]",
+    "{}",
+    "[1,[-2,null],{},\"b\"]",
+    "{\"a\":{\"b\":[true]},\"c\":-3}",
+];
+
 #[test]
 fn sent(rt: HostRuntime) -> Result<(), Fail> {
     let alloc = rt.alloc();
-    for text in [
-        "null",
-        "false",
-        "0",
-        "-1",
-        "9223372036854775807",
-        "-9223372036854775808",
-        "\"a\\n\\\"\"",
-        "[]",
-        "{}",
-        "[1,[-2,null],{},\"b\"]",
-        "{\"a\":{\"b\":[true]},\"c\":-3}",
-    ] {
+    for text in &SENT {
         let value = read(alloc, text)??;
         let json = to_json(alloc, &value)?;
         let short = serde_json::to_string(alloc, &value)?;
-        assert_eq!(rt; short.as_str(), text);
-        assert_eq!(rt; short, json.to_string(alloc)?);
+        assert!(rt; short.as_str() == *text, "{text}");
+        assert!(rt; short == json.to_string(alloc)?, "{text}");
         let long = serde_json::to_string_pretty(alloc, &value)?;
-        assert_eq!(rt; long, json.to_string_pretty(alloc)?);
+        assert!(rt; long == json.to_string_pretty(alloc)?, "{text}");
     }
     let planned = item_and_entry(alloc, Value::Unknown, Value::Unknown)?;
     let text = serde_json::to_string(alloc, &planned)?;
