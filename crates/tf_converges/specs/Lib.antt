@@ -3,3 +3,4 @@ pub mod Instances
 pub mod Rest
 pub mod Converges
 pub mod Quiet
+pub mod Twice

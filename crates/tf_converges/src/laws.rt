@@ -5,6 +5,7 @@ ghost use Rattle.tf_converges.specs.Instances.{AnsweredInstancesRest, ObjectsAre
 ghost use Rattle.tf_converges.specs.Known.{ExpressionsStayKnown};
 ghost use Rattle.tf_converges.specs.Quiet.{QuietAppliesKeepObjects};
 ghost use Rattle.tf_converges.specs.Rest.{NothingIsPlannedAtRest, NothingIsRefusedAtRest};
+ghost use Rattle.tf_converges.specs.Twice.{SecondAppliesKeepObjects};
 
 use tf_change::laws::objects_grow;
 use tf_environment::laws::standings_grow;
@@ -52,3 +53,13 @@ pub fn applies_converge()
 pub fn quiet_applies_keep_objects()
     ensures { QuietAppliesKeepObjects }
 {}
+
+/// After an apply that went well a second one keeps each object and all that is known of it but for the flag
+/// `create_before_destroy`.
+pub fn second_applies_keep_objects()
+    ensures { SecondAppliesKeepObjects }
+{
+    known_names_give_known_values();
+    standings_grow();
+    objects_grow();
+}
