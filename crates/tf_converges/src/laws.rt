@@ -5,7 +5,7 @@ ghost use Rattle.tf_converges.specs.Instances.{AnsweredInstancesRest, ObjectsAre
 ghost use Rattle.tf_converges.specs.Known.{ExpressionsStayKnown};
 ghost use Rattle.tf_converges.specs.Quiet.{QuietAppliesKeepObjects};
 ghost use Rattle.tf_converges.specs.Rest.{NothingIsPlannedAtRest, NothingIsRefusedAtRest};
-ghost use Rattle.tf_converges.specs.Twice.{SecondAppliesKeepObjects};
+ghost use Rattle.tf_converges.specs.Twice.{ReportsSettle, SecondAppliesChangeFlags, SecondAppliesKeepObjects, SecondSerialsTell, ThirdAppliesChangeNothing};
 
 use tf_change::laws::objects_grow;
 use tf_environment::laws::standings_grow;
@@ -54,10 +54,15 @@ pub fn quiet_applies_keep_objects()
     ensures { QuietAppliesKeepObjects }
 {}
 
-/// After an apply that went well a second one keeps each object and all that is known of it but for the flag
-/// `create_before_destroy`.
-pub fn second_applies_keep_objects()
-    ensures { SecondAppliesKeepObjects }
+/// After an apply that went well a second one keeps each object and all that is known of it, but for the flag
+/// `create_before_destroy`. Where each output had a value, the second leaves the same state but for such flags, and a serial
+/// that is one more exactly where one changed; and a third leaves the very state that the second left.
+pub fn applies_settle()
+    ensures objects { SecondAppliesKeepObjects }
+    ensures second { SecondAppliesChangeFlags }
+    ensures serials { SecondSerialsTell }
+    ensures third { ThirdAppliesChangeNothing }
+    ensures reports { ReportsSettle }
 {
     known_names_give_known_values();
     standings_grow();
