@@ -21,12 +21,12 @@ use Rattle.tf_state_data.specs.State.{StateView, state_of}
 use Rattle.tf_value.specs.Tree.{Entries}
 use Rattle.tf_converges.proofs.Homes.{IsAtRest, home, homed, nothing_again}
 use Rattle.tf_converges.proofs.Outputs.{outputs_stay}
-use Rattle.tf_converges.proofs.Twice.{rested, second_resources, second_rests, third_same}
+use Rattle.tf_converges.proofs.Twice.{rested, second_resources, second_rests, third_resources, third_same}
 use Rattle.tf_converges.proofs.Valued.{repeated}
 use Rattle.tf_converges.proofs.Whole.{all_good}
 use Rattle.tf_converges.specs.Converges.{IsCarriedOut, IsSound, IsValued}
 use Rattle.tf_converges.specs.Known.{ExpressionsStayKnown}
-use Rattle.tf_converges.specs.Twice.{HasOrderedOutputs, HasOwnNames, IsAppliedAgain, IsAppliedWell, ReportsSettle, SecondAppliesChangeFlags, SecondAppliesKeepObjects, SecondSerialsTell, ThirdAppliesChangeNothing, resource_without_flags, without_flags}
+use Rattle.tf_converges.specs.Twice.{HasOrderedOutputs, HasOwnNames, HasToldSerial, IsAppliedAgain, IsAppliedWell, ReportsSettle, SecondAppliesChangeFlags, SecondAppliesKeepObjects, SecondSerialsTell, ThirdAppliesChangeNothing, ThirdAppliesKeepRecords, resource_without_flags, without_flags}
 
 pub second_keeps : ExpressionsStayKnown → InstancesGrow → StandingsGrow → SecondAppliesKeepObjects
 second_keeps law grows grow ms config variables prior plan done outputs after again later sound named carried is =
@@ -36,6 +36,13 @@ second_keeps law grows grow ms config variables prior plan done outputs after ag
       second.state.after.lineage,
       second.state.after.version,
     )
+
+pub third_keeps : ExpressionsStayKnown → InstancesGrow → StandingsGrow → ThirdAppliesKeepRecords
+third_keeps law grows grow ms config variables prior plan done outputs after again later third last sound named carried is also =
+    let first = subst (λ (p : PlanView). IsCarriedOut ms config variables prior p done outputs after) (homed ms config variables prior plan carried.planned) carried in
+    let second = subst (λ (p : PlanView). IsAppliedAgain ms config variables after p later) (homed ms config variables after again is.planned) is in
+    third_resources law grows grow ms config variables prior plan done outputs after sound named first again later second third last
+    (subst (λ (p : PlanView). IsAppliedAgain ms config variables later p last) (homed ms config variables later third also.planned) also)
 
 module _ (law : ExpressionsStayKnown) (grows : InstancesGrow) (grow : StandingsGrow) (ms : List Meaning) (config : ConfigView) (variables : Entries) (prior : StateView) (plan : PlanView) (after : StateView)
     (sound : IsSound ms config variables prior) (named : HasOwnNames config) (sorted : HasOrderedOutputs config) (well : IsAppliedWell ms config variables prior (home config variables prior plan) after)
@@ -63,7 +70,7 @@ module _ (law : ExpressionsStayKnown) (grows : InstancesGrow) (grow : StandingsG
       is.state.after.lineage is.state.after.version (second_outputs ∙ sym well.carried.state.after.outputs_are)
       (second_resources law grows grow ms config variables prior plan well.done (outputs_after prior.outputs config.outputs well.outputs) after sound named well.carried again later is)
 
-  serial_by : (b : Bool) → same_state (record later { serial = after.serial }) after ≡ b → (later ≡ after) ⊎ ((later.serial ≡ after.serial + 1) × (¬ (later.resources ≡ after.resources)))
+  serial_by : (b : Bool) → same_state (record later { serial = after.serial }) after ≡ b → HasToldSerial after later
   serial_by true e =
       let same : record later { serial = after.serial } ≡ after = (state_Decides (record later { serial = after.serial }) after).0 e in
       let serial : later.serial ≡ after.serial = is.state.after.serial ∙ ap (λ (c : Bool). cond c after.serial (after.serial + 1)) e in
@@ -78,7 +85,7 @@ module _ (law : ExpressionsStayKnown) (grows : InstancesGrow) (grow : StandingsG
         absurd (cc),
   )
 
-  pub serial_tells : (later ≡ after) ⊎ ((later.serial ≡ after.serial + 1) × (¬ (later.resources ≡ after.resources)))
+  pub serial_tells : HasToldSerial after later
   serial_tells = serial_by (same_state (record later { serial = after.serial }) after) refl
 
   module _ (third : PlanView) (last : StateView) (also : IsAppliedAgain ms config variables later (home config variables later third) last) where
@@ -157,5 +164,6 @@ reports_settle law grows grow ms config variables prior plan again third request
     let is = reported_again ms config variables (state_of report.state) again done_again outputs_again second is_again told_again in
     let also = reported_again ms config variables (state_of second.state) third done_third outputs_third last is_third told_third in (
       second_flags law grows grow ms config variables prior plan (state_of report.state) again (state_of second.state) sound named sorted well is,
+      second_serials law grows grow ms config variables prior plan (state_of report.state) again (state_of second.state) sound named sorted well is,
       third_nothing law grows grow ms config variables prior plan (state_of report.state) again (state_of second.state) third (state_of last.state) sound named sorted well is also,
     )

@@ -12,7 +12,7 @@ use Rattle.tf_config_data.specs.Names.{NameView, a_block, meant_at, names_of}
 use Rattle.tf_environment.specs.Laws.{StandingsGrow}
 use Rattle.tf_next_state.proofs.One.{state_after_one}
 use Rattle.tf_next_state.specs.Events.{ends_in, given_in}
-use Rattle.tf_next_state.specs.StateAfter.{IsStateAfter}
+use Rattle.tf_next_state.specs.StateAfter.{IsStateAfter, next_serial}
 use Rattle.tf_outcome.specs.Outcome.{Done}
 use Rattle.tf_outputs.specs.Outputs.{outputs_after}
 use Rattle.tf_plan.specs.Plan.{IsPlan}
@@ -175,19 +175,30 @@ module _ (law : ExpressionsStayKnown) (grows : InstancesGrow) (grow : StandingsG
               ∙ ap (λ (b : Bool). Some (renewed y.dependencies b y)) (late_alike p.n ∙ sym given.late)
               ∙ sym e
 
-      -- nor anything else, where it changes no output
-      pub third_same : outputs_after later.outputs config.outputs also.outputs ≡ later.outputs → last ≡ later
-      third_same same =
+      -- nor anything else than outputs, with the serial for them
+      pub third_is : last ≡ record later { serial = next_serial later (record later { outputs = outputs_after later.outputs config.outputs also.outputs }); outputs = outputs_after later.outputs config.outputs also.outputs }
+      third_is =
+          let entries = outputs_after later.outputs config.outputs also.outputs in
+          let same : StateView = record later { serial = next_serial later (record later { outputs = outputs_after later.outputs config.outputs also.outputs }); outputs = outputs_after later.outputs config.outputs also.outputs } in
           let own_given = given_in (events ms (home config variables later third) also.state.heads also.done) in
           let own_ends = ends_in (events ms (home config variables later third) also.state.heads also.done) in
-          let own : IsStateAfter later own_given own_ends (outputs_after later.outputs config.outputs also.outputs) later =
+          let own : IsStateAfter later own_given own_ends entries same =
           record {
             records = λ label id. sym (third_records label id) ∙ also.state.after.records label id;
             present = is.state.after.present;
             providers = λ label r e. sym (ap (λ (o : Option ResourceView). option_map_or (λ r. r.provider) o (provider_text label.type_name)) e);
-            outputs_are = sym same;
+            outputs_are = refl;
             lineage = refl;
             version = refl;
-            serial = sym (ap (λ (b : Bool). cond b later.serial (later.serial + 1)) ((state_Decides later later).1 refl));
+            serial = refl;
           } in
-          state_after_one later own_given own_ends (outputs_after later.outputs config.outputs also.outputs) last later also.in_order is.in_order also.state.after own
+          state_after_one later own_given own_ends entries last same also.in_order (record { resources = is.in_order.resources; records = is.in_order.records }) also.state.after own
+
+      pub third_resources : last.resources ≡ later.resources
+      third_resources = ap (λ (t : StateView). t.resources) third_is
+
+      -- so nothing at all, where it changes no output
+      pub third_same : outputs_after later.outputs config.outputs also.outputs ≡ later.outputs → last ≡ later
+      third_same same =
+          third_is ∙ ap (λ (es : Entries). record later { serial = next_serial later (record later { outputs = es }); outputs = es }) same
+          ∙ ap (λ (b : Bool). record later { serial = cond b later.serial (later.serial + 1) }) ((state_Decides later later).1 refl)

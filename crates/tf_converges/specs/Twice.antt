@@ -90,17 +90,29 @@ SecondAppliesChangeFlags =
     → IsSound ms config variables prior → HasOwnNames config → HasOrderedOutputs config → IsAppliedWell ms config variables prior plan after
     → IsAppliedAgain ms config variables after again later → without_flags later ≡ without_flags after
 
--- Its serial tells whether a flag changed: the state is the same, or resources differ and the serial is one more.
+-- A serial tells whether anything changed: the state is the same, or resources differ and the serial is one more.
+abbrev pub HasToldSerial : StateView → StateView → Type 0
+HasToldSerial after later = (later ≡ after) ⊎ ((later.serial ≡ after.serial + 1) × (¬ (later.resources ≡ after.resources)))
+
+-- Its serial tells whether a flag changed.
 abbrev pub SecondSerialsTell : Type 0
 SecondSerialsTell =
     (ms : List Meaning) (config : ConfigView) (variables : Entries) (prior : StateView) (plan : PlanView) (after : StateView) (again : PlanView) (later : StateView)
     → IsSound ms config variables prior → HasOwnNames config → HasOrderedOutputs config → IsAppliedWell ms config variables prior plan after
-    → IsAppliedAgain ms config variables after again later → (later ≡ after) ⊎ ((later.serial ≡ after.serial + 1) × (¬ (later.resources ≡ after.resources)))
+    → IsAppliedAgain ms config variables after again later → HasToldSerial after later
 
 -- ---- the third apply
 
--- The third leaves the very state that the second left, flags and serial too: it stores no other dependencies than the
--- second began from, so the same are late.
+-- The third changes no record at all, flags too, whatever came of outputs: the dependencies that are stored are those that
+-- the second began from, so the same are late.
+abbrev pub ThirdAppliesKeepRecords : Type 0
+ThirdAppliesKeepRecords =
+    (ms : List Meaning) (config : ConfigView) (variables : Entries) (prior : StateView) (plan : PlanView) (done : List Done) (outputs : Entries) (after : StateView) (again : PlanView) (later : StateView) (third : PlanView) (last : StateView)
+    → IsSound ms config variables prior → HasOwnNames config → IsCarriedOut ms config variables prior plan done outputs after
+    → IsAppliedAgain ms config variables after again later → IsAppliedAgain ms config variables later third last → last.resources ≡ later.resources
+
+-- So where each output of the first had a value, the third leaves the very state that the second left, with its
+-- serial.
 abbrev pub ThirdAppliesChangeNothing : Type 0
 ThirdAppliesChangeNothing =
     (ms : List Meaning) (config : ConfigView) (variables : Entries) (prior : StateView) (plan : PlanView) (after : StateView) (again : PlanView) (later : StateView) (third : PlanView) (last : StateView)
@@ -110,7 +122,8 @@ ThirdAppliesChangeNothing =
 -- ---- reports
 
 -- The same of reports, by however many workers: where each outcome that the first tells is a good verdict and each output has a
--- value, the state of a second report is the same but for flags and the serial, and that of a third one is the second's.
+-- value, the state of a second report is the same but for flags and the serial, which tells whether one changed; and that
+-- of a third one is the second's.
 abbrev pub ReportsSettle : Type 0
 ReportsSettle =
     (ms : List Meaning) (config : ConfigView) (variables : Entries) (prior : StateView) (plan again third : PlanView) (requests : Requests)
@@ -120,4 +133,6 @@ ReportsSettle =
     → IsReport ms requests plan done outputs report → AllByRecursion (λ o. o ≡ Judged Good) report.outcomes.items → AllByRecursion IsValued outputs
     → IsPlan ms config variables (state_of report.state) again → IsTold ms again done_again outputs_again second
     → IsPlan ms config variables (state_of second.state) third → IsTold ms third done_third outputs_third last
-    → (without_flags (state_of second.state) ≡ without_flags (state_of report.state)) × (state_of last.state ≡ state_of second.state)
+    → (without_flags (state_of second.state) ≡ without_flags (state_of report.state))
+    × HasToldSerial (state_of report.state) (state_of second.state)
+    × (state_of last.state ≡ state_of second.state)

@@ -5,7 +5,7 @@ ghost use Rattle.tf_converges.specs.Instances.{AnsweredInstancesRest, ObjectsAre
 ghost use Rattle.tf_converges.specs.Known.{ExpressionsStayKnown};
 ghost use Rattle.tf_converges.specs.Quiet.{QuietAppliesKeepObjects};
 ghost use Rattle.tf_converges.specs.Rest.{NothingIsPlannedAtRest, NothingIsRefusedAtRest};
-ghost use Rattle.tf_converges.specs.Twice.{ReportsSettle, SecondAppliesChangeFlags, SecondAppliesKeepObjects, SecondSerialsTell, ThirdAppliesChangeNothing};
+ghost use Rattle.tf_converges.specs.Twice.{ReportsSettle, SecondAppliesChangeFlags, SecondAppliesKeepObjects, SecondSerialsTell, ThirdAppliesChangeNothing, ThirdAppliesKeepRecords};
 
 use tf_change::laws::objects_grow;
 use tf_environment::laws::standings_grow;
@@ -61,6 +61,7 @@ pub fn applies_settle()
     ensures objects { SecondAppliesKeepObjects }
     ensures second { SecondAppliesChangeFlags }
     ensures serials { SecondSerialsTell }
+    ensures records { ThirdAppliesKeepRecords }
     ensures third { ThirdAppliesChangeNothing }
     ensures reports { ReportsSettle }
 {
