@@ -1,10 +1,9 @@
 -- An apply without an action gives the record of each current object of a block anew what its resource needs, and whether it
 -- is late.
-use Rattle.std.proofs.Common.{◌≡◌, ◌∙◌, ℕ, Bool, List, [], ◌++◌, Option, Some, None, map, option_map, refl, sym, ap, subst}
+use Rattle.std.proofs.Common.{◌≡◌, ◌∙◌, ℕ, Bool, List, [], Option, Some, None, map, option_map, refl, sym, ap, subst}
 use Rattle.std.specs.Option.{option_map_or}
 use Rattle.std.specs.Prelude.{Contains}
 use Rattle.tf_action_data.specs.Action.{ActionView}
-use Rattle.tf_additions.specs.Change.{applies_in, changes_in}
 use Rattle.tf_additions.specs.Dependencies.{dependencies}
 use Rattle.tf_additions.specs.Head.{AreHeads, Head}
 use Rattle.tf_address.specs.Label.{LabelView}
@@ -35,7 +34,7 @@ use Rattle.tf_converges.proofs.Declared.{found_contains}
 use Rattle.tf_converges.proofs.Lists.{nothing_in}
 use Rattle.tf_converges.proofs.Places.{meant_within}
 use Rattle.tf_converges.proofs.Quiet.{no_heads}
-use Rattle.tf_converges.proofs.Renewals.{IsRenewal, block_place, current_stays, found_renewal, staying_found}
+use Rattle.tf_converges.proofs.Renewals.{block_place, current_stays, found_renewal, staying_found}
 
 module _ (ms : List Meaning) (plan : PlanView) (done : List Done) (outputs : Entries) (after : StateView) (none : plan.actions ≡ [])
     (state : IsStateAfter plan.prior (given_in (events ms plan [] done)) (ends_in (events ms plan [] done)) outputs after)

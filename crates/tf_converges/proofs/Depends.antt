@@ -38,7 +38,7 @@ use Rattle.tf_converges.proofs.Declared.{found_contains, records_in}
 use Rattle.tf_converges.proofs.Events.{IsApplied, IsApplyAt, told_in}
 use Rattle.tf_converges.proofs.Lists.{all_contained}
 use Rattle.tf_converges.proofs.Places.{meant_within}
-use Rattle.tf_converges.proofs.Renewals.{IsRenewal, block_place, current_stays, found_renewal, staying_found}
+use Rattle.tf_converges.proofs.Renewals.{block_place, current_stays, found_renewal, staying_found}
 use Rattle.tf_converges.proofs.Stands.{old_known}
 
 no_deposed : (o : Option (List ℕ)) → is_none o ≡ true → o ≡ None

@@ -1,12 +1,10 @@
 -- Resources that are the same but for the flags of their records.
-use Rattle.std.proofs.Common.{◌≡◌, ◌∙◌, ℕ, Bool, true, false, not, cond, List, [], ◌∷◌, ◌++◌, Option, Some, None, is_eq, filter, map, option_map, refl, sym, ap, subst}
+use Rattle.std.proofs.Common.{◌≡◌, ◌∙◌, ℕ, Bool, true, false, cond, List, [], ◌∷◌, ◌++◌, Option, Some, None, is_eq, map, option_map, refl, sym, ap, subst}
 use Rattle.std.specs.List.{AllByRecursion, flat_map}
 use Rattle.std.specs.Option.{option_map_or}
-use Rattle.std.specs.Prelude.{Contains, option_and_then}
 use Rattle.tf_address.proofs.Totals.{label_total, object_id_total}
 use Rattle.tf_address.specs.Label.{LabelView, label_cmp}
 use Rattle.tf_address.specs.ObjectId.{InstanceKeyView, ObjectIdView, object_id_cmp}
-use Rattle.tf_address.specs.Same.{same_instance_key}
 use Rattle.tf_deciding.specs.Stage.{records_at}
 use Rattle.tf_members.specs.Members.{is_of, records_of}
 use Rattle.tf_next_state.proofs.Changing.{found_label}

@@ -1,5 +1,5 @@
 -- States at rest, and what an apply of the same configuration gives their records anew.
-use Rattle.std.proofs.Common.{◌≡◌, ◌∙◌, ◌++◌, ℕ, zero, suc, Bool, true, List, [], ◌∷◌, Option, Some, None, codes, length, map, option_map, inl, inr, refl, sym, ap, subst}
+use Rattle.std.proofs.Common.{◌≡◌, ◌∙◌, ◌++◌, ℕ, zero, suc, Bool, true, List, [], ◌∷◌, Option, Some, None, codes, length, map, inl, inr, sym, ap, subst}
 use Rattle.std.specs.List.{AllByRecursion}
 use Rattle.std.specs.Option.{option_map_or}
 use Rattle.std.specs.Prelude.{Contains}
@@ -8,7 +8,7 @@ use Rattle.tf_address.specs.Label.{LabelView}
 use Rattle.tf_address.specs.ObjectId.{InstanceKeyView, ObjectIdView}
 use Rattle.tf_change.specs.Laws.{InstancesGrow}
 use Rattle.tf_config_data.specs.Config.{BlockView, ConfigView}
-use Rattle.tf_config_data.specs.Names.{NameView, a_local, a_block, block_name, directly_before, label_pair, local_names, meant_at, names_of, place_of}
+use Rattle.tf_config_data.specs.Names.{a_block, block_name, directly_before, label_pair, local_names, meant_at, names_of}
 use Rattle.tf_deciding.specs.Stage.{records_at}
 use Rattle.tf_environment.proofs.Refining.{followed}
 use Rattle.tf_environment.specs.Laws.{StandingsGrow}
@@ -27,7 +27,7 @@ use Rattle.tf_plan.proofs.Blocks.{names-apart}
 use Rattle.tf_plan.specs.Ordered.{AreTied}
 use Rattle.tf_plan.specs.Plan.{IsPlan}
 use Rattle.tf_plan.specs.Planned.{AreInstances}
-use Rattle.tf_plan_data.specs.Plan.{PlanView, plan_names}
+use Rattle.tf_plan_data.specs.Plan.{PlanView}
 use Rattle.tf_precedence.specs.Ties.{TiesView}
 use Rattle.tf_protocol.specs.Meaning.{Meaning}
 use Rattle.tf_report.specs.Report.{objects_after}
@@ -47,7 +47,7 @@ use Rattle.tf_converges.proofs.Members.{same_key}
 use Rattle.tf_converges.proofs.Quiet.{quiet_keeps}
 use Rattle.tf_converges.proofs.Still.{nothing_at_rest}
 use Rattle.tf_converges.proofs.Tied.{block_named, dependencies_same}
-use Rattle.tf_converges.proofs.Whole.{own_depends, own_ranked, rest_same, same_shapes, state_rests}
+use Rattle.tf_converges.proofs.Whole.{own_ranked, rest_same, same_shapes, state_rests}
 use Rattle.tf_converges.specs.Converges.{IsCarriedOut, IsSound}
 use Rattle.tf_converges.specs.Known.{ExpressionsStayKnown}
 use Rattle.tf_converges.specs.Quiet.{IsRenewed}

@@ -38,3 +38,4 @@ pub mod Outputs
 pub mod Valued
 pub mod Twice
 pub mod Thrice
+pub mod Read

@@ -1,5 +1,5 @@
 -- Outputs that have the same values again, or none, stay as they are.
-use Rattle.std.proofs.Common.{◌≡◌, ◌∙◌, ◌||◌, ℕ, Bool, true, false, cond, if◌then◌else◌, List, [], ◌∷◌, Option, Some, None, Ordering, Less, Equal, Greater, is_eq, bytes_eq, nat_cmp, refl, sym, ap, subst}
+use Rattle.std.proofs.Common.{◌≡◌, ◌∙◌, ℕ, Bool, true, false, cond, List, [], ◌∷◌, Option, Some, None, Ordering, Less, Equal, Greater, is_eq, bytes_eq, nat_cmp, refl, sym, ap, subst}
 use Rattle.std.proofs.lemmas.Cmp.{nat_list_cmp_total}
 use Rattle.std.proofs.lemmas.Map.Text.{is_eq-slice_cmp}
 use Rattle.std.proofs.lemmas.Slice.Eq.{bytes_eq-Decides}
@@ -7,14 +7,13 @@ use Rattle.std.specs.Cmp.Lexicographic.{slice_cmp}
 use Rattle.std.specs.List.{AllByRecursion}
 use Rattle.std.specs.List.Sorted.{IsStrictlySortedBy}
 use Rattle.std.specs.Ordering.{match_ordering}
-use Rattle.tf_operators.specs.declared.fault.EvalFault.{EvalFault}
+use Rattle.tf_config.specs.Config.{names_in}
 use Rattle.tf_outputs.specs.Outputs.{OutputDone, excused, faulted, is_declared, is_null, kept_entries, not_evaluated, outputs_after, valued, with_output, with_outputs, without}
 use Rattle.tf_syntax.specs.ExprTree as expr
 use Rattle.tf_value.proofs.Keys.{get-put, get-put_other}
 use Rattle.tf_value.proofs.Tables.{sorted-put}
 use Rattle.tf_value.specs.Tree.{Tree, Entries, entry, get, keys_of, no_entries, put}
 use Rattle.tf_converges.proofs.Lists.{or_first, or_second}
-use Rattle.tf_converges.specs.Twice.{output_names}
 
 -- ---- entries in byte order
 
@@ -170,13 +169,13 @@ ordered_outputs (expr.entry name e es) [] found h = h
 ordered_outputs (expr.entry name e es) (d ∷ ds) found h = ordered_outputs es ds (with_output name d found) (ordered_output name d found h)
 
 -- those of other names stay
-stays_through : (name : List ℕ) (d : OutputDone) (es : expr.Entries) (ds : List OutputDone) (found : Entries) → AllByRecursion (λ l. slice_cmp nat_cmp name l ≡ Less) (output_names es) → HasDone name d found → HasDone name d (with_outputs es ds found)
+stays_through : (name : List ℕ) (d : OutputDone) (es : expr.Entries) (ds : List OutputDone) (found : Entries) → AllByRecursion (λ l. slice_cmp nat_cmp name l ≡ Less) (names_in es) → HasDone name d found → HasDone name d (with_outputs es ds found)
 stays_through name d expr.no_entries ds found h has = has
 stays_through name d (expr.entry k e es) [] found h has = has
 stays_through name d (expr.entry k e es) (f ∷ ds) found h has =
     stays_through name d es ds (with_output k f found) h.1 (has_too name d found (with_output k f found) (get_other name k f found (apart_names name k h.0)) has)
 
-all_have : (es : expr.Entries) (ds : List OutputDone) (found : Entries) → IsOrdered found → IsStrictlySortedBy (slice_cmp nat_cmp) (output_names es) → AllHave es ds (with_outputs es ds found)
+all_have : (es : expr.Entries) (ds : List OutputDone) (found : Entries) → IsOrdered found → IsStrictlySortedBy (slice_cmp nat_cmp) (names_in es) → AllHave es ds (with_outputs es ds found)
 unfolding IsStrictlySortedBy
 all_have expr.no_entries ds found h sorted = tt
 all_have (expr.entry name e es) [] found h sorted = tt
@@ -259,7 +258,7 @@ output_declared all k (valued t) found is h = by_null (is_null t)
     by_null true = without_declared all k found h
     by_null false = put_declared all k t found is h
 
-outputs_declared : (all es : expr.Entries) (ds : List OutputDone) (found : Entries) → AllByRecursion (λ k. is_declared all k ≡ true) (output_names es) → AllDeclared all found → AllDeclared all (with_outputs es ds found)
+outputs_declared : (all es : expr.Entries) (ds : List OutputDone) (found : Entries) → AllByRecursion (λ k. is_declared all k ≡ true) (names_in es) → AllDeclared all found → AllDeclared all (with_outputs es ds found)
 outputs_declared all expr.no_entries ds found are h = h
 outputs_declared all (expr.entry k e es) [] found are h = h
 outputs_declared all (expr.entry k e es) (d ∷ ds) found are h = outputs_declared all es ds (with_output k d found) are.1 (output_declared all k d found are.0 h)
@@ -268,9 +267,9 @@ more_declared : (k : List ℕ) (e : expr.Tree) (es : expr.Entries) (ks : List (L
 more_declared k e es [] h = tt
 more_declared k e es (l ∷ ks) h = (or_second (bytes_eq l k) (is_declared es l) h.0, more_declared k e es ks h.1)
 
-own_declared : (es : expr.Entries) → AllByRecursion (λ k. is_declared es k ≡ true) (output_names es)
+own_declared : (es : expr.Entries) → AllByRecursion (λ k. is_declared es k ≡ true) (names_in es)
 own_declared expr.no_entries = tt
-own_declared (expr.entry k e es) = (or_first (bytes_eq k k) (is_declared es k) ((bytes_eq-Decides k k).1 refl), more_declared k e es (output_names es) (own_declared es))
+own_declared (expr.entry k e es) = (or_first (bytes_eq k k) (is_declared es k) ((bytes_eq-Decides k k).1 refl), more_declared k e es (names_in es) (own_declared es))
 
 -- so outputs stay as they are
 later_kept : (es : expr.Entries) (l : List ℕ) (found : Entries) → AreAfter l found → AreAfter l (kept_entries es found)
@@ -290,7 +289,7 @@ ordered_kept es (entry k t found) h = by_test (is_declared es k) (later_kept es 
     by_test true later again = (later, again)
     by_test false later again = again
 
-pub outputs_stay : (es : expr.Entries) (ds fs : List OutputDone) (found : Entries) → IsOrdered found → IsStrictlySortedBy (slice_cmp nat_cmp) (output_names es) → AreRepeated es ds fs
+pub outputs_stay : (es : expr.Entries) (ds fs : List OutputDone) (found : Entries) → IsOrdered found → IsStrictlySortedBy (slice_cmp nat_cmp) (names_in es) → AreRepeated es ds fs
     → outputs_after (outputs_after found es ds) es fs ≡ outputs_after found es ds
 outputs_stay es ds fs found h sorted again =
     let saved = with_outputs es ds (kept_entries es found) in

@@ -2,14 +2,14 @@
 use Rattle.std.proofs.Common.{◌≡◌, ◌∙◌, ◌<◌, ◌||◌, ◌⊎◌, inl, inr, ℕ, Bool, true, false, not, cond, if◌then◌else◌, List, [], ◌∷◌, Option, Some, None, filter, find, length, map, refl, sym, ap, subst}
 use Rattle.std.proofs.lemmas.Bool.{lt-ltb}
 use Rattle.std.specs.List.{list_any}
-use Rattle.std.specs.Prelude.{Contains, nat_lt, slice_get}
+use Rattle.std.specs.Prelude.{Contains, nat_lt}
 use Rattle.tf_action_data.specs.Action.{ActionView}
 use Rattle.tf_additions.specs.Dependencies.{dependencies}
 use Rattle.tf_address.specs.Label.{LabelView}
 use Rattle.tf_address.specs.ObjectId.{InstanceKeyView}
 use Rattle.tf_address.specs.Same.{label_Decides, same_instance_key, same_label}
 use Rattle.tf_config_data.specs.Config.{BlockView}
-use Rattle.tf_config_data.specs.Names.{NameView, Meant, a_block, meant_at}
+use Rattle.tf_config_data.specs.Names.{NameView, a_block, meant_at}
 use Rattle.tf_graph.proofs.Edges.{contains_cases, contains_head, contains_tail}
 use Rattle.tf_next_state.proofs.Finding.{found_passes}
 use Rattle.tf_next_state.specs.Events.{ApplyView, RenewalView, apply_of_instance, as_apply, is_instance}
@@ -18,7 +18,7 @@ use Rattle.tf_plan_data.specs.Plan.{PlanView, plan_names}
 use Rattle.tf_report.specs.Events.{is_about, is_none, renewal_of_record, renewals, renewals_at, renewals_of, stays}
 use Rattle.tf_resources.proofs.Standing.{places-true}
 use Rattle.tf_resources.specs.Laws as resources_laws
-use Rattle.tf_resources.specs.Numbering.{NumberedView, a_name, address_of, block_address, numbered, place_in}
+use Rattle.tf_resources.specs.Numbering.{a_name, block_address, numbered, place_in}
 use Rattle.tf_state_after.specs.Ends.{unplanned}
 use Rattle.tf_state_data.specs.Record.{RecordView}
 use Rattle.tf_state_data.specs.Resource.{ResourceView}

@@ -1,17 +1,15 @@
 -- Resources at rest are so whatever their records' flags are.
-use Rattle.std.proofs.Common.{◌≡◌, ◌∙◌, ℕ, Bool, true, List, [], ◌∷◌, Option, Some, None, Ok, map, refl, sym, ap, subst}
+use Rattle.std.proofs.Common.{◌≡◌, ◌∙◌, ℕ, true, List, [], ◌∷◌, Some, map, refl, sym, ap, subst}
 use Rattle.std.specs.List.{AllByRecursion}
 use Rattle.tf_address.specs.ObjectId.{InstanceKeyView}
-use Rattle.tf_change.specs.Instance.{instance_object}
 use Rattle.tf_config_data.specs.Config.{BlockView}
-use Rattle.tf_config_data.specs.Names.{NameView, a_block, meant_at}
+use Rattle.tf_config_data.specs.Names.{NameView}
 use Rattle.tf_deciding.specs.Stage.{records_at}
-use Rattle.tf_decision.specs.Decision.{change, nothing}
+use Rattle.tf_decision.specs.Decision.{change}
 use Rattle.tf_environment.specs.Shape.{ShapeView, instance_keys}
 use Rattle.tf_eval.specs.Environment.{Environment}
 use Rattle.tf_members.specs.Members.{is_among, records_of}
-use Rattle.tf_protocol.specs.Meaning.{Meaning, schema_in}
-use Rattle.tf_protocol.specs.Schema.{SchemaView}
+use Rattle.tf_protocol.specs.Meaning.{Meaning}
 use Rattle.tf_resources.specs.Numbering.{has_block}
 use Rattle.tf_state_data.specs.Record.{RecordView}
 use Rattle.tf_state_data.specs.Resource.{ResourceView}

@@ -1,5 +1,5 @@
 -- What a second and a third apply change after one that went well: their states whole, and their reports.
-use Rattle.std.proofs.Common.{◌≡◌, ◌∙◌, ◌+◌, ◌⊎◌, inl, inr, ℕ, Bool, true, false, cond, List, [], map, refl, sym, ap, subst}
+use Rattle.std.proofs.Common.{◌≡◌, ◌∙◌, ◌+◌, inl, inr, ℕ, Bool, true, false, cond, List, map, refl, sym, ap, subst}
 use Rattle.std.specs.List.{AllByRecursion}
 use Rattle.tf_change.specs.Laws.{InstancesGrow}
 use Rattle.tf_config_data.specs.Config.{ConfigView}
@@ -16,7 +16,6 @@ use Rattle.tf_protocol.specs.declared.verdict.Verdict.TheVariants.{Good}
 use Rattle.tf_report.specs.Report.{IsTold}
 use Rattle.tf_report.specs.declared.report.Report.{Report}
 use Rattle.tf_state_data.specs.Equality.{same_state, state_Decides}
-use Rattle.tf_state_data.specs.Resource.{ResourceView}
 use Rattle.tf_state_data.specs.State.{StateView, state_of}
 use Rattle.tf_value.specs.Tree.{Entries}
 use Rattle.tf_converges.proofs.Homes.{IsAtRest, home, homed, nothing_again}
@@ -24,7 +23,7 @@ use Rattle.tf_converges.proofs.Outputs.{outputs_stay}
 use Rattle.tf_converges.proofs.Twice.{rested, second_resources, second_rests, third_resources, third_same}
 use Rattle.tf_converges.proofs.Valued.{repeated}
 use Rattle.tf_converges.proofs.Whole.{all_good}
-use Rattle.tf_converges.specs.Converges.{IsCarriedOut, IsSound, IsValued}
+use Rattle.tf_converges.specs.Converges.{IsCarriedOut, IsSound}
 use Rattle.tf_converges.specs.Known.{ExpressionsStayKnown}
 use Rattle.tf_converges.specs.Twice.{HasOrderedOutputs, HasOwnNames, HasToldSerial, IsAppliedAgain, IsAppliedWell, ReportsSettle, SecondAppliesChangeFlags, SecondAppliesKeepObjects, SecondSerialsTell, ThirdAppliesChangeNothing, ThirdAppliesKeepRecords, resource_without_flags, without_flags}
 

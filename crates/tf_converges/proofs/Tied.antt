@@ -1,16 +1,15 @@
 -- Two plans of one configuration: resources need the same by it, and over the same stored dependencies the same are late.
-use Rattle.std.proofs.Common.{◌≡◌, ◌∙◌, ◌⊎◌, ◌++◌, ◌↔◌, inl, inr, ℕ, zero, suc, Bool, true, false, not, cond, codes, List, [], ◌∷◌, Option, Some, None, filter, fold, length, map, option_map, refl, sym, ap, subst}
+use Rattle.std.proofs.Common.{◌≡◌, ◌∙◌, ◌⊎◌, ◌++◌, inl, inr, ℕ, zero, suc, Bool, true, false, cond, codes, List, [], ◌∷◌, Option, Some, filter, fold, length, map, option_map, refl, sym, ap, subst}
 use Rattle.std.proofs.lemmas.Slice.Eq.{bytes_eq-Decides}
 use Rattle.std.specs.List.{AllByRecursion, range_with_len}
 use Rattle.std.specs.Prelude.{Contains}
 use Rattle.tf_additions.specs.Dependencies as additions
 use Rattle.tf_address.specs.Label.{LabelView}
 use Rattle.tf_config_data.specs.Config.{BlockView, ConfigView}
-use Rattle.tf_config_data.specs.Names.{NameView, Meant, a_local, a_block, block_name, directly_before, label_pair, local_names, meant_at, names_of, place_of, same_pair}
+use Rattle.tf_config_data.specs.Names.{NameView, a_local, a_block, block_name, label_pair, local_names, meant_at, names_of, place_of, same_pair}
 use Rattle.tf_graph.proofs.Edges.{edge-from_source, source-from_edge}
 use Rattle.tf_graph.specs.Digraph.{Digraph, predecessors_of}
-use Rattle.tf_graph.specs.NodeSet.{has}
-use Rattle.tf_graph.specs.Path.{HasEdge, Path, Reaches, direct, onward}
+use Rattle.tf_graph.specs.Path.{HasEdge, Path, direct, onward}
 use Rattle.tf_names.proofs.Needing.{same_pair-same}
 use Rattle.tf_names.specs.Needs.{IsDependence, needs_in}
 use Rattle.tf_names.specs.declared.dependence.Dependence.{Dependence}
@@ -20,7 +19,7 @@ use Rattle.tf_precedence.specs.Stored.{turned}
 use Rattle.tf_precedence.specs.Ties.{TiesView}
 use Rattle.tf_resources.specs.Dependencies.{dependencies}
 use Rattle.tf_resources.specs.Marks.{is_marked}
-use Rattle.tf_resources.specs.Numbering.{NumberedView, numbered}
+use Rattle.tf_resources.specs.Numbering.{numbered}
 use Rattle.tf_state_data.specs.Resource.{ResourceView}
 use Rattle.tf_syntax.specs.ExprTree as expr
 use Rattle.tf_syntax.specs.TemplateNames.{Pair}

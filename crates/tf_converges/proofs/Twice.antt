@@ -1,6 +1,5 @@
 -- After an apply that went well a second one changes flags at most, and a third one nothing.
-use Rattle.std.proofs.Common.{◌≡◌, ◌∙◌, ◌+◌, ℕ, Bool, true, false, not, cond, List, [], ◌∷◌, ◌++◌, Option, Some, None, filter, map, option_map, refl, sym, ap, subst}
-use Rattle.std.proofs.lemmas.List.{append-nil}
+use Rattle.std.proofs.Common.{◌≡◌, ◌∙◌, ◌+◌, ℕ, Bool, true, false, not, cond, List, [], ◌∷◌, ◌++◌, Option, Some, None, map, option_map, refl, sym, ap}
 use Rattle.std.specs.List.{AllByRecursion}
 use Rattle.std.specs.Option.{option_map_or}
 use Rattle.tf_additions.specs.Dependencies as additions
@@ -15,7 +14,6 @@ use Rattle.tf_next_state.specs.Events.{ends_in, given_in}
 use Rattle.tf_next_state.specs.StateAfter.{IsStateAfter, next_serial}
 use Rattle.tf_outcome.specs.Outcome.{Done}
 use Rattle.tf_outputs.specs.Outputs.{outputs_after}
-use Rattle.tf_plan.specs.Plan.{IsPlan}
 use Rattle.tf_plan_data.specs.Plan.{PlanView}
 use Rattle.tf_precedence.specs.Ties.{TiesView}
 use Rattle.tf_protocol.specs.Meaning.{Meaning}
@@ -23,7 +21,7 @@ use Rattle.tf_report.specs.Events.{events}
 use Rattle.tf_resources.specs.Dependencies.{dependencies}
 use Rattle.tf_resources.specs.Numbering.{NumberedView, a_name, an_orphan, has_block, numbered, orphans}
 use Rattle.tf_state_after.specs.After.{renewed}
-use Rattle.tf_state_data.specs.Equality.{same_state, state_Decides}
+use Rattle.tf_state_data.specs.Equality.{state_Decides}
 use Rattle.tf_state_data.specs.Provider.{provider_text}
 use Rattle.tf_state_data.specs.Record.{RecordView}
 use Rattle.tf_state_data.specs.Resource.{ResourceView}
@@ -31,7 +29,7 @@ use Rattle.tf_state_data.specs.State.{StateView, record_in, resource_at}
 use Rattle.tf_value.specs.Tree.{Entries}
 use Rattle.tf_converges.proofs.Declared.{blocks_one}
 use Rattle.tf_converges.proofs.Flagless.{AreLike, resources_like, same_stored}
-use Rattle.tf_converges.proofs.Homes.{Depends, IsAtRest, IsInPlace, first_rests, given_again, home, homed, in_place, needs_alike, none_again}
+use Rattle.tf_converges.proofs.Homes.{Depends, IsAtRest, first_rests, given_again, home, in_place, needs_alike, none_again}
 use Rattle.tf_converges.proofs.Stays.{rest_still}
 use Rattle.tf_converges.proofs.Tied.{late_same}
 use Rattle.tf_converges.proofs.Whole.{own_depends}

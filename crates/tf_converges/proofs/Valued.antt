@@ -6,25 +6,22 @@ use Rattle.tf_action_data.specs.Action.{ActionView}
 use Rattle.tf_address.specs.ObjectId.{InstanceKeyView}
 use Rattle.tf_config_data.specs.Config.{BlockView, ConfigView}
 use Rattle.tf_config_data.specs.Names.{Meant, a_local, a_block, directly_before, meant_at, names_of}
-use Rattle.tf_deciding.specs.Stage.{records_at}
 use Rattle.tf_decision.specs.Decision.{current}
 use Rattle.tf_environment.specs.Shape.{ShapeView, instance_keys}
 use Rattle.tf_environment.specs.Stages.{applying}
 use Rattle.tf_environment.specs.Standing.{StandingView, AreStandings, all_stand, environment, result_in, rule, stands_at, together, where_all}
 use Rattle.tf_eval.specs.Environment.{Environment}
-use Rattle.tf_eval.specs.ExprMeaning.{meaning}
 use Rattle.tf_graph.proofs.Solving.{solution-exists}
 use Rattle.tf_graph.specs.Solutions.{seen_by}
-use Rattle.tf_members.specs.Members.{is_among, records_of}
+use Rattle.tf_members.specs.Members.{is_among}
 use Rattle.tf_outcome.specs.Objects.{objects_seen, prior_object}
 use Rattle.tf_outcome.specs.Outcome.{Done, done_at}
-use Rattle.tf_outputs.specs.Outputs.{AreOutputsDone, IsOutputDone, OutputDone, done_with, excused, faulted, not_evaluated, valued}
+use Rattle.tf_outputs.specs.Outputs.{AreOutputsDone, IsOutputDone, OutputDone, excused, faulted, not_evaluated, valued}
 use Rattle.tf_outputs.specs.Settled.{names_are_settled}
 use Rattle.tf_plan.specs.Planned.{AreInstances}
 use Rattle.tf_plan_data.specs.Plan.{PlanView}
 use Rattle.tf_protocol.specs.Meaning.{Meaning}
 use Rattle.tf_report.specs.Report.{AreOutputsOf, objects_after}
-use Rattle.tf_request.specs.Requests.{without_sets}
 use Rattle.tf_state_after.specs.After.{object_at}
 use Rattle.tf_state_data.specs.Record.{RecordView}
 use Rattle.tf_state_data.specs.State.{StateView, record_in}

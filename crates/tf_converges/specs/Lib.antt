@@ -4,3 +4,4 @@ pub mod Rest
 pub mod Converges
 pub mod Quiet
 pub mod Twice
+pub mod Read

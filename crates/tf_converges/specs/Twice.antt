@@ -1,9 +1,10 @@
 -- What applies change after one that went well: the second one flags at most, and the third one nothing.
-use Rattle.std.specs.Prelude.{◌≡◌, ◌+◌, ◌⊎◌, ℕ, false, List, [], ◌∷◌, map, codes}
+use Rattle.std.specs.Prelude.{◌≡◌, ◌+◌, ◌⊎◌, ℕ, false, List, map, codes}
 use Rattle.std.specs.Cmp.Lexicographic.{slice_cmp}
 use Rattle.std.specs.List.{AllByRecursion}
 use Rattle.std.specs.List.Sorted.{IsStrictlySortedBy}
 use Rattle.std.specs.Ordering.{nat_cmp}
+use Rattle.tf_config.specs.Config.{names_in}
 use Rattle.tf_config_data.specs.Config.{ConfigView}
 use Rattle.tf_next_state.specs.Laws.{IsInOrder}
 use Rattle.tf_outcome.specs.Outcome.{AreRequests, Done, Requests}
@@ -18,7 +19,6 @@ use Rattle.tf_report.specs.declared.report.Report.{Report}
 use Rattle.tf_state_data.specs.Record.{RecordView}
 use Rattle.tf_state_data.specs.Resource.{ResourceView}
 use Rattle.tf_state_data.specs.State.{StateView, state_of}
-use Rattle.tf_syntax.specs.ExprTree as expr
 use Rattle.tf_value.specs.Tree.{Entries}
 use Rattle.tf_converges.specs.Converges.{IsCarriedOut, IsSound, IsValued}
 
@@ -43,14 +43,9 @@ without_flags s = record s { serial = 0; resources = map resource_without_flags 
 abbrev pub HasOwnNames : ConfigView → Type 0
 HasOwnNames config = AllByRecursion (λ b. ¬ (b.label.type_name ≡ codes "local")) config.blocks
 
--- the names of outputs
-abbrev pub output_names : expr.Entries → List (List ℕ)
-output_names expr.no_entries = []
-output_names (expr.entry name e es) = name ∷ output_names es
-
 -- Outputs stand in byte order of their names, no two with one, as those of each configuration that was read.
 abbrev pub HasOrderedOutputs : ConfigView → Type 0
-HasOrderedOutputs config = IsStrictlySortedBy (slice_cmp nat_cmp) (output_names config.outputs)
+HasOrderedOutputs config = IsStrictlySortedBy (slice_cmp nat_cmp) (names_in config.outputs)
 
 -- An apply of the same configuration and variables over the state that one before it left: a plan from that state, and the
 -- state that came of it, whatever came of its outputs.

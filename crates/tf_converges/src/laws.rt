@@ -4,6 +4,7 @@ ghost use Rattle.tf_converges.specs.Converges.{Converges, NothingIsRefusedAgain,
 ghost use Rattle.tf_converges.specs.Instances.{AnsweredInstancesRest, ObjectsAreSettled, UntouchedInstancesRest};
 ghost use Rattle.tf_converges.specs.Known.{ExpressionsStayKnown};
 ghost use Rattle.tf_converges.specs.Quiet.{QuietAppliesKeepObjects};
+ghost use Rattle.tf_converges.specs.Read.{ReadConfigurationsAreOrdered};
 ghost use Rattle.tf_converges.specs.Rest.{NothingIsPlannedAtRest, NothingIsRefusedAtRest};
 ghost use Rattle.tf_converges.specs.Twice.{ReportsSettle, SecondAppliesChangeFlags, SecondAppliesKeepObjects, SecondSerialsTell, ThirdAppliesChangeNothing, ThirdAppliesKeepRecords};
 
@@ -69,3 +70,9 @@ pub fn applies_settle()
     standings_grow();
     objects_grow();
 }
+
+/// Configurations that were read have their blocks in the order of their addresses, names that each stand for one thing, and
+/// their outputs in byte order of their names.
+pub fn read_configurations_are_ordered()
+    ensures { ReadConfigurationsAreOrdered }
+{}

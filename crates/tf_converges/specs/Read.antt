@@ -1,0 +1,14 @@
+-- What configurations that were read keep to.
+use Rattle.std.specs.Prelude.{map}
+use Rattle.std.specs.List.Sorted.{IsStrictlySortedBy}
+use Rattle.serde_json.specs.Data.{Data}
+use Rattle.tf_address.specs.Label.{label_cmp}
+use Rattle.tf_config.specs.Configuration.{IsConfiguration}
+use Rattle.tf_config_data.specs.Config.{ConfigView}
+use Rattle.tf_converges.specs.Twice.{HasOrderedOutputs, HasOwnNames}
+
+-- A configuration that a tree stands for, as each that was read, has its blocks in the order of their addresses, names that each
+-- stand for one thing, and its outputs in byte order of their names.
+abbrev pub ReadConfigurationsAreOrdered : Type 0
+ReadConfigurationsAreOrdered =
+    (tree : Data) (config : ConfigView) → IsConfiguration tree config → IsStrictlySortedBy label_cmp (map (λ b. b.label) config.blocks) × HasOwnNames config × HasOrderedOutputs config
