@@ -1,20 +1,34 @@
 -- What configurations that were read keep to.
-use Rattle.std.proofs.Common.{◌≡◌, ◌∙◌, ℕ, ◌⊎◌, inl, inr, Bool, true, false, bytes_eq, cond, if◌then◌else◌, codes, List, [], ◌∷◌, Ordering, Less, Equal, Greater, map, nat_cmp, refl, sym, ap, subst}
+use Rattle.std.proofs.Common.{Option, Some, None, ◌≡◌, ◌∙◌, ℕ, ◌⊎◌, inl, inr, Bool, true, false, bytes_eq, cond, if◌then◌else◌, codes, List, [], ◌∷◌, Ordering, Less, Equal, Greater, map, nat_cmp, refl, sym, ap, subst}
 use Rattle.std.proofs.lemmas.Cmp.{nat_list_cmp_total}
 use Rattle.std.specs.Cmp.Lexicographic.{slice_cmp}
 use Rattle.std.specs.List.{AllByRecursion}
 use Rattle.std.specs.List.Sorted.{IsStrictlySortedBy}
+use Rattle.std.specs.Option.{option_map_or}
+use Rattle.std.specs.Prelude.{option_and_then}
 use Rattle.std.specs.Ordering.{match_ordering, ordering_reverse}
 use Rattle.serde_json.specs.Data.{Data, null, boolean, number, string, array, object}
 use Rattle.tf_address.specs.Label.{label_cmp}
 use Rattle.tf_config.proofs.BlockLaws.{blocks_in_order}
-use Rattle.tf_config.specs.Config.{Blocks, address_cmp, block_with, names_in, plain_config, put_block}
-use Rattle.tf_config.specs.Configuration.{AddsOfSection, AddsOutput, AddsResource, AddsSection, AddsType, BuildsFrom}
-use Rattle.tf_config.specs.Words.{is_comment, is_type_name, section_of}
-use Rattle.tf_config_data.specs.Config.{BlockView, ConfigView}
+use Rattle.tf_config.specs.Config.{Blocks, VariableBody, address_cmp, block_with, names_in, plain_config, plain_variable, put_block, put_variable, variable_with}
+use Rattle.tf_config.specs.Configuration.{AddsInVariable, AddsOfSection, AddsOutput, AddsResource, AddsSection, AddsType, AddsVariable, AddsVariableProperty, BuildsFrom, IsConfiguration}
+use Rattle.tf_config.specs.Words.{is_comment, is_type_name, section_of, variable_property_of}
+use Rattle.tf_config_data.specs.Config.{BlockView, ConfigView, VariableView}
+use Rattle.tf_config_data.specs.declared.variable.Element.{Element}
+use Rattle.tf_config_data.specs.declared.variable.Element.TheVariants as elements
+use Rattle.tf_config_data.specs.declared.variable.VariableType.{VariableType}
+use Rattle.tf_config_data.specs.declared.variable.VariableType.TheVariants as types
 use Rattle.tf_json_path.proofs.Walks.{Builds-keeps}
 use Rattle.tf_syntax.specs.ExprTree as expr
-use Rattle.tf_converges.specs.Read.{ReadConfigurationsAreOrdered}
+use Rattle.tf_value.proofs.Conjunction.{and-both, and-first, and-second}
+use Rattle.tf_value.specs.Json.{tree_from, value_from}
+use Rattle.tf_value.specs.Known.{known, known_entries, known_items}
+use Rattle.tf_value.specs.Scalar.{scalar_text}
+use Rattle.tf_value.specs.Tree as tree
+use Rattle.tf_value.specs.Tree.{Tree, Items, no_items, item, Entries, no_entries, entry}
+use Rattle.tf_variables.specs.Types.{element_as, entries_as, fits, fitted, items_as, text_or, value_as}
+use Rattle.tf_variables.specs.Values.{AreValues, given, taken_of}
+use Rattle.tf_converges.specs.Read.{ReadConfigurationsAreOrdered, ReadVariablesAreKnown}
 use Rattle.tf_converges.specs.Twice.{HasOrderedOutputs, HasOwnNames}
 
 -- ---- what each member keeps, an object keeps
@@ -92,29 +106,77 @@ ordered_put k t (expr.entry m u es) h = ordered_at (slice_cmp nat_cmp k m) k m t
 output_keeps : (k : List ℕ) (d : Data) (a b : expr.Entries) → AddsOutput k d a b → AreNamesInOrder a → AreNamesInOrder b
 output_keeps k d a b h sorted = subst AreNamesInOrder h.1.2 (ordered_put k h.1.0 a sorted)
 
--- ---- the whole file
-
-pub record IsOrderly (config : ConfigView) : Type 0 where
-  pub names : HasOwnNames config
-  pub outputs : HasOrderedOutputs config
+-- ---- defaults are known
 
 -- what holds of the one or the other by a test
 by_test : {A : Type 0} (P : A → Type 0) (b : Bool) (x y : A) → P (cond b x y) → P x ⊎ P y
 by_test P true x y h = inl h
 by_test P false x y h = inr h
 
+-- what is read of JSON is known
+read_known : (d : Data) (t : Tree) → value_from d ≡ Some t → known t ≡ true
+read_known d t e = by_known (known (tree_from d)) refl e
+  where
+    by_known : (b : Bool) → known (tree_from d) ≡ b → (if b then Some (tree_from d) else None) ≡ Some t → known t ≡ true
+    by_known true is f = let same : tree_from d ≡ t = (cc) in sym (ap known same) ∙ is
+    by_known false is f = absurd (cc)
+
+abbrev IsKnownDefault : Option Tree → Type 0
+IsKnownDefault default = option_map_or known default true ≡ true
+
+-- properties go by their words
+property_keeps : (k : List ℕ) (d : Data) (a b : VariableBody) → AddsVariableProperty k d a b → IsKnownDefault a.default → IsKnownDefault b.default
+property_keeps k d a b h p = elim (by_test (λ s. AddsInVariable s d a b) (is_comment k) (variable_property_of (codes "//")) (if bytes_eq k (codes "type") then variable_property_of (codes "type") else (if bytes_eq k (codes "default") then variable_property_of (codes "default") else (if bytes_eq k (codes "description") then variable_property_of (codes "description") else (variable_property_of (codes ""))))) h) [
+  | inl comment ↦ subst (λ (x : VariableBody). IsKnownDefault x.default) comment p
+  | inr h ↦ elim (by_test (λ s. AddsInVariable s d a b) (bytes_eq k (codes "type")) (variable_property_of (codes "type")) (if bytes_eq k (codes "default") then variable_property_of (codes "default") else (if bytes_eq k (codes "description") then variable_property_of (codes "description") else (variable_property_of (codes "")))) h) [
+    | inl of_type ↦ subst (λ (x : VariableBody). IsKnownDefault x.default) of_type.2 p
+    | inr h ↦ elim (by_test (λ s. AddsInVariable s d a b) (bytes_eq k (codes "default")) (variable_property_of (codes "default")) (if bytes_eq k (codes "description") then variable_property_of (codes "description") else (variable_property_of (codes ""))) h) [
+      | inl default ↦ subst (λ (x : VariableBody). IsKnownDefault x.default) default.2 (read_known d default.0 default.1.0)
+      | inr h ↦ elim (by_test (λ s. AddsInVariable s d a b) (bytes_eq k (codes "description")) (variable_property_of (codes "description")) (variable_property_of (codes "")) h) [
+        | inl description ↦ subst (λ (x : VariableBody). IsKnownDefault x.default) description.2 p
+        | inr other ↦ absurd other
+      ]
+    ]
+  ]
+]
+
+abbrev AreKnownDefaults : List VariableView → Type 0
+AreKnownDefaults vs = AllByRecursion (λ v. IsKnownDefault v.default) vs
+
+variable_at : (o : Ordering) (v first : VariableView) (vs : List VariableView) → IsKnownDefault v.default → AreKnownDefaults (first ∷ vs) → AreKnownDefaults (put_variable v vs)
+    → AreKnownDefaults (match_ordering o (v ∷ first ∷ vs) (record v { name = first.name } ∷ vs) (first ∷ put_variable v vs))
+variable_at Less v first vs h all more = (h, all)
+variable_at Equal v first vs h all more = (h, all.1)
+variable_at Greater v first vs h all more = (all.0, more)
+
+put_known : (v : VariableView) (vs : List VariableView) → IsKnownDefault v.default → AreKnownDefaults vs → AreKnownDefaults (put_variable v vs)
+put_known v [] h all = (h, tt)
+put_known v (first ∷ vs) h all = variable_at (slice_cmp nat_cmp v.name first.name) v first vs h all (put_known v vs h all.1)
+
+variable_keeps : (k : List ℕ) (d : Data) (a b : List VariableView) → AddsVariable k d a b → AreKnownDefaults a → AreKnownDefaults b
+variable_keeps k d a b h all =
+    let body = object_keeps AddsVariableProperty (λ (x : VariableBody). IsKnownDefault x.default) property_keeps d plain_variable h.1.0 h.1.1 refl in
+    subst AreKnownDefaults h.1.2 (put_known (variable_with k h.1.0) a body all)
+
+-- ---- the whole file
+
+pub record IsOrderly (config : ConfigView) : Type 0 where
+  pub names : HasOwnNames config
+  pub outputs : HasOrderedOutputs config
+  pub defaults : AllByRecursion (λ v. IsKnownDefault v.default) config.variables
+
 -- sections go by their words
 section_keeps : (k : List ℕ) (d : Data) (a b : ConfigView) → AddsSection k d a b → IsOrderly a → IsOrderly b
 section_keeps k d a b h p = elim (by_test (λ s. AddsOfSection s d a b) (is_comment k) (section_of (codes "//")) (if bytes_eq k (codes "variable") then section_of (codes "variable") else (if bytes_eq k (codes "locals") then section_of (codes "locals") else (if bytes_eq k (codes "output") then section_of (codes "output") else (if bytes_eq k (codes "resource") then section_of (codes "resource") else (section_of (codes "")))))) h) [
   | inl comment ↦ subst IsOrderly comment p
   | inr h ↦ elim (by_test (λ s. AddsOfSection s d a b) (bytes_eq k (codes "variable")) (section_of (codes "variable")) (if bytes_eq k (codes "locals") then section_of (codes "locals") else (if bytes_eq k (codes "output") then section_of (codes "output") else (if bytes_eq k (codes "resource") then section_of (codes "resource") else (section_of (codes ""))))) h) [
-    | inl variables ↦ subst IsOrderly variables.2 (record { names = p.names; outputs = p.outputs })
+    | inl variables ↦ subst IsOrderly variables.2 (record { names = p.names; outputs = p.outputs; defaults = object_keeps AddsVariable AreKnownDefaults variable_keeps d a.variables variables.0 variables.1 p.defaults })
     | inr h ↦ elim (by_test (λ s. AddsOfSection s d a b) (bytes_eq k (codes "locals")) (section_of (codes "locals")) (if bytes_eq k (codes "output") then section_of (codes "output") else (if bytes_eq k (codes "resource") then section_of (codes "resource") else (section_of (codes "")))) h) [
-      | inl locals ↦ subst IsOrderly locals.2 (record { names = p.names; outputs = p.outputs })
+      | inl locals ↦ subst IsOrderly locals.2 (record { names = p.names; outputs = p.outputs; defaults = p.defaults })
       | inr h ↦ elim (by_test (λ s. AddsOfSection s d a b) (bytes_eq k (codes "output")) (section_of (codes "output")) (if bytes_eq k (codes "resource") then section_of (codes "resource") else (section_of (codes ""))) h) [
-        | inl outputs ↦ subst IsOrderly outputs.2 (record { names = p.names; outputs = object_keeps AddsOutput AreNamesInOrder output_keeps d a.outputs outputs.0 outputs.1 p.outputs })
+        | inl outputs ↦ subst IsOrderly outputs.2 (record { names = p.names; outputs = object_keeps AddsOutput AreNamesInOrder output_keeps d a.outputs outputs.0 outputs.1 p.outputs; defaults = p.defaults })
         | inr h ↦ elim (by_test (λ s. AddsOfSection s d a b) (bytes_eq k (codes "resource")) (section_of (codes "resource")) (section_of (codes "")) h) [
-          | inl blocks ↦ subst IsOrderly blocks.2 (record { names = object_keeps AddsType (AllByRecursion IsNoLocal) type_keeps d a.blocks blocks.0 blocks.1 p.names; outputs = p.outputs })
+          | inl blocks ↦ subst IsOrderly blocks.2 (record { names = object_keeps AddsType (AllByRecursion IsNoLocal) type_keeps d a.blocks blocks.0 blocks.1 p.names; outputs = p.outputs; defaults = p.defaults })
           | inr other ↦ absurd other
         ]
       ]
@@ -124,7 +186,7 @@ section_keeps k d a b h p = elim (by_test (λ s. AddsOfSection s d a b) (is_comm
 
 plain_orderly : IsOrderly plain_config
 unfolding IsStrictlySortedBy
-plain_orderly = record { names = tt; outputs = tt }
+plain_orderly = record { names = tt; outputs = tt; defaults = tt }
 
 later_labels : (first : BlockView) (blocks : Blocks) → AllByRecursion (λ b. address_cmp first b ≡ Less) blocks → AllByRecursion (λ l. label_cmp first.label l ≡ Less) (map (λ b. b.label) blocks)
 later_labels first [] h = tt
@@ -135,7 +197,83 @@ unfolding IsStrictlySortedBy
 by_label [] h = tt
 by_label (b ∷ blocks) h = (later_labels b blocks h.0, by_label blocks h.1)
 
+read_orderly : (tree : Data) (config : ConfigView) → IsConfiguration tree config → IsOrderly config
+read_orderly tree config h = object_keeps AddsSection IsOrderly section_keeps tree plain_config config h plain_orderly
+
 pub read_ordered : ReadConfigurationsAreOrdered
 read_ordered tree config h =
-    let orderly = object_keeps AddsSection IsOrderly section_keeps tree plain_config config h plain_orderly in
+    let orderly = read_orderly tree config h in
     (by_label config.blocks (blocks_in_order tree config h), orderly.names, orderly.outputs)
+
+-- ---- values of variables are known
+
+text_known : (t : Tree) (o : Option (List ℕ)) → known t ≡ true → known (text_or t o) ≡ true
+text_known t None h = h
+text_known t (Some s) h = refl
+
+element_known : (e : Element) (t : Tree) → known t ≡ true → known (element_as e t) ≡ true
+element_known elements.String t h = text_known t (scalar_text t) h
+element_known elements.Any t h = h
+element_known elements.Number t h = h
+element_known elements.Bool t h = h
+
+items_known : (e : Element) (ts : Items) → known_items ts ≡ true → known_items (items_as e ts) ≡ true
+items_known e no_items h = refl
+items_known e (item t ts) h =
+    and-both (known (element_as e t)) (known_items (items_as e ts)) (element_known e t (and-first (known t) (known_items ts) h)) (items_known e ts (and-second (known t) (known_items ts) h))
+
+entries_known : (e : Element) (es : Entries) → known_entries es ≡ true → known_entries (entries_as e es) ≡ true
+entries_known e no_entries h = refl
+entries_known e (entry k t es) h =
+    and-both (known (element_as e t)) (known_entries (entries_as e es)) (element_known e t (and-first (known t) (known_entries es) h)) (entries_known e es (and-second (known t) (known_entries es) h))
+
+list_known : (e : Element) (t : Tree) → known t ≡ true → known (value_as (types.List e) t) ≡ true
+list_known e (tree.list ts) h = items_known e ts h
+list_known e tree.null h = h
+list_known e (tree.boolean b) h = h
+list_known e (tree.whole z) h = h
+list_known e (tree.text s) h = h
+list_known e (tree.map es) h = h
+list_known e (tree.set ss) h = h
+list_known e tree.unknown h = h
+
+map_known : (e : Element) (t : Tree) → known t ≡ true → known (value_as (types.Map e) t) ≡ true
+map_known e (tree.map es) h = entries_known e es h
+map_known e tree.null h = h
+map_known e (tree.boolean b) h = h
+map_known e (tree.whole z) h = h
+map_known e (tree.text s) h = h
+map_known e (tree.list ts) h = h
+map_known e (tree.set ss) h = h
+map_known e tree.unknown h = h
+
+value_known : (value_type : VariableType) (t : Tree) → known t ≡ true → known (value_as value_type t) ≡ true
+value_known (types.One e) t h = element_known e t h
+value_known (types.List e) t h = list_known e t h
+value_known (types.Map e) t h = map_known e t h
+
+fitted_known : (value_type : VariableType) (o : Option Tree) (v : Tree) → ((t : Tree) → o ≡ Some t → known t ≡ true) → option_and_then (fitted value_type) o ≡ Some v → known v ≡ true
+fitted_known value_type None v h e = absurd (cc)
+fitted_known value_type (Some t) v h e = by_fit (fits value_type t) e
+  where
+    by_fit : (b : Bool) → (if b then Some (value_as value_type t) else None) ≡ Some v → known v ≡ true
+    by_fit true f = let same : value_as value_type t ≡ v = (cc) in sym (ap known same) ∙ value_known value_type t (h t refl)
+    by_fit false f = absurd (cc)
+
+default_known : (default : Option Tree) (t : Tree) → IsKnownDefault default → default ≡ Some t → known t ≡ true
+default_known None t h e = absurd (cc)
+default_known (Some u) t h e = let same : u ≡ t = (cc) in sym (ap known same) ∙ h
+
+taken_known : (o : Option Data) (default : Option Tree) (t : Tree) → IsKnownDefault default → taken_of o default ≡ Some t → known t ≡ true
+taken_known None default t h e = default_known default t h e
+taken_known (Some value) default t h e = read_known value t e
+
+values_known : (file : Option Data) (vs : List VariableView) (values : Entries) → AreKnownDefaults vs → AreValues file vs values → known_entries values ≡ true
+values_known file [] no_entries h are = refl
+values_known file [] (entry k t es) h are = absurd are
+values_known file (v ∷ vs) no_entries h are = absurd are
+values_known file (v ∷ vs) (entry k t es) h are =
+    and-both (known t) (known_entries es) (fitted_known v.value_type (taken_of (given file v.name) v.default) t (λ u e. taken_known (given file v.name) v.default u h.0 e) are.1) (values_known file vs es h.1 are.2)
+
+pub read_variables_known : ReadVariablesAreKnown
+read_variables_known tree config file values h are = values_known file config.variables values (read_orderly tree config h).defaults are
