@@ -28,7 +28,7 @@ use Rattle.tf_value.specs.Tree as tree
 use Rattle.tf_value.specs.Tree.{Tree, Items, no_items, item, Entries, no_entries, entry}
 use Rattle.tf_variables.specs.Types.{element_as, entries_as, fits, fitted, items_as, text_or, value_as}
 use Rattle.tf_variables.specs.Values.{AreValues, given, taken_of}
-use Rattle.tf_converges.specs.Read.{ReadConfigurationsAreOrdered, ReadVariablesAreKnown}
+use Rattle.tf_converges.specs.Read.{ReadHasOwnNames, ReadIsSound}
 use Rattle.tf_converges.specs.Twice.{HasOrderedOutputs, HasOwnNames}
 
 -- ---- what each member keeps, an object keeps
@@ -200,10 +200,8 @@ by_label (b ∷ blocks) h = (later_labels b blocks h.0, by_label blocks h.1)
 read_orderly : (tree : Data) (config : ConfigView) → IsConfiguration tree config → IsOrderly config
 read_orderly tree config h = object_keeps AddsSection IsOrderly section_keeps tree plain_config config h plain_orderly
 
-pub read_ordered : ReadConfigurationsAreOrdered
-read_ordered tree config h =
-    let orderly = read_orderly tree config h in
-    (by_label config.blocks (blocks_in_order tree config h), orderly.names, orderly.outputs)
+pub read_names : ReadHasOwnNames
+read_names tree config h = let orderly = read_orderly tree config h in (orderly.names, orderly.outputs)
 
 -- ---- values of variables are known
 
@@ -275,5 +273,10 @@ values_known file (v ∷ vs) no_entries h are = absurd are
 values_known file (v ∷ vs) (entry k t es) h are =
     and-both (known t) (known_entries es) (fitted_known v.value_type (taken_of (given file v.name) v.default) t (λ u e. taken_known (given file v.name) v.default u h.0 e) are.1) (values_known file vs es h.1 are.2)
 
-pub read_variables_known : ReadVariablesAreKnown
-read_variables_known tree config file values h are = values_known file config.variables values (read_orderly tree config h).defaults are
+pub read_sound : ReadIsSound
+read_sound ms tree config file values prior h are schemas valid = record {
+  blocks = by_label config.blocks (blocks_in_order tree config h);
+  schemas = schemas;
+  variables_known = values_known file config.variables values (read_orderly tree config h).defaults are;
+  valid = valid;
+}

@@ -1,22 +1,25 @@
--- What configurations that were read keep to.
-use Rattle.std.specs.Prelude.{◌≡◌, true, map, Option}
-use Rattle.std.specs.List.Sorted.{IsStrictlySortedBy}
+-- What configurations and variables that were read keep to.
+use Rattle.std.specs.Prelude.{◌≡◌, ℕ, List, Option, Some}
 use Rattle.serde_json.specs.Data.{Data}
-use Rattle.tf_address.specs.Label.{label_cmp}
 use Rattle.tf_config.specs.Configuration.{IsConfiguration}
 use Rattle.tf_config_data.specs.Config.{ConfigView}
-use Rattle.tf_value.specs.Known.{known_entries}
+use Rattle.tf_protocol.specs.Meaning.{Meaning, schema_in}
+use Rattle.tf_protocol.specs.Schema.{SchemaView, IsSchema}
+use Rattle.tf_state.specs.Valid.{IsValid}
+use Rattle.tf_state_data.specs.State.{StateView}
 use Rattle.tf_value.specs.Tree.{Entries}
 use Rattle.tf_variables.specs.Values.{AreValues}
+use Rattle.tf_converges.specs.Converges.{IsSound}
 use Rattle.tf_converges.specs.Twice.{HasOrderedOutputs, HasOwnNames}
 
--- A configuration that a tree stands for, as each that was read, has its blocks in the order of their addresses, names that each
--- stand for one thing, and its outputs in byte order of their names.
-abbrev pub ReadConfigurationsAreOrdered : Type 0
-ReadConfigurationsAreOrdered =
-    (tree : Data) (config : ConfigView) → IsConfiguration tree config → IsStrictlySortedBy label_cmp (map (λ b. b.label) config.blocks) × HasOwnNames config × HasOrderedOutputs config
+-- What a plan starts from is sound where the configuration was read, its variables have these values by a variables file or by
+-- default, providers have schemas, and the prior state is valid.
+abbrev pub ReadIsSound : Type 0
+ReadIsSound =
+    (ms : List Meaning) (tree : Data) (config : ConfigView) (file : Option Data) (values : Entries) (prior : StateView)
+    → IsConfiguration tree config → AreValues file config.variables values
+    → ((name : List ℕ) (schema : SchemaView) → schema_in name ms ≡ Some schema → IsSchema schema) → IsValid prior → IsSound ms config values prior
 
--- The values that variables of a configuration that was read have by a variables file, or by default, are known.
-abbrev pub ReadVariablesAreKnown : Type 0
-ReadVariablesAreKnown =
-    (tree : Data) (config : ConfigView) (file : Option Data) (values : Entries) → IsConfiguration tree config → AreValues file config.variables values → known_entries values ≡ true
+-- In a configuration that was read each name stands for one thing, and outputs stand in byte order of their names.
+abbrev pub ReadHasOwnNames : Type 0
+ReadHasOwnNames = (tree : Data) (config : ConfigView) → IsConfiguration tree config → HasOwnNames config × HasOrderedOutputs config

@@ -4,7 +4,7 @@ ghost use Rattle.tf_converges.specs.Converges.{Converges, NothingIsRefusedAgain,
 ghost use Rattle.tf_converges.specs.Instances.{AnsweredInstancesRest, ObjectsAreSettled, UntouchedInstancesRest};
 ghost use Rattle.tf_converges.specs.Known.{ExpressionsStayKnown};
 ghost use Rattle.tf_converges.specs.Quiet.{QuietAppliesKeepObjects};
-ghost use Rattle.tf_converges.specs.Read.{ReadConfigurationsAreOrdered, ReadVariablesAreKnown};
+ghost use Rattle.tf_converges.specs.Read.{ReadHasOwnNames, ReadIsSound};
 ghost use Rattle.tf_converges.specs.Rest.{NothingIsPlannedAtRest, NothingIsRefusedAtRest};
 ghost use Rattle.tf_converges.specs.Twice.{ReportsSettle, SecondAppliesChangeFlags, SecondAppliesKeepObjects, SecondSerialsTell, ThirdAppliesChangeNothing, ThirdAppliesKeepRecords};
 
@@ -71,9 +71,9 @@ pub fn applies_settle()
     objects_grow();
 }
 
-/// Configurations that were read have their blocks in the order of their addresses, names that each stand for one thing, and
-/// their outputs in byte order of their names; and the values that their variables have are known.
+/// What a plan starts from is sound where the configuration was read and its variables have values; and each of its names
+/// stands for one thing.
 pub fn read_configurations_fit()
-    ensures ordered { ReadConfigurationsAreOrdered }
-    ensures known { ReadVariablesAreKnown }
+    ensures sound { ReadIsSound }
+    ensures names { ReadHasOwnNames }
 {}

@@ -1,5 +1,5 @@
-use Rattle.tf_converges.proofs.Read.{read_ordered, read_variables_known}
+use Rattle.tf_converges.proofs.Read.{read_names, read_sound}
 use Rattle.tf_converges.proofs.laws.read_configurations_fit.Goals as goal
 
 pub returns : goal.returns
-returns c = record { ordered = read_ordered; known = read_variables_known }
+returns c = record { sound = read_sound; names = read_names }
