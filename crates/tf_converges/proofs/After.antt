@@ -150,7 +150,7 @@ in_deposed (Some k) t s c = (k, key_of s c, not_new s c)
     not_new x d = ap is_replacement (sym (only x d))
 
 -- the steps of nothing are about deposed objects
-nothing_deposed : (records : List RecordView) (s : StepView) → Contains (decided_steps records decision.nothing) s → deposed_key s ≡ None → ⊥
+pub nothing_deposed : (records : List RecordView) (s : StepView) → Contains (decided_steps records decision.nothing) s → deposed_key s ≡ None → ⊥
 nothing_deposed records s c none =
     let r = in_flat_map deposed_step records s c in
     let key = in_deposed r.0.id.deposed r.0.attributes s r.2 in
@@ -233,7 +233,7 @@ module _ (x : Applied) where
       let long : length x.done ≡ length x.plan.actions = x.outcomes.all in
       good_call x.ms x.requests x.plan x.excuses x.done k a x.outcomes inside at (good_at x.done k x.good (omega (arith, inside, long)))
 
-  well : AreDoneWell x.ms x.plan.actions x.done
+  pub well : AreDoneWell x.ms x.plan.actions x.done
   well = well_from x.ms x.plan.actions x.done x.outcomes.all (λ k a at. done_well x.ms x.requests x.plan (objects_by x.plan (seen_by (done_at x.done) (predecessors_of x.plan.order k))) a (done_at x.done k) (call_at_index k a at))
 
   destroyed_gone : (label : LabelView) (id : ObjectIdView) → IsDestroyed (setting x) label id → left_of_object label id (destroys_in (changes_in x.ms x.heads x.done)) ≡ Some gone
@@ -289,13 +289,13 @@ module _ (x : Applied) where
 
   -- ---- by what came of the instance
 
-  abbrev told : LabelView → InstanceKeyView → Option ApplyView
+  abbrev pub told : LabelView → InstanceKeyView → Option ApplyView
   told label key = apply_of_instance label key (applies_in (changes_in x.ms x.heads x.done) ++ map as_apply (renewals x.plan))
 
-  abbrev left_over : LabelView → InstanceKeyView → Option RecordView
+  abbrev pub left_over : LabelView → InstanceKeyView → Option RecordView
   left_over label key = after_destroy (left_of_object label (object_at key None) (destroys_in (changes_in x.ms x.heads x.done))) (record_in label (object_at key None) x.plan.prior)
 
-  current_is : (label : LabelView) (key : InstanceKeyView)
+  pub current_is : (label : LabelView) (key : InstanceKeyView)
       → record_in label (object_at key None) x.after ≡ current_after (option_map_or (λ a. a.given) (told label key) (nothing_given key)) (option_map_or (λ a. a.applied) (told label key) unwanted) (left_over label key)
   current_is label key = x.state.records label (object_at key None)
 

@@ -43,7 +43,7 @@ use Rattle.tf_converges.specs.Rest.{AreUnrefused, EachMeans}
 
 -- ---- outputs
 
-decided : {P Q : Type 0} (b : Bool) → MatchBool b P Q → (Q → ⊥) → P
+pub decided : {P Q : Type 0} (b : Bool) → MatchBool b P Q → (Q → ⊥) → P
 decided true h no_other = h
 decided false h no_other = absurd (no_other h)
 

@@ -148,21 +148,29 @@ module _ (ms : List Meaning) (plan : PlanView) (label : LabelView) (key : Instan
   found_renewal rs None e = inl refl
   found_renewal rs (Some x) e = inr (x, refl, found_holds (λ y. y.applied ≡ unplanned) (λ y. is_instance label key y.label y.given.key) (map as_apply rs) x (renewals_unplanned rs) e)
 
-  -- What is known of an instance: an action created or updated it, and saved what was answered; or none did, and nothing was
-  -- saved.
-  pub wanted_in : (actions : List ActionView) (heads : List Head) (done : List Done) (rs : List RenewalView) → AreHeads plan actions heads → AreDoneWell ms actions done
+  -- What is known of an instance: an action created or updated it, and saved what was answered; or none did, and it is told
+  -- what the renewals say.
+  pub told_in : (actions : List ActionView) (heads : List Head) (done : List Done) (rs : List RenewalView) → AreHeads plan actions heads → AreDoneWell ms actions done
       → IsApplied plan label key actions done (apply_of_instance label key (applies_in (changes_in ms heads done) ++ map as_apply rs))
-      ⊎ (((k : ℕ) (a : ActionView) → slice_get actions k ≡ Some a → IsApplyAt label key a → ⊥) × IsUnsaved (apply_of_instance label key (applies_in (changes_in ms heads done) ++ map as_apply rs)))
-  wanted_in actions heads done rs are well =
+      ⊎ (((k : ℕ) (a : ActionView) → slice_get actions k ≡ Some a → IsApplyAt label key a → ⊥)
+      × (apply_of_instance label key (applies_in (changes_in ms heads done) ++ map as_apply rs) ≡ apply_of_instance label key (map as_apply rs)))
+  told_in actions heads done rs are well =
       let test_of = λ (y : ApplyView). is_instance label key y.label y.given.key in
       let applies = applies_in (changes_in ms heads done) in
       let joined = found_joined test_of applies (map as_apply rs) in
       elim (applied_in actions heads done are well) [
         | inl x ↦ inl (record { k = x.k; a = x.a; at = x.at; is = x.is; deposed = x.deposed; key_for = x.key_for; found = joined ∙ ap (λ (o : Option ApplyView). option_or o (find test_of (map as_apply rs))) x.found })
-        | inr x ↦
-            let none : apply_of_instance label key (applies ++ map as_apply rs) ≡ find test_of (map as_apply rs) = joined ∙ ap (λ (o : Option ApplyView). option_or o (find test_of (map as_apply rs))) x.nothing in
-            inr (x.none, subst IsUnsaved (sym none) (found_renewal rs (find test_of (map as_apply rs)) refl))
+        | inr x ↦ inr (x.none, joined ∙ ap (λ (o : Option ApplyView). option_or o (find test_of (map as_apply rs))) x.nothing)
       ]
+
+  -- so either it was saved or nothing was
+  pub wanted_in : (actions : List ActionView) (heads : List Head) (done : List Done) (rs : List RenewalView) → AreHeads plan actions heads → AreDoneWell ms actions done
+      → IsApplied plan label key actions done (apply_of_instance label key (applies_in (changes_in ms heads done) ++ map as_apply rs))
+      ⊎ (((k : ℕ) (a : ActionView) → slice_get actions k ≡ Some a → IsApplyAt label key a → ⊥) × IsUnsaved (apply_of_instance label key (applies_in (changes_in ms heads done) ++ map as_apply rs)))
+  wanted_in actions heads done rs are well = elim (told_in actions heads done rs are well) [
+    | inl x ↦ inl x
+    | inr x ↦ inr (x.0, subst IsUnsaved (sym x.1) (found_renewal rs (apply_of_instance label key (map as_apply rs)) refl))
+  ]
 
 -- ---- destroys
 

@@ -27,3 +27,15 @@ pub mod Whole
 pub mod Unrefused
 pub mod Again
 pub mod Quiet
+pub mod Flagless
+pub mod Tied
+pub mod Renewals
+pub mod Depends
+pub mod Anew
+pub mod Homes
+pub mod Stays
+pub mod Outputs
+pub mod Valued
+pub mod Twice
+pub mod Thrice
+pub mod Read

@@ -20,7 +20,7 @@ use Rattle.tf_value.specs.Tree.{Entries}
 use Rattle.tf_converges.proofs.Events.{IsUnsaved, wanted_in}
 use Rattle.tf_converges.specs.Quiet.{IsRenewed, QuietAppliesKeepObjects}
 
-no_heads : (plan : PlanView) (heads : List Head) → AreHeads plan [] heads → [] ≡ heads
+pub no_heads : (plan : PlanView) (heads : List Head) → AreHeads plan [] heads → [] ≡ heads
 no_heads plan [] are = refl
 no_heads plan (h ∷ heads) are = absurd are
 

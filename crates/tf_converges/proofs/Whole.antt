@@ -3,10 +3,11 @@ use Rattle.std.proofs.Common.{◌≡◌, ◌∙◌, ◌<◌, ℕ, Bool, true, Li
 use Rattle.std.specs.List.{AllByRecursion}
 use Rattle.std.specs.List.Sorted.{IsStrictlySortedBy}
 use Rattle.tf_action_data.specs.Action.{ActionView}
+use Rattle.tf_additions.specs.Dependencies.{dependencies}
 use Rattle.tf_address.specs.Label.{label_cmp}
 use Rattle.tf_address.specs.ObjectId.{InstanceKeyView}
 use Rattle.tf_change.specs.Laws.{InstancesGrow}
-use Rattle.tf_config_data.specs.Config.{ConfigView}
+use Rattle.tf_config_data.specs.Config.{BlockView, ConfigView}
 use Rattle.tf_config_data.specs.Names.{NameView, Meant, a_local, a_block, directly_before, meant_at, names_of}
 use Rattle.tf_deciding.specs.Stage.{deciding, records_at}
 use Rattle.tf_environment.specs.Laws.{StandingsGrow}
@@ -35,12 +36,16 @@ use Rattle.tf_report.specs.Outcomes.{outcome_of}
 use Rattle.tf_report.specs.Report.{objects_after}
 use Rattle.tf_state.specs.Valid.{IsPresent, IsValid}
 use Rattle.tf_state_data.specs.Ids.{AreById}
+use Rattle.tf_state_after.specs.After.{object_at}
+use Rattle.tf_state_data.specs.Record.{RecordView}
 use Rattle.tf_state_data.specs.Resource.{ResourceView}
-use Rattle.tf_state_data.specs.State.{StateView, state_of}
+use Rattle.tf_state_data.specs.State.{StateView, record_in, state_of}
 use Rattle.tf_value.specs.Known.{known_entries}
 use Rattle.tf_value.specs.Tree.{Tree, Entries}
+use Rattle.tf_converges.proofs.After.{kept_at}
 use Rattle.tf_converges.proofs.Again.{none_refused}
 use Rattle.tf_converges.proofs.Applied.{Applied}
+use Rattle.tf_converges.proofs.Depends.{depends}
 use Rattle.tf_converges.proofs.Lists.{all_weaker}
 use Rattle.tf_converges.proofs.Places.{meant_within}
 use Rattle.tf_converges.proofs.Rests.{after_rests}
@@ -83,7 +88,7 @@ module _ (ms : List Meaning) (config : ConfigView) (variables : Entries) (prior 
   own_acyclic : IsAcyclic (own_planned.ordered.tied.dependence)
   own_acyclic n = sym (ap (λ (f : ℕ → ℕ → Bool). f n n) own_planned.ordered.tied.needs) ∙ carried.acyclic n
 
-  own_ranked : Ranked (directly_before (plan_names plan))
+  pub own_ranked : Ranked (directly_before (plan_names plan))
   own_ranked = own_planned.ordered.tied.is_dependence.ranked own_acyclic
 
   applied : Applied
@@ -125,6 +130,16 @@ module _ (ms : List Meaning) (config : ConfigView) (variables : Entries) (prior 
   unfolding applied
   own_rests law grows grow = after_rests applied law grows grow
 
+  -- and the record of each current object lists what its resource needs
+  pub own_depends : (n : ℕ) (block : BlockView) (key : InstanceKeyView) (y : RecordView) → meant_at (plan_names plan) n ≡ Some (a_block block) → is_among (instance_keys (plan.shapes n)) key ≡ true
+      → record_in block.label (object_at key None) after ≡ Some y → y.dependencies ≡ dependencies plan.needs (plan_names plan) n
+  unfolding applied
+  own_depends n block key y meant among known =
+      let kept = kept_at applied n block key meant among in
+      let both : Some kept.only ≡ Some y = sym kept.there ∙ known in
+      let same : kept.only ≡ y = (cc) in
+      sym (ap (λ (r : RecordView). r.dependencies) same) ∙ depends applied n block key meant kept
+
 pub state_rests : ExpressionsStayKnown → InstancesGrow → StandingsGrow → StateAfterIsAtRest
 state_rests law grows grow ms config variables prior plan done outputs after sound carried = own_rests ms config variables prior plan done outputs after sound carried law grows grow
 
@@ -141,7 +156,7 @@ one_shape : (s t : ShapeView) (r : Result ShapeView RepetitionFault) → r ≡ O
 one_shape s t r e f = let same : ◌≡◌ {A = Result ShapeView RepetitionFault} (Ok s) (Ok t) = sym e ∙ f in cc
 
 -- two expansions of one configuration give each resource the same instances
-same_shapes : (variables : Entries) (names : List NameView) (shapes others : ℕ → ShapeView) → Ranked (directly_before names) → AreInstances variables names shapes → AreInstances variables names others
+pub same_shapes : (variables : Entries) (names : List NameView) (shapes others : ℕ → ShapeView) → Ranked (directly_before names) → AreInstances variables names shapes → AreInstances variables names others
     → (n : ℕ) → n < length names → shapes n ≡ others n
 same_shapes variables names shapes others ranked are also n h =
     let found = solution-exists (length names) (directly_before names) (rule expansion variables names) ranked in
@@ -153,7 +168,7 @@ stands_same shapes others objects n (Some (a_local x)) env e = refl
 stands_same shapes others objects n (Some (a_block block)) env e = ap (λ (s : ShapeView). together (Some s) (λ key. Some (objects n key))) (sym e)
 
 -- resources at rest are so with these
-rest_same : (ms : List Meaning) (variables : Entries) (names : List NameView) (shapes others : ℕ → ShapeView) (objects : ℕ → InstanceKeyView → Tree) (resources : List ResourceView)
+pub rest_same : (ms : List Meaning) (variables : Entries) (names : List NameView) (shapes others : ℕ → ShapeView) (objects : ℕ → InstanceKeyView → Tree) (resources : List ResourceView)
     → ((n : ℕ) → n < length names → shapes n ≡ others n) → AreAtRest ms variables names shapes objects resources → AreAtRest ms variables names others objects resources
 rest_same ms variables names shapes others objects resources same h = record {
   blocks = h.blocks;
@@ -185,7 +200,7 @@ good_one (excused moment) e = absurd (cc)
 good_one (faulted why) e = absurd (cc)
 good_one (called asked answer v) e = let same : v ≡ verdict.Good = (cc) in ap is_good_verdict same
 
-all_good : (done : List Done) → AllByRecursion (λ o. o ≡ Judged verdict.Good) (map outcome_of done) → AllByRecursion (λ d. is_good d ≡ true) done
+pub all_good : (done : List Done) → AllByRecursion (λ o. o ≡ Judged verdict.Good) (map outcome_of done) → AllByRecursion (λ d. is_good d ≡ true) done
 all_good [] h = tt
 all_good (d ∷ done) h = (good_one d h.0, all_good done h.1)
 

@@ -35,8 +35,8 @@ use Rattle.tf_value.specs.Tree.{Tree, Entries}
 use Rattle.tf_converges.specs.Rest.{AreAtRest, EachMeans}
 
 -- What a plan starts from is sound: blocks stand in the order of their addresses, providers have schemas, the values of
--- variables are known, and the prior state is valid. A schema as `Schema::new` makes it and a state that was read keep to it; that
--- configurations and variables that were read do isn't shown here.
+-- variables are known, and the prior state is valid. A schema as `Schema::new` makes it keeps to it, and so do a state, a
+-- configuration and variables that were read.
 pub record IsSound (ms : List Meaning) (config : ConfigView) (variables : Entries) (prior : StateView) : Type 0 where
   pub blocks : IsStrictlySortedBy label_cmp (map (λ b. b.label) config.blocks)
   pub schemas : (name : List ℕ) (schema : SchemaView) → schema_in name ms ≡ Some schema → IsSchema schema

@@ -4,7 +4,9 @@ ghost use Rattle.tf_converges.specs.Converges.{Converges, NothingIsRefusedAgain,
 ghost use Rattle.tf_converges.specs.Instances.{AnsweredInstancesRest, ObjectsAreSettled, UntouchedInstancesRest};
 ghost use Rattle.tf_converges.specs.Known.{ExpressionsStayKnown};
 ghost use Rattle.tf_converges.specs.Quiet.{QuietAppliesKeepObjects};
+ghost use Rattle.tf_converges.specs.Read.{ReadHasOwnNames, ReadIsSound};
 ghost use Rattle.tf_converges.specs.Rest.{NothingIsPlannedAtRest, NothingIsRefusedAtRest};
+ghost use Rattle.tf_converges.specs.Twice.{ReportsSettle, SecondAppliesChangeFlags, SecondAppliesKeepObjects, SecondSerialsTell, ThirdAppliesChangeNothing, ThirdAppliesKeepRecords};
 
 use tf_change::laws::objects_grow;
 use tf_environment::laws::standings_grow;
@@ -51,4 +53,27 @@ pub fn applies_converge()
 /// need and whether these are late, and no more.
 pub fn quiet_applies_keep_objects()
     ensures { QuietAppliesKeepObjects }
+{}
+
+/// After an apply that went well a second one keeps each object and all that is known of it, but for the flag
+/// `create_before_destroy`. Where each output had a value, the second leaves the same state but for such flags, and a serial
+/// that is one more exactly where one changed; and a third leaves the very state that the second left.
+pub fn applies_settle()
+    ensures objects { SecondAppliesKeepObjects }
+    ensures second { SecondAppliesChangeFlags }
+    ensures serials { SecondSerialsTell }
+    ensures records { ThirdAppliesKeepRecords }
+    ensures third { ThirdAppliesChangeNothing }
+    ensures reports { ReportsSettle }
+{
+    known_names_give_known_values();
+    standings_grow();
+    objects_grow();
+}
+
+/// What a plan starts from is sound where the configuration was read and its variables have values; and each of its names
+/// stands for one thing.
+pub fn read_configurations_fit()
+    ensures sound { ReadIsSound }
+    ensures names { ReadHasOwnNames }
 {}
