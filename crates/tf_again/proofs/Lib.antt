@@ -1,0 +1,4 @@
+mod Again
+mod Known
+mod Planned
+mod Reading

@@ -1,0 +1,77 @@
+-- What holds of texts whose apply went well: the same configuration and variables have nothing left to do.
+use Rattle.std.specs.Prelude.{◌≡◌, ℕ, if◌then◌else◌, List, [], codes, Option, Some, Result, Ok, Err, String, string_bytes}
+use Rattle.std.specs.List.{AllByRecursion}
+use Rattle.std.specs.declared.alloc.AllocError.{AllocError}
+use Rattle.std.specs.declared.alloc.Global.{Global}
+use Rattle.tf_address.specs.Label.{LabelView}
+use Rattle.tf_address.specs.ObjectId.{ObjectIdView}
+use Rattle.tf_cli.specs.Applies.{IsApplied, IsPlanText, state_in}
+use Rattle.tf_cli.specs.Shown.{applied_status}
+use Rattle.tf_cli.specs.declared.applied.Applied.{Applied}
+use Rattle.tf_converges.specs.Quiet.{IsRenewed}
+use Rattle.tf_inputs.specs.Texts.{Texts, the_texts}
+use Rattle.tf_outcome.specs.declared.excuse.Outcome.TheVariants.{Judged}
+use Rattle.tf_protocol.specs.Meaning.{Meaning, schema_in}
+use Rattle.tf_protocol.specs.Schema.{SchemaView, IsSchema}
+use Rattle.tf_protocol.specs.declared.verdict.Verdict.TheVariants.{Good}
+use Rattle.tf_report.specs.Report.{report_of}
+use Rattle.tf_state_data.specs.State.{record_in}
+
+-- Whatever schema the providers have for a type is one as `Schema::new` makes them: at most 200 attributes, in byte order of
+-- names that differ, of which none is reserved.
+abbrev pub HaveSchemas : List Meaning → Type 0
+HaveSchemas ms = (name : List ℕ) (schema : SchemaView) → schema_in name ms ≡ Some schema → IsSchema schema
+
+-- An apply went well where each outcome that its report tells is a good verdict: no action was skipped, excused or at fault.
+abbrev pub WentWell : Applied → Type 0
+WentWell a = AllByRecursion (λ o. o ≡ Judged Good) (report_of a.walked).outcomes.items
+
+-- the same configuration and variables, with this as the prior state's text
+abbrev pub over : Texts → List ℕ → Texts
+over texts state = the_texts texts.config texts.vars (Some state)
+
+-- the text of a plan without actions
+abbrev pub no_changes : List ℕ
+no_changes = codes "No changes.\n"
+
+-- ---- over the state that an apply left
+
+-- An apply of texts went well, and there was memory for the text of the state that it left. Where the same configuration and
+-- variables have a plan over that text, its text is `No changes.` in a line.
+abbrev pub NothingIsPlannedAgain : Type 0
+NothingIsPlannedAgain =
+    (ms : List Meaning) (texts : Texts) (lineage : List ℕ) (a : Applied) (saved : String Global) (text : List ℕ)
+    → HaveSchemas ms → IsApplied ms texts lineage a → WentWell a → a.state ≡ Ok saved
+    → IsPlanText ms (over texts (string_bytes saved)) text → text ≡ no_changes
+
+-- A second apply did nothing after a first: its plan's text is `No changes.` in a line, its report tells of no action, and of each
+-- object the record stays, but for the dependencies and the flag `create_before_destroy` that it is given anew.
+pub record DidNothing (first second : Applied) : Type 0 where
+  pub shown : string_bytes second.plan ≡ no_changes
+  pub no_outcomes : (report_of second.walked).outcomes.items ≡ []
+  pub kept : (label : LabelView) (id : ObjectIdView) → IsRenewed (record_in label id (state_in first)) (record_in label id (state_in second))
+
+-- Nor does an apply over that text do anything, where it answers.
+abbrev pub NothingIsDoneAgain : Type 0
+NothingIsDoneAgain =
+    (ms : List Meaning) (texts : Texts) (lineage other : List ℕ) (a : Applied) (saved : String Global) (again : Applied)
+    → HaveSchemas ms → IsApplied ms texts lineage a → WentWell a → a.state ≡ Ok saved
+    → IsApplied ms (over texts (string_bytes saved)) other again → DidNothing a again
+
+-- ---- by the status
+
+-- the texts with what was written over the prior state's, where there was memory for it
+abbrev pub with_written : Texts → Result (String Global) AllocError → Texts
+with_written texts (Ok saved) = over texts (string_bytes saved)
+with_written texts (Err why) = texts
+
+-- What texts there are after an apply: the state's text is written exactly where the state has changed, and else all stays.
+abbrev pub texts_after : Texts → Applied → Texts
+texts_after texts a = if a.changed then with_written texts a.state else texts
+
+-- Where the status of an apply is 0, what the texts after it plan is shown as `No changes.` in a line, where they have a plan.
+abbrev pub NothingIsPlannedAfterSuccess : Type 0
+NothingIsPlannedAfterSuccess =
+    (ms : List Meaning) (texts : Texts) (lineage : List ℕ) (a : Applied) (text : List ℕ)
+    → HaveSchemas ms → IsApplied ms texts lineage a → applied_status a ≡ 0
+    → IsPlanText ms (texts_after texts a) text → text ≡ no_changes

@@ -1,0 +1,28 @@
+//! Laws on texts after an apply.
+
+ghost use Rattle.tf_again.specs.Again.{NothingIsDoneAgain, NothingIsPlannedAfterSuccess, NothingIsPlannedAgain};
+
+use tf_config::{blocks_are_in_order, faultless_trees_stand};
+use tf_converges::laws::{applies_converge, quiet_applies_keep_objects};
+use tf_outcome::laws::requests_exist;
+use tf_state::{new_states_are_valid, read_states_are_valid, texts_are_of_one, texts_read_back};
+use tf_variables::values_are_one;
+
+/// Where an apply of texts went well, the same configuration and variables plan nothing over the text of the state that it
+/// left, and an apply over that text does nothing. Where its status is 0, the texts that there are after it plan nothing.
+pub fn texts_converge()
+    ensures planned { NothingIsPlannedAgain }
+    ensures done { NothingIsDoneAgain }
+    ensures success { NothingIsPlannedAfterSuccess }
+{
+    faultless_trees_stand();
+    blocks_are_in_order();
+    values_are_one();
+    read_states_are_valid();
+    new_states_are_valid();
+    texts_are_of_one();
+    texts_read_back();
+    requests_exist();
+    applies_converge();
+    quiet_applies_keep_objects();
+}
