@@ -1,23 +1,20 @@
 -- What holds of texts whose apply went well.
-use Rattle.std.proofs.Common.{◌≡◌, ◌∙◌, ℕ, Bool, true, false, not, ◌&&◌, if◌then◌else◌, List, [], ◌∷◌, Option, Some, Result, Ok, Err, String, Global, length, map, refl, sym, ap, subst, string_bytes, arith}
+use Rattle.std.proofs.Common.{◌≡◌, ◌∙◌, ℕ, Bool, true, false, not, ◌&&◌, if◌then◌else◌, List, [], ◌∷◌, Result, Ok, Err, String, Global, length, map, refl, sym, ap, subst, string_bytes, arith}
 use Rattle.std.proofs.lemmas.Str.{IsUtf8-string_bytes}
 use Rattle.std.specs.List.{AllByRecursion, list_all}
 use Rattle.std.specs.Prelude.{IfOk, is_err}
 use Rattle.std.specs.Str.{IsUtf8}
 use Rattle.std.specs.declared.alloc.AllocError.{AllocError}
-use Rattle.tf_address.specs.Label.{LabelView}
-use Rattle.tf_address.specs.ObjectId.{ObjectIdView}
 use Rattle.tf_cli.specs.Applies.{IsApplied, IsPlanOf, IsPlanText, state_in}
-use Rattle.tf_cli.specs.Shown.{all_good, applied_status, cant_write, is_empty, is_good_outcome, is_torn}
+use Rattle.tf_cli.specs.Shown.{all_good, cant_write, is_empty, is_good_outcome, is_torn}
 use Rattle.tf_cli.specs.declared.applied.Applied.{Applied}
 use Rattle.tf_converges.specs.Quiet.{IsRenewed, QuietAppliesKeepObjects}
-use Rattle.tf_inputs.specs.Texts.{StandFor, Texts}
+use Rattle.tf_inputs.specs.Texts.{Texts}
 use Rattle.tf_outcome.specs.Outcome.{Done}
 use Rattle.tf_outcome.specs.declared.excuse.Outcome.{Outcome}
 use Rattle.tf_outcome.specs.declared.excuse.Outcome.TheVariants as outcome
 use Rattle.tf_outputs.specs.Outputs.{outputs_after}
 use Rattle.tf_plan_data.specs.Plan.{PlanView}
-use Rattle.tf_plan_text.specs.Text.{plan_text}
 use Rattle.tf_protocol.specs.Meaning.{Meaning}
 use Rattle.tf_protocol.specs.declared.verdict.Verdict.{Verdict}
 use Rattle.tf_protocol.specs.declared.verdict.Verdict.TheVariants as verdict
@@ -28,10 +25,9 @@ use Rattle.tf_state.specs.Laws.{TextIsOfOne, TextReadsAsState}
 use Rattle.tf_state.specs.Table.{Reads}
 use Rattle.tf_state.specs.Text.{state_text}
 use Rattle.tf_state_data.specs.State.{StateView, record_in}
-use Rattle.tf_value.specs.Tree.{Entries}
-use Rattle.tf_again.proofs.Planned.{Laws, none_again, plan_ranked, reported, shown_none}
+use Rattle.tf_again.proofs.Planned.{Laws, no_entries, none_again, plan_ranked, reported, shown_none}
 use Rattle.tf_again.proofs.Reading.{one_prior}
-use Rattle.tf_again.specs.Again.{DidNothing, HaveSchemas, NothingIsDoneAgain, NothingIsPlannedAfterSuccess, NothingIsPlannedAgain, WentWell, no_changes, over, with_written}
+use Rattle.tf_again.specs.Again.{HaveSchemas, NothingIsDoneAgain, NothingIsPlannedAfterSuccess, NothingIsPlannedAgain, WentWell, no_changes, over, with_written}
 
 -- ---- the state that was written reads back
 
@@ -78,6 +74,7 @@ nothing_is_done_again laws back one quiet ms texts lineage other a saved again s
     let before : plan.prior ≡ state_in a = planned.planned.prior ∙ prior_again back one ms texts lineage a applied saved h other plan planned in
     record {
       shown = second.carried_out.shown ∙ shown_none plan.late plan.actions none;
+      no_calls = no_entries ms plan again.walked requests.0 requests.1 second.carried_out.walked none;
       no_outcomes = told.2.told.outcomes ∙ none_of told.0 (length plan.actions) told.2.solved.all (ap length none);
       kept = λ label id.
           subst (λ (s : StateView). IsRenewed (record_in label id s) (record_in label id (state_in again))) before

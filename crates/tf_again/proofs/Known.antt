@@ -1,5 +1,5 @@
 -- The values of variables are known: so is what a file gives, what a configuration has as a default, and what a type makes of it.
-use Rattle.std.proofs.Common.{◌≡◌, ℕ, Bool, true, false, ◌&&◌, if◌then◌else◌, List, [], ◌∷◌, Option, Some, None, Ordering, Less, Equal, Greater, refl, sym, ap, subst, ◌∙◌}
+use Rattle.std.proofs.Common.{◌≡◌, ℕ, Bool, true, false, ◌&&◌, if◌then◌else◌, List, [], ◌∷◌, Option, Some, None, Ordering, Less, Equal, Greater, refl, subst, ◌∙◌}
 use Rattle.std.specs.Cmp.Lexicographic.{slice_cmp}
 use Rattle.std.specs.List.{AllByRecursion}
 use Rattle.std.specs.Ordering.{match_ordering, nat_cmp}
@@ -194,7 +194,7 @@ section_keeps k =
     (if_case (λ s. (d : Data) (a b : ConfigView) → AddsOfSection s d a b → AllByRecursion HasKnownDefault a.variables → AllByRecursion HasKnownDefault b.variables) (bytes_eq k (codes "variable")) variables
     (if bytes_eq k (codes "locals") then locals else (if bytes_eq k (codes "output") then outputs else (if bytes_eq k (codes "resource") then resources else other)))
     (λ d a b h all.
-        subst (λ (c : ConfigView). AllByRecursion HasKnownDefault c.variables) h.2 (object_keeps AddsVariable (AllByRecursion HasKnownDefault) variable_keeps d a.variables h.0 h.1 all))
+    subst (λ (c : ConfigView). AllByRecursion HasKnownDefault c.variables) h.2 (object_keeps AddsVariable (AllByRecursion HasKnownDefault) variable_keeps d a.variables h.0 h.1 all))
     (if_case (λ s. (d : Data) (a b : ConfigView) → AddsOfSection s d a b → AllByRecursion HasKnownDefault a.variables → AllByRecursion HasKnownDefault b.variables) (bytes_eq k (codes "locals")) locals
     (if bytes_eq k (codes "output") then outputs else (if bytes_eq k (codes "resource") then resources else other))
     (λ d a b h all. subst (λ (c : ConfigView). AllByRecursion HasKnownDefault c.variables) h.2 all)

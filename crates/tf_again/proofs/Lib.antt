@@ -2,3 +2,4 @@ mod Again
 mod Known
 mod Planned
 mod Reading
+mod Schemas

@@ -1,8 +1,9 @@
 -- What texts plan over the state that an apply left.
-use Rattle.std.proofs.Common.{◌≡◌, ◌∙◌, ℕ, Bool, false, List, [], ◌∷◌, Option, Some, refl, sym, ap, subst}
+use Rattle.std.proofs.Common.{◌≡◌, ◌∙◌, ℕ, Bool, false, List, [], ◌∷◌, Option, Some, None, refl, sym, ap, subst}
 use Rattle.std.specs.List.{AllByRecursion}
 use Rattle.tf_action_data.specs.Action.{ActionView}
 use Rattle.tf_cli.specs.Applies.{IsApplied, IsPlanOf, state_in}
+use Rattle.tf_cli.specs.Shown.{is_torn}
 use Rattle.tf_cli.specs.declared.applied.Applied.{Applied}
 use Rattle.tf_config.specs.Laws.{BlocksAreInOrder, StandsForOne}
 use Rattle.tf_config_data.specs.Config.{ConfigView}
@@ -10,28 +11,30 @@ use Rattle.tf_config_data.specs.Names.{directly_before, names_of}
 use Rattle.tf_converges.specs.Converges.{IsSound, ReportsConverge}
 use Rattle.tf_graph.specs.Solutions.{Ranked}
 use Rattle.tf_inputs.specs.Texts.{AreTheValues, IsRead, StandFor, Texts}
+use Rattle.tf_journal.specs.declared.journal.Entry.{Entry}
 use Rattle.tf_names.proofs.Rings.{places-acyclic}
 use Rattle.tf_names.specs.Needs.{IsAcyclic}
+use Rattle.tf_outcome.specs.Journal.{IsOfAction}
 use Rattle.tf_outcome.specs.Laws.{RequestsExist}
 use Rattle.tf_outcome.specs.Outcome.{AreRequests, Done, Requests}
-use Rattle.tf_outcome.specs.declared.excuse.Outcome.TheVariants.{Judged}
 use Rattle.tf_outputs.specs.Outputs.{OutputDone}
 use Rattle.tf_plan.specs.Plan.{IsPlan, IsPlannedFrom}
 use Rattle.tf_plan_data.specs.Plan.{PlanView, plan_names}
 use Rattle.tf_plan_text.specs.Text.{plan_text}
 use Rattle.tf_protocol.specs.Meaning.{Meaning}
-use Rattle.tf_protocol.specs.declared.verdict.Verdict.TheVariants.{Good}
+use Rattle.tf_protocol.specs.declared.request.Op.{Op}
 use Rattle.tf_report.specs.Report.{IsReport, report_of}
 use Rattle.tf_report.specs.declared.report.Walked.{Walked}
 use Rattle.tf_report.specs.declared.report.Walked.TheVariants.{Whole, Torn}
 use Rattle.tf_run.specs.Run.{IsRun}
 use Rattle.tf_state.specs.Laws.{EmptyIsValid, ReadIsValid}
 use Rattle.tf_state_data.specs.Resource.{ResourceView}
-use Rattle.tf_state_data.specs.State.{StateView, state_of}
+use Rattle.tf_state_data.specs.State.{StateView}
 use Rattle.tf_value.specs.Tree.{Entries}
 use Rattle.tf_variables.specs.Laws.{ValuesAreOne}
 use Rattle.tf_again.proofs.Known.{read_values_known}
 use Rattle.tf_again.proofs.Reading.{one_config, one_values, prior_valid, read_in_order}
+use Rattle.tf_again.proofs.Schemas.{schemas_in}
 use Rattle.tf_again.specs.Again.{HaveSchemas, WentWell, no_changes}
 
 -- the laws below that all rests on
@@ -49,7 +52,7 @@ pub record Laws : Type 0 where
 pub sound : Laws → (ms : List Meaning) (texts : Texts) (lineage : List ℕ) (config : ConfigView) (values : Entries) (prior : StateView) → HaveSchemas ms → StandFor texts lineage config values prior → IsSound ms config values prior
 sound laws ms texts lineage config values prior schemas stand = record {
   blocks = read_in_order laws.order stand.read.tree config stand.read.stands;
-  schemas = schemas;
+  schemas = schemas_in ms schemas;
   variables_known = read_values_known stand.read.tree config stand.valued.file values stand.read.stands stand.valued.valued;
   valid = prior_valid laws.read laws.empty texts.state lineage prior stand.before;
 }
@@ -73,6 +76,17 @@ reported ms plan (Torn report) requests are walked =
 reported ms plan (Whole report) requests are walked =
     let found = walked requests are in
     (found.0, found.1, found.2)
+
+-- an entry of a journal is of an action
+no_entry : (actions : List ActionView) (entries : List Entry) → actions ≡ [] → AllByRecursion (IsOfAction actions) entries → entries ≡ []
+no_entry [] [] none of_actions = refl
+no_entry [] (e ∷ entries) none of_actions = absurd (let no : ◌≡◌ {A = Option Op} None (Some e.op) = of_actions.0 in cc)
+no_entry (a ∷ actions) entries none of_actions = absurd (cc)
+
+-- so the journal of a plan without actions is empty, where it isn't withheld
+pub no_entries : (ms : List Meaning) (plan : PlanView) (w : Walked) (requests : Requests) → AreRequests plan requests → IsRun ms plan w → plan.actions ≡ [] → is_torn w ≡ false → (report_of w).journal.entries ≡ []
+no_entries ms plan (Torn report) requests are walked none whole = absurd (cc)
+no_entries ms plan (Whole report) requests are walked none whole = no_entry plan.actions report.journal.entries none (walked requests are).3.ops
 
 -- ---- nothing is planned
 

@@ -12,8 +12,7 @@ use Rattle.tf_config_data.specs.Config.{BlockView, ConfigView}
 use Rattle.tf_inputs.specs.Texts.{AreTheValues, IsPrior, IsRead}
 use Rattle.tf_state.specs.Laws.{EmptyIsValid, ReadIsValid, TextIsOfOne}
 use Rattle.tf_state.specs.Valid.{IsValid}
-use Rattle.tf_state_data.specs.Resource.{ResourceView}
-use Rattle.tf_state_data.specs.State.{StateView, empty_state}
+use Rattle.tf_state_data.specs.State.{StateView}
 use Rattle.tf_value.specs.Tree.{Entries}
 use Rattle.tf_variables.specs.Laws.{ValuesAreOne}
 use Rattle.tf_variables.specs.Reading.{IsFileOf}

@@ -1,26 +1,30 @@
 -- What holds of texts whose apply went well: the same configuration and variables have nothing left to do.
-use Rattle.std.specs.Prelude.{◌≡◌, ℕ, if◌then◌else◌, List, [], codes, Option, Some, Result, Ok, Err, String, string_bytes}
+use Rattle.std.specs.Prelude.{◌≡◌, ℕ, false, if◌then◌else◌, List, [], codes, Some, Result, Ok, Err, String, string_bytes}
 use Rattle.std.specs.List.{AllByRecursion}
 use Rattle.std.specs.declared.alloc.AllocError.{AllocError}
 use Rattle.std.specs.declared.alloc.Global.{Global}
 use Rattle.tf_address.specs.Label.{LabelView}
 use Rattle.tf_address.specs.ObjectId.{ObjectIdView}
 use Rattle.tf_cli.specs.Applies.{IsApplied, IsPlanText, state_in}
-use Rattle.tf_cli.specs.Shown.{applied_status}
+use Rattle.tf_cli.specs.Shown.{applied_status, is_torn}
 use Rattle.tf_cli.specs.declared.applied.Applied.{Applied}
 use Rattle.tf_converges.specs.Quiet.{IsRenewed}
 use Rattle.tf_inputs.specs.Texts.{Texts, the_texts}
 use Rattle.tf_outcome.specs.declared.excuse.Outcome.TheVariants.{Judged}
-use Rattle.tf_protocol.specs.Meaning.{Meaning, schema_in}
+use Rattle.tf_protocol.specs.Meaning.{Meaning}
 use Rattle.tf_protocol.specs.Schema.{SchemaView, IsSchema}
 use Rattle.tf_protocol.specs.declared.verdict.Verdict.TheVariants.{Good}
 use Rattle.tf_report.specs.Report.{report_of}
 use Rattle.tf_state_data.specs.State.{record_in}
 
--- Whatever schema the providers have for a type is one as `Schema::new` makes them: at most 200 attributes, in byte order of
--- names that differ, of which none is reserved.
+-- Each schema that a provider has for a type is one as `Schema::new` makes them: of at most 200 attributes, in byte order of
+-- their names, which differ and are names, and none of which is reserved.
+abbrev pub HasSchemas : Meaning → Type 0
+HasSchemas m = (name : List ℕ) (schema : SchemaView) → m.schema_of name ≡ Some schema → IsSchema schema
+
+-- so has each of some providers
 abbrev pub HaveSchemas : List Meaning → Type 0
-HaveSchemas ms = (name : List ℕ) (schema : SchemaView) → schema_in name ms ≡ Some schema → IsSchema schema
+HaveSchemas ms = AllByRecursion HasSchemas ms
 
 -- An apply went well where each outcome that its report tells is a good verdict: no action was skipped, excused or at fault.
 abbrev pub WentWell : Applied → Type 0
@@ -44,11 +48,13 @@ NothingIsPlannedAgain =
     → HaveSchemas ms → IsApplied ms texts lineage a → WentWell a → a.state ≡ Ok saved
     → IsPlanText ms (over texts (string_bytes saved)) text → text ≡ no_changes
 
--- A second apply did nothing after a first: its plan's text is `No changes.` in a line, its report tells of no action, and of each
--- object the record stays, but for the dependencies and the flag `create_before_destroy` that it is given anew.
+-- A second apply did nothing after a first: its plan's text is `No changes.` in a line; its report tells of no action, and its
+-- journal, where it isn't withheld, of no call; and of each object the record stays, but for the dependencies and the flag
+-- `create_before_destroy` that it is given anew.
 pub record DidNothing (first second : Applied) : Type 0 where
   pub shown : string_bytes second.plan ≡ no_changes
   pub no_outcomes : (report_of second.walked).outcomes.items ≡ []
+  pub no_calls : is_torn second.walked ≡ false → (report_of second.walked).journal.entries ≡ []
   pub kept : (label : LabelView) (id : ObjectIdView) → IsRenewed (record_in label id (state_in first)) (record_in label id (state_in second))
 
 -- Nor does an apply over that text do anything, where it answers.

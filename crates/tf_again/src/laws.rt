@@ -1,6 +1,8 @@
 //! Laws on texts after an apply.
 
-ghost use Rattle.tf_again.specs.Again.{NothingIsDoneAgain, NothingIsPlannedAfterSuccess, NothingIsPlannedAgain};
+ghost use Rattle.std.specs.Prelude.{[], ◌∷◌};
+ghost use Rattle.tf_again.specs.Again.{HaveSchemas, NothingIsDoneAgain, NothingIsPlannedAfterSuccess, NothingIsPlannedAgain};
+ghost use Rattle.tf_sim.specs.Table.{sim_meaning};
 
 use tf_config::{blocks_are_in_order, faultless_trees_stand};
 use tf_converges::laws::{applies_converge, quiet_applies_keep_objects};
@@ -26,3 +28,8 @@ pub fn texts_converge()
     applies_converge();
     quiet_applies_keep_objects();
 }
+
+/// The provider `sim`, which is that of the programs, has schemas.
+pub fn sim_has_schemas()
+    ensures { HaveSchemas (sim_meaning ∷ []) }
+{}
