@@ -35,7 +35,7 @@ saved_text : (a : Applied) (saved : String Global) → a.state ≡ Ok saved → 
 saved_text a saved h text = subst (λ (r : Result (String Global) AllocError). IfOk r (λ text. string_bytes text ≡ state_text (state_in a))) h text
 
 module _ (back : TextReadsAsState) (one : TextIsOfOne) (ms : List Meaning) (texts : Texts) (lineage : List ℕ) (a : Applied) (applied : IsApplied ms texts lineage a) (saved : String Global) (h : a.state ≡ Ok saved) where
-  saved_reads : Reads (string_bytes saved) (state_in a)
+  pub saved_reads : Reads (string_bytes saved) (state_in a)
   saved_reads =
       let same : string_bytes saved ≡ state_text (state_in a) = saved_text a saved h applied.carried_out.text in
       subst (λ (bytes : List ℕ). Reads bytes (state_in a)) (sym same) (back (state_in a) applied.carried_out.valid (subst IsUtf8 same (IsUtf8-string_bytes saved)))

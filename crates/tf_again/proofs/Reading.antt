@@ -20,7 +20,7 @@ use Rattle.tf_variables.specs.Values.{AreValues}
 
 -- ---- the same texts
 
-one_tree : (bytes : List ℕ) (s t : Data) → IsTree bytes s → IsTree bytes t → s ≡ t
+pub one_tree : (bytes : List ℕ) (s t : Data) → IsTree bytes s → IsTree bytes t → s ≡ t
 one_tree bytes s t h k = let same : ◌≡◌ {A = Option Data} (Some s) (Some t) = sym h.1 ∙ k.1 in cc
 
 pub one_config : StandsForOne → (bytes : List ℕ) (config other : ConfigView) → IsRead bytes config → IsRead bytes other → config ≡ other

@@ -1,21 +1,30 @@
 -- What holds of texts whose apply went well: the same configuration and variables have nothing left to do.
-use Rattle.std.specs.Prelude.{◌≡◌, ℕ, false, if◌then◌else◌, List, [], codes, Some, Result, Ok, Err, String, string_bytes}
+use Rattle.std.specs.Prelude.{◌≡◌, ◌⊎◌, ℕ, false, if◌then◌else◌, List, [], ◌∷◌, codes, Some, Result, Ok, Err, String, string_bytes}
 use Rattle.std.specs.List.{AllByRecursion}
 use Rattle.std.specs.declared.alloc.AllocError.{AllocError}
 use Rattle.std.specs.declared.alloc.Global.{Global}
 use Rattle.tf_address.specs.Label.{LabelView}
 use Rattle.tf_address.specs.ObjectId.{ObjectIdView}
 use Rattle.tf_cli.specs.Applies.{IsApplied, IsPlanText, state_in}
+use Rattle.tf_cli.specs.Refusals.{AreRefusals}
 use Rattle.tf_cli.specs.Shown.{applied_status, is_torn}
 use Rattle.tf_cli.specs.declared.applied.Applied.{Applied}
+use Rattle.tf_config_data.specs.Config.{ConfigView}
+use Rattle.tf_config_data.specs.Names.{names_of}
 use Rattle.tf_converges.specs.Quiet.{IsRenewed}
-use Rattle.tf_inputs.specs.Texts.{Texts, the_texts}
+use Rattle.tf_inputs.specs.Refusals.{at_state}
+use Rattle.tf_inputs.specs.Texts.{AreTheValues, IsRead, Texts, the_texts}
 use Rattle.tf_outcome.specs.declared.excuse.Outcome.TheVariants.{Judged}
+use Rattle.tf_plan.specs.Refused.{IsUnplanned}
 use Rattle.tf_protocol.specs.Meaning.{Meaning}
 use Rattle.tf_protocol.specs.Schema.{SchemaView, IsSchema}
 use Rattle.tf_protocol.specs.declared.verdict.Verdict.TheVariants.{Good}
+use Rattle.tf_refusal.specs.Code.{limit}
+use Rattle.tf_refusal.specs.Refusal.{Told}
 use Rattle.tf_report.specs.Report.{report_of}
+use Rattle.tf_state.specs.Table.{IsBeyond}
 use Rattle.tf_state_data.specs.State.{record_in}
+use Rattle.tf_value.specs.Tree.{Entries}
 
 -- Each schema that a provider has for a type is one as `Schema::new` makes them: of at most 200 attributes, in byte order of
 -- their names, which differ and are names, and none of which is reserved.
@@ -81,3 +90,25 @@ NothingIsPlannedAfterSuccess =
     (ms : List Meaning) (texts : Texts) (lineage : List ℕ) (a : Applied) (text : List ℕ)
     → HaveSchemas ms → IsApplied ms texts lineage a → applied_status a ≡ 0
     → IsPlanText ms (texts_after texts a) text → text ≡ no_changes
+
+-- ---- what may be refused
+
+-- Some instance or output is refused over the state that an apply left: those that are told, and nothing else.
+pub record AreUnplannedAgain (ms : List Meaning) (texts : Texts) (a : Applied) (tolds : List Told) : Type 0 where
+  pub config : ConfigView
+  pub values : Entries
+  pub read : IsRead texts.config config
+  pub valued : AreTheValues texts.vars config values
+  pub refused : IsUnplanned ms (state_in a).resources values (names_of config) config.outputs tolds
+
+-- The new state itself is refused, with 14: from a state with its serial nothing can be planned, or it has too many resources.
+abbrev pub IsStateBeyond : Applied → List Told → Type 0
+IsStateBeyond a tolds = (tolds ≡ at_state limit ∷ []) × IsBeyond (state_in a)
+
+-- What is refused of the same configuration and variables over that text is the state itself, or instances and outputs. No fault of
+-- the configuration, of its names or of the variables is, nor how many instances and actions there are.
+abbrev pub OnlyInstancesAreRefused : Type 0
+OnlyInstancesAreRefused =
+    (ms : List Meaning) (texts : Texts) (lineage : List ℕ) (a : Applied) (saved : String Global) (tolds : List Told)
+    → HaveSchemas ms → IsApplied ms texts lineage a → WentWell a → a.state ≡ Ok saved
+    → AreRefusals ms (over texts (string_bytes saved)) tolds → IsStateBeyond a tolds ⊎ AreUnplannedAgain ms texts a tolds
