@@ -1,4 +1,5 @@
 mod Again
+mod Counted
 mod Faultless
 mod Known
 mod Planned

@@ -27,8 +27,8 @@ use Rattle.tf_again.proofs.Again.{saved_reads}
 use Rattle.tf_again.proofs.Faultless.{config_read, names_good, values_good}
 use Rattle.tf_again.proofs.Planned.{Laws}
 use Rattle.tf_again.proofs.Reading.{one_config, one_values}
-use Rattle.tf_again.proofs.Unplanned.{unplanned_after}
-use Rattle.tf_again.specs.Again.{AreUnplannedAgain, HaveSchemas, IsStateBeyond, OnlyInstancesAreRefused, WentWell, over}
+use Rattle.tf_again.proofs.Unplanned.{serial_after, unplanned_after}
+use Rattle.tf_again.specs.Again.{AreUnplannedAgain, HaveSchemas, HasLastSerial, OnlyInstancesAreRefused, WentWell, over}
 
 -- the laws that this rests on beside those
 pub record Others : Type 0 where
@@ -50,13 +50,13 @@ module _ (laws : Laws) (others : Others) (ms : List Meaning) (texts : Texts) (li
   reads : Reads (string_bytes saved) (state_in a)
   reads = saved_reads others.back others.one ms texts lineage a applied saved h
 
-  alone : IsRefusedAlone (over texts (string_bytes saved)) tolds → IsStateBeyond a tolds
+  alone : IsRefusedAlone (over texts (string_bytes saved)) tolds → HasLastSerial a tolds
   alone is =
       let stand = applied.planned.stand in
       let config = applied.planned.config in
-      let state_refused : IsStateRefused (over texts (string_bytes saved)) is.refusal → IsStateBeyond a tolds = λ it.
+      let state_refused : IsStateRefused (over texts (string_bytes saved)) is.refusal → HasLastSerial a tolds = λ it.
       let found = beyond others.one (string_bytes saved) (state_in a) it.refused.why is.refusal reads is.some it.refused.unread it.refused.refused in
-      (subst (λ (t : Told). tolds ≡ t ∷ []) found.0 is.alone, found.1) in
+      (subst (λ (t : Told). tolds ≡ t ∷ []) found.0 is.alone, serial_after laws others.rest others.quiet ms lineage a schemas texts applied well found.1) in
       let names_refused : AreNamesRefused (over texts (string_bytes saved)) is.refusal → ⊥ = λ it.
       names_good config is.refusal is.some stand.names (subst (λ (c : ConfigView). RefusesItsNames c is.refusal) (one_config laws.one texts.config it.config config it.read stand.read) it.refused) in
       let values_refused : AreValuesRefused (over texts (string_bytes saved)) is.refusal → ⊥ = λ it.

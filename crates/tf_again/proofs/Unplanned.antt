@@ -1,5 +1,5 @@
 -- What may be refused over the state that an apply left.
-use Rattle.std.proofs.Common.{◌≡◌, ◌∙◌, ◌<◌, ◌+◌, ℕ, zero, suc, true, List, [], ◌∷◌, Option, Some, None, Result, Ok, Err, length, map, inl, inr, refl, sym, ap, ap₂, subst, arith}
+use Rattle.std.proofs.Common.{◌≡◌, ◌≤◌, ◌∙◌, ◌<◌, ◌+◌, ℕ, zero, suc, true, List, [], ◌∷◌, Option, Some, None, Result, Ok, Err, length, map, inl, inr, refl, sym, ap, ap₂, subst, arith}
 use Rattle.std.specs.List.{AllByRecursion}
 use Rattle.tf_action_data.specs.Action.{ActionView}
 use Rattle.tf_address.specs.ObjectId.{InstanceKeyView}
@@ -33,9 +33,11 @@ use Rattle.tf_protocol.specs.declared.verdict.Verdict.TheVariants as verdict
 use Rattle.tf_refusal.specs.Refusal.{Told}
 use Rattle.tf_report.specs.Outcomes.{outcome_of}
 use Rattle.tf_report.specs.Report.{objects_after, report_of}
+use Rattle.tf_state.specs.Table.{IsBeyond, last_serial}
 use Rattle.tf_state_data.specs.Resource.{ResourceView}
 use Rattle.tf_syntax.specs.ExprTree as expr
 use Rattle.tf_value.specs.Tree.{Entries, Tree}
+use Rattle.tf_again.proofs.Counted.{beyond_by_serial}
 use Rattle.tf_again.proofs.Planned.{Laws, plan_acyclic, plan_ranked, reported, sound}
 use Rattle.tf_again.specs.Again.{HaveSchemas, WentWell}
 
@@ -133,11 +135,10 @@ all_good [] h = tt
 all_good (d ∷ done) h = (good_one d h.0, all_good done h.1)
 
 module _ (laws : Laws) (rest : StateAfterIsAtRest) (quiet : NothingIsPlannedAtRest) (ms : List Meaning) (lineage : List ℕ) (a : Applied) (schemas : HaveSchemas ms) where
-  -- what is refused of the configuration and the variables of an apply that went well over what it left
-  pub unplanned_after : (texts : _) (applied : IsApplied ms texts lineage a) → WentWell a → (tolds : List Told)
-      → AreRefusedOf ms (state_in a).resources applied.planned.values (names_of applied.planned.config) applied.planned.config.outputs tolds
-      → IsUnplanned ms (state_in a).resources applied.planned.values (names_of applied.planned.config) applied.planned.config.outputs tolds
-  unplanned_after texts applied well tolds refused =
+  -- the resources of that state are at rest with the configuration and the variables
+  pub rests_after : (texts : _) (applied : IsApplied ms texts lineage a) → WentWell a
+      → (objects : ℕ → InstanceKeyView → Tree) × AreAtRest ms applied.planned.values (names_of applied.planned.config) applied.plan.shapes objects (state_in a).resources
+  rests_after texts applied well =
       let planned = applied.planned in
       let plan = applied.plan in
       let requests = laws.requests plan (plan_ranked ms texts lineage plan planned) in
@@ -156,9 +157,24 @@ module _ (laws : Laws) (rest : StateAfterIsAtRest) (quiet : NothingIsPlannedAtRe
         in_order = record { resources = report.state.ordered; records = all-by_id report.state.resources.items };
       } in
       let own : AreAtRest ms plan.variables (plan_names plan) plan.shapes (objects_after plan told.0) (state_in a).resources =
-      rest ms planned.config planned.values planned.prior plan told.0 outputs (state_in a) (sound laws ms texts lineage planned.config planned.values planned.prior schemas planned.stand) carried in
-      let rests : AreAtRest ms planned.values (names_of planned.config) plan.shapes (objects_after plan told.0) (state_in a).resources =
-      subst (λ (v : Entries). AreAtRest ms v (names_of planned.config) plan.shapes (objects_after plan told.0) (state_in a).resources) planned.planned.variables
-      (subst (λ (c : ConfigView). AreAtRest ms plan.variables (names_of c) plan.shapes (objects_after plan told.0) (state_in a).resources) planned.planned.config own) in
+      rest ms planned.config planned.values planned.prior plan told.0 outputs (state_in a) (sound laws ms texts lineage planned.config planned.values planned.prior schemas planned.stand) carried in (
+        objects_after plan told.0,
+        subst (λ (v : Entries). AreAtRest ms v (names_of planned.config) plan.shapes (objects_after plan told.0) (state_in a).resources) planned.planned.variables
+            (subst (λ (c : ConfigView). AreAtRest ms plan.variables (names_of c) plan.shapes (objects_after plan told.0) (state_in a).resources) planned.planned.config own),
+      )
+
+  -- what is refused of the configuration and the variables of an apply that went well over what it left
+  pub unplanned_after : (texts : _) (applied : IsApplied ms texts lineage a) → WentWell a → (tolds : List Told)
+      → AreRefusedOf ms (state_in a).resources applied.planned.values (names_of applied.planned.config) applied.planned.config.outputs tolds
+      → IsUnplanned ms (state_in a).resources applied.planned.values (names_of applied.planned.config) applied.planned.config.outputs tolds
+  unplanned_after texts applied well tolds refused =
+      let planned = applied.planned in
+      let plan = applied.plan in
+      let rests = rests_after texts applied well in
       let ranked : Ranked (directly_before (names_of planned.config)) = subst (λ (c : ConfigView). Ranked (directly_before (names_of c))) planned.planned.config (plan_ranked ms texts lineage plan planned) in
-      only_unplanned ms planned.values (names_of planned.config) planned.config.outputs plan.shapes (objects_after plan told.0) (state_in a).resources ranked planned.planned.planned.instances rests quiet tolds refused
+      only_unplanned ms planned.values (names_of planned.config) planned.config.outputs plan.shapes rests.0 (state_in a).resources ranked planned.planned.planned.instances rests.1 quiet tolds refused
+
+  -- that state is beyond a limit by its serial alone
+  pub serial_after : (texts : _) (applied : IsApplied ms texts lineage a) → WentWell a → IsBeyond (state_in a) → last_serial ≤ (state_in a).serial
+  serial_after texts applied well beyond =
+      beyond_by_serial applied.planned.config (state_in a) applied.planned.stand.read.counts (rests_after texts applied well).1.blocks (report_of a.walked).state.ordered beyond

@@ -1,5 +1,5 @@
 -- What holds of texts whose apply went well: the same configuration and variables have nothing left to do.
-use Rattle.std.specs.Prelude.{◌≡◌, ◌⊎◌, ℕ, false, if◌then◌else◌, List, [], ◌∷◌, codes, Some, Result, Ok, Err, String, string_bytes}
+use Rattle.std.specs.Prelude.{◌≡◌, ◌≤◌, ◌⊎◌, ℕ, false, if◌then◌else◌, List, [], ◌∷◌, codes, Some, Result, Ok, Err, String, string_bytes}
 use Rattle.std.specs.List.{AllByRecursion}
 use Rattle.std.specs.declared.alloc.AllocError.{AllocError}
 use Rattle.std.specs.declared.alloc.Global.{Global}
@@ -22,7 +22,7 @@ use Rattle.tf_protocol.specs.declared.verdict.Verdict.TheVariants.{Good}
 use Rattle.tf_refusal.specs.Code.{limit}
 use Rattle.tf_refusal.specs.Refusal.{Told}
 use Rattle.tf_report.specs.Report.{report_of}
-use Rattle.tf_state.specs.Table.{IsBeyond}
+use Rattle.tf_state.specs.Table.{last_serial}
 use Rattle.tf_state_data.specs.State.{record_in}
 use Rattle.tf_value.specs.Tree.{Entries}
 
@@ -101,9 +101,9 @@ pub record AreUnplannedAgain (ms : List Meaning) (texts : Texts) (a : Applied) (
   pub valued : AreTheValues texts.vars config values
   pub refused : IsUnplanned ms (state_in a).resources values (names_of config) config.outputs tolds
 
--- The new state itself is refused, with 14: from a state with its serial nothing can be planned, or it has too many resources.
-abbrev pub IsStateBeyond : Applied → List Told → Type 0
-IsStateBeyond a tolds = (tolds ≡ at_state limit ∷ []) × IsBeyond (state_in a)
+-- The new state itself is refused, with 14 alone: it has the last serial, so no other can follow.
+abbrev pub HasLastSerial : Applied → List Told → Type 0
+HasLastSerial a tolds = (tolds ≡ at_state limit ∷ []) × (last_serial ≤ (state_in a).serial)
 
 -- What is refused of the same configuration and variables over that text is the state itself, or instances and outputs. No fault of
 -- the configuration, of its names or of the variables is, nor how many instances and actions there are.
@@ -111,4 +111,4 @@ abbrev pub OnlyInstancesAreRefused : Type 0
 OnlyInstancesAreRefused =
     (ms : List Meaning) (texts : Texts) (lineage : List ℕ) (a : Applied) (saved : String Global) (tolds : List Told)
     → HaveSchemas ms → IsApplied ms texts lineage a → WentWell a → a.state ≡ Ok saved
-    → AreRefusals ms (over texts (string_bytes saved)) tolds → IsStateBeyond a tolds ⊎ AreUnplannedAgain ms texts a tolds
+    → AreRefusals ms (over texts (string_bytes saved)) tolds → HasLastSerial a tolds ⊎ AreUnplannedAgain ms texts a tolds
