@@ -1,0 +1,9 @@
+mod Again
+mod Counted
+mod Faultless
+mod Known
+mod Planned
+mod Reading
+mod Refused
+mod Schemas
+mod Unplanned

@@ -1,0 +1,180 @@
+-- What may be refused over the state that an apply left.
+use Rattle.std.proofs.Common.{◌≡◌, ◌≤◌, ◌∙◌, ◌<◌, ◌+◌, ℕ, zero, suc, true, List, [], ◌∷◌, Option, Some, None, Result, Ok, Err, length, map, inl, inr, refl, sym, ap, ap₂, subst, arith}
+use Rattle.std.specs.List.{AllByRecursion}
+use Rattle.tf_action_data.specs.Action.{ActionView}
+use Rattle.tf_address.specs.ObjectId.{InstanceKeyView}
+use Rattle.tf_cli.specs.Applies.{IsApplied, state_in}
+use Rattle.tf_cli.specs.declared.applied.Applied.{Applied}
+use Rattle.tf_config_data.specs.Config.{ConfigView}
+use Rattle.tf_config_data.specs.Names.{Meant, NameView, a_block, a_local, directly_before, meant_at, names_of}
+use Rattle.tf_converges.proofs.Places.{meant_within}
+use Rattle.tf_converges.specs.Converges.{IsCarriedOut, StateAfterIsAtRest}
+use Rattle.tf_converges.specs.Rest.{AreAtRest, NothingIsPlannedAtRest}
+use Rattle.tf_deciding.specs.Stage.{records_at}
+use Rattle.tf_environment.specs.Shape.{ShapeView, instance_keys}
+use Rattle.tf_environment.specs.Stages.{applying, expansion}
+use Rattle.tf_environment.specs.Standing.{all_stand, environment, result_in, rule, stands_at, together, where_all}
+use Rattle.tf_environment.specs.declared.repetition.RepetitionFault.{RepetitionFault}
+use Rattle.tf_eval.specs.Environment.{Environment}
+use Rattle.tf_expand.specs.Expanding.{expanded, instance_count, instances_before}
+use Rattle.tf_graph.proofs.Solving.{solution-exists}
+use Rattle.tf_graph.specs.Solutions.{Ranked, seen_by}
+use Rattle.tf_members.specs.Members.{is_among}
+use Rattle.tf_outcome.specs.Outcome.{Done, called, excused, faulted, is_good, is_good_verdict, skipped}
+use Rattle.tf_outcome.specs.declared.excuse.Outcome.TheVariants.{Judged}
+use Rattle.tf_outputs.specs.Outputs.{outputs_after}
+use Rattle.tf_plan.proofs.Fitting.{all-by_id}
+use Rattle.tf_plan.specs.Planned.{AreInstances}
+use Rattle.tf_plan.specs.Refused.{AreManyActions, AreManyInstances, AreManyPairs, AreManyPairsBy, AreRefusedOf, IsUnexpanded, IsUnplanned}
+use Rattle.tf_plan_data.specs.Plan.{plan_names}
+use Rattle.tf_precedence.specs.Ties.{TiesView}
+use Rattle.tf_protocol.specs.Meaning.{Meaning}
+use Rattle.tf_protocol.specs.declared.verdict.Verdict.TheVariants as verdict
+use Rattle.tf_refusal.specs.Refusal.{Told}
+use Rattle.tf_report.specs.Outcomes.{outcome_of}
+use Rattle.tf_report.specs.Report.{objects_after, report_of}
+use Rattle.tf_state.specs.Table.{IsBeyond, last_serial}
+use Rattle.tf_state_data.specs.Resource.{ResourceView}
+use Rattle.tf_syntax.specs.ExprTree as expr
+use Rattle.tf_value.specs.Tree.{Entries, Tree}
+use Rattle.tf_again.proofs.Counted.{beyond_by_serial}
+use Rattle.tf_again.proofs.Planned.{Laws, plan_acyclic, plan_ranked, reported, sound}
+use Rattle.tf_again.specs.Again.{HaveSchemas, WentWell}
+
+-- ---- the same instances
+
+one_shape : (s t : ShapeView) (r : Result ShapeView RepetitionFault) → r ≡ Ok s → r ≡ Ok t → s ≡ t
+one_shape s t r e f = let same : ◌≡◌ {A = Result ShapeView RepetitionFault} (Ok s) (Ok t) = sym e ∙ f in cc
+
+no_fault : (s : ShapeView) (why : RepetitionFault) (r : Result ShapeView RepetitionFault) → r ≡ Ok s → r ≡ Err why → ⊥
+no_fault s why r e f = let no : ◌≡◌ {A = Result ShapeView RepetitionFault} (Ok s) (Err why) = sym e ∙ f in absurd (cc)
+
+same_count : (names : List NameView) (shapes others : ℕ → ShapeView) (n : ℕ) → ((m : ℕ) → m < n → shapes m ≡ others m) → instances_before names shapes n ≡ instances_before names others n
+same_count names shapes others zero same = refl
+same_count names shapes others (suc n) same =
+    ap₂ (λ (a b : ℕ). a + b) (same_count names shapes others n (λ m h. same m (omega (arith, h)))) (ap (λ (s : ShapeView). instance_count (meant_at names n) s) (same n (omega arith)))
+
+stands_same : (shapes others : ℕ → ShapeView) (objects : ℕ → InstanceKeyView → Tree) (n : ℕ) (m : Option Meant) (env : Environment) → shapes n ≡ others n → stands_at (applying others objects) n m env ≡ stands_at (applying shapes objects) n m env
+stands_same shapes others objects n None env e = refl
+stands_same shapes others objects n (Some (a_local x)) env e = refl
+stands_same shapes others objects n (Some (a_block block)) env e = ap (λ (s : ShapeView). together (Some s) (λ key. Some (objects n key))) (sym e)
+
+-- resources at rest are so with the same instances
+rest_same : (ms : List Meaning) (variables : Entries) (names : List NameView) (shapes others : ℕ → ShapeView) (objects : ℕ → InstanceKeyView → Tree) (resources : List ResourceView)
+    → ((n : ℕ) → n < length names → shapes n ≡ others n) → AreAtRest ms variables names shapes objects resources → AreAtRest ms variables names others objects resources
+rest_same ms variables names shapes others objects resources same h = record {
+  blocks = h.blocks;
+  declared = λ n block meant.
+      subst (λ (s : ShapeView). AllByRecursion (λ x. is_among (instance_keys s) x.id.key ≡ true) (records_at block.label resources)) (same n (meant_within names n (a_block block) meant)) (h.declared n block meant);
+  rest = λ standings solves n block key meant among.
+      h.rest standings
+      (λ k below. solves k below ∙ ap (where_all (all_stand (seen_by standings (directly_before names k)))) (stands_same shapes others objects k (meant_at names k) (environment variables names (result_in (seen_by standings (directly_before names k)))) (same k below)))
+      n block key meant (subst (λ (s : ShapeView). is_among (instance_keys s) key ≡ true) (sym (same n (meant_within names n (a_block block) meant))) among);
+}
+
+-- ---- no refusal of the instances of resources at rest, but of what is planned of them
+
+no_pairs : (ties : TiesView) (actions : List ActionView) (tolds : List Told) → actions ≡ [] → AreManyPairsBy ties actions tolds → ⊥
+no_pairs ties [] tolds none many = absurd (omega (arith, many.0))
+no_pairs ties (a ∷ actions) tolds none many = absurd (cc)
+
+no_many : (actions : List ActionView) (n : ℕ) → actions ≡ [] → n < length actions → ⊥
+no_many [] n none many = absurd (omega (arith, many))
+no_many (a ∷ actions) n none many = absurd (cc)
+
+module _ (ms : List Meaning) (variables : Entries) (names : List NameView) (outputs : expr.Entries) (shapes : ℕ → ShapeView) (objects : ℕ → InstanceKeyView → Tree) (resources : List ResourceView)
+    (ranked : Ranked (directly_before names)) (instances : AreInstances variables names shapes) (rests : AreAtRest ms variables names shapes objects resources) (law : NothingIsPlannedAtRest) where
+  same_shapes : (others : ℕ → ShapeView) → AreInstances variables names others → (n : ℕ) → n < length names → shapes n ≡ others n
+  same_shapes others also n h =
+      let found = solution-exists (length names) (directly_before names) (rule expansion variables names) ranked in
+      one_shape (shapes n) (others n) (expanded variables names found.0 n) ((instances found.0 found.1).each n h) ((also found.0 found.1).each n h)
+
+  all_expanded : (tolds : List Told) → IsUnexpanded variables names tolds → ⊥
+  all_expanded tolds h =
+      let found = solution-exists (length names) (directly_before names) (rule expansion variables names) ranked in
+      let first = h.first found.0 found.1 in
+      no_fault (shapes h.place) h.why (expanded variables names found.0 h.place) ((instances found.0 found.1).each h.place first.inside) first.refused
+
+  few_instances : (tolds : List Told) → AreManyInstances variables names tolds → ⊥
+  few_instances tolds h =
+      let found = solution-exists (length names) (directly_before names) (rule expansion variables names) ranked in
+      let many = h.many found.0 found.1 in
+      let own = instances found.0 found.1 in
+      let same : instances_before names shapes (length names) ≡ instances_before names many.shapes (length names) =
+      same_count names shapes many.shapes (length names) (λ m below. one_shape (shapes m) (many.shapes m) (expanded variables names found.0 m) (own.each m below) (many.each m below)) in
+      absurd (omega (arith, same, many.more, own.few))
+
+  few_actions : (tolds : List Told) → AreManyActions ms resources variables names outputs tolds → ⊥
+  few_actions tolds h =
+      no_many h.actions _ (law ms variables names outputs h.shapes objects resources h.actions ranked (rest_same ms variables names shapes h.shapes objects resources (same_shapes h.shapes h.instances) rests) h.planned) h.many
+
+  few_pairs : (tolds : List Told) → AreManyPairs ms resources variables names outputs tolds → ⊥
+  few_pairs tolds h =
+      no_pairs h.pairs.ties h.actions tolds (law ms variables names outputs h.shapes objects resources h.actions ranked (rest_same ms variables names shapes h.shapes objects resources (same_shapes h.shapes h.instances) rests) h.planned)
+      h.pairs.many
+
+  pub only_unplanned : (tolds : List Told) → AreRefusedOf ms resources variables names outputs tolds → IsUnplanned ms resources variables names outputs tolds
+  only_unplanned tolds h = elim h [
+    | inl unexpanded ↦ elim unexpanded [ inl one ↦ absurd (all_expanded tolds one) | inr many ↦ absurd (few_instances tolds many) ]
+    | inr unplanned ↦ elim unplanned [
+      | inl is ↦ is
+      | inr many ↦ elim many [ inl actions ↦ absurd (few_actions tolds actions) | inr pairs ↦ absurd (few_pairs tolds pairs) ]
+    ]
+  ]
+
+-- ---- the state that an apply left
+
+good_one : (d : Done) → outcome_of d ≡ Judged verdict.Good → is_good d ≡ true
+good_one skipped e = absurd (cc)
+good_one (excused moment) e = absurd (cc)
+good_one (faulted why) e = absurd (cc)
+good_one (called asked answer v) e = let same : v ≡ verdict.Good = (cc) in ap is_good_verdict same
+
+all_good : (done : List Done) → AllByRecursion (λ o. o ≡ Judged verdict.Good) (map outcome_of done) → AllByRecursion (λ d. is_good d ≡ true) done
+all_good [] h = tt
+all_good (d ∷ done) h = (good_one d h.0, all_good done h.1)
+
+module _ (laws : Laws) (rest : StateAfterIsAtRest) (quiet : NothingIsPlannedAtRest) (ms : List Meaning) (lineage : List ℕ) (a : Applied) (schemas : HaveSchemas ms) where
+  -- the resources of that state are at rest with the configuration and the variables
+  pub rests_after : (texts : _) (applied : IsApplied ms texts lineage a) → WentWell a
+      → (objects : ℕ → InstanceKeyView → Tree) × AreAtRest ms applied.planned.values (names_of applied.planned.config) applied.plan.shapes objects (state_in a).resources
+  rests_after texts applied well =
+      let planned = applied.planned in
+      let plan = applied.plan in
+      let requests = laws.requests plan (plan_ranked ms texts lineage plan planned) in
+      let told = reported ms plan a.walked requests.0 requests.1 applied.carried_out.walked in
+      let report = report_of a.walked in
+      let outputs : Entries = outputs_after plan.prior.outputs plan.config.outputs told.1 in
+      let carried : IsCarriedOut ms planned.config planned.values planned.prior plan told.0 outputs (state_in a) = record {
+        planned = planned.planned;
+        acyclic = plan_acyclic ms texts lineage plan planned;
+        requests = requests.0;
+        are_requests = requests.1;
+        excuses = report.excused.items;
+        outcomes = told.2.solved;
+        good = all_good told.0 (subst (AllByRecursion (λ o. o ≡ Judged verdict.Good)) told.2.told.outcomes well);
+        state = told.2.told.state;
+        in_order = record { resources = report.state.ordered; records = all-by_id report.state.resources.items };
+      } in
+      let own : AreAtRest ms plan.variables (plan_names plan) plan.shapes (objects_after plan told.0) (state_in a).resources =
+      rest ms planned.config planned.values planned.prior plan told.0 outputs (state_in a) (sound laws ms texts lineage planned.config planned.values planned.prior schemas planned.stand) carried in (
+        objects_after plan told.0,
+        subst (λ (v : Entries). AreAtRest ms v (names_of planned.config) plan.shapes (objects_after plan told.0) (state_in a).resources) planned.planned.variables
+            (subst (λ (c : ConfigView). AreAtRest ms plan.variables (names_of c) plan.shapes (objects_after plan told.0) (state_in a).resources) planned.planned.config own),
+      )
+
+  -- what is refused of the configuration and the variables of an apply that went well over what it left
+  pub unplanned_after : (texts : _) (applied : IsApplied ms texts lineage a) → WentWell a → (tolds : List Told)
+      → AreRefusedOf ms (state_in a).resources applied.planned.values (names_of applied.planned.config) applied.planned.config.outputs tolds
+      → IsUnplanned ms (state_in a).resources applied.planned.values (names_of applied.planned.config) applied.planned.config.outputs tolds
+  unplanned_after texts applied well tolds refused =
+      let planned = applied.planned in
+      let plan = applied.plan in
+      let rests = rests_after texts applied well in
+      let ranked : Ranked (directly_before (names_of planned.config)) = subst (λ (c : ConfigView). Ranked (directly_before (names_of c))) planned.planned.config (plan_ranked ms texts lineage plan planned) in
+      only_unplanned ms planned.values (names_of planned.config) planned.config.outputs plan.shapes rests.0 (state_in a).resources ranked planned.planned.planned.instances rests.1 quiet tolds refused
+
+  -- that state is beyond a limit by its serial alone
+  pub serial_after : (texts : _) (applied : IsApplied ms texts lineage a) → WentWell a → IsBeyond (state_in a) → last_serial ≤ (state_in a).serial
+  serial_after texts applied well beyond =
+      beyond_by_serial applied.planned.config (state_in a) applied.planned.stand.read.counts (rests_after texts applied well).1.blocks (report_of a.walked).state.ordered beyond
