@@ -4,7 +4,7 @@ use denote.Param.Sent.{Syncs}
 use Rattle.std.proofs.Crossing.{crosses}
 use Rattle.std.proofs.MapsCrossing as maps
 use Rattle.tf_value.proofs.value.Value.TheLaws.TheKnot as value
-use Rattle.cli_tests.proofs.tests.replies.provider_of.OwnLists as lists
+use Rattle.cli_tests.proofs.tests.replies.provider_of.Hides as lists
 
 pub syncs-part-1-1 : Syncs lists.part-1-1
 syncs-part-1-1 = search (value.crosses, maps.crosses, crosses, sendable) depth 60 fits 20000
