@@ -10,7 +10,7 @@ use std::sync::{Arc, Wait};
 use std::thread::Threads;
 use std::{fs, io};
 use tf_cli::program::{Given, run};
-use tf_cli::{Applied, Refused, Report, SaveFault, Stop, apply_text, save, show};
+use tf_cli::{SaveFault, Stop, apply_text, save, show, state_to_write};
 use tf_provider::Provider;
 
 fn main(rt: HostRuntime) -> io::Result<ExitCode> {
@@ -47,29 +47,6 @@ fn carry_out<R: Threads + Wait + Sync>(
         None => status,
     };
     Ok(ExitCode::from(status))
-}
-
-/// The text of the state, where it has changed and there was memory for it. All else that was answered is shown
-/// by now, and goes.
-fn state_to_write(answer: Result<Applied, Refused>) -> Option<String> {
-    let Ok(applied) = answer else {
-        return None;
-    };
-    let Applied {
-        plan: _,
-        walked,
-        state,
-        changed,
-    } = applied;
-    let Report {
-        state: _,
-        outcomes: _,
-        diagnostics: _,
-        journal: _,
-        excused: _,
-        good: _,
-    } = walked.into_report();
-    if changed { state.ok() } else { None }
 }
 
 /// Writes the state. The status is 3 where that fails, and else the one so far.

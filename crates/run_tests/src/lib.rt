@@ -2,6 +2,8 @@
 #![tactic(auto)]
 
 #[cfg(test)]
+mod meeting;
+#[cfg(test)]
 mod runs;
 #[cfg(test)]
 mod telling;

@@ -15,7 +15,7 @@ use tf_inputs::{Inputs, read_texts};
 use tf_plan::plan;
 use tf_plan_data::Plan;
 use tf_provider::Provider;
-use tf_run::run;
+use tf_run::run_and_close;
 use tf_sim::Sim;
 use tf_stop::Stop;
 use tf_walk::run_one;
@@ -109,7 +109,7 @@ fn check_runs<R: Abort + Threads + Wait + Sync>(
     Ok(())
 }
 
-/// Checks that a walk by so many workers comes to what another came to.
+/// Checks that a walk by so many workers comes to what another came to, and that nothing is left to claim or to let go.
 fn check_run<R: Abort + Threads + Wait + Sync>(
     rt: &R,
     alloc: Global,
@@ -121,11 +121,12 @@ fn check_run<R: Abort + Threads + Wait + Sync>(
     requires fits { FitsTogether plan.now }
     requires served { AreServed (map (λ b. meaning b) providers.now) (map action_of plan.now.actions.items) }
 {
-    let Ok(walked) = run(rt, alloc, plan, providers, workers, &Stop::new()) else {
+    let stop = Stop::new();
+    let Ok((walked, is_closed)) = run_and_close(rt, alloc, plan, providers, workers, &stop) else {
         return Err("no memory".into());
     };
     let many = tell_of(alloc, walked)?;
-    assert!(rt; many.whole, "{workers}");
+    assert!(rt; is_closed && many.whole, "{workers}");
     assert_eq!(rt; many.excused.as_str(), "", "{workers}");
     assert_eq!(rt; many.outcomes.as_str(), one.outcomes.as_str(), "{workers}");
     assert_eq!(rt; many.calls, one.calls, "{workers}");
@@ -142,14 +143,14 @@ fn small_plans_come_to_the_same(rt: HostRuntime) -> Result<(), Fail> {
         (BOTH_LATE, Some(BEFORE)),
         ("{}", Some(BEFORE)),
     ] {
-        check_runs(&rt, rt.alloc(), config, state, None, 100)?;
+        check_runs(&rt, rt.alloc(), config, state, None, 1000)?;
     }
     Ok(())
 }
 
 #[test]
 fn a_wide_plan_comes_to_the_same(rt: HostRuntime) -> Result<(), Fail> {
-    check_runs(&rt, rt.alloc(), WIDE, None, None, 3)
+    check_runs(&rt, rt.alloc(), WIDE, None, None, 10)
 }
 
 #[test]

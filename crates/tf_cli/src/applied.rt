@@ -1,7 +1,11 @@
 //! What an apply answers.
 
+ghost use Rattle.std.specs.Prelude.{◌≡◌, option_map, string_bytes};
+ghost use Rattle.tf_cli.specs.Applies.{to_write};
+
 use std::alloc::AllocError;
-use tf_report::Walked;
+use tf_plan::Refused;
+use tf_report::{Report, Walked};
 
 /// What came of an apply. What was created may be known from here alone, so it can be neither copied nor let go:
 /// a pattern that names each of its fields takes it apart.
@@ -14,4 +18,29 @@ pub struct Applied {
     pub state: Result<String, AllocError>,
     /// Whether the state after isn't the prior one, so that its text has to be written.
     pub changed: bool,
+}
+
+/// The text that is to be written in the place of the prior state: that of the state after, where it isn't the prior one and
+/// there was memory for its text. All else that was answered goes here, so a program shows it before.
+pub fn state_to_write(answer: Result<Applied, Refused>) -> Option<String>
+    ensures { option_map string_bytes result ≡ to_write answer }
+{
+    let Ok(applied) = answer else {
+        return None;
+    };
+    let Applied {
+        plan: _,
+        walked,
+        state,
+        changed,
+    } = applied;
+    let Report {
+        state: _,
+        outcomes: _,
+        diagnostics: _,
+        journal: _,
+        excused: _,
+        good: _,
+    } = walked.into_report();
+    if changed { state.ok() } else { None }
 }

@@ -9,7 +9,7 @@ mod printing;
 pub mod program;
 pub mod saving;
 
-pub use applied::Applied;
+pub use applied::{Applied, state_to_write};
 pub use applying::apply_text;
 pub use planning::plan_text;
 pub use printing::{print, print_refused, show};

@@ -14,4 +14,4 @@ mod sharing;
 mod walk;
 mod worker;
 
-pub use many::{MOST_WORKERS, run};
+pub use many::{MOST_WORKERS, run, run_and_close};

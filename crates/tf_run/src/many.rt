@@ -54,11 +54,38 @@ pub fn run<R: Threads + Wait + Sync>(
         (λ _. are_workers workers ≡ true)
         (λ r. MatchBool (are_workers workers) (told r ≡ no_memory) (told r ≡ wrong_workers)) }
 {
+    match run_and_close(rt, alloc, plan, providers, workers, stop) {
+        Ok((walked, _)) => Ok(walked),
+        Err(refusal) => Err(refusal),
+    }
+}
+
+/// As `run`, and it says also whether the claims could be closed: whether each action was claimed and ended, and all that
+/// waited for it was let go. No contract says so, so tests ask it.
+///
+/// # Errors
+///
+/// As `run`.
+pub fn run_and_close<R: Threads + Wait + Sync>(
+    rt: &R,
+    alloc: Global,
+    plan: &Plan,
+    providers: &[Box<dyn Provider + Sync>],
+    workers: usize,
+    stop: &Stop,
+) -> Result<(Walked, bool), Refusal>
+    requires fits { FitsTogether plan.now }
+    requires served { AreServed (map (λ b. meaning b) providers.now) (map action_of plan.now.actions.items) }
+    ensures walked { IfOk result (λ ended. IsRun (map (λ b. meaning b) providers.now) (plan_of plan.now) ended.0) }
+    ensures refused { MatchResult result
+        (λ _. are_workers workers ≡ true)
+        (λ r. MatchBool (are_workers workers) (told r ≡ no_memory) (told r ≡ wrong_workers)) }
+{
     if !are_workers(workers) {
         return Err(Refusal::Workers);
     }
     match run_as::<Brand, R>(rt, alloc, plan, providers, workers, stop) {
-        Ok(walked) => Ok(walked),
+        Ok(ended) => Ok(ended),
         Err(AllocError) => Err(Refusal::OutOfMemory),
     }
 }
@@ -78,18 +105,19 @@ fn run_as<N: Naming + Send + Sync, R: Threads + Wait + Sync>(
     providers: &[Box<dyn Provider + Sync>],
     workers: usize,
     stop: &Stop,
-) -> Result<Walked, AllocError>
+) -> Result<(Walked, bool), AllocError>
     requires fits { FitsTogether plan.now }
     requires meanings { N.meanings ≡ map (λ b. meaning b) providers.now }
     requires plan { N.plan ≡ plan_of plan.now }
     requires served { AreServed (map (λ b. meaning b) providers.now) (map action_of plan.now.actions.items) }
-    ensures { IfOk result (IsRun (map (λ b. meaning b) providers.now) (plan_of plan.now)) }
+    ensures { IfOk result (λ ended. IsRun (map (λ b. meaning b) providers.now) (plan_of plan.now) ended.0) }
 {
     let prepared = prepare::<N>(alloc, plan, workers)?;
     Ok(carry_out(rt, alloc, plan, providers, stop, prepared))
 }
 
-/// The report on a plan that is carried out. It has no answer that says that there was no memory.
+/// The report on a plan that is carried out, and whether its claims could be closed. It has no answer that says that there
+/// was no memory.
 fn carry_out<N: Naming + Send + Sync, R: Threads + Wait + Sync>(
     rt: &R,
     alloc: Global,
@@ -97,13 +125,13 @@ fn carry_out<N: Naming + Send + Sync, R: Threads + Wait + Sync>(
     providers: &[Box<dyn Provider + Sync>],
     stop: &Stop,
     prepared: Prepared<'_, N>,
-) -> Walked
+) -> (Walked, bool)
     requires fits { FitsTogether plan.now }
     requires meanings { N.meanings ≡ map (λ b. meaning b) providers.now }
     requires plan { N.plan ≡ plan_of plan.now }
     requires served { AreServed (map (λ b. meaning b) providers.now) (map action_of plan.now.actions.items) }
     requires prepared { IsPrepared plan.now prepared }
-    ensures { IsRun (map (λ b. meaning b) providers.now) (plan_of plan.now) result }
+    ensures { IsRun (map (λ b. meaning b) providers.now) (plan_of plan.now) result.0 }
 {
     let Prepared {
         names,
@@ -137,9 +165,10 @@ fn carry_out<N: Naming + Send + Sync, R: Threads + Wait + Sync>(
         progress: &progress,
     };
     let seat = share_out(rt, &walk, &ground, providers, desk, others);
-    let _ = claims.close(seat);
+    let is_closed = claims.close(seat);
     let journal = journal.into_inner().into_journal();
-    conclude(
+    let walked = conclude(
         rt, alloc, plan, &names, providers, furnished, cells, results, journal,
-    )
+    );
+    (walked, is_closed)
 }

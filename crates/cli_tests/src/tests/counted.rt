@@ -10,7 +10,7 @@ use std::thread::Threads;
 
 // Configurations in which some actions are good, some aren't and some are never called.
 static CONFIGS: [&str; 3] = [
-    r#"{"resource": {"sim_net": {"a": {"cidr": "x"}, "b": {"cidr": "bad"}, "c": {"cidr": "x", "tag": "lie"}}, "sim_host": {"h": {"name": "n${1 + 2}", "size": 1}}}}"#,
+    r#"{"resource": {"sim_net": {"a": {"cidr": "x"}, "b": {"cidr": "bad"}, "c": {"cidr": "x", "tag": "lie"}}, "sim_host": {"h": {"name": "n${1 + 2}", "size": 1}, "k": {"name": "k", "net": "${sim_net.c.id}"}}}}"#,
     r#"{
   "output": {"o": {"value": "${1 + 2}"}},
   "resource": {
@@ -39,11 +39,12 @@ static CONFIGS: [&str; 3] = [
 
 // A state in which b was saved by a create that wasn't good, d is of no block, and e has a deposed object.
 const PRIOR: &str =
-    r#"{"version": 4, "terraform_version": "1.0.0", "serial": 3, "lineage": "L", "outputs": {}, "resources": [{"mode": "managed", "type": "sim_host", "name": "h", "provider": "p", "instances": [{"schema_version": 0, "attributes": {"id": "host-h", "name": "h", "net": "net-x", "size": null}, "dependencies": ["sim_net.a"]}]}, {"mode": "managed", "type": "sim_net", "name": "a", "provider": "p", "instances": [{"schema_version": 0, "attributes": {"cidr": "x", "id": "net-x", "tag": null}}]}, {"mode": "managed", "type": "sim_net", "name": "b", "provider": "p", "instances": [{"schema_version": 0, "status": "tainted", "attributes": {"cidr": "b", "id": "net-b", "tag": "truth"}}]}, {"mode": "managed", "type": "sim_net", "name": "d", "provider": "p", "instances": [{"schema_version": 0, "attributes": {"cidr": "d", "id": "net-d", "tag": null}}]}, {"mode": "managed", "type": "sim_net", "name": "e", "provider": "p", "instances": [{"schema_version": 0, "attributes": {"cidr": "e", "id": "net-e", "tag": null}}, {"deposed": "00000002", "schema_version": 0, "attributes": {"cidr": "w", "id": "net-w", "tag": null}}]}]}"#;
+    r#"{"version": 4, "terraform_version": "1.0.0", "serial": 3, "lineage": "L", "outputs": {}, "resources": [{"mode": "managed", "type": "sim_host", "name": "h", "provider": "p", "instances": [{"schema_version": 0, "attributes": {"id": "host-h", "name": "h", "net": "net-x", "size": null}, "dependencies": ["sim_net.a"]}]}, {"mode": "managed", "type": "sim_host", "name": "i", "provider": "p", "instances": [{"schema_version": 0, "attributes": {"id": "host-i", "name": "i", "net": "net-x", "size": null}, "dependencies": ["sim_net.a"]}]}, {"mode": "managed", "type": "sim_net", "name": "a", "provider": "p", "instances": [{"schema_version": 0, "attributes": {"cidr": "x", "id": "net-x", "tag": null}}]}, {"mode": "managed", "type": "sim_net", "name": "b", "provider": "p", "instances": [{"schema_version": 0, "status": "tainted", "attributes": {"cidr": "b", "id": "net-b", "tag": "truth"}}]}, {"mode": "managed", "type": "sim_net", "name": "d", "provider": "p", "instances": [{"schema_version": 0, "attributes": {"cidr": "d", "id": "net-d", "tag": null}}]}, {"mode": "managed", "type": "sim_net", "name": "e", "provider": "p", "instances": [{"schema_version": 0, "attributes": {"cidr": "e", "id": "net-e", "tag": null}}, {"deposed": "00000002", "schema_version": 0, "attributes": {"cidr": "w", "id": "net-w", "tag": null}}]}]}"#;
 
-// The net a is replaced late and h is updated between; b is replaced, d is destroyed, and so is what is deposed of e.
+// The net a and the host h are replaced late, and i is updated between; b is replaced, d is destroyed, and so is what is
+// deposed of e.
 const AFTER: &str =
-    r#"{"output": {"o": {"value": "${sim_net.a.id}"}}, "resource": {"sim_host": {"h": {"name": "h", "net": "${sim_net.a.id}"}}, "sim_net": {"a": {"cidr": "y", "lifecycle": {"create_before_destroy": true}}, "b": {"cidr": "b"}, "e": {"cidr": "e"}}}}"#;
+    r#"{"output": {"o": {"value": "${sim_net.a.id}"}}, "resource": {"sim_host": {"h": {"name": "g", "net": "${sim_net.a.id}", "lifecycle": {"create_before_destroy": true}}, "i": {"name": "i", "net": "${sim_net.a.id}"}}, "sim_net": {"a": {"cidr": "y", "lifecycle": {"create_before_destroy": true}}, "b": {"cidr": "b"}, "e": {"cidr": "e"}}}}"#;
 
 /// Checks that each call is in the journal, and that all of so many calls are made where nothing is refused or excused.
 fn check_counted<R: Abort + Threads + Wait + Sync>(
@@ -89,10 +90,10 @@ fn a_call_of_two_workers_is_in_the_journal(rt: HostRuntime) -> Result<(), Fail> 
 
 #[test]
 fn a_change_is_in_the_journal(rt: HostRuntime) -> Result<(), Fail> {
-    check_counted(&rt, rt.alloc(), Texts::after(AFTER, PRIOR), 1, 7)
+    check_counted(&rt, rt.alloc(), Texts::after(AFTER, PRIOR), 1, 9)
 }
 
 #[test]
 fn a_change_of_two_workers_is_in_the_journal(rt: HostRuntime) -> Result<(), Fail> {
-    check_counted(&rt, rt.alloc(), Texts::after(AFTER, PRIOR), 2, 7)
+    check_counted(&rt, rt.alloc(), Texts::after(AFTER, PRIOR), 2, 9)
 }

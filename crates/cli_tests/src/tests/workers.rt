@@ -1,113 +1,20 @@
 //! Many workers: that they call at the same time, and how a walk is stopped.
 
 use crate::tests::applying::{
-    Manner, NOTHING, Seen, Texts, WORKERS, apply_by, watch_apply, watch_manner,
+    Manner, NOTHING, Texts, WORKERS, apply_by, watch_apply, watch_manner,
 };
 use crate::tests::changes::{squeezed, state_text};
 use std::alloc::Global;
-use std::collections::BTreeMap;
 use std::process::Abort;
 use std::sync::atomic::{AtomicBool, AtomicUsize, Ordering};
 use std::sync::{Arc, Wait};
 use std::test::Fail;
 use std::thread::Threads;
+use test_providers::{is_set_within, meet};
 use tf_cli::Stop;
 use tf_provider::{Provider, Reply, Request, Schema};
 use tf_sim::Sim;
 use tf_value::Value;
-
-/// The provider of one type without attributes. Its call sets its own flag and looks for those of the others, at most so
-/// many times, and counts a miss for each that it doesn't see.
-#[derive(Drop)]
-struct Meeting {
-    alloc: Global,
-    type_name: String,
-    schema: Schema,
-    own: Arc<AtomicBool>,
-    others: Vec<Arc<AtomicBool>>,
-    misses: Arc<AtomicUsize>,
-    turns: usize,
-}
-
-impl Provider for Meeting {
-    ghost use Rattle.std.specs.Prelude.{Some, None, string_bytes, if◌then◌else◌};
-    ghost use Rattle.std.specs.Str.{bytes_eq};
-    ghost use Rattle.tf_protocol.specs.Meaning.{object};
-    ghost use Rattle.tf_value.specs.Tree.{map, no_entries};
-
-    ghost meaning = { λ m. record { answer = λ _. object (map no_entries); schema_of = λ name. if bytes_eq name (string_bytes m.type_name) then Some m.schema else None } };
-
-    fn schema(&self, type_name: &str) -> Option<&Schema> {
-        if type_name == self.type_name.as_str() {
-            Some(&self.schema)
-        } else {
-            None
-        }
-    }
-
-    fn apply(&self, _request: &Request) -> Reply {
-        self.own.store(true, Ordering::SeqCst);
-        for other in &self.others {
-            if !is_seen(other, self.turns) {
-                self.misses.fetch_add(1, Ordering::SeqCst);
-            }
-        }
-        Reply::Object(Value::Map(BTreeMap::new(self.alloc)))
-    }
-}
-
-/// Whether a flag is set, which is looked at so many times at most.
-fn is_seen(flag: &AtomicBool, turns: usize) -> bool {
-    for _ in 0..turns {
-        if flag.load(Ordering::SeqCst) {
-            return true;
-        }
-    }
-    false
-}
-
-/// How many flags weren't seen where so many creates, of a provider each, are called by as many workers.
-fn misses_of<R: Threads + Wait + Sync>(
-    rt: &R,
-    alloc: Global,
-    config: &str,
-    count: usize,
-    turns: usize,
-) -> Result<(usize, Seen), Fail> {
-    let misses = Arc::new(alloc, AtomicUsize::new(0))?;
-    let mut flags = Vec::new(alloc);
-    for _ in 0..count {
-        flags.push(Arc::new(alloc, AtomicBool::new(false))?)?;
-    }
-    let mut providers: Vec<Box<dyn Provider + Sync>> = Vec::new(alloc);
-    for (place, own) in flags.iter().enumerate() {
-        let mut others = Vec::new(alloc);
-        for (other, flag) in flags.iter().enumerate() {
-            if other != place {
-                others.push(Arc::try_clone(flag)?)?;
-            }
-        }
-        let meeting = Meeting {
-            alloc,
-            type_name: format!(in alloc; "t{place}")?,
-            schema: Schema::new(alloc, 0, Vec::new(alloc))?,
-            own: Arc::try_clone(own)?,
-            others,
-            misses: Arc::try_clone(&misses)?,
-            turns,
-        };
-        providers.push(Box::new(alloc, meeting)?)?;
-    }
-    let seen = apply_by(
-        rt,
-        alloc,
-        Texts::of(config),
-        &providers,
-        count,
-        &Stop::new(),
-    )?;
-    Ok((misses.load(Ordering::SeqCst), seen))
-}
 
 #[test]
 fn two_calls_meet(rt: HostRuntime) -> Result<(), Fail> {
@@ -115,8 +22,17 @@ fn two_calls_meet(rt: HostRuntime) -> Result<(), Fail> {
     let four =
         r#"{"resource": {"t0": {"a": {}}, "t1": {"a": {}}, "t2": {"a": {}}, "t3": {"a": {}}}}"#;
     for (config, count, turns) in [(two, 2, 10_000_000), (four, 4, 100_000_000)] {
-        let (misses, seen) = misses_of(&rt, rt.alloc(), config, count, turns)?;
-        assert_eq!(rt; misses, 0, "{count}");
+        let meeting = meet(rt.alloc(), count, turns)?;
+        let texts = Texts::of(config);
+        let seen = apply_by(
+            &rt,
+            rt.alloc(),
+            texts,
+            &meeting.providers,
+            count,
+            &Stop::new(),
+        )?;
+        assert_eq!(rt; meeting.misses.load(Ordering::SeqCst), 0, "{count}");
         assert_eq!(rt; seen.errors.as_str(), "", "{count}");
         assert_eq!(rt; seen.journal.len(), count, "{count}");
         assert!(rt; seen.whole, "{count}");
@@ -143,7 +59,7 @@ impl Provider for Waiting {
 
     fn apply(&self, request: &Request) -> Reply {
         match cidr_of(request) {
-            Some("a") if !is_seen(&self.begun, 10_000_000) => {
+            Some("a") if !is_set_within(&self.begun, 10_000_000) => {
                 self.misses.fetch_add(1, Ordering::SeqCst);
             }
             Some("net-b") => self.begun.store(true, Ordering::SeqCst),

@@ -1,7 +1,7 @@
 -- the walk is named by its providers and its plan
 use Rattle.std.proofs.Common.{map}
 use Rattle.tf_plan_data.specs.Plan.{plan_of}
-use Rattle.tf_run.proofs.many.run.Given as goal
+use Rattle.tf_run.proofs.many.run_and_close.Given as goal
 
 abbrev pub ghosts-run_as : goal.ghosts-run_as
 ghosts-run_as g a =

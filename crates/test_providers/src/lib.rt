@@ -1,0 +1,6 @@
+//! Providers for the tests of more than one crate.
+#![tactic(auto)]
+
+mod meeting;
+
+pub use meeting::{Meeting, is_set_within, meet};
