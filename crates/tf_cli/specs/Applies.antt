@@ -1,5 +1,6 @@
 -- What an apply answers where nothing is refused.
-use Rattle.std.specs.Prelude.{◌≡◌, ◌↔◌, ℕ, false, if◌then◌else◌, List, Option, None, Result, Ok, Err, IfOk, option_map, result_ok, string_bytes}
+use Rattle.std.specs.Prelude.{◌≡◌, ◌↔◌, ℕ, false, if◌then◌else◌, List, Option, None, Result, Ok, Err, IfOk, option_map, string_bytes}
+use Rattle.std.specs.Result.{result_ok}
 use Rattle.tf_cli.specs.declared.applied.Applied.{Applied}
 use Rattle.tf_config_data.specs.Config.{ConfigView}
 use Rattle.tf_inputs.specs.Texts.{Texts, StandFor}
