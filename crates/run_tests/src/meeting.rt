@@ -8,7 +8,8 @@ use std::sync::Wait;
 use std::sync::atomic::Ordering;
 use std::test::Fail;
 use std::thread::Threads;
-use test_providers::meet;
+use test_providers::{Meeting, meet};
+use tf_provider::Provider;
 use tf_run::run;
 use tf_stop::Stop;
 
@@ -20,13 +21,20 @@ fn check_meeting<R: Abort + Threads + Wait + Sync>(
     count: usize,
     turns: usize,
 ) -> Result<(), Fail> {
-    let meeting = meet(alloc, count, turns)?;
-    let plan = plan_texts(alloc, config, None, &meeting.providers)?;
-    let Ok(walked) = run(rt, alloc, &plan, &meeting.providers, count, &Stop::new()) else {
+    let Meeting {
+        providers: all,
+        misses,
+    } = meet(alloc, count, turns)?;
+    let mut providers: Vec<Box<dyn Provider + Sync>> = Vec::new(alloc);
+    for provider in all {
+        providers.push(Box::new(alloc, provider)?)?;
+    }
+    let plan = plan_texts(alloc, config, None, &providers)?;
+    let Ok(walked) = run(rt, alloc, &plan, &providers, count, &Stop::new()) else {
         return Err("no memory".into());
     };
     let told = tell_of(alloc, walked)?;
-    assert_eq!(rt; meeting.misses.load(Ordering::SeqCst), 0);
+    assert_eq!(rt; misses.load(Ordering::SeqCst), 0);
     assert!(rt; told.whole);
     assert_eq!(rt; told.calls, count);
     Ok(())

@@ -10,7 +10,7 @@ use tf_value::Value;
 /// The provider of one type without attributes. Its call sets its own flag and looks for those of the others, at most so
 /// many times, and counts a miss for each that it doesn't see.
 #[derive(Drop)]
-struct Meets {
+pub struct Meets {
     alloc: Global,
     type_name: String,
     schema: Schema,
@@ -61,7 +61,7 @@ pub fn is_set_within(flag: &AtomicBool, turns: usize) -> bool {
 #[derive(Drop)]
 pub struct Meeting {
     /// The providers of the types `t0`, `t1` and on, one each.
-    pub providers: Vec<Box<dyn Provider + Sync>>,
+    pub providers: Vec<Meets>,
     /// How often the call of one didn't see that the call of another had begun.
     pub misses: Arc<AtomicUsize>,
 }
@@ -78,18 +78,21 @@ pub fn meet(alloc: Global, count: usize, turns: usize) -> Result<Meeting, AllocE
     for _ in 0..count {
         flags.push(Arc::new(alloc, AtomicBool::new(false))?)?;
     }
-    let mut providers: Vec<Box<dyn Provider + Sync>> = Vec::new(alloc);
+    let mut providers = Vec::new(alloc);
     for (place, own) in flags.iter().enumerate() {
-        let meets = Meets {
+        // A schema without attributes has no fault.
+        let Ok(schema) = Schema::new(alloc, 0, Vec::new(alloc)) else {
+            return Err(AllocError);
+        };
+        providers.push(Meets {
             alloc,
             type_name: format!(in alloc; "t{place}")?,
-            schema: Schema::new(alloc, 0, Vec::new(alloc))?,
+            schema,
             own: Arc::try_clone(own)?,
             others: others(alloc, flags.as_slice(), place)?,
             misses: Arc::try_clone(&misses)?,
             turns,
-        };
-        providers.push(Box::new(alloc, meets)?)?;
+        })?;
     }
     Ok(Meeting { providers, misses })
 }

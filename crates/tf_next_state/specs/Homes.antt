@@ -27,6 +27,10 @@ HaveRoom count homes = (n : ℕ) → IfSome (slice_get homes n) (λ r. HasRoomFo
 abbrev pub count_of : List LabelView → LabelView → ℕ
 count_of labels label = count_by (λ l. same_label l label) labels
 
+-- how often the address of each resource is one of these
+abbrev pub counts_at : List LabelView → List ResourceView → List ℕ
+counts_at labels resources = map (λ r. count_of labels r.label) resources
+
 -- Resources for all that a prior state has and for creates and updates at these addresses, in the order of their addresses,
 -- each with room for one record of each create or update at its address; and the names that a state keeps.
 pub record AreHomes (prior : StateView) (labels : List LabelView) (homes : Homes) : Type 0 where

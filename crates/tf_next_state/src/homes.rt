@@ -1,8 +1,8 @@
 //! What the state after an apply is made of.
 
-ghost use Rattle.std.specs.Prelude.{◌≡◌, [], ◌∷◌, IfOk, OnOk, map};
+ghost use Rattle.std.specs.Prelude.{◌≡◌, [], ◌∷◌, IfOk, OnOk, map, replicate};
 ghost use Rattle.tf_address.specs.Label.{label_of};
-ghost use Rattle.tf_next_state.specs.Homes.{AreAdded, AreHomes, HaveRoom, count_of};
+ghost use Rattle.tf_next_state.specs.Homes.{AreAdded, AreHomes, HaveRoom, count_of, counts_at};
 ghost use Rattle.tf_state_data.specs.Addresses.{AreByAddress};
 ghost use Rattle.tf_state_data.specs.Resource.{resource_of};
 ghost use Rattle.tf_state_data.specs.State.{state_of};
@@ -38,7 +38,7 @@ pub fn homes_for<'a>(
     let terraform_version = String::from_str(alloc, prior.terraform_version())?;
     let mut resources = copies(alloc, prior.resources())?;
     add_all(alloc, &mut resources, labels)?;
-    make_room(&mut resources, labels)?;
+    make_room(alloc, &mut resources, labels)?;
     Ok(Homes {
         prior,
         lineage,
@@ -91,20 +91,40 @@ fn add_missing(
 }
 
 /// Makes room in each resource for one record for each time that its address is one of these.
-fn make_room(resources: &mut [Resource], labels: &[&Label]) -> Result<(), AllocError>
+fn make_room(alloc: Global, resources: &mut [Resource], labels: &[&Label]) -> Result<(), AllocError>
+    requires { AreByAddress (map resource_of resources.old) }
     ensures same { map resource_of resources.new ≡ map resource_of resources.old }
     ensures room { OnOk result (HaveRoom (count_of (map (λ l. label_of l.now) labels.now)) resources.new) }
 {
+    let counts = counts_of(alloc, resources, labels)?;
     for index in 0..resources.len() {
-        let count = count_of(labels, resources[index].label());
-        resources[index].reserve(count)?;
+        resources[index].reserve(counts[index])?;
     }
     Ok(())
 }
 
-/// How often an address is one of these.
-fn count_of(labels: &[&Label], label: &Label) -> usize
-    ensures { result ≡ count_of (map (λ l. label_of l.now) labels.now) (label_of label.now) }
+/// How often the address of each resource is one of these.
+fn counts_of(
+    alloc: Global,
+    resources: &[Resource],
+    labels: &[&Label],
+) -> Result<Vec<usize>, AllocError>
+    requires { AreByAddress (map resource_of resources.now) }
+    ensures { IfOk result (λ counts. counts.items ≡ counts_at (map (λ l. label_of l.now) labels.now) (map resource_of resources.now)) }
 {
-    labels.iter().filter(|other| **other == label).count()
+    let mut counts = no_counts(alloc, resources.len())?;
+    for label in labels {
+        match search(resources, label) {
+            Ok(index) => counts[index] += 1,
+            Err(_) => {}
+        }
+    }
+    Ok(counts)
+}
+
+/// So many counts, of nothing yet.
+fn no_counts(alloc: Global, count: usize) -> Result<Vec<usize>, AllocError>
+    ensures { IfOk result (λ counts. counts.items ≡ replicate count 0) }
+{
+    vec![in alloc; 0; count]
 }

@@ -10,34 +10,54 @@ use std::sync::atomic::{AtomicBool, AtomicUsize, Ordering};
 use std::sync::{Arc, Wait};
 use std::test::Fail;
 use std::thread::Threads;
-use test_providers::{is_set_within, meet};
+use test_providers::{Meeting, is_set_within, meet};
 use tf_cli::Stop;
 use tf_provider::{Provider, Reply, Request, Schema};
 use tf_sim::Sim;
 use tf_value::Value;
 
+/// Checks that so many calls, of a provider each, are seen by one another where as many workers make them.
+fn check_meeting<R: Abort + Threads + Wait + Sync>(
+    rt: &R,
+    alloc: Global,
+    config: &str,
+    count: usize,
+    turns: usize,
+) -> Result<(), Fail> {
+    let Meeting {
+        providers: all,
+        misses,
+    } = meet(alloc, count, turns)?;
+    let mut providers: Vec<Box<dyn Provider + Sync>> = Vec::new(alloc);
+    for provider in all {
+        providers.push(Box::new(alloc, provider)?)?;
+    }
+    let seen = apply_by(
+        rt,
+        alloc,
+        Texts::of(config),
+        &providers,
+        count,
+        &Stop::new(),
+    )?;
+    assert_eq!(rt; misses.load(Ordering::SeqCst), 0);
+    assert_eq!(rt; seen.errors.as_str(), "");
+    assert_eq!(rt; seen.journal.len(), count);
+    assert!(rt; seen.whole);
+    Ok(())
+}
+
 #[test]
 fn two_calls_meet(rt: HostRuntime) -> Result<(), Fail> {
-    let two = r#"{"resource": {"t0": {"a": {}}, "t1": {"a": {}}}}"#;
-    let four =
+    let config = r#"{"resource": {"t0": {"a": {}}, "t1": {"a": {}}}}"#;
+    check_meeting(&rt, rt.alloc(), config, 2, 10_000_000)
+}
+
+#[test]
+fn four_calls_meet(rt: HostRuntime) -> Result<(), Fail> {
+    let config =
         r#"{"resource": {"t0": {"a": {}}, "t1": {"a": {}}, "t2": {"a": {}}, "t3": {"a": {}}}}"#;
-    for (config, count, turns) in [(two, 2, 10_000_000), (four, 4, 100_000_000)] {
-        let meeting = meet(rt.alloc(), count, turns)?;
-        let texts = Texts::of(config);
-        let seen = apply_by(
-            &rt,
-            rt.alloc(),
-            texts,
-            &meeting.providers,
-            count,
-            &Stop::new(),
-        )?;
-        assert_eq!(rt; meeting.misses.load(Ordering::SeqCst), 0, "{count}");
-        assert_eq!(rt; seen.errors.as_str(), "", "{count}");
-        assert_eq!(rt; seen.journal.len(), count, "{count}");
-        assert!(rt; seen.whole, "{count}");
-    }
-    Ok(())
+    check_meeting(&rt, rt.alloc(), config, 4, 100_000_000)
 }
 
 /// The provider `sim`, whose create of the net with cidr `a` waits, but not for ever, until that with cidr `net-b` has begun.
