@@ -38,41 +38,7 @@ Plan: 0 to add, 0 to change, 2 to destroy.
     // The key of what becomes deposed is moved up until it is free.
     Change {
         prior: Prior::Text(
-            r#"{
-  "lineage": "L",
-  "outputs": {},
-  "resources": [
-    {
-      "instances": [
-        {
-          "attributes": {
-            "cidr": "x",
-            "id": "net-x",
-            "tag": "stuck"
-          },
-          "schema_version": 0
-        },
-        {
-          "attributes": {
-            "cidr": "w",
-            "id": "net-w",
-            "tag": "stuck"
-          },
-          "deposed": "00000006",
-          "schema_version": 0
-        }
-      ],
-      "mode": "managed",
-      "name": "a",
-      "provider": "provider[\"registry.terraform.io/hashicorp/sim\"]",
-      "type": "sim_net"
-    }
-  ],
-  "serial": 5,
-  "terraform_version": "1.0.0",
-  "version": 4
-}
-"#,
+            r#"{"lineage": "L", "outputs": {}, "resources": [{"instances": [{"attributes": {"cidr": "x", "id": "net-x", "tag": "stuck"}, "schema_version": 0}, {"attributes": {"cidr": "w", "id": "net-w", "tag": "stuck"}, "deposed": "00000006", "schema_version": 0}], "mode": "managed", "name": "a", "provider": "provider[\"registry.terraform.io/hashicorp/sim\"]", "type": "sim_net"}], "serial": 5, "terraform_version": "1.0.0", "version": 4}"#,
         ),
         config: r#"{"resource": {"sim_net": {"a": {"cidr": "y", "lifecycle": {"create_before_destroy": true}}}}}"#,
         plan: r#"+/- sim_net.a
@@ -92,41 +58,7 @@ error 21 at sim_net.a (deposed 00000006) destroy: stuck
     // And goes on at 0 behind the last one.
     Change {
         prior: Prior::Text(
-            r#"{
-  "lineage": "L",
-  "outputs": {},
-  "resources": [
-    {
-      "instances": [
-        {
-          "attributes": {
-            "cidr": "x",
-            "id": "net-x",
-            "tag": "stuck"
-          },
-          "schema_version": 0
-        },
-        {
-          "attributes": {
-            "cidr": "w",
-            "id": "net-w",
-            "tag": "stuck"
-          },
-          "deposed": "ffffffff",
-          "schema_version": 0
-        }
-      ],
-      "mode": "managed",
-      "name": "a",
-      "provider": "provider[\"registry.terraform.io/hashicorp/sim\"]",
-      "type": "sim_net"
-    }
-  ],
-  "serial": 4294967294,
-  "terraform_version": "1.0.0",
-  "version": 4
-}
-"#,
+            r#"{"lineage": "L", "outputs": {}, "resources": [{"instances": [{"attributes": {"cidr": "x", "id": "net-x", "tag": "stuck"}, "schema_version": 0}, {"attributes": {"cidr": "w", "id": "net-w", "tag": "stuck"}, "deposed": "ffffffff", "schema_version": 0}], "mode": "managed", "name": "a", "provider": "provider[\"registry.terraform.io/hashicorp/sim\"]", "type": "sim_net"}], "serial": 4294967294, "terraform_version": "1.0.0", "version": 4}"#,
         ),
         config: r#"{"resource": {"sim_net": {"a": {"cidr": "y", "lifecycle": {"create_before_destroy": true}}}}}"#,
         plan: r#"+/- sim_net.a
@@ -146,33 +78,7 @@ error 21 at sim_net.a (deposed ffffffff) destroy: stuck
     // A deposed object alone is destroyed, and the object is created anew.
     Change {
         prior: Prior::Text(
-            r#"{
-  "lineage": "L",
-  "outputs": {},
-  "resources": [
-    {
-      "instances": [
-        {
-          "attributes": {
-            "cidr": "w",
-            "id": "net-w",
-            "tag": null
-          },
-          "deposed": "00000006",
-          "schema_version": 0
-        }
-      ],
-      "mode": "managed",
-      "name": "a",
-      "provider": "provider[\"registry.terraform.io/hashicorp/sim\"]",
-      "type": "sim_net"
-    }
-  ],
-  "serial": 5,
-  "terraform_version": "1.0.0",
-  "version": 4
-}
-"#,
+            r#"{"lineage": "L", "outputs": {}, "resources": [{"instances": [{"attributes": {"cidr": "w", "id": "net-w", "tag": null}, "deposed": "00000006", "schema_version": 0}], "mode": "managed", "name": "a", "provider": "provider[\"registry.terraform.io/hashicorp/sim\"]", "type": "sim_net"}], "serial": 5, "terraform_version": "1.0.0", "version": 4}"#,
         ),
         config: r#"{"resource": {"sim_net": {"a": {"cidr": "x"}}}}"#,
         plan: r#"+ sim_net.a
@@ -190,56 +96,7 @@ Plan: 1 to add, 0 to change, 1 to destroy.
     // Stored dependencies that go in a ring.
     Change {
         prior: Prior::Text(
-            r#"{
-  "lineage": "L",
-  "outputs": {},
-  "resources": [
-    {
-      "instances": [
-        {
-          "attributes": {
-            "id": "host-a",
-            "name": "a",
-            "net": null,
-            "size": null
-          },
-          "dependencies": [
-            "sim_host.b"
-          ],
-          "schema_version": 0
-        }
-      ],
-      "mode": "managed",
-      "name": "a",
-      "provider": "provider[\"registry.terraform.io/hashicorp/sim\"]",
-      "type": "sim_host"
-    },
-    {
-      "instances": [
-        {
-          "attributes": {
-            "id": "host-b",
-            "name": "b",
-            "net": null,
-            "size": null
-          },
-          "dependencies": [
-            "sim_host.a"
-          ],
-          "schema_version": 0
-        }
-      ],
-      "mode": "managed",
-      "name": "b",
-      "provider": "provider[\"registry.terraform.io/hashicorp/sim\"]",
-      "type": "sim_host"
-    }
-  ],
-  "serial": 3,
-  "terraform_version": "1.0.0",
-  "version": 4
-}
-"#,
+            r#"{"lineage": "L", "outputs": {}, "resources": [{"instances": [{"attributes": {"id": "host-a", "name": "a", "net": null, "size": null}, "dependencies": ["sim_host.b"], "schema_version": 0}], "mode": "managed", "name": "a", "provider": "provider[\"registry.terraform.io/hashicorp/sim\"]", "type": "sim_host"}, {"instances": [{"attributes": {"id": "host-b", "name": "b", "net": null, "size": null}, "dependencies": ["sim_host.a"], "schema_version": 0}], "mode": "managed", "name": "b", "provider": "provider[\"registry.terraform.io/hashicorp/sim\"]", "type": "sim_host"}], "serial": 3, "terraform_version": "1.0.0", "version": 4}"#,
         ),
         config: "{}",
         plan: r#"- sim_host.a
@@ -255,37 +112,7 @@ Plan: 0 to add, 0 to change, 2 to destroy.
     // Stored dependencies on what isn't there, and on the resource itself.
     Change {
         prior: Prior::Text(
-            r#"{
-  "lineage": "L",
-  "outputs": {},
-  "resources": [
-    {
-      "instances": [
-        {
-          "attributes": {
-            "id": "host-a",
-            "name": "a",
-            "net": null,
-            "size": null
-          },
-          "dependencies": [
-            "sim_host.a",
-            "sim_net.gone"
-          ],
-          "schema_version": 0
-        }
-      ],
-      "mode": "managed",
-      "name": "a",
-      "provider": "provider[\"registry.terraform.io/hashicorp/sim\"]",
-      "type": "sim_host"
-    }
-  ],
-  "serial": 3,
-  "terraform_version": "1.0.0",
-  "version": 4
-}
-"#,
+            r#"{"lineage": "L", "outputs": {}, "resources": [{"instances": [{"attributes": {"id": "host-a", "name": "a", "net": null, "size": null}, "dependencies": ["sim_host.a", "sim_net.gone"], "schema_version": 0}], "mode": "managed", "name": "a", "provider": "provider[\"registry.terraform.io/hashicorp/sim\"]", "type": "sim_host"}], "serial": 3, "terraform_version": "1.0.0", "version": 4}"#,
         ),
         config: "{}",
         plan: r#"- sim_host.a

@@ -40,32 +40,7 @@ pub static REFUSED: [(Prior, &str, &str); 12] = [
     // An object of another version of the schema.
     (
         Prior::Text(
-            r#"{
-  "lineage": "L",
-  "outputs": {},
-  "resources": [
-    {
-      "instances": [
-        {
-          "attributes": {
-            "cidr": "x",
-            "id": "net-x",
-            "tag": null
-          },
-          "schema_version": 1
-        }
-      ],
-      "mode": "managed",
-      "name": "a",
-      "provider": "provider[\"registry.terraform.io/hashicorp/sim\"]",
-      "type": "sim_net"
-    }
-  ],
-  "serial": 1,
-  "terraform_version": "1.0.0",
-  "version": 4
-}
-"#,
+            r#"{"lineage": "L", "outputs": {}, "resources": [{"instances": [{"attributes": {"cidr": "x", "id": "net-x", "tag": null}, "schema_version": 1}], "mode": "managed", "name": "a", "provider": "provider[\"registry.terraform.io/hashicorp/sim\"]", "type": "sim_net"}], "serial": 1, "terraform_version": "1.0.0", "version": 4}"#,
         ),
         r#"{"resource": {"sim_net": {"a": {"cidr": "x"}}}}"#,
         "error 13 at sim_net.a: BadState\n",
@@ -73,40 +48,7 @@ pub static REFUSED: [(Prior, &str, &str); 12] = [
     // Two records of one object.
     (
         Prior::Text(
-            r#"{
-  "lineage": "L",
-  "outputs": {},
-  "resources": [
-    {
-      "instances": [
-        {
-          "attributes": {
-            "cidr": "x",
-            "id": "net-x",
-            "tag": null
-          },
-          "schema_version": 0
-        },
-        {
-          "attributes": {
-            "cidr": "x",
-            "id": "net-x",
-            "tag": null
-          },
-          "schema_version": 0
-        }
-      ],
-      "mode": "managed",
-      "name": "a",
-      "provider": "provider[\"registry.terraform.io/hashicorp/sim\"]",
-      "type": "sim_net"
-    }
-  ],
-  "serial": 1,
-  "terraform_version": "1.0.0",
-  "version": 4
-}
-"#,
+            r#"{"lineage": "L", "outputs": {}, "resources": [{"instances": [{"attributes": {"cidr": "x", "id": "net-x", "tag": null}, "schema_version": 0}, {"attributes": {"cidr": "x", "id": "net-x", "tag": null}, "schema_version": 0}], "mode": "managed", "name": "a", "provider": "provider[\"registry.terraform.io/hashicorp/sim\"]", "type": "sim_net"}], "serial": 1, "terraform_version": "1.0.0", "version": 4}"#,
         ),
         r#"{"resource": {"sim_net": {"a": {"cidr": "x"}}}}"#,
         "error 13 at state: BadState\n",
@@ -114,32 +56,7 @@ pub static REFUSED: [(Prior, &str, &str); 12] = [
     // The last serial.
     (
         Prior::Text(
-            r#"{
-  "lineage": "L",
-  "outputs": {},
-  "resources": [
-    {
-      "instances": [
-        {
-          "attributes": {
-            "cidr": "x",
-            "id": "net-x",
-            "tag": null
-          },
-          "schema_version": 0
-        }
-      ],
-      "mode": "managed",
-      "name": "a",
-      "provider": "provider[\"registry.terraform.io/hashicorp/sim\"]",
-      "type": "sim_net"
-    }
-  ],
-  "serial": 4294967295,
-  "terraform_version": "1.0.0",
-  "version": 4
-}
-"#,
+            r#"{"lineage": "L", "outputs": {}, "resources": [{"instances": [{"attributes": {"cidr": "x", "id": "net-x", "tag": null}, "schema_version": 0}], "mode": "managed", "name": "a", "provider": "provider[\"registry.terraform.io/hashicorp/sim\"]", "type": "sim_net"}], "serial": 4294967295, "terraform_version": "1.0.0", "version": 4}"#,
         ),
         r#"{"resource": {"sim_net": {"a": {"cidr": "x"}}}}"#,
         "error 14 at state: Limit\n",
@@ -153,31 +70,7 @@ pub static REFUSED: [(Prior, &str, &str); 12] = [
     // An object without an attribute of the schema.
     (
         Prior::Text(
-            r#"{
-  "lineage": "L",
-  "outputs": {},
-  "resources": [
-    {
-      "instances": [
-        {
-          "attributes": {
-            "cidr": "x",
-            "id": "net-x"
-          },
-          "schema_version": 0
-        }
-      ],
-      "mode": "managed",
-      "name": "a",
-      "provider": "provider[\"registry.terraform.io/hashicorp/sim\"]",
-      "type": "sim_net"
-    }
-  ],
-  "serial": 1,
-  "terraform_version": "1.0.0",
-  "version": 4
-}
-"#,
+            r#"{"lineage": "L", "outputs": {}, "resources": [{"instances": [{"attributes": {"cidr": "x", "id": "net-x"}, "schema_version": 0}], "mode": "managed", "name": "a", "provider": "provider[\"registry.terraform.io/hashicorp/sim\"]", "type": "sim_net"}], "serial": 1, "terraform_version": "1.0.0", "version": 4}"#,
         ),
         r#"{"resource": {"sim_net": {"a": {"cidr": "x"}}}}"#,
         "error 13 at sim_net.a.tag: BadState\n",
@@ -185,32 +78,7 @@ pub static REFUSED: [(Prior, &str, &str); 12] = [
     // One with an attribute of another kind.
     (
         Prior::Text(
-            r#"{
-  "lineage": "L",
-  "outputs": {},
-  "resources": [
-    {
-      "instances": [
-        {
-          "attributes": {
-            "cidr": 5,
-            "id": "net-x",
-            "tag": null
-          },
-          "schema_version": 0
-        }
-      ],
-      "mode": "managed",
-      "name": "a",
-      "provider": "provider[\"registry.terraform.io/hashicorp/sim\"]",
-      "type": "sim_net"
-    }
-  ],
-  "serial": 1,
-  "terraform_version": "1.0.0",
-  "version": 4
-}
-"#,
+            r#"{"lineage": "L", "outputs": {}, "resources": [{"instances": [{"attributes": {"cidr": 5, "id": "net-x", "tag": null}, "schema_version": 0}], "mode": "managed", "name": "a", "provider": "provider[\"registry.terraform.io/hashicorp/sim\"]", "type": "sim_net"}], "serial": 1, "terraform_version": "1.0.0", "version": 4}"#,
         ),
         r#"{"resource": {"sim_net": {"a": {"cidr": "x"}}}}"#,
         "error 13 at sim_net.a.cidr: BadState\n",
@@ -218,41 +86,7 @@ pub static REFUSED: [(Prior, &str, &str); 12] = [
     // A deposed object that doesn't fit.
     (
         Prior::Text(
-            r#"{
-  "lineage": "L",
-  "outputs": {},
-  "resources": [
-    {
-      "instances": [
-        {
-          "attributes": {
-            "cidr": "x",
-            "id": "net-x",
-            "tag": null
-          },
-          "schema_version": 0
-        },
-        {
-          "attributes": {
-            "cidr": "x",
-            "id": 5,
-            "tag": null
-          },
-          "deposed": "00000001",
-          "schema_version": 0
-        }
-      ],
-      "mode": "managed",
-      "name": "a",
-      "provider": "provider[\"registry.terraform.io/hashicorp/sim\"]",
-      "type": "sim_net"
-    }
-  ],
-  "serial": 1,
-  "terraform_version": "1.0.0",
-  "version": 4
-}
-"#,
+            r#"{"lineage": "L", "outputs": {}, "resources": [{"instances": [{"attributes": {"cidr": "x", "id": "net-x", "tag": null}, "schema_version": 0}, {"attributes": {"cidr": "x", "id": 5, "tag": null}, "deposed": "00000001", "schema_version": 0}], "mode": "managed", "name": "a", "provider": "provider[\"registry.terraform.io/hashicorp/sim\"]", "type": "sim_net"}], "serial": 1, "terraform_version": "1.0.0", "version": 4}"#,
         ),
         r#"{"resource": {"sim_net": {"a": {"cidr": "x"}}}}"#,
         "error 13 at sim_net.a.id: BadState\n",
@@ -260,32 +94,7 @@ pub static REFUSED: [(Prior, &str, &str); 12] = [
     // An object of a type that no provider has.
     (
         Prior::Text(
-            r#"{
-  "lineage": "L",
-  "outputs": {},
-  "resources": [
-    {
-      "instances": [
-        {
-          "attributes": {
-            "cidr": "x",
-            "id": "net-x",
-            "tag": null
-          },
-          "schema_version": 0
-        }
-      ],
-      "mode": "managed",
-      "name": "a",
-      "provider": "provider[\"registry.terraform.io/hashicorp/sim\"]",
-      "type": "sim_disk"
-    }
-  ],
-  "serial": 1,
-  "terraform_version": "1.0.0",
-  "version": 4
-}
-"#,
+            r#"{"lineage": "L", "outputs": {}, "resources": [{"instances": [{"attributes": {"cidr": "x", "id": "net-x", "tag": null}, "schema_version": 0}], "mode": "managed", "name": "a", "provider": "provider[\"registry.terraform.io/hashicorp/sim\"]", "type": "sim_disk"}], "serial": 1, "terraform_version": "1.0.0", "version": 4}"#,
         ),
         r#"{"resource": {"sim_net": {"a": {"cidr": "x"}}}}"#,
         "error 11 at sim_disk.a: NoProvider\n",
