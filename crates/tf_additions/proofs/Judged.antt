@@ -27,7 +27,3 @@ judged-verdict ms r a v e = verdict_by (first_with r.type_name ms) r a v e
 
 pub judged-by : (ms : List Meaning) (r : Asked) (a : Option Answer) (v : Verdict) (s : SchemaView) → called r a v ≡ call_of ms r → schema_in r.type_name ms ≡ Some s → v ≡ verdict_on r a s
 judged-by ms r a v s e there = subst (λ (o : Option SchemaView). IsSomeAnd o (λ x. v ≡ verdict_on r a x)) there (judged-verdict ms r a v e)
-
--- there is one
-pub not-judged : (ms : List Meaning) (r : Asked) (a : Option Answer) (v : Verdict) → called r a v ≡ call_of ms r → schema_in r.type_name ms ≡ None → ⊥
-not-judged ms r a v e there = subst (λ (o : Option SchemaView). IsSomeAnd o (λ x. v ≡ verdict_on r a x)) there (judged-verdict ms r a v e)

@@ -4,19 +4,10 @@ use Rattle.std.proofs.lemmas.List.{map-append}
 use Rattle.std.specs.List.{AllByRecursion, range_with_len}
 use Rattle.std.specs.Prelude.{Some, slice_get}
 
-drop_at : {A : Type 0} (xs : List A) (i : ℕ) (x : A) → i < length xs → x ≡ get_or xs i x → drop i xs ≡ x ∷ drop (suc i) xs
-drop_at [] i x h e = absurd (omega arith)
-drop_at (y ∷ ys) zero x h e = ap (λ z. z ∷ ys) (sym e)
-drop_at (y ∷ ys) (suc i) x h e = drop_at ys i x (omega arith) e
-
 take_at : {A : Type 0} (xs : List A) (i : ℕ) (x : A) → i < length xs → x ≡ get_or xs i x → take (suc i) xs ≡ take i xs ++ x ∷ []
 take_at [] i x h e = absurd (omega arith)
 take_at (y ∷ ys) zero x h e = ap (λ z. z ∷ []) (sym e)
 take_at (y ∷ ys) (suc i) x h e = ap (λ zs. y ∷ zs) (take_at ys i x (omega arith) e)
-
--- what is left begins with the next one
-pub drop-next : {A : Type 0} (xs : List A) (i : ℕ) (x : A) → i < length xs → x ≡ get_or xs i x → drop i xs ≡ x ∷ drop (i + 1) xs
-drop-next xs i x h e = let next : suc i ≡ i + 1 = omega arith in drop_at xs i x h e ∙ ap (λ (k : ℕ). x ∷ drop k xs) next
 
 -- what was seen ends with it then
 pub take-next : {A : Type 0} (xs : List A) (i : ℕ) (x : A) → i < length xs → x ≡ get_or xs i x → take (i + 1) xs ≡ take i xs ++ x ∷ []
@@ -28,19 +19,6 @@ pub made-next : {A B C D : Type 0} (f : A → D) (g : C → D) (h : B → C) (ma
 made-next f g h made xs i y x below e so_far one =
     map-append f made (y ∷ []) ∙ ap (λ zs. zs ++ f y ∷ []) so_far ∙ ap (λ z. map g (map h (take i xs)) ++ z ∷ []) one
     ∙ sym (map-append g (map h (take i xs)) (h x ∷ [])) ∙ ap (map g) (sym (map-append h (take i xs) (x ∷ []))) ∙ ap (λ zs. map g (map h zs)) (sym (take-next xs i x below e))
-
--- what stands at a place is what was seen next
-pub get-next : {A : Type 0} (xs : List A) (i : ℕ) (x : A) → slice_get xs i ≡ Some x → take (suc i) xs ≡ take i xs ++ x ∷ []
-get-next [] i x e = absurd (cc)
-get-next (y ∷ ys) zero x e = let same : y ≡ x = (cc) in ap (λ z. z ∷ []) same
-get-next (y ∷ ys) (suc i) x e = ap (λ zs. y ∷ zs) (get-next ys i x e)
-
-pub made-get : {A B D : Type 0} (f : A → D) (g : B → D) (made : List A) (xs : List B) (i : ℕ) (y : A) (x : B) → slice_get xs i ≡ Some x → map f made ≡ map g (take i xs) → f y ≡ g x
-    → map f (made ++ y ∷ []) ≡ map g (take (i + 1) xs)
-made-get f g made xs i y x e so_far one =
-    let next : i + 1 ≡ suc i = omega arith in
-    map-append f made (y ∷ []) ∙ ap (λ zs. zs ++ f y ∷ []) so_far ∙ ap (λ z. map g (take i xs) ++ z ∷ []) one
-    ∙ sym (map-append g (take i xs) (x ∷ [])) ∙ ap (map g) (sym (ap (λ (k : ℕ). take k xs) next ∙ get-next xs i x e))
 
 -- what holds of all holds of one
 pub all-at : {A B : Type 0} (P : B → Type 0) (f : A → B) (xs : List A) (i : ℕ) (x : A) → i < length xs → x ≡ get_or xs i x → AllByRecursion P (map f xs) → P (f x)

@@ -113,13 +113,6 @@ room_more count rs i old new is room before =
     each_replaced (λ n (r : Resource). n < i → HasRoomForRecords (count (label_of r.label)) r) (λ n (r : Resource). n < i + 1 → HasRoomForRecords (count (label_of r.label)) r) rs i old new is
     (λ n other r h below. h (omega arith)) (λ h below. room) before
 
-none_yet : (count : LabelView → ℕ) (o : Option Resource) (n : ℕ) → IfSome o (λ r. n < 0 → HasRoomForRecords (count (label_of r.label)) r)
-none_yet count None n = tt
-none_yet count (Some r) n = λ h. absurd (omega arith)
-
-pub room_start : (count : LabelView → ℕ) (rs : List Resource) → HaveRoomTo count 0 rs
-room_start count rs n = none_yet count (slice_get rs n) n
-
 slice_get-below : {A : Type 0} (xs : List A) (n : ℕ) (x : A) → slice_get xs n ≡ Some x → n < length xs
 slice_get-below [] n x e = absurd (cc)
 slice_get-below (y ∷ xs) zero x e = omega arith

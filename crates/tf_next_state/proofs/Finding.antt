@@ -60,10 +60,6 @@ all_front : {A : Type 0} (P : A → Type 0) (xs ys : List A) → AllByRecursion 
 all_front P [] ys h = tt
 all_front P (x ∷ xs) ys h = (h.0, all_front P xs ys h.1)
 
-pub all_joined : {A : Type 0} (P : A → Type 0) (xs ys : List A) → AllByRecursion P xs → AllByRecursion P ys → AllByRecursion P (xs ++ ys)
-all_joined P [] ys h g = g
-all_joined P (x ∷ xs) ys h g = (h.0, all_joined P xs ys h.1 g)
-
 pub apart_front : {A B : Type 0} (about : A → B) (xs ys : List A) → AreApart about (xs ++ ys) → AreApart about xs
 apart_front about [] ys h = tt
 apart_front about (x ∷ xs) ys h = (all_front (λ y. ¬ (about x ≡ about y)) xs ys h.0, apart_front about xs ys h.1)

@@ -10,8 +10,8 @@ use Rattle.tf_address.specs.Same.{same_label, same_instance_key, same_object_id,
 use Rattle.tf_next_state.proofs.Finding.{found_first, found_joined, found_once}
 use Rattle.tf_next_state.specs.Events.{ApplyView, DestroyView, AreApart, instance_of, object_of, is_instance, apply_of_instance, left_of_object, nothing_given}
 use Rattle.tf_next_state.specs.Recorded.{AreApplied, AreDestroyed, record_among, places_among, heads_of}
-use Rattle.tf_state_after.specs.After.{Places, IsAfter, after_destroy, current_after, deposed_anew, destroy_under, instance_after, object_at, places_in}
-use Rattle.tf_state_after.specs.Ends.{LeftView, AppliedView, unwanted, unplanned, destroy_of}
+use Rattle.tf_state_after.specs.After.{Places, IsAfter, after_destroy, destroy_under, instance_after, object_at, places_in}
+use Rattle.tf_state_after.specs.Ends.{LeftView, unwanted, destroy_of}
 use Rattle.tf_state_data.specs.Record.{RecordView}
 use Rattle.tf_state_data.specs.Resource.{ResourceView, record_at}
 use Rattle.tf_state_data.specs.State.{resource_at}
@@ -242,50 +242,3 @@ module _ (d : DestroyView) (before after : List ResourceView) (r s : ResourceVie
   one_destroyed = record { known = λ label id. destroyed_at label id (same_label d.label label) (same_object_id d.id id) refl refl; heads = change.heads }
 
 -- ---- what is there for nothing
-
--- where there is no resource, a destroy leaves nothing
-pub destroyed_nowhere : (d : DestroyView) (rs : List ResourceView) → resource_at d.label rs ≡ None → AreDestroyed (d ∷ []) rs rs
-destroyed_nowhere d rs none = record { known = λ label id. at label id (same_label d.label label) refl; heads = refl }
-  where
-    nothing_left : (o : Option LeftView) → None ≡ after_destroy o None
-    nothing_left None = refl
-    nothing_left (Some l) = refl
-
-    at : (label : LabelView) (id : ObjectIdView) (b : Bool) → same_label d.label label ≡ b → record_among label id rs ≡ after_destroy (left_of_object label id (d ∷ [])) (record_among label id rs)
-    at label id true e =
-        let gone : record_among label id rs ≡ None = ap (option_and_then (λ (r : ResourceView). record_at id r.records)) (ap (λ l. resource_at l rs) (sym ((label_Decides d.label label).0 e)) ∙ none) in
-        gone ∙ nothing_left (left_of_object label id (d ∷ [])) ∙ ap (after_destroy (left_of_object label id (d ∷ []))) (sym gone)
-    at label id false e =
-        ap (λ (o : Option DestroyView). after_destroy (left_by o) (record_among label id rs)) (sym (found_first (destroys_it label id) d [] false (at_not (same_label d.label label) (same_object_id d.id id) e)))
-      where
-        at_not : (b c : Bool) → b ≡ false → (b && c) ≡ false
-        at_not false c h = refl
-        at_not true c h = absurd (cc)
-
--- where there is no resource, nothing is given anew
-pub applied_nowhere : (r : ApplyView) (rs : List ResourceView) → r.applied ≡ unplanned → resource_at r.label rs ≡ None → AreApplied (r ∷ []) rs rs
-applied_nowhere a rs un none = record { known = λ label key deposed. at label key deposed (same_label a.label label) refl; heads = refl }
-  where
-    nothing_renewed : (o : Option ApplyView) (key : InstanceKeyView) (before : Places) (deposed : Option (List ℕ)) → ((b : ApplyView) → o ≡ Some b → b.applied ≡ unplanned) → before None ≡ None → before deposed ≡ after_by o key before deposed
-    nothing_renewed None key before deposed is gone = sym (nothing_by key before deposed)
-    nothing_renewed (Some b) key before None is gone =
-        gone ∙ ap₂ (λ (x : AppliedView) (left : Option RecordView). current_after b.given x left) (sym (is b refl)) (sym gone)
-    nothing_renewed (Some b) key before (Some k) is gone =
-        ap (λ (x : AppliedView). option_or (deposed_anew b.given x (before None) k) (before (Some k))) (sym (is b refl))
-
-    at_not : (b c : Bool) → b ≡ false → (b && c) ≡ false
-    at_not false c h = refl
-    at_not true c h = absurd (cc)
-
-    only : (q : ApplyView → Bool) (b : ApplyView) (c : Bool) → q a ≡ c → find q (a ∷ []) ≡ Some b → b.applied ≡ unplanned
-    only q b true e h = let is : Some a ≡ Some b = sym (rw e refl) ∙ h in let one : a ≡ b = cc in ap (λ (x : ApplyView). x.applied) (sym one) ∙ un
-    only q b false e h = let is : None ≡ Some b = sym (rw e refl) ∙ h in absurd (cc)
-
-    at : (label : LabelView) (key : InstanceKeyView) (deposed : Option (List ℕ)) (b : Bool) → same_label a.label label ≡ b
-        → record_among label (object_at key deposed) rs ≡ after_by (apply_of_instance label key (a ∷ [])) key (places_among label key rs) deposed
-    at label key deposed true e =
-        nothing_renewed (apply_of_instance label key (a ∷ [])) key (places_among label key rs) deposed (λ b h. only (applies_it label key) b (applies_it label key a) refl h)
-        (ap (option_and_then (λ (r : ResourceView). record_at (object_at key None) r.records)) (ap (λ l. resource_at l rs) (sym ((label_Decides a.label label).0 e)) ∙ none))
-    at label key deposed false e =
-        sym (nothing_by key (places_among label key rs) deposed)
-        ∙ ap (λ (o : Option ApplyView). after_by o key (places_among label key rs) deposed) (sym (found_first (applies_it label key) a [] false (at_not (same_label a.label label) (same_instance_key a.given.key key) e)))
