@@ -37,8 +37,13 @@ for shape in independent chains layers locals pairs indexed; do
 done
 for shape in chains layers; do
     for change in nothing updated replaced swapped destroyed; do
-        # There are two actions for each host that is replaced, and 2,000 at most.
-        case "$change" in replaced | swapped) sizes="250 500 1000" ;; *) sizes="500 1000 2000" ;; esac
+        # There are two actions for each host that is replaced, and 2,000 at most; and 200,000 pairs of which one is before
+        # the other, of which 1,000 hosts in layers that are replaced late have more.
+        case "$shape $change" in
+            "layers swapped") sizes="125 250 500" ;;
+            *replaced | *swapped) sizes="250 500 1000" ;;
+            *) sizes="500 1000 2000" ;;
+        esac
         for blocks in $sizes; do
             row "$shape" "$blocks" "$change"
         done

@@ -1,8 +1,7 @@
 //! The threads of a walk.
 
 ghost use Rattle.std.specs.Prelude.{◌≡◌, All, List, map};
-ghost use Rattle.tf_plan_data.specs.Served.{AreServed};
-ghost use Rattle.tf_run.specs.Walk.{IsOfPlan};
+ghost use Rattle.tf_run.specs.Walk.{IsOneWalk};
 ghost use denote.Param.Send.{IsSync, IsSend};
 
 use crate::walk::{Desk, Ground, Walk};
@@ -25,10 +24,7 @@ pub(crate) fn share_out<N: Naming + Send + Sync, B: Ground<N> + Sync, R: Threads
     desk: Desk<N>,
     others: Vec<Desk<N>>,
 ) -> Seat
-    requires walk { IsOfPlan N.plan (B.planned ground.now) (B.named ground.now) walk.now.claims.now.graph }
-    requires meanings { N.meanings ≡ map (λ b. meaning b) providers.now }
-    requires served { AreServed N.meanings N.plan.actions }
-    requires cells { B.count ground.now ≡ N.plan.order.nodes }
+    requires walk { IsOneWalk N.plan N.meanings (B.planned ground.now) (B.named ground.now) (B.count ground.now) walk.now.claims.now.graph (map (λ b. meaning b) providers.now) }
     requires desk { desk.seat.table ≡ walk.now.claims.now.table }
     requires others { All (λ desk. desk.seat.table ≡ walk.now.claims.now.table) others.items }
     ensures { result.table ≡ walk.now.claims.now.table }
@@ -40,18 +36,12 @@ pub(crate) fn share_out<N: Naming + Send + Sync, B: Ground<N> + Sync, R: Threads
         rt,
         move || -> Vec<Seat>
             requires sync { IsSync R.row × IsSync B.row × IsSync N.row × IsSend N.row }
-            requires walk { IsOfPlan N.plan (B.planned ground.now) (B.named ground.now) walk.now.claims.now.graph }
-            requires meanings { N.meanings ≡ map (λ b. meaning b) providers.now }
-            requires served { AreServed N.meanings N.plan.actions }
-            requires cells { B.count ground.now ≡ N.plan.order.nodes }
+            requires walk { IsOneWalk N.plan N.meanings (B.planned ground.now) (B.named ground.now) (B.count ground.now) walk.now.claims.now.graph (map (λ b. meaning b) providers.now) }
             requires others { All (λ desk. desk.seat.table ≡ walk.now.claims.now.table) others.items }
             ensures { All (λ seat. seat.table ≡ walk.entry.now.claims.now.table) result.items }
         { work_at_all(rt, walk, ground, providers, others) },
         move || -> Seat
-            requires walk { IsOfPlan N.plan (B.planned ground.now) (B.named ground.now) walk.now.claims.now.graph }
-            requires meanings { N.meanings ≡ map (λ b. meaning b) providers.now }
-            requires served { AreServed N.meanings N.plan.actions }
-            requires cells { B.count ground.now ≡ N.plan.order.nodes }
+            requires walk { IsOneWalk N.plan N.meanings (B.planned ground.now) (B.named ground.now) (B.count ground.now) walk.now.claims.now.graph (map (λ b. meaning b) providers.now) }
             requires desk { desk.seat.table ≡ walk.now.claims.now.table }
             ensures { result.table ≡ walk.entry.now.claims.now.table }
         { work(rt, walk, ground, providers, desk) },
@@ -67,10 +57,7 @@ fn work_at_all<N: Naming + Send + Sync, B: Ground<N> + Sync, R: Threads + Wait +
     providers: &[Box<dyn Provider + Sync>],
     desks: Vec<Desk<N>>,
 ) -> Vec<Seat>
-    requires walk { IsOfPlan N.plan (B.planned ground.now) (B.named ground.now) walk.now.claims.now.graph }
-    requires meanings { N.meanings ≡ map (λ b. meaning b) providers.now }
-    requires served { AreServed N.meanings N.plan.actions }
-    requires cells { B.count ground.now ≡ N.plan.order.nodes }
+    requires walk { IsOneWalk N.plan N.meanings (B.planned ground.now) (B.named ground.now) (B.count ground.now) walk.now.claims.now.graph (map (λ b. meaning b) providers.now) }
     requires desks { All (λ desk. desk.seat.table ≡ walk.now.claims.now.table) desks.items }
     ensures { All (λ seat. seat.table ≡ walk.now.claims.now.table) result.items }
 {
@@ -78,10 +65,7 @@ fn work_at_all<N: Naming + Send + Sync, B: Ground<N> + Sync, R: Threads + Wait +
         rt,
         desks,
         &|desk: Desk<N>| -> Seat
-            requires walk { IsOfPlan N.plan (B.planned ground.now) (B.named ground.now) walk.now.claims.now.graph }
-            requires meanings { N.meanings ≡ map (λ b. meaning b) providers.now }
-            requires served { AreServed N.meanings N.plan.actions }
-            requires cells { B.count ground.now ≡ N.plan.order.nodes }
+            requires walk { IsOneWalk N.plan N.meanings (B.planned ground.now) (B.named ground.now) (B.count ground.now) walk.now.claims.now.graph (map (λ b. meaning b) providers.now) }
             requires desk { desk.seat.table ≡ walk.now.claims.now.table }
             ensures { result.table ≡ walk.entry.now.claims.now.table }
         { work(rt, walk, ground, providers, desk) },

@@ -1,8 +1,7 @@
 //! One worker of a walk.
 
 ghost use Rattle.std.specs.Prelude.{◌≡◌, ◌<◌, All, List, map};
-ghost use Rattle.tf_plan_data.specs.Served.{AreServed};
-ghost use Rattle.tf_run.specs.Walk.{IsOfPlan};
+ghost use Rattle.tf_run.specs.Walk.{IsOneWalk};
 
 use crate::bound::InPlan;
 use crate::walk::{Desk, Ground, Walk};
@@ -21,10 +20,7 @@ pub(crate) fn work<N: Naming, B: Ground<N>, R: Wait>(
     providers: &[Box<dyn Provider + Sync>],
     mut desk: Desk<N>,
 ) -> Seat
-    requires walk { IsOfPlan N.plan (B.planned ground.now) (B.named ground.now) walk.now.claims.now.graph }
-    requires meanings { N.meanings ≡ map (λ b. meaning b) providers.now }
-    requires served { AreServed N.meanings N.plan.actions }
-    requires cells { B.count ground.now ≡ N.plan.order.nodes }
+    requires walk { IsOneWalk N.plan N.meanings (B.planned ground.now) (B.named ground.now) (B.count ground.now) walk.now.claims.now.graph (map (λ b. meaning b) providers.now) }
     requires seat { desk.seat.table ≡ walk.now.claims.now.table }
     ensures { result.table ≡ walk.now.claims.now.table }
 {
@@ -61,10 +57,7 @@ fn go_on<N: Naming, B: Ground<N>, R: Wait>(
     providers: &[Box<dyn Provider + Sync>],
     desk: &mut Desk<N>,
 ) -> bool
-    requires walk { IsOfPlan N.plan (B.planned ground.now) (B.named ground.now) walk.now.claims.now.graph }
-    requires meanings { N.meanings ≡ map (λ b. meaning b) providers.now }
-    requires served { AreServed N.meanings N.plan.actions }
-    requires cells { B.count ground.now ≡ N.plan.order.nodes }
+    requires walk { IsOneWalk N.plan N.meanings (B.planned ground.now) (B.named ground.now) (B.count ground.now) walk.now.claims.now.graph (map (λ b. meaning b) providers.now) }
     requires seat { desk.old.seat.table ≡ walk.now.claims.now.table }
     ensures { desk.new.seat.table ≡ desk.old.seat.table }
 {
@@ -81,10 +74,7 @@ fn follow_own<N: Naming, B: Ground<N>, R: Wait>(
     providers: &[Box<dyn Provider + Sync>],
     desk: &mut Desk<N>,
 ) -> bool
-    requires walk { IsOfPlan N.plan (B.planned ground.now) (B.named ground.now) walk.now.claims.now.graph }
-    requires meanings { N.meanings ≡ map (λ b. meaning b) providers.now }
-    requires served { AreServed N.meanings N.plan.actions }
-    requires cells { B.count ground.now ≡ N.plan.order.nodes }
+    requires walk { IsOneWalk N.plan N.meanings (B.planned ground.now) (B.named ground.now) (B.count ground.now) walk.now.claims.now.graph (map (λ b. meaning b) providers.now) }
     requires seat { desk.old.seat.table ≡ walk.now.claims.now.table }
     ensures { desk.new.seat.table ≡ desk.old.seat.table }
 {
@@ -109,10 +99,7 @@ fn look_on<N: Naming, B: Ground<N>, R: Wait>(
     providers: &[Box<dyn Provider + Sync>],
     desk: &mut Desk<N>,
 ) -> bool
-    requires walk { IsOfPlan N.plan (B.planned ground.now) (B.named ground.now) walk.now.claims.now.graph }
-    requires meanings { N.meanings ≡ map (λ b. meaning b) providers.now }
-    requires served { AreServed N.meanings N.plan.actions }
-    requires cells { B.count ground.now ≡ N.plan.order.nodes }
+    requires walk { IsOneWalk N.plan N.meanings (B.planned ground.now) (B.named ground.now) (B.count ground.now) walk.now.claims.now.graph (map (λ b. meaning b) providers.now) }
     requires seat { desk.old.seat.table ≡ walk.now.claims.now.table }
     ensures { desk.new.seat.table ≡ desk.old.seat.table }
 {
@@ -136,10 +123,7 @@ fn follow_others<N: Naming, B: Ground<N>, R: Wait>(
     providers: &[Box<dyn Provider + Sync>],
     desk: &mut Desk<N>,
 ) -> bool
-    requires walk { IsOfPlan N.plan (B.planned ground.now) (B.named ground.now) walk.now.claims.now.graph }
-    requires meanings { N.meanings ≡ map (λ b. meaning b) providers.now }
-    requires served { AreServed N.meanings N.plan.actions }
-    requires cells { B.count ground.now ≡ N.plan.order.nodes }
+    requires walk { IsOneWalk N.plan N.meanings (B.planned ground.now) (B.named ground.now) (B.count ground.now) walk.now.claims.now.graph (map (λ b. meaning b) providers.now) }
     requires seat { desk.old.seat.table ≡ walk.now.claims.now.table }
     ensures { desk.new.seat.table ≡ desk.old.seat.table }
 {
@@ -158,10 +142,7 @@ fn follow_some<N: Naming, B: Ground<N>, R: Wait>(
     desk: &mut Desk<N>,
     thieves: &[Thief<InPlan<N>>],
 ) -> bool
-    requires walk { IsOfPlan N.plan (B.planned ground.now) (B.named ground.now) walk.now.claims.now.graph }
-    requires meanings { N.meanings ≡ map (λ b. meaning b) providers.now }
-    requires served { AreServed N.meanings N.plan.actions }
-    requires cells { B.count ground.now ≡ N.plan.order.nodes }
+    requires walk { IsOneWalk N.plan N.meanings (B.planned ground.now) (B.named ground.now) (B.count ground.now) walk.now.claims.now.graph (map (λ b. meaning b) providers.now) }
     requires seat { desk.old.seat.table ≡ walk.now.claims.now.table }
     ensures { desk.new.seat.table ≡ desk.old.seat.table }
 {
@@ -185,10 +166,7 @@ fn end_if_free<N: Naming, B: Ground<N>, R: Wait>(
     desk: &mut Desk<N>,
     action: usize,
 ) -> bool
-    requires walk { IsOfPlan N.plan (B.planned ground.now) (B.named ground.now) walk.now.claims.now.graph }
-    requires meanings { N.meanings ≡ map (λ b. meaning b) providers.now }
-    requires served { AreServed N.meanings N.plan.actions }
-    requires cells { B.count ground.now ≡ N.plan.order.nodes }
+    requires walk { IsOneWalk N.plan N.meanings (B.planned ground.now) (B.named ground.now) (B.count ground.now) walk.now.claims.now.graph (map (λ b. meaning b) providers.now) }
     requires seat { desk.old.seat.table ≡ walk.now.claims.now.table }
     requires action { action < N.plan.order.nodes }
     ensures { desk.new.seat.table ≡ desk.old.seat.table }
