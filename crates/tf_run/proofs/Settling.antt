@@ -1,5 +1,5 @@
 -- What a report that was compared with its journal is.
-use Rattle.std.proofs.Common.{◌≡◌, ◌∙◌, ℕ, zero, suc, List, [], ◌∷◌, map, Option, Some, None, refl, sym, subst}
+use Rattle.std.proofs.Common.{◌≡◌, ◌∙◌, ℕ, zero, suc, List, [], ◌∷◌, map, Option, Some, refl, sym, subst}
 use Rattle.std.specs.Prelude.{slice_get}
 use Rattle.tf_outcome.specs.Excuse.{Moment, before_call, during_call, by_stop}
 use Rattle.tf_outcome.specs.Journal.{IsJournal, entered_verdict}
@@ -15,7 +15,7 @@ use Rattle.tf_report.specs.declared.report.Walked.TheVariants.{Whole, Torn}
 use Rattle.tf_settle.specs.Settled.{IsJournalTold, IsSettled}
 use Rattle.tf_settle.specs.Told.{is_during, verdict_of, verdict_told}
 use Rattle.tf_report.proofs.Excused.{excuses-with_outputs}
-use Rattle.tf_run.specs.Run.{IsRun, IsTorn}
+use Rattle.tf_run.specs.Run.{IsRun}
 
 told-one : (d : Done) (o : Option Moment) → o ≡ excuse_in d → verdict_of (Some (outcome_of d)) (is_during o) ≡ entered_verdict d
 told-one skipped o e = refl

@@ -1,5 +1,5 @@
 -- What was taken out of cells, in the list that it was written to.
-use Rattle.std.proofs.Common.{◌≡◌, ◌<◌, ◌∙◌, ℕ, List, [], ◌∷◌, ◌++◌, Option, None, replicate, length, take, drop, refl, sym, ap, subst, arith}
+use Rattle.std.proofs.Common.{◌≡◌, ◌∙◌, ℕ, List, [], ◌∷◌, ◌++◌, Option, None, replicate, length, take, drop, refl, sym, ap, subst, arith}
 use Rattle.std.proofs.lemmas.List.{length-map, length-replicate}
 use Rattle.tf_cells.specs.Ideal.{IsTrueTo}
 use Rattle.tf_cells.specs.Laws.{FitTogether}

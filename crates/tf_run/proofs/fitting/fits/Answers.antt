@@ -1,4 +1,4 @@
-use Rattle.std.proofs.Common.{◌≡◌, ◌∙◌, ℕ, List, not, sym, ap}
+use Rattle.std.proofs.Common.{◌≡◌, ◌∙◌, not, sym, ap}
 use Rattle.std.specs.List.{list_all}
 use Rattle.tf_graph.specs.Digraph.{predecessors_of}
 use Rattle.tf_graph.specs.Solutions.{seen_by}
