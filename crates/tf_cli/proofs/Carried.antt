@@ -12,7 +12,7 @@ use Rattle.tf_report.specs.Savable.{HasNames}
 use Rattle.tf_run.specs.Run.{IsRun}
 use Rattle.tf_report.specs.declared.report.Walked.{Walked}
 use Rattle.tf_report.specs.declared.report.Walked.TheVariants.{Whole, Torn}
-use Rattle.tf_state_data.specs.Equality.{same_state, state_Decides}
+use Rattle.tf_state_data.specs.Equality.{state_Decides}
 use Rattle.tf_state_data.specs.State.{StateView, state_of}
 use Rattle.tf_state.specs.Text.{state_text}
 use Rattle.tf_state.specs.Valid.{IsValid}

@@ -1,5 +1,5 @@
 -- The plan of texts.
-use Rattle.std.proofs.Common.{◌≡◌, ℕ, List, Ok, Err, Result}
+use Rattle.std.proofs.Common.{ℕ, List, Ok, Err, Result}
 use Rattle.std.specs.Prelude.{IfOk}
 use Rattle.tf_config_data.specs.Config.{ConfigView}
 use Rattle.tf_inputs.specs.Texts.{StandFor, Texts}
