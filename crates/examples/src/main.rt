@@ -33,13 +33,18 @@ fn main(rt: HostRuntime) -> io::Result<ExitCode> {
         state: None,
     };
     for word in words.iter().skip(1) {
-        session = follow(&rt, session, word.as_str())?;
+        session = follow(&rt, &rt, session, word.as_str())?;
     }
     Ok(ExitCode::SUCCESS)
 }
 
 /// Does what a word says.
-fn follow(rt: &HostRuntime, session: Session, word: &str) -> io::Result<Session> {
+fn follow<R: Threads + Wait + Sync>(
+    rt: &HostRuntime,
+    threads: &R,
+    session: Session,
+    word: &str,
+) -> io::Result<Session> {
     let Session { vars, state } = session;
     if word == "end" {
         if let Some(text) = &state {
@@ -56,7 +61,7 @@ fn follow(rt: &HostRuntime, session: Session, word: &str) -> io::Result<Session>
         return Ok(Session { vars, state });
     }
     println!(rt; "# {word}")?;
-    let after = carry_out(rt, rt, bytes.as_slice(), &vars, &state)?;
+    let after = carry_out(rt, threads, bytes.as_slice(), &vars, &state)?;
     let state = after.or(state);
     Ok(Session { vars, state })
 }
