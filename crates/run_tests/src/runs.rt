@@ -136,16 +136,25 @@ fn check_run<R: Abort + Threads + Wait + Sync>(
 
 #[test]
 fn small_plans_come_to_the_same(rt: HostRuntime) -> Result<(), Fail> {
-    for (config, state) in [
-        (DIAMOND, None),
-        (BROKEN, None),
-        (LATE, Some(BEFORE)),
-        (BOTH_LATE, Some(BEFORE)),
-        ("{}", Some(BEFORE)),
-    ] {
-        check_runs(&rt, rt.alloc(), config, state, None, 1000)?;
+    for (config, state) in [(BROKEN, None), ("{}", Some(BEFORE))] {
+        check_runs(&rt, rt.alloc(), config, state, None, 100)?;
     }
     Ok(())
+}
+
+#[test]
+fn a_diamond_comes_to_the_same(rt: HostRuntime) -> Result<(), Fail> {
+    check_runs(&rt, rt.alloc(), DIAMOND, None, None, 1000)
+}
+
+#[test]
+fn a_late_destroy_comes_to_the_same(rt: HostRuntime) -> Result<(), Fail> {
+    check_runs(&rt, rt.alloc(), LATE, Some(BEFORE), None, 1000)
+}
+
+#[test]
+fn two_late_destroys_come_to_the_same(rt: HostRuntime) -> Result<(), Fail> {
+    check_runs(&rt, rt.alloc(), BOTH_LATE, Some(BEFORE), None, 1000)
 }
 
 #[test]
