@@ -2,8 +2,9 @@
 
 ghost use Rattle.std.specs.Prelude.{◌≡◌, ◌<◌, ℕ, false, true, IfOk, OnOk, length, map, string_bytes, Some, if◌then◌else◌};
 ghost use Rattle.tf_address.specs.Label.{label_of, label_text};
+ghost use Rattle.tf_config_data.specs.Names.{meant_at};
 ghost use Rattle.tf_names.specs.Needs.{IsDependence, needs_in};
-ghost use Rattle.tf_names.specs.Table.{named_view, names_in};
+ghost use Rattle.tf_names.specs.Table.{names_in};
 ghost use Rattle.tf_names.specs.Texts.{put_text};
 ghost use Rattle.tf_additions.specs.Dependencies.{address_of, dependencies, with_address};
 
@@ -62,30 +63,28 @@ fn dependencies(
 {
     let mut found = BTreeSet::new(alloc);
     for other in 0..names.len() {
-        note(
-            alloc,
-            &mut found,
-            names.at(other),
-            dependence.needs(place, other),
-        )?;
+        let is_needed = dependence.needs(place, other);
+        note(alloc, &mut found, names, other, is_needed)?;
     }
     Ok(found)
 }
 
-/// Notes the address of a name that is needed, where it is a resource.
+/// Notes the address of the name at a place, where it is needed and a resource.
 fn note(
     alloc: Global,
     found: &mut BTreeSet<String>,
-    named: Named<'_>,
+    names: &Names<'_>,
+    place: usize,
     is_needed: bool,
 ) -> Result<(), AllocError>
+    requires { place < length (names_in names.now) }
     ensures { OnOk result (map string_bytes found.new.keys
-        ≡ (if is_needed then with_address (address_of (Some (named_view named.entry).meant)) (map string_bytes found.old.keys) else map string_bytes found.old.keys)) }
+        ≡ (if is_needed then with_address (address_of (meant_at (names_in names.now) place)) (map string_bytes found.old.keys) else map string_bytes found.old.keys)) }
 {
     if !is_needed {
         return Ok(());
     }
-    match named {
+    match names.at(place) {
         Named::Local(_, _) => Ok(()),
         Named::Resource(label, _) => note_label(alloc, found, label),
     }

@@ -13,5 +13,5 @@ loop-other-preserved c =
     let needs = needs_in c.args.dependence.now c.args.place in
     let add : List (List ℕ) → ℕ → List (List ℕ) = λ found m. with_address (address_of (meant_at names m)) found in
     let noted : map string_bytes c.note.new.found.keys ≡ cond (needs l.other) (add (map string_bytes l.found.keys) l.other) (map string_bytes l.found.keys) =
-    rw (c.at.ensures.meant, ← c.needs.ensures) c.in_ok-note.ensures in
+    rw (← c.needs-is_needed.ensures) c.in_ok-note.ensures in
     noted ∙ ap (λ texts. cond (needs l.other) (add texts l.other) texts) l.invariant ∙ sym (fold-more add [] needs l.other)
