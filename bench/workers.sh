@@ -19,6 +19,8 @@ python3 "$here/runs/make.py" independent 1 > "$work/config"
 
 least() { sort -n "$1" | head -1 | cut -d' ' -f1; }
 
+# How often each looks at a word in a microsecond: found out once, so that each walk has the same calls.
+ours_each="$(echo 0 0 | "$program")" theirs_each="$("$work/yardstick")"
 printf '%-12s %6s %5s %7s %12s %10s %7s %8s\n' shape blocks us workers 'Rattle (ns)' 'C++ (ns)' ratio 'of one'
 for shape in independent chains layers; do
     blocks=1000
@@ -26,8 +28,8 @@ for shape in independent chains layers; do
     { echo 0 0; cat "$work/config"; } | "$program" > "$work/graph"
     for micros in 0 50; do
         for workers in 1 2 4; do
-            { echo "$micros $workers"; cat "$work/config"; } | "$program" > "$work/a"
-            "$work/yardstick" "$workers" "$micros" < "$work/graph" > "$work/b"
+            { echo "$((micros * ours_each)) $workers"; cat "$work/config"; } | "$program" > "$work/a"
+            "$work/yardstick" "$workers" "$((micros * theirs_each))" < "$work/graph" > "$work/b"
             ours="$(least "$work/a")" theirs="$(least "$work/b")"
             [ "$workers" = 1 ] && one="$ours"
             awk -v s="$shape" -v n="$blocks" -v u="$micros" -v w="$workers" -v a="$ours" -v b="$theirs" -v one="$one" \

@@ -1,6 +1,7 @@
 // The yardstick of the workers' bench: a plain loop of threads that steal work from one another, over std::thread and
-// std::atomic. `yardstick THREADS MICROS` reads a graph, the number of its nodes and then its edges, and prints how long each
-// of some walks takes, in nanoseconds: each node is done once, after all that stand before it, and looks at a word for so long.
+// std::atomic. `yardstick THREADS LOOKS` reads a graph, the number of its nodes and then its edges, and prints how long each
+// of some walks takes, in nanoseconds: each node is done once, after all that stand before it, and looks at a word so often.
+// Without words it prints how many looks take a microsecond.
 #include <algorithm>
 #include <atomic>
 #include <chrono>
@@ -61,10 +62,26 @@ struct Deque {
     }
 };
 
-int main(int, char **argv)
+static uint64_t looks_each()
 {
+    uint64_t most = 1;
+    for (int round = 0; round < 20; round++) {
+        auto start = Clock::now();
+        look(1000000);
+        uint64_t taken = std::chrono::duration_cast<std::chrono::nanoseconds>(Clock::now() - start).count();
+        most = std::max<uint64_t>(most, 1000000000 / (taken ? taken : 1));
+    }
+    return most;
+}
+
+int main(int words, char **argv)
+{
+    if (words < 3) {
+        printf("%llu\n", (unsigned long long)looks_each());
+        return 0;
+    }
     int threads = atoi(argv[1]);
-    uint64_t micros = strtoull(argv[2], nullptr, 10);
+    uint64_t looks = strtoull(argv[2], nullptr, 10);
     int nodes, from, to;
     if (scanf("%d", &nodes) != 1)
         return 1;
@@ -74,14 +91,6 @@ int main(int, char **argv)
         after[from].push_back(to);
         before[to]++;
     }
-    uint64_t most = 1;
-    for (int round = 0; round < 20; round++) {
-        auto start = Clock::now();
-        look(1000000);
-        uint64_t taken = std::chrono::duration_cast<std::chrono::nanoseconds>(Clock::now() - start).count();
-        most = std::max<uint64_t>(most, 1000000000 / (taken ? taken : 1));
-    }
-    uint64_t looks = most * micros;
     for (int turn = 0; turn < 20; turn++) {
         auto start = Clock::now();
         std::vector<std::atomic<int>> left(nodes);
