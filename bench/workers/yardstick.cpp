@@ -16,7 +16,8 @@ using Clock = std::chrono::steady_clock;
 
 static std::atomic<uint64_t> word{0};
 
-static uint64_t look(uint64_t looks)
+// Not inlined, so that a look takes as long in a walk as where it is timed.
+__attribute__((noinline)) static uint64_t look(uint64_t looks)
 {
     uint64_t seen = 0;
     for (uint64_t i = 0; i < looks; i++)
