@@ -1,12 +1,7 @@
-mod applies;
 mod applying;
-mod changes;
 mod counted;
 mod large;
-mod names;
-mod plans;
 mod refusals;
 mod replies;
 mod shown;
-mod states;
 mod workers;

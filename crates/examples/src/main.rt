@@ -1,11 +1,15 @@
 //! Applies configurations one after another, each to the state that the one before left, and prints what `apply` prints of
 //! each, and the state that is left: so the test command runs the examples. A word that ends in `.tf.json` names a
-//! configuration; `end` prints the state, and begins anew with none; any other names the variables file of the
-//! configurations behind it.
+//! configuration; one that ends in `.cases` a file of cases, each of which has to come to what it says; `end` prints the
+//! state, and begins anew with none; any other names the variables file of the configurations behind it.
 #![tactic(auto)]
 
+mod cases;
+
+use crate::cases::{Checked, check_cases};
 use std::process::ExitCode;
 use std::sync::Wait;
+use std::test::Fail;
 use std::thread::Threads;
 use std::{env, fs, io};
 use tf_cli::{Stop, apply_text, save, show, state_to_write};
@@ -26,7 +30,7 @@ struct Session {
     state: Option<String>,
 }
 
-fn main(rt: HostRuntime) -> io::Result<ExitCode> {
+fn main(rt: HostRuntime) -> Result<ExitCode, Fail> {
     let words: Vec<String> = env::args(&rt)?.collect(rt.alloc())?;
     let mut session = Session {
         vars: None,
@@ -44,7 +48,7 @@ fn follow<R: Threads + Wait + Sync>(
     threads: &R,
     session: Session,
     word: &str,
-) -> io::Result<Session> {
+) -> Result<Session, Fail> {
     let Session { vars, state } = session;
     if word == "end" {
         if let Some(text) = &state {
@@ -56,6 +60,10 @@ fn follow<R: Threads + Wait + Sync>(
         });
     }
     let bytes = fs::read(rt, word)?;
+    if word.ends_with(".cases") {
+        tell_cases(rt, threads, word, bytes)?;
+        return Ok(Session { vars, state });
+    }
     if !word.ends_with(".tf.json") {
         let vars = Some(bytes);
         return Ok(Session { vars, state });
@@ -90,4 +98,21 @@ fn carry_out<R: Threads + Wait + Sync>(
     );
     show(&answer, &mut rt.stdout(), &mut rt.stdout());
     Ok(state_to_write(answer))
+}
+
+/// Prints how many cases a file has, and what is otherwise than they say.
+fn tell_cases<R: Threads + Wait + Sync>(
+    rt: &HostRuntime,
+    threads: &R,
+    name: &str,
+    bytes: Vec<u8>,
+) -> Result<(), Fail> {
+    let text = String::from_utf8(bytes)?;
+    let Checked { cases, faults } = check_cases(threads, rt.alloc(), text.as_str())?;
+    if faults.is_empty() {
+        println!(rt; "{name}: {cases} cases as they say")?;
+    } else {
+        println!(rt; "{name}: of {cases} cases not all as they say\n{faults}")?;
+    }
+    Ok(())
 }

@@ -7,7 +7,6 @@ ghost use Rattle.tf_names.specs.Needs.{IsAcyclic, IsDependence};
 ghost use Rattle.tf_state_data.specs.State.{state_of};
 
 use std::alloc::{AllocError, Global};
-use std::collections::BTreeMap;
 use tf_config::{Config, read};
 use tf_names::{Dependence, Names, judge};
 use tf_plan::{Plan, Refused, plan, plan_text};
@@ -16,12 +15,11 @@ use tf_refusal::code::{BAD_STATE, LIMIT};
 use tf_refusal::{Detail, Refusal};
 use tf_sim::Sim;
 use tf_state_data::State;
-use tf_value::Value;
 use tf_variables::read_vars;
 
 /// The text of the plan of a configuration from a state, none where its text is empty; or a line for each refusal.
 pub(crate) fn text_of(alloc: Global, config: &str, state: &str) -> Result<String, AllocError> {
-    match planned(alloc, config, None, state) {
+    match planned(alloc, config, state) {
         Ok(plan) => plan_text(alloc, plan.actions.as_slice(), plan.late.as_slice()),
         Err(Refused::NoMemory) => Err(AllocError),
         Err(Refused::These(refusals)) => lines(alloc, refusals.as_slice()),
@@ -30,7 +28,7 @@ pub(crate) fn text_of(alloc: Global, config: &str, state: &str) -> Result<String
 
 /// The pairs of actions of which the first is before the second, by their places in the plan; or a line for each refusal.
 pub(crate) fn order_of(alloc: Global, config: &str, state: &str) -> Result<String, AllocError> {
-    match planned(alloc, config, None, state) {
+    match planned(alloc, config, state) {
         Ok(plan) => pairs(alloc, plan.order.graph().edges()),
         Err(Refused::NoMemory) => Err(AllocError),
         Err(Refused::These(refusals)) => lines(alloc, refusals.as_slice()),
@@ -39,7 +37,7 @@ pub(crate) fn order_of(alloc: Global, config: &str, state: &str) -> Result<Strin
 
 /// How many such pairs there are; or a line for each refusal.
 pub(crate) fn count_of(alloc: Global, config: &str, state: &str) -> Result<String, AllocError> {
-    match planned(alloc, config, None, state) {
+    match planned(alloc, config, state) {
         Ok(plan) => {
             let count = plan.order.graph().edges().len();
             format!(in alloc; "{count}\n")
@@ -49,15 +47,10 @@ pub(crate) fn count_of(alloc: Global, config: &str, state: &str) -> Result<Strin
     }
 }
 
-/// The plan of a configuration, with a variables file where there is one, from a state, none where its text is empty.
-pub(crate) fn planned(
-    alloc: Global,
-    config: &str,
-    file: Option<&str>,
-    state: &str,
-) -> Result<Plan, Refused> {
+/// The plan of a configuration from a state, none where its text is empty.
+pub(crate) fn planned(alloc: Global, config: &str, state: &str) -> Result<Plan, Refused> {
     let providers = sims(alloc)?;
-    planned_by(alloc, config, file, state, providers.as_slice())
+    planned_by(alloc, config, state, providers.as_slice())
 }
 
 fn sims(alloc: Global) -> Result<Vec<Box<dyn Provider + Sync>>, AllocError> {
@@ -70,7 +63,6 @@ fn sims(alloc: Global) -> Result<Vec<Box<dyn Provider + Sync>>, AllocError> {
 pub(crate) fn planned_by(
     alloc: Global,
     config: &str,
-    file: Option<&str>,
     state: &str,
     providers: &[Box<dyn Provider + Sync>],
 ) -> Result<Plan, Refused> {
@@ -78,7 +70,7 @@ pub(crate) fn planned_by(
         Ok(config) => config,
         Err(refusal) => return Err(these(alloc, refusal)?),
     };
-    let variables = match variables_of(alloc, file, &config) {
+    let variables = match read_vars(alloc, None, &config) {
         Ok(variables) => variables,
         Err(refusal) => return Err(these(alloc, refusal)?),
     };
@@ -91,17 +83,6 @@ pub(crate) fn planned_by(
         Err(refusal) => return Err(these(alloc, refusal)?),
     };
     plan(alloc, prior, config, variables, dependence, providers)
-}
-
-fn variables_of(
-    alloc: Global,
-    file: Option<&str>,
-    config: &Config,
-) -> Result<BTreeMap<String, Value>, Refusal> {
-    match file {
-        Some(file) => read_vars(alloc, Some(file.as_bytes()), config),
-        None => read_vars(alloc, None, config),
-    }
 }
 
 fn these(alloc: Global, refusal: Refusal) -> Result<Refused, AllocError> {

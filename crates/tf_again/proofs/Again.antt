@@ -25,6 +25,7 @@ use Rattle.tf_state.specs.Laws.{TextIsOfOne, TextReadsAsState}
 use Rattle.tf_state.specs.Table.{Reads}
 use Rattle.tf_state.specs.Text.{state_text}
 use Rattle.tf_state_data.specs.State.{StateView, record_in}
+use Rattle.tf_value.proofs.Conjunction.{and-first, and-second}
 use Rattle.tf_again.proofs.Planned.{Laws, no_entries, none_again, plan_ranked, reported, shown_none}
 use Rattle.tf_again.proofs.Reading.{one_prior}
 use Rattle.tf_again.specs.Again.{HaveSchemas, NothingIsDoneAgain, NothingIsPlannedAfterSuccess, NothingIsPlannedAgain, WentWell, no_changes, over, with_written}
@@ -83,14 +84,6 @@ nothing_is_done_again laws back one quiet ms texts lineage other a saved again s
 
 -- ---- by the status
 
-first_of_both : (a b : Bool) → (a && b) ≡ true → a ≡ true
-first_of_both true b h = refl
-first_of_both false b h = absurd (cc)
-
-second_of_both : (a b : Bool) → (a && b) ≡ true → b ≡ true
-second_of_both true b h = h
-second_of_both false b h = absurd (cc)
-
 success : (b c : Bool) → ◌≡◌ {A = ℕ} (if b then 3 else (if c then 0 else 2)) 0 → (b ≡ false) × (c ≡ true)
 success true c h = absurd (omega (arith, h))
 success false true h = (refl, refl)
@@ -112,12 +105,12 @@ good_outcome outcome.ArgumentFault h = absurd (cc)
 good_outcomes : (os : List Outcome) → list_all is_good_outcome os ≡ true → AllByRecursion (λ o. o ≡ outcome.Judged verdict.Good) os
 good_outcomes [] h = tt
 good_outcomes (o ∷ os) h = (
-  good_outcome o (first_of_both (is_good_outcome o) (list_all is_good_outcome os) h),
-  good_outcomes os (second_of_both (is_good_outcome o) (list_all is_good_outcome os) h),
+  good_outcome o (and-first (is_good_outcome o) (list_all is_good_outcome os) h),
+  good_outcomes os (and-second (is_good_outcome o) (list_all is_good_outcome os) h),
 )
 
 reported_well : (report : Report) → all_good report ≡ true → AllByRecursion (λ o. o ≡ outcome.Judged verdict.Good) report.outcomes.items
-reported_well report h = good_outcomes report.outcomes.items (first_of_both (list_all is_good_outcome report.outcomes.items) (is_empty report.diagnostics.items) h)
+reported_well report h = good_outcomes report.outcomes.items (and-first (list_all is_good_outcome report.outcomes.items) (is_empty report.diagnostics.items) h)
 
 module _ (laws : Laws) (back : TextReadsAsState) (one : TextIsOfOne) (ms : List Meaning) (texts : Texts) (lineage : List ℕ) (a : Applied) (text : List ℕ) (schemas : HaveSchemas ms) (applied : IsApplied ms texts lineage a) (well : WentWell a) where
   -- where the state is the prior one, the same texts plan nothing
@@ -138,5 +131,5 @@ module _ (laws : Laws) (back : TextReadsAsState) (one : TextIsOfOne) (ms : List 
 pub nothing_is_planned_after_success : Laws → TextReadsAsState → TextIsOfOne → NothingIsPlannedAfterSuccess
 nothing_is_planned_after_success laws back one ms texts lineage a text schemas applied status is =
     let good = success (cant_write a) (all_good (report_of a.walked) && not (is_torn a.walked)) status in
-    let well = reported_well (report_of a.walked) (first_of_both (all_good (report_of a.walked)) (not (is_torn a.walked)) good.1) in
+    let well = reported_well (report_of a.walked) (and-first (all_good (report_of a.walked)) (not (is_torn a.walked)) good.1) in
     after laws back one ms texts lineage a text schemas applied well a.changed a.state refl refl good.0 is

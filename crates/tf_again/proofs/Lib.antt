@@ -1,7 +1,6 @@
 mod Again
 mod Counted
 mod Faultless
-mod Known
 mod Planned
 mod Reading
 mod Refused

@@ -8,6 +8,7 @@ use Rattle.tf_cli.specs.declared.applied.Applied.{Applied}
 use Rattle.tf_config.specs.Laws.{BlocksAreInOrder, StandsForOne}
 use Rattle.tf_config_data.specs.Config.{ConfigView}
 use Rattle.tf_config_data.specs.Names.{directly_before, names_of}
+use Rattle.tf_converges.proofs.Read.{read_values_known}
 use Rattle.tf_converges.specs.Converges.{IsSound, ReportsConverge}
 use Rattle.tf_graph.specs.Solutions.{Ranked}
 use Rattle.tf_inputs.specs.Texts.{AreTheValues, IsRead, StandFor, Texts}
@@ -32,7 +33,6 @@ use Rattle.tf_state_data.specs.Resource.{ResourceView}
 use Rattle.tf_state_data.specs.State.{StateView}
 use Rattle.tf_value.specs.Tree.{Entries}
 use Rattle.tf_variables.specs.Laws.{ValuesAreOne}
-use Rattle.tf_again.proofs.Known.{read_values_known}
 use Rattle.tf_again.proofs.Reading.{one_config, one_values, prior_valid, read_in_order}
 use Rattle.tf_again.proofs.Schemas.{schemas_in}
 use Rattle.tf_again.specs.Again.{HaveSchemas, WentWell, no_changes}

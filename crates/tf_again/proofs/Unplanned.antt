@@ -7,7 +7,7 @@ use Rattle.tf_cli.specs.Applies.{IsApplied, state_in}
 use Rattle.tf_cli.specs.declared.applied.Applied.{Applied}
 use Rattle.tf_config_data.specs.Config.{ConfigView}
 use Rattle.tf_config_data.specs.Names.{Meant, NameView, a_block, a_local, directly_before, meant_at, names_of}
-use Rattle.tf_converges.proofs.Places.{meant_within}
+use Rattle.tf_converges.proofs.Whole.{carried_out, rest_same}
 use Rattle.tf_converges.specs.Converges.{IsCarriedOut, StateAfterIsAtRest}
 use Rattle.tf_converges.specs.Rest.{AreAtRest, NothingIsPlannedAtRest}
 use Rattle.tf_deciding.specs.Stage.{records_at}
@@ -53,24 +53,6 @@ same_count : (names : List NameView) (shapes others : ℕ → ShapeView) (n : �
 same_count names shapes others zero same = refl
 same_count names shapes others (suc n) same =
     ap₂ (λ (a b : ℕ). a + b) (same_count names shapes others n (λ m h. same m (omega (arith, h)))) (ap (λ (s : ShapeView). instance_count (meant_at names n) s) (same n (omega arith)))
-
-stands_same : (shapes others : ℕ → ShapeView) (objects : ℕ → InstanceKeyView → Tree) (n : ℕ) (m : Option Meant) (env : Environment) → shapes n ≡ others n → stands_at (applying others objects) n m env ≡ stands_at (applying shapes objects) n m env
-stands_same shapes others objects n None env e = refl
-stands_same shapes others objects n (Some (a_local x)) env e = refl
-stands_same shapes others objects n (Some (a_block block)) env e = ap (λ (s : ShapeView). together (Some s) (λ key. Some (objects n key))) (sym e)
-
--- resources at rest are so with the same instances
-rest_same : (ms : List Meaning) (variables : Entries) (names : List NameView) (shapes others : ℕ → ShapeView) (objects : ℕ → InstanceKeyView → Tree) (resources : List ResourceView)
-    → ((n : ℕ) → n < length names → shapes n ≡ others n) → AreAtRest ms variables names shapes objects resources → AreAtRest ms variables names others objects resources
-rest_same ms variables names shapes others objects resources same h = record {
-  blocks = h.blocks;
-  declared = λ n block meant.
-      subst (λ (s : ShapeView). AllByRecursion (λ x. is_among (instance_keys s) x.id.key ≡ true) (records_at block.label resources)) (same n (meant_within names n (a_block block) meant)) (h.declared n block meant);
-  rest = λ standings solves n block key meant among.
-      h.rest standings
-      (λ k below. solves k below ∙ ap (where_all (all_stand (seen_by standings (directly_before names k)))) (stands_same shapes others objects k (meant_at names k) (environment variables names (result_in (seen_by standings (directly_before names k)))) (same k below)))
-      n block key meant (subst (λ (s : ShapeView). is_among (instance_keys s) key ≡ true) (sym (same n (meant_within names n (a_block block) meant))) among);
-}
 
 -- ---- no refusal of the instances of resources at rest, but of what is planned of them
 
@@ -124,16 +106,6 @@ module _ (ms : List Meaning) (variables : Entries) (names : List NameView) (outp
 
 -- ---- the state that an apply left
 
-good_one : (d : Done) → outcome_of d ≡ Judged verdict.Good → is_good d ≡ true
-good_one skipped e = absurd (cc)
-good_one (excused moment) e = absurd (cc)
-good_one (faulted why) e = absurd (cc)
-good_one (called asked answer v) e = let same : v ≡ verdict.Good = (cc) in ap is_good_verdict same
-
-all_good : (done : List Done) → AllByRecursion (λ o. o ≡ Judged verdict.Good) (map outcome_of done) → AllByRecursion (λ d. is_good d ≡ true) done
-all_good [] h = tt
-all_good (d ∷ done) h = (good_one d h.0, all_good done h.1)
-
 module _ (laws : Laws) (rest : StateAfterIsAtRest) (quiet : NothingIsPlannedAtRest) (ms : List Meaning) (lineage : List ℕ) (a : Applied) (schemas : HaveSchemas ms) where
   -- the resources of that state are at rest with the configuration and the variables
   pub rests_after : (texts : _) (applied : IsApplied ms texts lineage a) → WentWell a
@@ -145,17 +117,8 @@ module _ (laws : Laws) (rest : StateAfterIsAtRest) (quiet : NothingIsPlannedAtRe
       let told = reported ms plan a.walked requests.0 requests.1 applied.carried_out.walked in
       let report = report_of a.walked in
       let outputs : Entries = outputs_after plan.prior.outputs plan.config.outputs told.1 in
-      let carried : IsCarriedOut ms planned.config planned.values planned.prior plan told.0 outputs (state_in a) = record {
-        planned = planned.planned;
-        acyclic = plan_acyclic ms texts lineage plan planned;
-        requests = requests.0;
-        are_requests = requests.1;
-        excuses = report.excused.items;
-        outcomes = told.2.solved;
-        good = all_good told.0 (subst (AllByRecursion (λ o. o ≡ Judged verdict.Good)) told.2.told.outcomes well);
-        state = told.2.told.state;
-        in_order = record { resources = report.state.ordered; records = all-by_id report.state.resources.items };
-      } in
+      let carried : IsCarriedOut ms planned.config planned.values planned.prior plan told.0 outputs (state_in a) =
+      carried_out ms planned.config planned.values planned.prior plan requests.0 told.0 told.1 report planned.planned (plan_acyclic ms texts lineage plan planned) requests.1 told.2 well in
       let own : AreAtRest ms plan.variables (plan_names plan) plan.shapes (objects_after plan told.0) (state_in a).resources =
       rest ms planned.config planned.values planned.prior plan told.0 outputs (state_in a) (sound laws ms texts lineage planned.config planned.values planned.prior schemas planned.stand) carried in (
         objects_after plan told.0,

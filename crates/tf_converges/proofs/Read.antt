@@ -273,10 +273,14 @@ values_known file (v ∷ vs) no_entries h are = absurd are
 values_known file (v ∷ vs) (entry k t es) h are =
     and-both (known t) (known_entries es) (fitted_known v.value_type (taken_of (given file v.name) v.default) t (λ u e. taken_known (given file v.name) v.default u h.0 e) are.1) (values_known file vs es h.1 are.2)
 
+-- the values of the variables of a configuration that was read are known
+pub read_values_known : (tree : Data) (config : ConfigView) (file : Option Data) (values : Entries) → IsConfiguration tree config → AreValues file config.variables values → known_entries values ≡ true
+read_values_known tree config file values h are = values_known file config.variables values (read_orderly tree config h).defaults are
+
 pub read_sound : ReadIsSound
 read_sound ms tree config file values prior h are schemas valid = record {
   blocks = by_label config.blocks (blocks_in_order tree config h);
   schemas = schemas;
-  variables_known = values_known file config.variables values (read_orderly tree config h).defaults are;
+  variables_known = read_values_known tree config file values h are;
   valid = valid;
 }

@@ -22,7 +22,7 @@ use Rattle.tf_converges.proofs.Homes.{IsAtRest, home, homed, nothing_again}
 use Rattle.tf_converges.proofs.Outputs.{outputs_stay}
 use Rattle.tf_converges.proofs.Twice.{rested, second_resources, second_rests, third_resources, third_same}
 use Rattle.tf_converges.proofs.Valued.{repeated}
-use Rattle.tf_converges.proofs.Whole.{all_good}
+use Rattle.tf_converges.proofs.Whole.{carried_out}
 use Rattle.tf_converges.specs.Converges.{IsCarriedOut, IsSound}
 use Rattle.tf_converges.specs.Known.{ExpressionsStayKnown}
 use Rattle.tf_converges.specs.Twice.{HasOrderedOutputs, HasOwnNames, HasToldSerial, IsAppliedAgain, IsAppliedWell, ReportsSettle, SecondAppliesChangeFlags, SecondAppliesKeepObjects, SecondSerialsTell, ThirdAppliesChangeNothing, ThirdAppliesKeepRecords, resource_without_flags, without_flags}
@@ -141,17 +141,7 @@ reports_settle law grows grow ms config variables prior plan again third request
     let after = state_of report.state in
     let entries : outputs_after plan.prior.outputs plan.config.outputs outputs ≡ outputs_after prior.outputs config.outputs outputs = λ i. outputs_after (planned.prior i).outputs (planned.config i).outputs outputs in
     let carried : IsCarriedOut ms config variables prior plan done (outputs_after plan.prior.outputs plan.config.outputs outputs) (state_of report.state) =
-    record {
-      planned = planned;
-      acyclic = acyclic;
-      requests = requests;
-      are_requests = are;
-      excuses = report.excused.items;
-      outcomes = told.solved;
-      good = all_good done (subst (AllByRecursion (λ o. o ≡ Judged Good)) told.told.outcomes all);
-      state = told.told.state;
-      in_order = record { resources = report.state.ordered; records = all-by_id report.state.resources.items };
-    } in
+    carried_out ms config variables prior plan requests done outputs report planned acyclic are told all in
     let well : IsAppliedWell ms config variables prior plan (state_of report.state) =
     record {
       done = done;

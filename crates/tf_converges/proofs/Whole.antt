@@ -1,5 +1,5 @@
 -- An apply that went well has nothing left to do.
-use Rattle.std.proofs.Common.{◌≡◌, ◌∙◌, ◌<◌, ℕ, Bool, true, List, Option, Some, None, Result, Ok, length, map, refl, sym, ap, subst, ◌∷◌, []}
+use Rattle.std.proofs.Common.{◌≡◌, ◌∙◌, ◌<◌, ℕ, Bool, true, false, List, Option, Some, None, Result, Ok, length, map, refl, sym, ap, subst, ◌∷◌, []}
 use Rattle.std.specs.List.{AllByRecursion}
 use Rattle.std.specs.List.Sorted.{IsStrictlySortedBy}
 use Rattle.tf_action_data.specs.Action.{ActionView}
@@ -22,9 +22,9 @@ use Rattle.tf_graph.specs.Digraph.{Digraph}
 use Rattle.tf_graph.specs.Solutions.{Ranked, seen_by}
 use Rattle.tf_members.specs.Members.{is_among}
 use Rattle.tf_names.specs.Needs.{IsAcyclic}
-use Rattle.tf_outcome.specs.Outcome.{Done, called, excused, faulted, is_good, is_good_verdict, skipped}
+use Rattle.tf_outcome.specs.Outcome.{AreRequests, Done, Requests, called, excused, faulted, is_good, is_good_verdict, skipped}
 use Rattle.tf_outcome.specs.declared.excuse.Outcome.TheVariants.{Judged}
-use Rattle.tf_outputs.specs.Outputs.{outputs_after}
+use Rattle.tf_outputs.specs.Outputs.{OutputDone, outputs_after}
 use Rattle.tf_plan.proofs.Blocks.{names-apart}
 use Rattle.tf_plan.proofs.Fitting.{all-by_id, plan-fits}
 use Rattle.tf_plan.specs.Plan.{IsPlan, IsPlannedFrom}
@@ -33,7 +33,8 @@ use Rattle.tf_plan_data.specs.Plan.{PlanView, plan_names}
 use Rattle.tf_protocol.specs.Meaning.{Meaning}
 use Rattle.tf_protocol.specs.declared.verdict.Verdict.TheVariants as verdict
 use Rattle.tf_report.specs.Outcomes.{outcome_of}
-use Rattle.tf_report.specs.Report.{objects_after}
+use Rattle.tf_report.specs.Report.{IsReport, objects_after}
+use Rattle.tf_report.specs.declared.report.Report.{Report}
 use Rattle.tf_state.specs.Valid.{IsPresent, IsValid}
 use Rattle.tf_state_data.specs.Ids.{AreById}
 use Rattle.tf_state_after.specs.After.{object_at}
@@ -200,22 +201,28 @@ good_one (excused moment) e = absurd (cc)
 good_one (faulted why) e = absurd (cc)
 good_one (called asked answer v) e = let same : v ≡ verdict.Good = (cc) in ap is_good_verdict same
 
-pub all_good : (done : List Done) → AllByRecursion (λ o. o ≡ Judged verdict.Good) (map outcome_of done) → AllByRecursion (λ d. is_good d ≡ true) done
+all_good : (done : List Done) → AllByRecursion (λ o. o ≡ Judged verdict.Good) (map outcome_of done) → AllByRecursion (λ d. is_good d ≡ true) done
 all_good [] h = tt
 all_good (d ∷ done) h = (good_one d h.0, all_good done h.1)
+
+-- what the report on a walk says was carried out, where each action was good
+pub carried_out : (ms : List Meaning) (config : ConfigView) (variables : Entries) (prior : StateView) (plan : PlanView) (requests : Requests) (done : List Done) (outputs : List OutputDone) (report : Report)
+    → IsPlan ms config variables prior plan → ((n : ℕ) → plan.needs n n ≡ false) → AreRequests plan requests → IsReport ms requests plan done outputs report
+    → AllByRecursion (λ o. o ≡ Judged verdict.Good) report.outcomes.items → IsCarriedOut ms config variables prior plan done (outputs_after plan.prior.outputs plan.config.outputs outputs) (state_of report.state)
+carried_out ms config variables prior plan requests done outputs report planned acyclic are told all = record {
+  planned = planned;
+  acyclic = acyclic;
+  requests = requests;
+  are_requests = are;
+  excuses = report.excused.items;
+  outcomes = told.solved;
+  good = all_good done (subst (AllByRecursion (λ o. o ≡ Judged verdict.Good)) told.told.outcomes all);
+  state = told.told.state;
+  in_order = record { resources = report.state.ordered; records = all-by_id report.state.resources.items };
+}
 
 pub reports_converge : ExpressionsStayKnown → InstancesGrow → StandingsGrow → ReportsConverge
 reports_converge law grows grow ms config variables prior plan again requests done outputs report sound planned acyclic are told all is =
     converges law grows grow ms config variables prior plan done (outputs_after plan.prior.outputs plan.config.outputs outputs) (state_of report.state) again sound
-    (record {
-      planned = planned;
-      acyclic = acyclic;
-      requests = requests;
-      are_requests = are;
-      excuses = report.excused.items;
-      outcomes = told.solved;
-      good = all_good done (subst (AllByRecursion (λ o. o ≡ Judged verdict.Good)) told.told.outcomes all);
-      state = told.told.state;
-      in_order = record { resources = report.state.ordered; records = all-by_id report.state.resources.items };
-    })
+    (carried_out ms config variables prior plan requests done outputs report planned acyclic are told all)
     is

@@ -1,12 +1,12 @@
 //! Each call is in the journal. `tools/each_allocation/run.sh` runs these tests once for each of their allocations, with
 //! that one refused.
 
-use crate::tests::applying::{Texts, watch_apply};
 use std::alloc::Global;
 use std::process::Abort;
 use std::sync::Wait;
 use std::test::Fail;
 use std::thread::Threads;
+use watching::{Texts, watch_apply};
 
 // Configurations in which some actions are good, some aren't and some are never called.
 static CONFIGS: [&str; 3] = [

@@ -1,11 +1,12 @@
 //! Large configurations: one call for each instance, and none where they are refused.
 
-use crate::tests::applying::{Seen, Texts, WORKERS, check_refused, planned, watch_apply};
+use crate::tests::applying::check_refused;
 use std::alloc::{AllocError, Global};
 use std::process::Abort;
 use std::sync::Wait;
 use std::test::Fail;
 use std::thread::Threads;
+use watching::{Seen, Texts, WORKERS, planned, watch_apply};
 
 const BEYOND: &str = "error 14 at configuration: Limit\n";
 
@@ -235,5 +236,34 @@ fn keeps_the_limits_on_declarations(rt: HostRuntime) -> Result<(), Fail> {
         let more = declared(rt.alloc(), section, body, 2_001)?;
         check_refused(&rt, rt.alloc(), Texts::of(more.as_str()), BEYOND)?;
     }
+    Ok(())
+}
+
+// Blocks of a type, with names of 1 to 200 bytes, each with this body.
+fn blocks_of(alloc: Global, type_name: &str, body: &str) -> Result<String, AllocError> {
+    let mut text = format!(in alloc; "\"{type_name}\": {{")?;
+    let mut name = String::new(alloc);
+    for n in 0..200 {
+        name.push('a')?;
+        let comma = if n == 0 { "" } else { ", " };
+        let block = format!(in alloc; "{comma}\"{name}\": {body}")?;
+        text.push_str(block.as_str())?;
+    }
+    text.push('}')?;
+    Ok(text)
+}
+
+#[test]
+fn creates_many(rt: HostRuntime) -> Result<(), Fail> {
+    let nets = blocks_of(rt.alloc(), "sim_net", "{\"cidr\": \"x\"}")?;
+    let hosts = blocks_of(rt.alloc(), "sim_host", "{\"name\": \"h\", \"size\": 1}")?;
+    let config = format!(in rt.alloc(); "{{\"resource\": {{{nets}, {hosts}}}}}")?;
+    let seen = watch_apply(&rt, rt.alloc(), Texts::of(config.as_str()), 2)?;
+    assert_eq!(rt; seen.errors.as_str(), "");
+    assert!(rt;
+        seen.output.ends_with("\nApply complete! Resources: 400 added, 0 changed, 0 destroyed.\n")
+    );
+    assert_eq!(rt; seen.status, 0);
+    assert_eq!(rt; seen.calls, 400);
     Ok(())
 }

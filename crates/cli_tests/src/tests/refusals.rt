@@ -1,106 +1,12 @@
-//! Texts that are refused, before which no provider is called, and the limits.
+//! Texts of each length that are refused, before which no provider is called, and the limits.
 
-mod instances;
-mod names;
-mod plans;
-mod shapes;
-mod variables;
-
-use crate::tests::applying::{Texts, check_refused, planned};
+use crate::tests::applying::check_refused;
 use std::alloc::{AllocError, Global};
-use std::process::Abort;
-use std::sync::Wait;
 use std::test::Fail;
-use std::thread::Threads;
-
-// Texts that are refused, and what is told.
-static REFUSED: [(&str, &str); 25] = [
-    ("", "error 1 at configuration: NotJson\n"),
-    ("{\"resource\":", "error 1 at configuration: NotJson\n"),
-    ("{\"//\": NaN}", "error 1 at configuration: NotJson\n"),
-    ("{\"//\": [1,]}", "error 1 at configuration: NotJson\n"),
-    ("{\"//\": 1,}", "error 1 at configuration: NotJson\n"),
-    (
-        "{\"//\": \"\\ud800\"}",
-        "error 1 at configuration: NotJson\n",
-    ),
-    ("[]", "error 2 at configuration: BadShape\n"),
-    ("{\"outputs\": {}}", "error 2 at outputs: BadShape\n"),
-    (
-        "{\"resource\": {\"1a\": {}}}",
-        "error 2 at resource.1a: BadShape\n",
-    ),
-    (
-        "{\"resource\": {\"\": {}}}",
-        "error 2 at resource.: BadShape\n",
-    ),
-    (
-        "{\"resource\": {\"sim_net\": {\"a b\": {}}}}",
-        "error 2 at resource.sim_net.a b: BadShape\n",
-    ),
-    (
-        "{\"resource\": {\"sim_net\": {\"\u{e9}\": {}}}}",
-        "error 2 at resource.sim_net.\u{e9}: BadShape\n",
-    ),
-    (
-        "{\"resource\": {\"sim_net\": {\"a\": {\"-x\": 1}}}}",
-        "error 2 at resource.sim_net.a.-x: BadShape\n",
-    ),
-    (
-        "{\"resource\": {\"sim_net\": {\"a\": {\"cidr\": 1.5}}}}",
-        "error 2 at resource.sim_net.a.cidr: BadShape\n",
-    ),
-    (
-        "{\"resource\": {\"sim_net\": {\"a\": {\"cidr\": \"a${x}\"}}}}",
-        "error 3 at resource.sim_net.a.cidr: BadTemplate(4)\n",
-    ),
-    (
-        "{\"resource\": {\"sim_net\": {\"a\": {\"cidr\": \"x\", \"tag\": {\"k\": [\"%{if}\"]}}}}}",
-        "error 3 at resource.sim_net.a.tag.k.0: BadTemplate(0)\n",
-    ),
-    (
-        "{\"resource\": {\"sim_net\": {\"a\": {\"cidr\": \"x\", \"tag\": {\"k\": [\"${var.n}\"]}}}}}",
-        "error 4 at resource.sim_net.a.tag.k.0: UnknownName\n",
-    ),
-    (
-        "{\"resource\": {\"sim_net\": {\"a\": {\"cidr\": \"${size(1)}\"}}}}",
-        "error 4 at resource.sim_net.a.cidr: UnknownName\n",
-    ),
-    (
-        "{\"resource\": {\"sim_net\": {\"a\": {\"cidr\": \"${!!!!!!!!!!!!!!!!!!!!!!!!!!!!!!!!!!!!!!!!!!!!!!!!!!!!!!!!!!!!!!!true}\"}}}}",
-        "error 14 at resource.sim_net.a.cidr: Limit\n",
-    ),
-    (
-        "{\"resource\": {\"sim_net\": {\"a\": {\"cidr\": \"x\", \"tag\": [[[[[[[[[[[[[[[[[[[[[[[[[[[[[[[[[]]]]]]]]]]]]]]]]]]]]]]]]]]]]]]]]]}}}}",
-        "error 9 at sim_net.a.tag: Evaluate(TooLarge)\n",
-    ),
-    (
-        "{\"resource\": {\"sim_net\": {\"a\": {}}}}",
-        "error 10 at sim_net.a.cidr: BadArgument\n",
-    ),
-    (
-        "{\"resource\": {\"sim_net\": {\"a\": {\"cidr\": [\"x\"]}}}}",
-        "error 10 at sim_net.a.cidr: BadArgument\n",
-    ),
-    (
-        "{\"resource\": {\"sim_net\": {\"a\": {\"cidr\": \"x\", \"id\": \"y\"}}}}",
-        "error 10 at sim_net.a.id: BadArgument\n",
-    ),
-    (
-        "{\"resource\": {\"sim_disk\": {\"a\": {}}}}",
-        "error 11 at sim_disk.a: NoProvider\n",
-    ),
-    (
-        "{\"resource\": {\"sim_net\": {\"c\": {\"cidr\": \"x\"}, \"b\": {\"size\": 1}}, \"sim_disk\": {\"z\": {}}}}",
-        "error 11 at sim_disk.z: NoProvider\nerror 10 at sim_net.b.cidr: BadArgument\n",
-    ),
-];
+use watching::{Texts, planned};
 
 #[test]
-fn refuses(rt: HostRuntime) -> Result<(), Fail> {
-    for (config, errors) in &REFUSED {
-        check_refused(&rt, rt.alloc(), Texts::of(config), errors)?;
-    }
+fn refuses_what_is_no_text(rt: HostRuntime) -> Result<(), Fail> {
     let no_text = Texts {
         config: b"{\"//\": \"\xff\"}",
         vars: None,
@@ -112,65 +18,6 @@ fn refuses(rt: HostRuntime) -> Result<(), Fail> {
         no_text,
         "error 1 at configuration: NotJson\n",
     )
-}
-
-// A configuration and a variables file beside a prior state, and what is told: the state comes after both, and before
-// instances and plan.
-static WITH_STATE: [(&str, Option<&str>, &str); 8] = [
-    ("{}", None, "error 13 at state: BadState\n"),
-    ("{", None, "error 1 at configuration: NotJson\n"),
-    (
-        "{\"output\": {\"o\": {\"value\": \"${var.q}\"}}}",
-        None,
-        "error 4 at output.o.value: UnknownName\n",
-    ),
-    (
-        "{\"locals\": {\"x\": \"${local.x}\"}}",
-        Some("["),
-        "error 5 at configuration: Cycle(local.x)\n",
-    ),
-    ("{}", Some("["), "error 1 at variables: NotJson\n"),
-    (
-        "{\"variable\": {\"v\": {}}}",
-        None,
-        "error 10 at var.v: BadArgument\n",
-    ),
-    (
-        "{\"resource\": {\"sim_net\": {\"a\": {\"count\": -1, \"cidr\": \"x\"}}}}",
-        None,
-        "error 13 at state: BadState\n",
-    ),
-    (
-        "{\"output\": {\"o\": {\"value\": \"${1 + true}\"}}, \"resource\": {\"sim_disk\": {\"a\": {}}}}",
-        Some("{}"),
-        "error 13 at state: BadState\n",
-    ),
-];
-
-#[test]
-fn refuses_a_prior_state(rt: HostRuntime) -> Result<(), Fail> {
-    for (config, vars, errors) in &WITH_STATE {
-        let texts = Texts::with_vars(config, *vars);
-        let texts = Texts {
-            config: texts.config,
-            vars: texts.vars,
-            state: Some(b"{}".as_slice()),
-        };
-        check_refused(&rt, rt.alloc(), texts, errors)?;
-    }
-    Ok(())
-}
-
-/// Checks that plans and applies of configurations with these variables files are refused with these lines.
-fn check_all<R: Abort + Threads + Wait + Sync>(
-    rt: &R,
-    alloc: Global,
-    refused: &[(&str, Option<&str>, &str)],
-) -> Result<(), Fail> {
-    for (config, vars, errors) in refused {
-        check_refused(rt, alloc, Texts::with_vars(config, *vars), errors)?;
-    }
-    Ok(())
 }
 
 // A configuration that has everything, and its variables file.
@@ -314,7 +161,45 @@ fn keeps_count(rt: HostRuntime) -> Result<(), Fail> {
         "error 14 at configuration: Limit\n",
     )?;
     let text = nets(rt.alloc(), 2_000)?;
-    let said = planned(rt.alloc(), Texts::of(text.as_str()))?;
-    assert!(rt; said.ends_with("\nPlan: 2000 to add, 0 to change, 0 to destroy.\n"));
+    for config in [
+        text.as_str(),
+        "{\"resource\": {\"sim_net\": {\"a\": {\"count\": 2000, \"cidr\": \"x\"}}}}",
+        "{\"resource\": {\"sim_net\": {\"a\": {\"count\": 1000, \"cidr\": \"x\"}, \"b\": {\"count\": 1000, \"cidr\": \"y\"}}}}",
+    ] {
+        let said = planned(rt.alloc(), Texts::of(config))?;
+        assert!(rt; said.ends_with("\nPlan: 2000 to add, 0 to change, 0 to destroy.\n"));
+    }
+    Ok(())
+}
+
+// A variables file that gives `name` a text of this many bytes.
+fn long(alloc: Global, name: &str, size: usize) -> Result<String, AllocError> {
+    let text = padded(alloc, "", size)?;
+    format!(in alloc; "{{\"{name}\": \"{text}\"}}")
+}
+
+#[test]
+fn keeps_the_limits_of_values(rt: HostRuntime) -> Result<(), Fail> {
+    let one = "{\"variable\": {\"v\": {\"type\": \"bool\"}}}";
+    let two = "{\"variable\": {\"a\": {}, \"b\": {}}}";
+    let deep = nested(rt.alloc(), 32)?;
+    let deeper = nested(rt.alloc(), 33)?;
+    let unfit = "error 10 at var.v: BadArgument\n";
+    let beyond = "error 2 at v: BadShape\n";
+    for (config, vars, errors) in [
+        (one, format!(in rt.alloc(); "{{\"v\": {deep}}}")?, unfit),
+        (one, format!(in rt.alloc(); "{{\"v\": {deeper}}}")?, beyond),
+        (one, long(rt.alloc(), "v", 999_999)?, unfit),
+        (one, long(rt.alloc(), "v", 1_000_000)?, beyond),
+        (one, long(rt.alloc(), "w", 1_000_000)?, unfit),
+        (
+            two,
+            format!(in rt.alloc(); "{{\"a\": {deeper}, \"b\": 1.5}}")?,
+            "error 2 at a: BadShape\n",
+        ),
+    ] {
+        let texts = Texts::with_vars(config, Some(vars.as_str()));
+        check_refused(&rt, rt.alloc(), texts, errors)?;
+    }
     Ok(())
 }

@@ -3,10 +3,7 @@
 ghost use Rattle.std.specs.Prelude.{◌≡◌, IfOk, option_map};
 ghost use Rattle.tf_value.specs.Tree.{tree_of};
 
-use crate::tests::applying::{
-    CONFIG, Manner, NOTHING, Seen, Texts, WORKERS, apply_by, watch_manner,
-};
-use crate::tests::changes::{squeezed, state_text};
+use crate::tests::applying::CONFIG;
 use std::alloc::{AllocError, Global};
 use std::collections::BTreeMap;
 use std::process::Abort;
@@ -17,6 +14,10 @@ use tf_cli::Stop;
 use tf_provider::{Provider, Reply, Request, Schema};
 use tf_sim::Sim;
 use tf_value::{Value, copy};
+use watching::{Manner, Seen, Texts, WORKERS, apply_by, watch_manner};
+
+const NOTHING: &str =
+    "{\n  \"lineage\": \"L\",\n  \"outputs\": {},\n  \"resources\": [],\n  \"serial\": 0,\n  \"terraform_version\": \"1.0.0\",\n  \"version\": 4\n}\n";
 
 /// The provider `sim`, but for its answer, which is always the same: that the request failed, where there is a
 /// message, else an object, where there is one, else that there is none.
@@ -240,6 +241,27 @@ static DESTROYS: [(Said, &str, &str, u32); 8] = [
     (Said::FailedWithHalf, FAILED_DESTROY, KEPT, 1),
     (Said::Failed, FAILED_DESTROY, KEPT, 1),
 ];
+
+/// A text without its line breaks and what stands before the first mark of each line.
+fn squeezed(alloc: Global, text: &str) -> Result<String, Fail> {
+    let mut joined = String::new(alloc);
+    for line in text.lines() {
+        joined.push_str(line.trim_start())?;
+    }
+    Ok(joined)
+}
+
+const PROVIDED: &str = r#""provider": "provider[\"registry.terraform.io/hashicorp/sim\"]""#;
+
+/// The squeezed text of a state with lineage `L`: its outputs, its resources, in which `PROVIDER` stands for their
+/// provider, and its serial.
+fn state_text(alloc: Global, outputs: &str, resources: &str, serial: u32) -> Result<String, Fail> {
+    let resources = resources.replace(alloc, "PROVIDER", PROVIDED)?;
+    let text = format!(in alloc;
+        "{{\"lineage\": \"L\",\"outputs\": {{{outputs}}},\"resources\": [{resources}],\"serial\": {serial},\"terraform_version\": \"1.0.0\",\"version\": 4}}"
+    )?;
+    Ok(text)
+}
 
 /// The squeezed text of a state with a net of these attributes, or with nothing where there are none.
 fn state_with(alloc: Global, attributes: &str, serial: u32) -> Result<String, Fail> {

@@ -1,6 +1,6 @@
 //! What is shown of an answer, also where a writer has no more room.
 
-use crate::tests::applying::{CONFIG, state_after};
+use crate::tests::applying::CONFIG;
 use std::alloc::{AllocError, Global};
 use std::io;
 use std::sync::Wait;
@@ -9,6 +9,7 @@ use std::thread::Threads;
 use tf_cli::{Applied, Refused, Stop, apply_text, show};
 use tf_provider::Provider;
 use tf_sim::Sim;
+use watching::state_after;
 
 // The answer of an apply for whose state there was no memory.
 fn stateless<R: Threads + Wait + Sync>(

@@ -1,9 +1,5 @@
-//! Many workers: that they call at the same time, and how a walk is stopped.
+//! Many workers: that they call at the same time.
 
-use crate::tests::applying::{
-    Manner, NOTHING, Texts, WORKERS, apply_by, watch_apply, watch_manner,
-};
-use crate::tests::changes::{squeezed, state_text};
 use std::alloc::Global;
 use std::process::Abort;
 use std::sync::atomic::{AtomicBool, AtomicUsize, Ordering};
@@ -15,6 +11,7 @@ use tf_cli::Stop;
 use tf_provider::{Provider, Reply, Request, Schema};
 use tf_sim::Sim;
 use tf_value::Value;
+use watching::{Texts, apply_by};
 
 /// Checks that so many calls, of a provider each, are seen by one another where as many workers make them.
 fn check_meeting<R: Abort + Threads + Wait + Sync>(
@@ -122,99 +119,5 @@ fn second_ends_first(rt: HostRuntime) -> Result<(), Fail> {
         places.iter().position(|action| *action == 1)
             < places.iter().position(|action| *action == 0)
     );
-    Ok(())
-}
-
-/// A configuration whose walk is stopped, and what comes of it.
-struct Stopped {
-    /// What was applied before, if anything was.
-    before: Option<&'static str>,
-    config: &'static str,
-    /// Before the return of which call it is stopped.
-    after: usize,
-    errors: &'static str,
-    summary: &'static str,
-    outcomes: &'static str,
-    excused: &'static str,
-    /// The resources of the state after.
-    resources: &'static str,
-    serial: u32,
-}
-
-static STOPPED: [Stopped; 3] = [
-    // The net is created, and then nothing is called any more.
-    Stopped {
-        before: None,
-        config: r#"{"resource": {"sim_net": {"a": {"cidr": "x"}}, "sim_host": {"h": {"name": "h", "net": "${sim_net.a.id}"}}}}"#,
-        after: 1,
-        errors: "error 27 at sim_host.h create: left\n",
-        summary: "Apply incomplete. Resources: 1 added, 0 changed, 0 destroyed.\n",
-        outcomes: "Excused, Judged(Good)",
-        excused: "Left(0)",
-        resources: r#"{"instances": [{"attributes": {"cidr": "x","id": "net-x","tag": null},"schema_version": 0}],"mode": "managed","name": "a",PROVIDER,"type": "sim_net"}"#,
-        serial: 1,
-    },
-    // Nothing is called, and what waits for what is left is skipped.
-    Stopped {
-        before: None,
-        config: r#"{"resource": {"sim_host": {"a": {"name": "a"}, "b": {"name": "b", "net": "${sim_host.a.id}"}, "c": {"name": "c", "net": "${sim_host.a.id}"}, "d": {"name": "d", "net": "${sim_host.b.id}-${sim_host.c.id}"}}}}"#,
-        after: 0,
-        errors: "error 27 at sim_host.a create: left\n",
-        summary: "Apply incomplete. Resources: 0 added, 0 changed, 0 destroyed.\n",
-        outcomes: "Excused, Skipped, Skipped, Skipped",
-        excused: "Left(0)",
-        resources: "",
-        serial: 0,
-    },
-    // What was to be destroyed last becomes deposed.
-    Stopped {
-        before: Some(
-            r#"{"resource": {"sim_net": {"a": {"cidr": "x"}}, "sim_host": {"h": {"name": "h", "net": "${sim_net.a.id}"}}}}"#,
-        ),
-        config: r#"{"resource": {"sim_net": {"a": {"cidr": "y", "lifecycle": {"create_before_destroy": true}}}, "sim_host": {"h": {"name": "h", "net": "${sim_net.a.id}"}}}}"#,
-        after: 1,
-        errors: "error 27 at sim_host.h update: left\n",
-        summary: "Apply incomplete. Resources: 1 added, 0 changed, 0 destroyed.\n",
-        outcomes: "Excused, Judged(Good), Skipped",
-        excused: "Left(0)",
-        resources: r#"{"instances": [{"attributes": {"id": "host-h","name": "h","net": "net-x","size": null},"dependencies": ["sim_net.a"],"schema_version": 0}],"mode": "managed","name": "h",PROVIDER,"type": "sim_host"},{"instances": [{"attributes": {"cidr": "y","id": "net-y","tag": null},"create_before_destroy": true,"schema_version": 0},{"attributes": {"cidr": "x","id": "net-x","tag": null},"deposed": "00000002","schema_version": 0}],"mode": "managed","name": "a",PROVIDER,"type": "sim_net"}"#,
-        serial: 2,
-    },
-];
-
-fn check_stopped<R: Abort + Threads + Wait + Sync>(
-    rt: &R,
-    alloc: Global,
-    row: &Stopped,
-    workers: usize,
-) -> Result<(), Fail> {
-    let prior = match row.before {
-        Some(before) => watch_apply(rt, alloc, Texts::of(before), workers)?.state,
-        None => String::from_str(alloc, NOTHING)?,
-    };
-    let texts = Texts::after(row.config, prior.as_str());
-    let seen = watch_manner(rt, alloc, texts, workers, Manner::Stops(row.after))?;
-    assert_eq!(rt; seen.errors.as_str(), row.errors, "{workers}");
-    assert!(rt; seen.output.ends_with(row.summary), "{workers}");
-    assert_eq!(rt; seen.outcomes.as_str(), row.outcomes, "{workers}");
-    assert_eq!(rt; seen.excused.as_str(), row.excused, "{workers}");
-    assert_eq!(rt; seen.status, 2, "{workers}");
-    assert_eq!(rt; seen.calls, row.after, "{workers}");
-    assert_eq!(rt; seen.journal.len(), row.after, "{workers}");
-    assert!(rt; seen.whole, "{workers}");
-    let state = state_text(alloc, "", row.resources, row.serial)?;
-    let squeezed = squeezed(alloc, seen.state.as_str())?;
-    assert_eq!(rt; squeezed.as_str(), state.as_str(), "{workers}");
-    assert_eq!(rt; seen.changed, row.after != 0, "{workers}");
-    Ok(())
-}
-
-#[test]
-fn stops(rt: HostRuntime) -> Result<(), Fail> {
-    for row in &STOPPED {
-        for workers in WORKERS {
-            check_stopped(&rt, rt.alloc(), row, workers)?;
-        }
-    }
     Ok(())
 }

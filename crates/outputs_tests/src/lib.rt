@@ -1,5 +1,0 @@
-//! Tests of what becomes of outputs, over public calls.
-#![tactic(auto)]
-
-#[cfg(test)]
-mod outputs;
