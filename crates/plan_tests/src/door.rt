@@ -47,6 +47,15 @@ pub(crate) fn count_of(alloc: Global, config: &str, state: &str) -> Result<Strin
     }
 }
 
+/// Whether the names of a configuration are known, and none needs itself.
+pub(crate) fn is_known(alloc: Global, config: &str) -> Result<bool, AllocError> {
+    let prior = State::empty(alloc, "L")?;
+    match read(alloc, config.as_bytes()) {
+        Ok(config) => Ok(dependence_of(alloc, &config, &prior).is_ok()),
+        Err(_) => Ok(false),
+    }
+}
+
 /// The plan of a configuration from a state, none where its text is empty.
 pub(crate) fn planned(alloc: Global, config: &str, state: &str) -> Result<Plan, Refused> {
     let providers = sims(alloc)?;

@@ -1,6 +1,6 @@
 //! In which order it is planned, how many pairs have an order, and how often a local is evaluated.
 
-use crate::door::{count_of, order_of, text_of};
+use crate::door::{count_of, is_known, order_of, text_of};
 use std::alloc::{AllocError, Global};
 use std::test::Fail;
 
@@ -162,14 +162,17 @@ fn chained(alloc: Global, count: usize, back: usize) -> Result<String, AllocErro
 
 #[test]
 fn orders_all_that_need_each_other(rt: HostRuntime) -> Result<(), Fail> {
-    for (count, back, want) in [
-        (300, 1, "44850\n"),
-        (300, 300, "44850\n"),
-        (2_000, 10, "error 14 at configuration: Limit\n"),
-    ] {
-        let text = chained(rt.alloc(), count, back)?;
+    for back in [1, 300] {
+        let text = chained(rt.alloc(), 300, back)?;
         let told = count_of(rt.alloc(), text.as_str(), "")?;
-        assert_eq!(rt; told.as_str(), want, "{count} {back}");
+        assert_eq!(rt; told.as_str(), "44850\n", "{back}");
     }
+    Ok(())
+}
+
+#[test]
+fn judges_many_references(rt: HostRuntime) -> Result<(), Fail> {
+    let text = chained(rt.alloc(), 2_000, 10)?;
+    assert!(rt; is_known(rt.alloc(), text.as_str())?);
     Ok(())
 }
