@@ -1,37 +1,28 @@
 -- What may be refused over the state that an apply left.
-use Rattle.std.proofs.Common.{◌≡◌, ◌≤◌, ◌∙◌, ◌<◌, ◌+◌, ℕ, zero, suc, true, List, [], ◌∷◌, Option, Some, None, Result, Ok, Err, length, map, inl, inr, refl, sym, ap, ap₂, subst, arith}
-use Rattle.std.specs.List.{AllByRecursion}
+use Rattle.std.proofs.Common.{◌≡◌, ◌≤◌, ◌∙◌, ◌<◌, ◌+◌, ℕ, zero, suc, List, [], ◌∷◌, Result, Ok, Err, length, inl, inr, refl, sym, ap, ap₂, subst, arith}
 use Rattle.tf_action_data.specs.Action.{ActionView}
 use Rattle.tf_address.specs.ObjectId.{InstanceKeyView}
 use Rattle.tf_cli.specs.Applies.{IsApplied, state_in}
 use Rattle.tf_cli.specs.declared.applied.Applied.{Applied}
 use Rattle.tf_config_data.specs.Config.{ConfigView}
-use Rattle.tf_config_data.specs.Names.{Meant, NameView, a_block, a_local, directly_before, meant_at, names_of}
+use Rattle.tf_config_data.specs.Names.{NameView, directly_before, meant_at, names_of}
 use Rattle.tf_converges.proofs.Whole.{carried_out, rest_same}
 use Rattle.tf_converges.specs.Converges.{IsCarriedOut, StateAfterIsAtRest}
 use Rattle.tf_converges.specs.Rest.{AreAtRest, NothingIsPlannedAtRest}
-use Rattle.tf_deciding.specs.Stage.{records_at}
-use Rattle.tf_environment.specs.Shape.{ShapeView, instance_keys}
-use Rattle.tf_environment.specs.Stages.{applying, expansion}
-use Rattle.tf_environment.specs.Standing.{all_stand, environment, result_in, rule, stands_at, together, where_all}
+use Rattle.tf_environment.specs.Shape.{ShapeView}
+use Rattle.tf_environment.specs.Stages.{expansion}
+use Rattle.tf_environment.specs.Standing.{rule}
 use Rattle.tf_environment.specs.declared.repetition.RepetitionFault.{RepetitionFault}
-use Rattle.tf_eval.specs.Environment.{Environment}
 use Rattle.tf_expand.specs.Expanding.{expanded, instance_count, instances_before}
 use Rattle.tf_graph.proofs.Solving.{solution-exists}
-use Rattle.tf_graph.specs.Solutions.{Ranked, seen_by}
-use Rattle.tf_members.specs.Members.{is_among}
-use Rattle.tf_outcome.specs.Outcome.{Done, called, excused, faulted, is_good, is_good_verdict, skipped}
-use Rattle.tf_outcome.specs.declared.excuse.Outcome.TheVariants.{Judged}
+use Rattle.tf_graph.specs.Solutions.{Ranked}
 use Rattle.tf_outputs.specs.Outputs.{outputs_after}
-use Rattle.tf_plan.proofs.Fitting.{all-by_id}
 use Rattle.tf_plan.specs.Planned.{AreInstances}
 use Rattle.tf_plan.specs.Refused.{AreManyActions, AreManyInstances, AreManyPairs, AreManyPairsBy, AreRefusedOf, IsUnexpanded, IsUnplanned}
 use Rattle.tf_plan_data.specs.Plan.{plan_names}
 use Rattle.tf_precedence.specs.Ties.{TiesView}
 use Rattle.tf_protocol.specs.Meaning.{Meaning}
-use Rattle.tf_protocol.specs.declared.verdict.Verdict.TheVariants as verdict
 use Rattle.tf_refusal.specs.Refusal.{Told}
-use Rattle.tf_report.specs.Outcomes.{outcome_of}
 use Rattle.tf_report.specs.Report.{objects_after, report_of}
 use Rattle.tf_state.specs.Table.{IsBeyond, last_serial}
 use Rattle.tf_state_data.specs.Resource.{ResourceView}

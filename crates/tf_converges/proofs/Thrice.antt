@@ -1,18 +1,15 @@
 -- What a second and a third apply change after one that went well: their states whole, and their reports.
 use Rattle.std.proofs.Common.{◌≡◌, ◌∙◌, ◌+◌, inl, inr, ℕ, Bool, true, false, cond, List, map, refl, sym, ap, subst}
-use Rattle.std.specs.List.{AllByRecursion}
 use Rattle.tf_change.specs.Laws.{InstancesGrow}
 use Rattle.tf_config_data.specs.Config.{ConfigView}
 use Rattle.tf_environment.specs.Laws.{StandingsGrow}
 use Rattle.tf_next_state.proofs.Composed.{state_is}
 use Rattle.tf_outputs.specs.Outputs.{OutputDone, outputs_after}
 use Rattle.tf_outcome.specs.Outcome.{Done}
-use Rattle.tf_outcome.specs.declared.excuse.Outcome.TheVariants.{Judged}
 use Rattle.tf_plan.proofs.Fitting.{all-by_id}
 use Rattle.tf_plan.specs.Plan.{IsPlan}
 use Rattle.tf_plan_data.specs.Plan.{PlanView}
 use Rattle.tf_protocol.specs.Meaning.{Meaning}
-use Rattle.tf_protocol.specs.declared.verdict.Verdict.TheVariants.{Good}
 use Rattle.tf_report.specs.Report.{IsTold}
 use Rattle.tf_report.specs.declared.report.Report.{Report}
 use Rattle.tf_state_data.specs.Equality.{same_state, state_Decides}
