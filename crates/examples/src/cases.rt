@@ -227,7 +227,7 @@ fn check_applied<R: Threads + Wait + Sync>(
         "the status is 2 where something is told, else 0",
     )?;
     if status == 0 {
-        check_again(rt, check, texts, seen.state.as_str(), workers)?;
+        check_again(rt, check, texts, seen.state.as_str())?;
     }
     Ok(())
 }
@@ -255,19 +255,18 @@ fn compare_journal(check: &mut Check<'_>, seen: &str) -> Result<(), Fail> {
     }
 }
 
-/// Over the state that was left nothing is planned, called or changed.
+/// Over the state that was left nothing is planned, called or changed, by one worker.
 fn check_again<R: Threads + Wait + Sync>(
     rt: &R,
     check: &mut Check<'_>,
     texts: Texts<'_>,
     state: &str,
-    workers: usize,
 ) -> Result<(), Fail> {
     let texts = Texts {
         state: Some(state.as_bytes()),
         ..texts
     };
-    let seen = watch_apply(rt, check.alloc, texts, workers)?;
+    let seen = watch_apply(rt, check.alloc, texts, 1)?;
     let nothing = "No changes.\nApply complete! Resources: 0 added, 0 changed, 0 destroyed.\n";
     check.demand(seen.output.as_str() == nothing, "nothing is done again")?;
     check.demand(seen.errors.is_empty(), "nothing is told again")?;
