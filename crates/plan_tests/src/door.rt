@@ -1,10 +1,7 @@
 //! Plans, their texts and orders, or what is refused, through the planner's door.
 
 ghost use Rattle.std.specs.Prelude.{◌≤◌, ◌<◌, ◌+◌, ◌^◌, IfOk, length};
-ghost use Rattle.tf_config_data.specs.Config.{config_of};
-ghost use Rattle.tf_config_data.specs.Names.{names_of};
-ghost use Rattle.tf_names.specs.Needs.{IsAcyclic, IsDependence};
-ghost use Rattle.tf_state_data.specs.State.{state_of};
+ghost use Rattle.tf_plan_data.specs.Words.{config_of, IsAcyclic, IsDependence, names_of, state_of};
 
 use std::alloc::{AllocError, Global};
 use tf_config::{Config, read};

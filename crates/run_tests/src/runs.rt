@@ -1,9 +1,7 @@
 //! Plans that are walked many times, by different numbers of workers.
 
 ghost use Rattle.std.specs.Prelude.{IfOk, map};
-ghost use Rattle.tf_action_data.specs.Action.{action_of};
-ghost use Rattle.tf_plan_data.specs.Fits.{FitsTogether};
-ghost use Rattle.tf_plan_data.specs.Served.{AreServed};
+ghost use Rattle.tf_outcome.specs.Words.{action_of, AreServed, FitsTogether};
 
 use crate::telling::{Told, tell_of};
 use std::alloc::Global;

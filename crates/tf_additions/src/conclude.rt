@@ -1,20 +1,11 @@
 //! What came of an action becomes a part of the report, without taking memory.
 
 ghost use Rattle.std.specs.Prelude.{◌≡◌, true, None, Option, Some, codes, map, option_map, string_bytes, IfSome, IsSome};
-ghost use Rattle.tf_address.specs.Label.{label_of};
-ghost use Rattle.tf_change.specs.Instance.{instance_fault_of};
-ghost use Rattle.tf_outcome.specs.Ended.{done_or_skipped};
-ghost use Rattle.tf_outcome.specs.Message.{fault_message};
-ghost use Rattle.tf_outcome.specs.Fallback.{has_stored_attributes};
-ghost use Rattle.tf_protocol.specs.Meaning.{Answer, Asked, asked, answered};
-ghost use Rattle.tf_protocol.specs.Schema.{SchemaView};
-ghost use Rattle.tf_protocol.specs.Verdict.{verdict_on};
+ghost use Rattle.tf_outcome.specs.Words.{Answer, answered, Asked, asked, done_or_skipped, fault_message, has_stored_attributes, instance_fault_of, label_of, SchemaView, tree_of, verdict_on, with_nulls};
 ghost use Rattle.tf_protocol.specs.declared.request.Op.TheVariants.{Create};
 ghost use Rattle.tf_state.specs.Valid.{IsAttributes};
 ghost use Rattle.tf_state_after.specs.Ends.{applied_of, nothing, saved_of, unchanged};
 ghost use Rattle.tf_state_after.specs.Saved.{formed_in, left_by_destroy};
-ghost use Rattle.tf_value.specs.Nulls.{with_nulls};
-ghost use Rattle.tf_value.specs.Tree.{tree_of};
 ghost use Rattle.tf_additions.specs.Addition.{IsAdditionOf, IsJudged, change_of, listed};
 ghost use Rattle.tf_additions.specs.Change.{MayBeStored, as_applied, change_by, saved_by};
 ghost use Rattle.tf_additions.specs.Diagnostics.{diagnostic_of, diagnostics_of_verdict};

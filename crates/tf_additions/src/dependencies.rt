@@ -1,11 +1,7 @@
 //! What a resource depends on, as a state keeps it.
 
 ghost use Rattle.std.specs.Prelude.{◌≡◌, ◌<◌, ℕ, false, true, IfOk, OnOk, length, map, string_bytes, Some, if◌then◌else◌};
-ghost use Rattle.tf_address.specs.Label.{label_of, label_text};
-ghost use Rattle.tf_config_data.specs.Names.{meant_at};
-ghost use Rattle.tf_names.specs.Needs.{IsDependence, needs_in};
-ghost use Rattle.tf_names.specs.Table.{names_in};
-ghost use Rattle.tf_names.specs.Texts.{put_text};
+ghost use Rattle.tf_outcome.specs.Words.{IsDependence, label_of, label_text, meant_at, names_in, needs_in, put_text};
 ghost use Rattle.tf_additions.specs.Dependencies.{address_of, dependencies, with_address};
 
 use std::alloc::{AllocError, Global};

@@ -2,15 +2,9 @@
 
 ghost use Rattle.std.specs.Prelude.{◌≡◌, ◌+◌, ◌<◌, ◌^◌, ◌++◌, true, IfOk, codes, length, map, option_map, string_bytes};
 ghost use Rattle.std.specs.List.{AllByRecursion};
-ghost use Rattle.tf_action_data.specs.Action.{action_of, step_of};
-ghost use Rattle.tf_names.specs.Needs.{IsDependence};
-ghost use Rattle.tf_names.specs.Table.{names_in};
-ghost use Rattle.tf_outcome.specs.Outcome.{op_of};
-ghost use Rattle.tf_plan_data.specs.Fits.{IsDeclared};
-ghost use Rattle.tf_plan_data.specs.Plan.{plan_names, plan_of};
+ghost use Rattle.tf_outcome.specs.Words.{action_of, IsDeclared, IsDependence, names_in, op_of, plan_names, plan_of, record_of, step_of};
 ghost use Rattle.tf_state_after.specs.DeposedKey.{IsDeposedKey};
 ghost use Rattle.tf_state_after.specs.Ends.{given_of};
-ghost use Rattle.tf_state_data.specs.Record.{record_of};
 ghost use Rattle.tf_additions.specs.Head.{AreHeads, IsHeadOf, IsKeyFor, IsTargetOf, given_with, is_replacement};
 ghost use Rattle.tf_additions.specs.Place.{place_of};
 ghost use Rattle.tf_additions.specs.RoomHead.{room_head, target_of};

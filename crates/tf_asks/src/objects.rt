@@ -1,18 +1,7 @@
 //! The objects that are asked for.
 
 ghost use Rattle.std.specs.Prelude.{◌≡◌, ◌<◌, true, IfOk, length, map, string_bytes};
-ghost use Rattle.tf_action_data.specs.Action.{action_of};
-ghost use Rattle.tf_change.specs.Bounded.{has_planned_attributes};
-ghost use Rattle.tf_change.specs.Instance.{instance_of};
-ghost use Rattle.tf_config_data.specs.Config.{config_of};
-ghost use Rattle.tf_config_data.specs.Names.{meant_at, names_of};
-ghost use Rattle.tf_decision.specs.Kept.{kept_object};
-ghost use Rattle.tf_names.specs.Table.{names_in};
-ghost use Rattle.tf_plan_data.specs.Fits.{FitsTogether, IsOfBlock};
-ghost use Rattle.tf_plan_data.specs.Plan.{plan_of};
-ghost use Rattle.tf_protocol.specs.Verdict.{has_attributes};
-ghost use Rattle.tf_value.specs.Tree.{tree_of};
-ghost use Rattle.tf_outcome.specs.Asked.{AreRequests, Requests, ignored_by};
+ghost use Rattle.tf_outcome.specs.Words.{action_of, AreRequests, config_of, FitsTogether, has_attributes, has_planned_attributes, ignored_by, instance_of, IsOfBlock, kept_object, meant_at, names_in, names_of, plan_of, Requests, tree_of};
 
 use std::alloc::{AllocError, Global};
 use tf_change::InstanceFault;

@@ -1,22 +1,10 @@
 //! Requests.
 
 ghost use Rattle.std.specs.Prelude.{◌≡◌, true, Some, map, IfOk, IsSomeAnd, IsTrue, option_map, string_bytes};
-ghost use Rattle.tf_action_data.specs.Action.{action_of, prior_of};
-ghost use Rattle.tf_change.specs.Bounded.{has_planned_attributes};
-ghost use Rattle.tf_config_data.specs.Config.{config_of};
-ghost use Rattle.tf_config_data.specs.Names.{meant_at, names_of};
-ghost use Rattle.tf_decision.specs.Kept.{kept_object};
-ghost use Rattle.tf_names.specs.Table.{names_in};
-ghost use Rattle.tf_plan_data.specs.Fits.{FitsTogether, IsDeclared, IsOfBlock};
-ghost use Rattle.tf_plan_data.specs.Plan.{plan_of};
-ghost use Rattle.tf_plan_data.specs.Served.{IsServedBy};
-ghost use Rattle.tf_protocol.specs.Meaning.{asked, schema_in};
-ghost use Rattle.tf_protocol.specs.Verdict.{asks_fully};
+ghost use Rattle.tf_outcome.specs.Words.{action_of, AreRequests, asked, asked_for, asks_fully, call_with, comes_of, config_of, create_of, destroy_of, FitsTogether, has_planned_attributes, ignored_by, IsDeclared, IsOfBlock, IsServedBy, kept_object, meant_at, names_in, names_of, plan_of, prior_of, Requests, schema_in, tree_of, unless_faulty, update_of};
 ghost use Rattle.tf_protocol.specs.declared.request.Op.TheVariants.{Create, Update};
-ghost use Rattle.tf_value.specs.Tree.{tree_of};
 ghost use Rattle.tf_asks.specs.AskedBy.{asked_by};
-ghost use Rattle.tf_outcome.specs.Asked.{AreRequests, Requests, asked_for, create_of, destroy_of, ignored_by, op_of, unless_faulty, update_of};
-ghost use Rattle.tf_outcome.specs.Outcome.{call_with, comes_of};
+ghost use Rattle.tf_outcome.specs.Asked.{op_of};
 
 use crate::messages::faulted;
 use crate::objects::{kept, made_object};

@@ -2,9 +2,7 @@
 
 ghost use Rattle.std.specs.List.{list_all};
 ghost use Rattle.std.specs.Prelude.{◌≡◌, ◌≤◌, ◌+◌, ℕ, [], true, None, Some, nat_le, length, IfOk, string_bytes, string_capacity};
-ghost use Rattle.tf_value.specs.Nulls.{with_nulls};
-ghost use Rattle.tf_value.specs.Tree.{keys_of, tree_of, entries_view};
-ghost use Rattle.tf_outcome.specs.Room.{message_fits};
+ghost use Rattle.tf_outcome.specs.Words.{entries_view, keys_of, message_fits, tree_of, with_nulls};
 
 use std::alloc::{AllocError, Global};
 use std::collections::BTreeMap;

@@ -1,10 +1,7 @@
 //! What came of the actions before one, for its request.
 
 ghost use Rattle.std.specs.Prelude.{◌≡◌, ◌<◌, All, IfOk, map};
-ghost use Rattle.tf_action_data.specs.Action.{action_of};
-ghost use Rattle.tf_names.specs.Table.{names_in};
-ghost use Rattle.tf_outcome.specs.Objects.{objects_seen};
-ghost use Rattle.tf_state_data.specs.State.{state_of};
+ghost use Rattle.tf_outcome.specs.Words.{action_of, names_in, objects_seen, state_of};
 ghost use Rattle.tf_cells.specs.Reading.{seen_in};
 ghost use Rattle.tf_cells.specs.Sight.{IfGood, Shows};
 

@@ -2,10 +2,7 @@
 
 ghost use Rattle.std.specs.Option.{option_map_or};
 ghost use Rattle.std.specs.Prelude.{◌≡◌, IfOk, IfSome, IsTrue, is_some, true, false};
-ghost use Rattle.tf_outcome.specs.Ended.{done_of};
-ghost use Rattle.tf_outcome.specs.Outcome.{is_good};
-ghost use Rattle.tf_outcome.specs.Objects.{object_of};
-ghost use Rattle.tf_value.specs.Tree.{tree_of};
+ghost use Rattle.tf_outcome.specs.Words.{done_of, is_good, object_of, tree_of};
 ghost use Rattle.tf_cells.specs.Ideal.{IsTrueTo, InEachIdeal};
 
 use crate::kept::Kept;

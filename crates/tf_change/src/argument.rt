@@ -2,10 +2,8 @@
 
 ghost use Rattle.std.specs.Fmt.{signed_decimal};
 ghost use Rattle.std.specs.Prelude.{◌≡◌, true, IfOk, option_map, string_bytes};
+ghost use Rattle.tf_environment.specs.Words.{is_within, may_be_planned, text, tree_of};
 ghost use Rattle.tf_syntax.specs.ExprTree.{tree_of as expr_of};
-ghost use Rattle.tf_value.specs.Measure.{is_within};
-ghost use Rattle.tf_value.specs.Stored.{may_be_planned};
-ghost use Rattle.tf_value.specs.Tree.{text, tree_of};
 ghost use Rattle.tf_change.specs.Argument.{argument_value, unset_value, set_value, given_value, attribute_value, converted, or_bad_argument};
 ghost use Rattle.tf_protocol.specs.declared.schema.Kind.TheVariants as kinds;
 ghost use Rattle.tf_change.specs.declared.argument.ValueFault.TheVariants.{OutOfMemory};

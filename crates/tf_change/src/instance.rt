@@ -1,10 +1,7 @@
 //! The object that is planned for one instance of a resource.
 
 ghost use Rattle.std.specs.Prelude.{◌≡◌, true, IfOk};
-ghost use Rattle.tf_address.specs.Label.{LabelView};
-ghost use Rattle.tf_address.specs.ObjectId.{instance_key_of};
-ghost use Rattle.tf_config_data.specs.Config.{block_at};
-ghost use Rattle.tf_value.specs.Tree.{tree_of};
+ghost use Rattle.tf_environment.specs.Words.{block_at, instance_key_of, LabelView, tree_of};
 ghost use Rattle.tf_change.specs.Bounded.{has_planned_attributes};
 ghost use Rattle.tf_change.specs.Instance.{instance_object, instance_of};
 

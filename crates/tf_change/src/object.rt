@@ -1,10 +1,9 @@
 //! The object that is planned of arguments, or the first thing that is wrong with them.
 
 ghost use Rattle.std.specs.Prelude.{◌≡◌, true, Result, IfOk, fold, map, option_map};
-ghost use Rattle.tf_syntax.specs.ExprTree.{get, tree_of as expr_of, entries_view as arguments_view};
+ghost use Rattle.tf_environment.specs.Words.{entries_view, get, may_be_planned, Tree, tree_of};
+ghost use Rattle.tf_syntax.specs.ExprTree.{tree_of as expr_of, entries_view as arguments_view};
 ghost use Rattle.tf_protocol.specs.Schema.{ascends, attribute_of};
-ghost use Rattle.tf_value.specs.Stored.{may_be_planned};
-ghost use Rattle.tf_value.specs.Tree.{Tree, tree_of, entries_view};
 ghost use Rattle.tf_change.specs.declared.argument.ArgumentFault.{ArgumentFault};
 ghost use Rattle.tf_change.specs.Bounded.{each_may_be_planned, has_planned_attributes};
 ghost use Rattle.tf_change.specs.Gives.{Gives};

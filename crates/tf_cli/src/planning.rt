@@ -1,17 +1,13 @@
 //! From the texts that the user gives to a plan.
 
 ghost use Rattle.std.specs.Prelude.{◌≡◌, map, option_map, IfOk, IfErr, string_bytes};
-ghost use Rattle.tf_action_data.specs.Action.{action_of};
+ghost use Rattle.tf_outcome.specs.Words.{action_of, AreServed, FitsTogether, plan_of, state_of};
 ghost use Rattle.tf_cli.specs.Applies.{IsPlanOf, IsPlanText};
 ghost use Rattle.tf_cli.specs.Refusals.{AreRefusals, RefusesBy};
 ghost use Rattle.tf_inputs.specs.Texts.{the_texts};
 ghost use Rattle.tf_plan.specs.Refused.{Tells};
-ghost use Rattle.tf_plan_data.specs.Fits.{FitsTogether};
-ghost use Rattle.tf_plan_data.specs.Plan.{plan_of};
-ghost use Rattle.tf_plan_data.specs.Served.{AreServed};
 ghost use Rattle.tf_refusal.specs.Refusal.{told};
 ghost use Rattle.tf_state.specs.Valid.{IsValid};
-ghost use Rattle.tf_state_data.specs.State.{state_of};
 
 use std::alloc::Global;
 use tf_inputs::{Inputs, read_texts};

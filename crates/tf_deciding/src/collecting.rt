@@ -2,13 +2,10 @@
 
 ghost use Rattle.std.specs.Prelude.{◌≡◌, ◌++◌, IfOk, OnOk, map, option_map};
 ghost use Rattle.tf_action_data.specs.Action.{action_of};
-ghost use Rattle.tf_address.specs.Label.{label_of};
-ghost use Rattle.tf_address.specs.ObjectId.{instance_key_of};
-ghost use Rattle.tf_config_data.specs.Config.{block_at};
+ghost use Rattle.tf_environment.specs.Words.{block_at, instance_key_of, label_of, shape_of};
 ghost use Rattle.tf_deciding.specs.Deciding.{action, decided_of, of_view, version_of, with_block, with_members, with_orphan, with_outcome};
 ghost use Rattle.tf_deciding.specs.Outcome.{member_outcome, orphan_outcome};
 ghost use Rattle.tf_deciding.specs.Views.{outcome_of, steps_of};
-ghost use Rattle.tf_environment.specs.Views.{shape_of};
 ghost use Rattle.tf_members.specs.Views.{member_of};
 ghost use Rattle.tf_state_data.specs.Resource.{resource_of};
 ghost use Rattle.tf_state_data.specs.State.{state_of};

@@ -1,15 +1,12 @@
 //! What instances stand for in the plan.
 
 ghost use Rattle.std.specs.Prelude.{◌≡◌, IfOk, map, option_map};
-ghost use Rattle.tf_address.specs.Label.{LabelView, label_of};
-ghost use Rattle.tf_address.specs.ObjectId.{instance_key_of};
-ghost use Rattle.tf_config_data.specs.Config.{block_at};
+ghost use Rattle.tf_environment.specs.Words.{block_at, instance_key_of, label_of, LabelView, tree_of};
 ghost use Rattle.tf_deciding.specs.Stage.{decided_object, object_beside, object_of, records_at};
 ghost use Rattle.tf_decision.specs.Answer.{decision_of};
 ghost use Rattle.tf_state_data.specs.Ids.{AreById};
 ghost use Rattle.tf_state_data.specs.Record.{record_of};
 ghost use Rattle.tf_state_data.specs.State.{state_of};
-ghost use Rattle.tf_value.specs.Tree.{tree_of};
 
 use crate::steps::current;
 use std::alloc::{AllocError, Global};

@@ -2,10 +2,8 @@
 
 ghost use Rattle.std.specs.Prelude.{◌≡◌, IfOk, map, option_map};
 ghost use Rattle.std.specs.List.{list_all};
-ghost use Rattle.tf_address.specs.Label.{LabelView, label_of};
-ghost use Rattle.tf_config_data.specs.Config.{block_at, lifecycle_of};
+ghost use Rattle.tf_environment.specs.Words.{block_at, label_of, LabelView, lifecycle_of, shape_of, shapes_of};
 ghost use Rattle.tf_deciding.specs.Stage.{all_can_go, block_members, deciding, stays_or_goes};
-ghost use Rattle.tf_environment.specs.Views.{shape_of, shapes_of};
 ghost use Rattle.tf_members.specs.Views.{member_of};
 ghost use Rattle.tf_state_data.specs.State.{state_of};
 

@@ -3,14 +3,11 @@
 ghost use Rattle.std.specs.Prelude.{◌≡◌, ◌<◌, ◌∷◌, IfOk, OnOk, Some, length, map, slice_get};
 ghost use Rattle.tf_deciding.specs.Deciding.{decided_of};
 ghost use Rattle.tf_deciding.specs.Whole.{decided, with_numbered, with_meant};
-ghost use Rattle.tf_environment.specs.Views.{shapes_of, standings_of};
+ghost use Rattle.tf_environment.specs.Words.{entries_view, IsDependence, names_in, shapes_of, standings_of};
 ghost use Rattle.tf_names.specs.Named.{named_view};
-ghost use Rattle.tf_names.specs.Needs.{IsDependence};
-ghost use Rattle.tf_names.specs.Table.{names_in};
 ghost use Rattle.tf_resources.specs.Numbering.{numbered};
 ghost use Rattle.tf_resources.specs.Table.{numbered_in, resources_in};
 ghost use Rattle.tf_state_data.specs.State.{state_of};
-ghost use Rattle.tf_value.specs.Tree.{entries_view};
 
 use crate::collecting::Decided;
 use crate::stage::Deciding;

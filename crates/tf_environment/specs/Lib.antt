@@ -1,8 +1,9 @@
-pub mod Shape
-pub mod Standing
-pub mod Repetition
-pub mod Stages
-pub mod Laws
 pub mod Instance
-pub mod Views
 pub mod Kept
+pub mod Laws
+pub mod Repetition
+pub mod Shape
+pub mod Stages
+pub mod Standing
+pub mod Views
+pub mod Words

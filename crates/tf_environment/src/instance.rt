@@ -1,8 +1,7 @@
 //! What the arguments of one instance see.
 
 ghost use Rattle.std.specs.Prelude.{◌≡◌, IfOk, Ok, [], ◌∷◌, pos, string_bytes};
-ghost use Rattle.tf_address.specs.ObjectId.{instance_key_of};
-ghost use Rattle.tf_config_data.specs.Config.{repetition_of};
+ghost use Rattle.tf_config_data.specs.Words.{instance_key_of, repetition_of};
 ghost use Rattle.tf_operators.specs.Answer.{Gives, whole_value};
 ghost use Rattle.tf_value.specs.Tree.{tree_of};
 ghost use Rattle.tf_eval.specs.Answering.{GivesAs};

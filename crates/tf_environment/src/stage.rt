@@ -1,11 +1,8 @@
 //! The stages of the engine.
 
 ghost use Rattle.std.specs.Prelude.{◌≡◌, IfOk, Option, Some, option_map, ℕ};
-ghost use Rattle.tf_address.specs.Label.{label_of};
-ghost use Rattle.tf_address.specs.ObjectId.{InstanceKeyView, instance_key_of};
-ghost use Rattle.tf_config_data.specs.Config.{BlockView, block_at};
-ghost use Rattle.tf_config_data.specs.Names.{a_block};
-ghost use Rattle.tf_value.specs.Tree.{Tree, tree_of, unknown};
+ghost use Rattle.tf_config_data.specs.Words.{a_block, block_at, BlockView, instance_key_of, InstanceKeyView, label_of, Tree, unknown};
+ghost use Rattle.tf_value.specs.Tree.{tree_of};
 ghost use Rattle.tf_eval.specs.Environment.{Environment};
 ghost use Rattle.tf_environment.specs.Stages.{expansion, planning};
 ghost use Rattle.tf_environment.specs.Standing.{StageView, stands, together};

@@ -1,13 +1,7 @@
 //! The expansion of a configuration.
 
 ghost use Rattle.std.specs.Prelude.{◌≡◌, ◌<◌, ℕ, IfOk, Some, length, min};
-ghost use Rattle.tf_config_data.specs.Names.{directly_before, meant_at};
-ghost use Rattle.tf_names.specs.Needs.{IsAcyclic, IsDependence};
-ghost use Rattle.tf_names.specs.Table.{named_view, names_in};
-ghost use Rattle.tf_value.specs.Tree.{entries_view};
-ghost use Rattle.tf_environment.specs.Stages.{expansion};
-ghost use Rattle.tf_environment.specs.Standing.{StandingView, AreStandings};
-ghost use Rattle.tf_environment.specs.Views.{shape_of, shapes_of, standings_of, worked_out};
+ghost use Rattle.tf_environment.specs.Words.{AreStandings, directly_before, entries_view, expansion, IsAcyclic, IsDependence, meant_at, named_view, names_in, shape_of, shapes_of, standings_of, StandingView, worked_out};
 ghost use Rattle.tf_expand.specs.Expanding.{expanded, instance_count, instances_before};
 ghost use Rattle.tf_expand.specs.Told.{AreReferredStandings, Shapes, Tells};
 ghost use Rattle.tf_expand.specs.declared.expansion.ExpansionFault.TheVariants.{OutOfMemory};

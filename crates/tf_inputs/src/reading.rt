@@ -2,8 +2,7 @@
 
 ghost use Rattle.std.specs.Prelude.{◌≡◌, ◌≤◌, ◌<◌, ◌+◌, ◌^◌, length, option_map, IfOk, IfErr, OnOk};
 ghost use Rattle.tf_config.specs.Reading.{IsRefused, IsWithinCounts};
-ghost use Rattle.tf_config_data.specs.Config.{config_of};
-ghost use Rattle.tf_config_data.specs.Names.{names_of};
+ghost use Rattle.tf_config_data.specs.Words.{config_of, names_of};
 ghost use Rattle.tf_names.specs.Judging.{RefusesItsNames};
 ghost use Rattle.tf_names.specs.Needs.{IsAcyclic, IsDependence};
 ghost use Rattle.tf_refusal.specs.Refusal.{told};

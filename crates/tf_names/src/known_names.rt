@@ -2,9 +2,7 @@
 
 ghost use Rattle.std.specs.List.{list_all};
 ghost use Rattle.std.specs.Prelude.{◌≡◌, ◌∷◌, [], IfOk, codes, map, string_bytes};
-ghost use Rattle.tf_address.specs.Label.{LabelView, label_of};
-ghost use Rattle.tf_config_data.specs.Config.{block_at, blocks_of, config_of, variables_of};
-ghost use Rattle.tf_config_data.specs.Names.{names_of};
+ghost use Rattle.tf_config_data.specs.Words.{block_at, blocks_of, config_of, entries_view, label_of, LabelView, names_of, reference_of, template_view, tree_of, trees_view, variables_of};
 ghost use Rattle.tf_json_path.specs.Check.{demanded};
 ghost use Rattle.tf_json_path.specs.Place.{dotted, place_of as place_at};
 ghost use Rattle.tf_names.specs.KnownNames.{a_resource, binds, block_checks, block_place, body_checks, body_of, config_checks, declared_in, declared_of, entry_name_checks, has_variable, is_function, is_variable, item_name_checks, knows, knows_names, label_checks, name_checks, only_known_names, output_checks, property_checks, unknown_name, JudgesNames};
@@ -13,9 +11,6 @@ ghost use Rattle.tf_names.specs.Table.{names_in};
 ghost use Rattle.tf_names.specs.declared.known_names.Context.TheVariants.{Plain};
 ghost use Rattle.tf_names.specs.Tells.{TellsAt};
 ghost use Rattle.tf_refusal.specs.Refusal.{told};
-ghost use Rattle.tf_syntax.specs.ExprTree.{entries_view, tree_of, trees_view};
-ghost use Rattle.tf_syntax.specs.TemplateNames.{reference_of};
-ghost use Rattle.tf_syntax.specs.TemplateTree.{template_view};
 
 use crate::properties::{Property, Value, properties_of};
 use crate::table::Names;

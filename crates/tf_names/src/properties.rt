@@ -3,12 +3,10 @@
 ghost use Rattle.std.specs.Prelude.{◌≡◌, ◌≤◌, ◌++◌, ◌∷◌, IfOk, OnOk, drop, length, map, take};
 ghost use Rattle.std.specs.Cmp.Lexicographic.{slice_cmp};
 ghost use Rattle.std.specs.Ordering.{is_lt, nat_cmp};
-ghost use Rattle.tf_address.specs.Label.{LabelView};
-ghost use Rattle.tf_config_data.specs.Config.{block_at, repetition_of};
+ghost use Rattle.tf_config_data.specs.Words.{block_at, entries_view, LabelView, repetition_of, tree_of};
 ghost use Rattle.tf_names.specs.KnownNames.{PropertyView, an_expression, arguments_in, body_of, context_of, put_property, put_repetition};
 ghost use Rattle.tf_names.specs.declared.known_names.Context.TheVariants.{Plain};
 ghost use Rattle.tf_names.specs.Properties.{property_view};
-ghost use Rattle.tf_syntax.specs.ExprTree.{entries_view, tree_of};
 
 use crate::known_names::Context;
 use std::alloc::{AllocError, Global};

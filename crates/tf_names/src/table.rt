@@ -1,14 +1,9 @@
 //! The table of a configuration's names.
 
 ghost use Rattle.std.specs.Prelude.{◌≡◌, ◌<◌, ◌++◌, ◌∷◌, [], Some, IfOk, OnOk, length, map, slice_get};
-ghost use Rattle.tf_config_data.specs.Config.{block_at, config_of, repetition_of};
-ghost use Rattle.tf_config_data.specs.Names.{block_refers, directly_before, label_pair, meant_at, named_in_repetition, names_of, place_of, places, refers};
-ghost use Rattle.tf_address.specs.Label.{LabelView, label_of};
-ghost use Rattle.tf_syntax.specs.ExprNames.{named_below, named_by};
-ghost use Rattle.tf_syntax.specs.ExprTree.{entries_view, tree_of};
+ghost use Rattle.tf_config_data.specs.Words.{block_at, block_refers, config_of, directly_before, entries_view, label_of, label_pair, LabelView, meant_at, named_below, named_by, named_in_repetition, names_of, Pair, place_of, places, refers, repetition_of, tree_of};
 ghost use Rattle.tf_names.specs.Named.{named_view};
 ghost use Rattle.tf_names.specs.Places.{found_in};
-ghost use Rattle.tf_syntax.specs.TemplateNames.{Pair};
 
 use crate::named::Named;
 use crate::places::Places;

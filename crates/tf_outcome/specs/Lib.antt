@@ -10,3 +10,4 @@ pub mod Objects
 pub mod Outcome
 pub mod Room
 pub mod Run
+pub mod Words

@@ -1,15 +1,7 @@
 //! What instances stand for while a plan is carried out, as the requests and outputs that name them need it.
 
 ghost use Rattle.std.specs.Prelude.{◌≡◌, IfOk, map, option_map, slice_get};
-ghost use Rattle.tf_action_data.specs.Action.{action_of, step_of};
-ghost use Rattle.tf_address.specs.Label.{label_of};
-ghost use Rattle.tf_address.specs.ObjectId.{instance_key_of};
-ghost use Rattle.tf_config_data.specs.Names.{meant_at};
-ghost use Rattle.tf_graph.specs.Solutions.{seen_by};
-ghost use Rattle.tf_names.specs.Table.{names_in};
-ghost use Rattle.tf_plan_data.specs.Fits.{is_apply};
-ghost use Rattle.tf_state_data.specs.State.{state_of};
-ghost use Rattle.tf_value.specs.Tree.{null, tree_of};
+ghost use Rattle.tf_plan_data.specs.Words.{action_of, instance_key_of, is_apply, label_of, meant_at, names_in, null, seen_by, state_of, step_of, tree_of};
 ghost use Rattle.tf_outcome.specs.Ended.{done_or_skipped, dones_of};
 ghost use Rattle.tf_outcome.specs.Objects.{current_object, is_of, object_of, objects_seen, prior_object};
 ghost use Rattle.tf_outcome.specs.Outcome.{done_at};

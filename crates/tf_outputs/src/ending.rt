@@ -1,21 +1,13 @@
 //! Outputs are worked out after an apply.
 
 ghost use Rattle.std.specs.Prelude.{◌≡◌, ◌≤◌, [], IfOk, Ok, length, true, vec_capacity};
+ghost use Rattle.tf_environment.specs.Words.{entries_view, has, has_no_set, IsAcyclic, IsDependence, IsTable, named_by, names_in, no_entries, shapes_of, tree_of, with_nulls};
 ghost use Rattle.tf_config_data.specs.Names.{places as places_of};
-ghost use Rattle.tf_environment.specs.Views.{shapes_of};
-ghost use Rattle.tf_graph.specs.NodeSet.{has};
-ghost use Rattle.tf_names.specs.Needs.{IsAcyclic, IsDependence};
-ghost use Rattle.tf_names.specs.Table.{names_in};
 ghost use Rattle.tf_outputs.specs.Keeping.{IsSameOrExcused, MayBeSaved, done_of};
 ghost use Rattle.tf_outputs.specs.Outputs.{AreOutputsEnded, IsOutputDone, done_with};
 ghost use Rattle.tf_outputs.specs.Rooms.{HavePlaces, outputs_in};
 ghost use Rattle.tf_state_data.specs.State.{outputs_of};
-ghost use Rattle.tf_syntax.specs.ExprNames.{named_by};
 ghost use Rattle.tf_syntax.specs.ExprTree.{tree_of as expr_of};
-ghost use Rattle.tf_value.specs.Nulls.{with_nulls};
-ghost use Rattle.tf_value.specs.Sets.{has_no_set};
-ghost use Rattle.tf_value.specs.Stored.{IsTable};
-ghost use Rattle.tf_value.specs.Tree.{entries_view, no_entries, tree_of};
 
 use crate::ends::{Ended, OutputEnd};
 use crate::keeping::keep;

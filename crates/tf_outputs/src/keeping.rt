@@ -4,9 +4,8 @@ ghost use Rattle.std.specs.Prelude.{◌≡◌, IfOk, OnOk, if◌then◌else◌, 
 ghost use Rattle.tf_outputs.specs.Keeping.{IsKept, done_of};
 ghost use Rattle.tf_outputs.specs.Outputs.{is_declared, is_null as is_a_null, kept_entries, valued};
 ghost use Rattle.tf_state_data.specs.State.{outputs_of};
+ghost use Rattle.tf_environment.specs.Words.{IsTable, put, tree_of};
 ghost use Rattle.tf_syntax.specs.ExprTree.{entries_view};
-ghost use Rattle.tf_value.specs.Stored.{IsTable};
-ghost use Rattle.tf_value.specs.Tree.{put, tree_of};
 
 use crate::ends::{Ended, OutputEnd};
 use std::alloc::{AllocError, Global};

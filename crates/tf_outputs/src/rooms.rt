@@ -2,10 +2,8 @@
 
 ghost use Rattle.std.specs.List.{AllByRecursion};
 ghost use Rattle.std.specs.Prelude.{◌≡◌, IfOk, string_bytes};
-ghost use Rattle.tf_config_data.specs.Names.{places};
-ghost use Rattle.tf_names.specs.Table.{names_in};
+ghost use Rattle.tf_environment.specs.Words.{named_by, names_in, places};
 ghost use Rattle.tf_outputs.specs.Rooms.{HavePlaces, HasPlaces, outputs_in};
-ghost use Rattle.tf_syntax.specs.ExprNames.{named_by};
 ghost use Rattle.tf_syntax.specs.ExprTree.{entries_view, tree_of};
 
 use std::alloc::{AllocError, Global};

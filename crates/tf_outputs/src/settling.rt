@@ -1,12 +1,7 @@
 //! Which names are settled.
 
 ghost use Rattle.std.specs.Prelude.{◌≡◌, ◌<◌, ℕ, length, Contains};
-ghost use Rattle.tf_config_data.specs.Names.{directly_before};
-ghost use Rattle.tf_graph.specs.NodeSet.{has};
-ghost use Rattle.tf_graph.specs.Order.{IsInOrder};
-ghost use Rattle.tf_graph.specs.Solutions.{seen_by};
-ghost use Rattle.tf_names.specs.Needs.{IsAcyclic, IsDependence};
-ghost use Rattle.tf_names.specs.Table.{names_in};
+ghost use Rattle.tf_environment.specs.Words.{directly_before, has, IsAcyclic, IsDependence, IsInOrder, names_in, seen_by};
 ghost use Rattle.tf_outputs.specs.Settled.{AreSettled, AreSettledAmong, all_settled as all_that_are, settled_rule};
 
 use tf_environment::Declarations;

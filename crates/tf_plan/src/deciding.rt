@@ -4,11 +4,9 @@ ghost use Rattle.std.specs.Prelude.{◌≡◌, ◌<◌, ℕ, IfOk, length, map};
 ghost use Rattle.tf_deciding.specs.Deciding.{decided_of};
 ghost use Rattle.tf_deciding.specs.Stage.{deciding};
 ghost use Rattle.tf_deciding.specs.Whole.{decided};
-ghost use Rattle.tf_environment.specs.Standing.{StandingView, AreStandings};
-ghost use Rattle.tf_environment.specs.Views.{shapes_of, standings_of};
+ghost use Rattle.tf_plan_data.specs.Words.{AreStandings, numbered, shapes_of, standings_of, StandingView};
 ghost use Rattle.tf_plan.specs.Given.{IsGiven, names_given, outputs_given, resources_given, variables_given};
 ghost use Rattle.tf_plan.specs.Planned.{IsPlanned, planned_in, planned_of};
-ghost use Rattle.tf_resources.specs.Numbering.{numbered};
 
 use crate::outputs::add_outputs;
 use crate::telling::refusals_of;

@@ -1,15 +1,9 @@
 //! Which resources of a plan are late, and which of its actions is before which.
 
 ghost use Rattle.std.specs.Prelude.{◌≡◌, ◌≤◌, IfOk, IfErr, false, length, map, slice_index_or};
-ghost use Rattle.tf_action_data.specs.Action.{action_of};
-ghost use Rattle.tf_action_data.specs.Precedence.{ordered};
-ghost use Rattle.tf_names.specs.Needs.{IsAcyclic, IsDependence, needs_in};
-ghost use Rattle.tf_names.specs.Table.{names_in};
+ghost use Rattle.tf_plan_data.specs.Words.{action_of, AreSound, IsAcyclic, IsDependence, names_in, needs_in, numbered, numbered_in, ordered, resources_in};
 ghost use Rattle.tf_plan.specs.Ordered.{IsOrdered, action_pairs, max_pairs, ties_by};
 ghost use Rattle.tf_plan.specs.Refused.{AreManyPairsBy, HasManyPairs, Tells};
-ghost use Rattle.tf_precedence.specs.Ties.{AreSound};
-ghost use Rattle.tf_resources.specs.Numbering.{numbered};
-ghost use Rattle.tf_resources.specs.Table.{numbered_in, resources_in};
 
 use crate::faults::{alone, limit_refusal};
 use crate::refused::Refused;

@@ -1,12 +1,10 @@
 //! What is refused of outputs.
 
 ghost use Rattle.std.specs.Prelude.{◌≡◌, ◌++◌, OnOk, map};
-ghost use Rattle.tf_environment.specs.Views.{standings_of};
-ghost use Rattle.tf_names.specs.Table.{names_in};
+ghost use Rattle.tf_plan_data.specs.Words.{entries_view, names_in, standings_of};
 ghost use Rattle.tf_plan.specs.Outputs.{output_refusal, output_refusals};
 ghost use Rattle.tf_refusal.specs.Refusal.{told};
 ghost use Rattle.tf_syntax.specs.ExprTree.{entries_view as expressions_view, tree_of};
-ghost use Rattle.tf_value.specs.Tree.{entries_view};
 
 use crate::faults::evaluation;
 use std::alloc::{AllocError, Global};

@@ -1,24 +1,11 @@
 //! The planner.
 
 ghost use Rattle.std.specs.Prelude.{◌≡◌, ◌≤◌, ◌<◌, ◌+◌, ◌^◌, IfOk, IfErr, false, length, map, slice_index_or};
-ghost use Rattle.tf_action_data.specs.Action.{action_of};
-ghost use Rattle.tf_config_data.specs.Config.{config_of};
-ghost use Rattle.tf_config_data.specs.Names.{names_of};
-ghost use Rattle.tf_environment.specs.Views.{shapes_of};
-ghost use Rattle.tf_names.specs.Needs.{IsAcyclic, IsDependence, needs_in};
-ghost use Rattle.tf_names.specs.Table.{names_in};
+ghost use Rattle.tf_plan_data.specs.Words.{a_name, action_of, AreApart, AreServed, config_of, entries_view, FitsTogether, IsAcyclic, IsDependence, names_in, names_of, needs_in, numbered_in, plan_of, shapes_of, state_of};
 ghost use Rattle.tf_plan.specs.Given.{IsGiven, names_given, outputs_given, resources_given, variables_given};
 ghost use Rattle.tf_plan.specs.Plan.{IsPlan, IsPlannedFrom, max_actions};
 ghost use Rattle.tf_plan.specs.Planned.{AreInstances, IsPlanned, planned_of, unrefused};
 ghost use Rattle.tf_plan.specs.Refused.{AreRefused, AreRefusedIn, AreRefusedOf, AreRefusedOfSome, AreUnexpanded, Tells};
-ghost use Rattle.tf_plan_data.specs.Fits.{FitsTogether};
-ghost use Rattle.tf_plan_data.specs.Plan.{plan_of};
-ghost use Rattle.tf_plan_data.specs.Served.{AreServed};
-ghost use Rattle.tf_resources.specs.Laws.{AreApart};
-ghost use Rattle.tf_resources.specs.Numbering.{a_name};
-ghost use Rattle.tf_resources.specs.Table.{numbered_in};
-ghost use Rattle.tf_state_data.specs.State.{state_of};
-ghost use Rattle.tf_value.specs.Tree.{entries_view};
 
 use crate::deciding::{Given, Planned, plan_instances};
 use crate::faults::{alone, expansion_refusal, limit_refusal};

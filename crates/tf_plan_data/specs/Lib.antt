@@ -2,3 +2,4 @@ pub mod Address
 pub mod Fits
 pub mod Plan
 pub mod Served
+pub mod Words

@@ -1,10 +1,8 @@
 //! How a plan's text shows a value.
 
 ghost use Rattle.std.specs.Prelude.{◌≡◌, ◌++◌, ◌∷◌, false, OnOk, string_bytes};
-ghost use Rattle.json.specs.Print.{quoted};
-ghost use Rattle.serde_json.specs.Written.{comma_if};
+ghost use Rattle.tf_plan_data.specs.Words.{boolean, comma_if, entries_view, items_view, quoted, texts_view, tree_of, unknown};
 ghost use Rattle.tf_plan_text.specs.Shown.{shown, shown_items, shown_entries, shown_texts};
-ghost use Rattle.tf_value.specs.Tree.{tree_of, items_view, entries_view, texts_view, boolean, unknown};
 
 use serde_json::Value as Json;
 use std::alloc::{AllocError, Global};

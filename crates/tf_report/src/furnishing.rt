@@ -2,16 +2,10 @@
 
 ghost use Rattle.std.specs.Prelude.{◌≡◌, ◌+◌, ◌≤◌, ◌++◌, ◌∷◌, [], IfOk, OnOk, if◌then◌else◌, length, map, vec_capacity, vec_len};
 ghost use Rattle.std.specs.List.{range_with_len};
-ghost use Rattle.tf_action_data.specs.Action.{action_of};
-ghost use Rattle.tf_address.specs.Label.{label_of};
-ghost use Rattle.tf_names.specs.Table.{names_in};
+ghost use Rattle.tf_outcome.specs.Words.{action_of, FitsTogether, is_apply, IsTable, label_of, names_in, outputs_of, plan_names, plan_of};
 ghost use Rattle.tf_next_state.specs.Homes.{AreHomes};
 ghost use Rattle.tf_outputs.specs.Outputs.{kept_entries};
 ghost use Rattle.tf_outputs.specs.Rooms.{outputs_in};
-ghost use Rattle.tf_plan_data.specs.Fits.{FitsTogether, is_apply};
-ghost use Rattle.tf_plan_data.specs.Plan.{plan_names, plan_of};
-ghost use Rattle.tf_state_data.specs.State.{outputs_of};
-ghost use Rattle.tf_value.specs.Stored.{IsTable};
 ghost use Rattle.tf_report.specs.Furnished.{IsBlank, IsFurnished, applied_labels};
 ghost use Rattle.tf_report.specs.Settling.{IsReady};
 

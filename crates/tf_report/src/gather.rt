@@ -1,10 +1,8 @@
 //! How actions ended, without taking memory.
 
 ghost use Rattle.std.specs.Prelude.{◌≡◌, ◌-◌, ◌<◌, ◌≤◌, ◌^◌, [], length, map, vec_capacity};
-ghost use Rattle.tf_action_data.specs.Action.{action_of, step_of};
+ghost use Rattle.tf_outcome.specs.Words.{action_of, done_or_skipped, dones_of, is_good, op_of, step_of};
 ghost use Rattle.tf_additions.specs.Addition.{listed};
-ghost use Rattle.tf_outcome.specs.Ended.{done_or_skipped, dones_of};
-ghost use Rattle.tf_outcome.specs.Outcome.{is_good, op_of};
 ghost use Rattle.tf_report.specs.Outcomes.{counted_one, excuses_at, excuses_from, good_totals, outcome_of};
 
 use tf_outcome::{Ended, Excuse, Outcome};

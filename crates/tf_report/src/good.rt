@@ -1,11 +1,7 @@
 //! Of which resources all creates and updates are good.
 
 ghost use Rattle.std.specs.Prelude.{◌≡◌, ◌<◌, ◌&&◌, ◌||◌, ℕ, length, map, not, true};
-ghost use Rattle.tf_graph.specs.NodeSet.{has};
-ghost use Rattle.tf_outcome.specs.Ended.{done_or_skipped, dones_of};
-ghost use Rattle.tf_outcome.specs.Outcome.{is_good};
-ghost use Rattle.tf_action_data.specs.Action.{action_of, step_of};
-ghost use Rattle.tf_plan_data.specs.Fits.{is_apply};
+ghost use Rattle.tf_outcome.specs.Words.{action_of, done_or_skipped, dones_of, has, is_apply, is_good, step_of};
 ghost use Rattle.tf_report.specs.Good.{are_good_at, is_apply_of};
 
 use crate::gather::is_good;

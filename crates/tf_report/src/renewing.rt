@@ -2,16 +2,8 @@
 
 ghost use Rattle.std.specs.Prelude.{◌≡◌, ◌<◌, ◌++◌, ◌∷◌, [], None, if◌then◌else◌, IfOk, OnOk, filter, length, map};
 ghost use Rattle.std.specs.List.{flat_map, list_any};
-ghost use Rattle.tf_action_data.specs.Action.{action_of, step_of};
-ghost use Rattle.tf_address.specs.Label.{label_of};
-ghost use Rattle.tf_address.specs.ObjectId.{instance_key_of};
-ghost use Rattle.tf_names.specs.Needs.{IsDependence};
-ghost use Rattle.tf_names.specs.Table.{names_in};
+ghost use Rattle.tf_outcome.specs.Words.{action_of, deposed_key, instance_key_of, IsDependence, label_of, names_in, plan_names, plan_of, record_of, resource_of, step_of};
 ghost use Rattle.tf_next_state.specs.Events.{renewal_of};
-ghost use Rattle.tf_plan_data.specs.Plan.{plan_names, plan_of};
-ghost use Rattle.tf_state_data.specs.Record.{record_of};
-ghost use Rattle.tf_state_data.specs.Resource.{resource_of};
-ghost use Rattle.tf_plan_data.specs.Fits.{deposed_key};
 ghost use Rattle.tf_report.specs.Events.{is_about, is_none, renewal_of_record, renewals, renewals_at, stays};
 
 use std::alloc::{AllocError, Global};

@@ -1,20 +1,11 @@
 //! What comes of outputs, once all actions have ended.
 
 ghost use Rattle.std.specs.Prelude.{◌≡◌, ◌<◌, ◌≤◌, ℕ, [], List, length, map, vec_capacity};
-ghost use Rattle.tf_graph.specs.NodeSet.{has};
-ghost use Rattle.tf_graph.specs.Solutions.{seen_by};
-ghost use Rattle.tf_names.specs.Needs.{IsAcyclic, IsDependence};
-ghost use Rattle.tf_names.specs.Table.{names_in};
-ghost use Rattle.tf_outcome.specs.Ended.{dones_of};
-ghost use Rattle.tf_outcome.specs.Outcome.{done_at, objects_seen};
-ghost use Rattle.tf_plan_data.specs.Plan.{plan_of};
+ghost use Rattle.tf_outcome.specs.Words.{action_of, done_at, dones_of, entries_view, has, IsAcyclic, IsDependence, IsTable, names_in, outputs_of, plan_of, seen_by};
+ghost use Rattle.tf_outcome.specs.Outcome.{objects_seen};
 ghost use Rattle.tf_outputs.specs.Outputs.{AreOutputsEnded};
 ghost use Rattle.tf_outputs.specs.Rooms.{HavePlaces, outputs_in};
 ghost use Rattle.tf_outputs.specs.Settled.{AreSettled};
-ghost use Rattle.tf_action_data.specs.Action.{action_of};
-ghost use Rattle.tf_state_data.specs.State.{outputs_of};
-ghost use Rattle.tf_value.specs.Stored.{IsTable};
-ghost use Rattle.tf_value.specs.Tree.{entries_view};
 ghost use Rattle.tf_report.specs.Good.{are_good_at};
 ghost use Rattle.tf_report.specs.Settling.{AreEnded, IsReady};
 

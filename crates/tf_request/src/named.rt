@@ -1,10 +1,7 @@
 //! What the object of an instance is worked out from.
 
 ghost use Rattle.std.specs.Prelude.{◌≡◌, IfOk};
-ghost use Rattle.tf_address.specs.Label.{LabelView};
-ghost use Rattle.tf_config_data.specs.Config.{block_at, repetition_of};
-ghost use Rattle.tf_config_data.specs.Names.{places};
-ghost use Rattle.tf_names.specs.Table.{names_in};
+ghost use Rattle.tf_environment.specs.Words.{block_at, LabelView, names_in, places, repetition_of};
 ghost use Rattle.tf_request.specs.Wanted.{instance_names, named_in_for_each};
 
 use std::alloc::{AllocError, Global};

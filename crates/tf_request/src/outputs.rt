@@ -1,13 +1,8 @@
 //! What outputs are after an apply.
 
 ghost use Rattle.std.specs.Prelude.{IfOk};
-ghost use Rattle.tf_environment.specs.Views.{shapes_of};
-ghost use Rattle.tf_names.specs.Needs.{IsAcyclic, IsDependence};
-ghost use Rattle.tf_names.specs.Table.{names_in};
-ghost use Rattle.tf_operators.specs.Answer.{Answers};
+ghost use Rattle.tf_environment.specs.Words.{Answers, entries_view, IsAcyclic, IsDependence, meaning, names_in, shapes_of};
 ghost use Rattle.tf_syntax.specs.ExprTree.{tree_of};
-ghost use Rattle.tf_value.specs.Tree.{entries_view};
-ghost use Rattle.tf_eval.specs.ExprMeaning.{meaning};
 ghost use Rattle.tf_request.specs.Requests.{IsOutput, without_sets};
 
 use crate::results::Results;

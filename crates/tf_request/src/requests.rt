@@ -1,14 +1,9 @@
 //! What is asked of a provider for an instance.
 
 ghost use Rattle.std.specs.Prelude.{◌≡◌, true, IfOk};
-ghost use Rattle.tf_address.specs.ObjectId.{instance_key_of};
+ghost use Rattle.tf_environment.specs.Words.{entries_view, instance_key_of, IsAcyclic, IsDependence, meant_at, names_in, shapes_of, tree_of};
 ghost use Rattle.tf_change.specs.Bounded.{has_planned_attributes};
 ghost use Rattle.tf_change.specs.Instance.{instance_of};
-ghost use Rattle.tf_config_data.specs.Names.{meant_at};
-ghost use Rattle.tf_environment.specs.Views.{shapes_of};
-ghost use Rattle.tf_names.specs.Needs.{IsAcyclic, IsDependence};
-ghost use Rattle.tf_names.specs.Table.{names_in};
-ghost use Rattle.tf_value.specs.Tree.{entries_view, tree_of};
 ghost use Rattle.tf_request.specs.Requests.{IsRequest, is_resource};
 
 use crate::named::named_for_instance;

@@ -2,14 +2,7 @@
 
 ghost use Rattle.std.specs.List.{AllByRecursion, list_all};
 ghost use Rattle.std.specs.Prelude.{◌≡◌, ◌<◌, ℕ, IfOk, None, true, if◌then◌else◌, length, Contains};
-ghost use Rattle.tf_config_data.specs.Names.{meant_at};
-ghost use Rattle.tf_environment.specs.Kept.{HaveStandings, OnlyWanted};
-ghost use Rattle.tf_environment.specs.Stages.{applying};
-ghost use Rattle.tf_environment.specs.Standing.{StandingView, AreStandings, environment, stands_at};
-ghost use Rattle.tf_environment.specs.Views.{shapes_of, standing_of, standings_of};
-ghost use Rattle.tf_names.specs.Needs.{IsAcyclic, IsDependence, order_in};
-ghost use Rattle.tf_names.specs.Table.{names_in};
-ghost use Rattle.tf_value.specs.Tree.{entries_view};
+ghost use Rattle.tf_environment.specs.Words.{applying, AreStandings, entries_view, environment, HaveStandings, IsAcyclic, IsDependence, meant_at, names_in, OnlyWanted, order_in, shapes_of, standing_of, standings_of, StandingView, stands_at};
 ghost use Rattle.tf_request.specs.Requests.{is_resource};
 ghost use Rattle.tf_request.specs.Wanted.{AreClosedForLocals, IsWanted};
 

@@ -2,10 +2,7 @@
 
 ghost use Rattle.std.specs.List.{AllByRecursion};
 ghost use Rattle.std.specs.Prelude.{◌≡◌, ◌<◌, ◌↔◌, ◌⊎◌, ℕ, IfOk, true, false, length, replicate, Contains};
-ghost use Rattle.tf_config_data.specs.Names.{directly_before, meant_at};
-ghost use Rattle.tf_graph.specs.NodeSet.{has};
-ghost use Rattle.tf_names.specs.Needs.{IsAcyclic, IsDependence};
-ghost use Rattle.tf_names.specs.Table.{names_in};
+ghost use Rattle.tf_environment.specs.Words.{directly_before, has, IsAcyclic, IsDependence, meant_at, names_in};
 ghost use Rattle.tf_request.specs.Wanted.{IsWanted, is_local};
 
 use std::alloc::{AllocError, Global};

@@ -1,9 +1,7 @@
 //! The end of a walk: what came of all actions, reported and compared with the journal.
 
 ghost use Rattle.std.specs.Prelude.{◌≡◌, List, None, map, replicate};
-ghost use Rattle.tf_names.specs.Table.{names_in};
-ghost use Rattle.tf_plan_data.specs.Fits.{FitsTogether};
-ghost use Rattle.tf_plan_data.specs.Plan.{plan_names, plan_of};
+ghost use Rattle.tf_outcome.specs.Words.{FitsTogether, names_in, plan_names, plan_of};
 ghost use Rattle.tf_report.specs.Furnished.{IsFurnished};
 ghost use Rattle.tf_run.specs.Run.{IsRun};
 

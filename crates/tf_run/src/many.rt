@@ -1,10 +1,7 @@
 //! Carrying out a plan by many workers.
 
 ghost use Rattle.std.specs.Prelude.{◌≡◌, List, map, true, IfOk, MatchBool, MatchResult};
-ghost use Rattle.tf_action_data.specs.Action.{action_of};
-ghost use Rattle.tf_plan_data.specs.Fits.{FitsTogether};
-ghost use Rattle.tf_plan_data.specs.Plan.{plan_of};
-ghost use Rattle.tf_plan_data.specs.Served.{AreServed};
+ghost use Rattle.tf_outcome.specs.Words.{action_of, AreServed, FitsTogether, plan_of};
 ghost use Rattle.tf_refusal.specs.Refusal.{no_memory, told, workers as wrong_workers};
 ghost use Rattle.tf_run.specs.Prepared.{IsPrepared};
 ghost use Rattle.tf_run.specs.Run.{IsRun, are_workers};

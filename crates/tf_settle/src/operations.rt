@@ -2,9 +2,8 @@
 
 ghost use Rattle.std.specs.List.{AllByRecursion};
 ghost use Rattle.std.specs.Prelude.{◌≡◌, ◌↔◌, IsTrue, false, map};
-ghost use Rattle.tf_action_data.specs.Action.{action_of, step_of};
+ghost use Rattle.tf_outcome.specs.Words.{action_of, IsOfAction, op_at, step_of};
 ghost use Rattle.tf_outcome.specs.Asked.{op_of};
-ghost use Rattle.tf_outcome.specs.Journal.{IsOfAction, op_at};
 
 use tf_journal::Entry;
 use tf_plan_data::{Action, Step};

@@ -2,14 +2,8 @@
 
 ghost use Rattle.std.specs.List.{list_all};
 ghost use Rattle.std.specs.Prelude.{◌≡◌, ◌<◌, ◌++◌, ◌∷◌, [], None, Some, All, length, map, option_map};
-ghost use Rattle.tf_journal.specs.Entries.{fault_of};
+ghost use Rattle.tf_outcome.specs.Words.{asked, call_of_provider, done_of, done_or_skipped, entered_verdict, fault_of, is_good, IsRun, IsServed};
 ghost use Rattle.tf_journal.specs.declared.journal.Entry.{Entry};
-ghost use Rattle.tf_provider.specs.Call.{IsServed};
-ghost use Rattle.tf_protocol.specs.Meaning.{asked};
-ghost use Rattle.tf_outcome.specs.Ended.{done_of, done_or_skipped};
-ghost use Rattle.tf_outcome.specs.Journal.{entered_verdict};
-ghost use Rattle.tf_outcome.specs.Outcome.{call_of_provider, is_good};
-ghost use Rattle.tf_outcome.specs.Run.{IsRun};
 ghost use Rattle.tf_walk.specs.Ends.{done_in};
 
 use tf_claim::{Finished, Permit};

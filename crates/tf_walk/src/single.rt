@@ -1,13 +1,9 @@
 //! Carrying out a plan by one thread.
 
 ghost use Rattle.std.specs.Prelude.{◌≡◌, List, map, IfOk, IfErr};
-ghost use Rattle.tf_action_data.specs.Action.{action_of};
-ghost use Rattle.tf_plan_data.specs.Fits.{FitsTogether};
-ghost use Rattle.tf_plan_data.specs.Plan.{plan_of};
-ghost use Rattle.tf_plan_data.specs.Served.{AreServed};
+ghost use Rattle.tf_outcome.specs.Words.{action_of, AreServed, Done, FitsTogether, IsJournal, plan_of};
 ghost use Rattle.tf_refusal.specs.Refusal.{no_memory, told};
-ghost use Rattle.tf_outcome.specs.Journal.{IsJournal};
-ghost use Rattle.tf_outcome.specs.Outcome.{Done, Requests, AreRequests};
+ghost use Rattle.tf_outcome.specs.Outcome.{Requests, AreRequests};
 ghost use Rattle.tf_outputs.specs.Outputs.{OutputDone};
 ghost use Rattle.tf_report.specs.Report.{IsReport, IsWalked};
 ghost use Rattle.tf_walk.specs.Prepared.{IsPrepared};

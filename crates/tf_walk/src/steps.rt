@@ -2,22 +2,8 @@
 
 ghost use Rattle.std.specs.List.{list_all};
 ghost use Rattle.std.specs.Prelude.{◌≡◌, ◌<◌, None, Some, length, map, option_map, slice_get, IsSomeAnd, IsTrue};
-ghost use Rattle.tf_config_data.specs.Config.{config_of};
-ghost use Rattle.tf_config_data.specs.Names.{names_of};
-ghost use Rattle.tf_graph.specs.Digraph.{predecessors_of};
-ghost use Rattle.tf_graph.specs.Solutions.{seen_by};
-ghost use Rattle.tf_journal.specs.Entries.{fault_of};
-ghost use Rattle.tf_names.specs.Table.{names_in};
-ghost use Rattle.tf_action_data.specs.Action.{action_of};
-ghost use Rattle.tf_plan_data.specs.Fits.{FitsTogether};
-ghost use Rattle.tf_plan_data.specs.Plan.{plan_of};
-ghost use Rattle.tf_plan_data.specs.Served.{AreServed};
-ghost use Rattle.tf_protocol.specs.Meaning.{asked, schema_in};
-ghost use Rattle.tf_protocol.specs.Verdict.{asks_fully};
-ghost use Rattle.tf_outcome.specs.Ended.{done_of};
-ghost use Rattle.tf_outcome.specs.Journal.{op_at};
-ghost use Rattle.tf_outcome.specs.Outcome.{Requests, AreRequests, call_of, is_good};
-ghost use Rattle.tf_outcome.specs.Run.{IsRun};
+ghost use Rattle.tf_outcome.specs.Words.{action_of, AreServed, asked, asks_fully, call_of, config_of, done_of, fault_of, FitsTogether, is_good, IsRun, names_in, names_of, op_at, plan_of, predecessors_of, schema_in, seen_by};
+ghost use Rattle.tf_outcome.specs.Outcome.{Requests, AreRequests};
 ghost use Rattle.tf_walk.specs.Ends.{Enters, IsEnd, IsSoFar, done_in, end_at};
 
 use crate::calls::{are_good, make_call};

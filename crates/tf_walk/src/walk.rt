@@ -1,14 +1,7 @@
 //! The walk of one thread.
 
 ghost use Rattle.std.specs.Prelude.{◌≡◌, ◌<◌, None, Some, map, option_map, length, slice_set};
-ghost use Rattle.tf_config_data.specs.Config.{config_of};
-ghost use Rattle.tf_config_data.specs.Names.{names_of};
-ghost use Rattle.tf_names.specs.Table.{names_in};
-ghost use Rattle.tf_action_data.specs.Action.{action_of};
-ghost use Rattle.tf_plan_data.specs.Fits.{FitsTogether};
-ghost use Rattle.tf_plan_data.specs.Plan.{plan_of};
-ghost use Rattle.tf_plan_data.specs.Served.{AreServed};
-ghost use Rattle.tf_outcome.specs.Ended.{done_of};
+ghost use Rattle.tf_outcome.specs.Words.{action_of, AreServed, config_of, done_of, FitsTogether, names_in, names_of, plan_of};
 ghost use Rattle.tf_walk.specs.Ends.{AllHaveEnded, IsSoFar, IsStaged, end_at};
 
 use crate::claims::{close, next_permit};

@@ -1,19 +1,9 @@
 //! What a worker asks for an action.
 
 ghost use Rattle.std.specs.Prelude.{◌≡◌, ◌<◌, map, IfOk, IsSomeAnd, IsTrue};
-ghost use Rattle.tf_action_data.specs.Action.{action_of};
+ghost use Rattle.tf_outcome.specs.Words.{action_of, AreServed, asked, asks_fully, comes_of, config_of, Done, FitsTogether, IsRun, names_in, names_of, plan_of, schema_in};
 ghost use Rattle.tf_asks.specs.AskedBy.{asked_by};
 ghost use Rattle.tf_cells.specs.Ideal.{IsTrueTo};
-ghost use Rattle.tf_config_data.specs.Config.{config_of};
-ghost use Rattle.tf_config_data.specs.Names.{names_of};
-ghost use Rattle.tf_names.specs.Table.{names_in};
-ghost use Rattle.tf_outcome.specs.Outcome.{Done, comes_of};
-ghost use Rattle.tf_outcome.specs.Run.{IsRun};
-ghost use Rattle.tf_plan_data.specs.Fits.{FitsTogether};
-ghost use Rattle.tf_plan_data.specs.Plan.{plan_of};
-ghost use Rattle.tf_plan_data.specs.Served.{AreServed};
-ghost use Rattle.tf_protocol.specs.Meaning.{asked, schema_in};
-ghost use Rattle.tf_protocol.specs.Verdict.{asks_fully};
 
 use crate::seeing::good_before;
 use std::alloc::{AllocError, Global};

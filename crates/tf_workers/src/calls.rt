@@ -1,12 +1,7 @@
 //! Calls of providers, and their records.
 
 ghost use Rattle.std.specs.Prelude.{◌≡◌, ◌<◌, map, IsSomeAnd, IsTrue};
-ghost use Rattle.tf_outcome.specs.Ended.{done_of};
-ghost use Rattle.tf_outcome.specs.Outcome.{call_of, call_of_provider};
-ghost use Rattle.tf_provider.specs.Call.{IsServed};
-ghost use Rattle.tf_protocol.specs.Meaning.{asked, schema_in};
-ghost use Rattle.tf_protocol.specs.Verdict.{asks_fully};
-ghost use Rattle.tf_outcome.specs.Run.{IsRun};
+ghost use Rattle.tf_outcome.specs.Words.{asked, asks_fully, call_of, call_of_provider, done_of, IsRun, IsServed, schema_in};
 
 use crate::log::Log;
 use std::sync::{Mutex, Wait};

@@ -1,15 +1,8 @@
 //! The end of one action, by a worker.
 
 ghost use Rattle.std.specs.Prelude.{◌≡◌, ◌<◌, map};
-ghost use Rattle.tf_action_data.specs.Action.{action_of};
+ghost use Rattle.tf_outcome.specs.Words.{action_of, AreServed, config_of, done_of, FitsTogether, names_in, names_of, plan_of};
 ghost use Rattle.tf_cells.specs.Ideal.{IsTrueTo};
-ghost use Rattle.tf_config_data.specs.Config.{config_of};
-ghost use Rattle.tf_config_data.specs.Names.{names_of};
-ghost use Rattle.tf_names.specs.Table.{names_in};
-ghost use Rattle.tf_outcome.specs.Ended.{done_of};
-ghost use Rattle.tf_plan_data.specs.Fits.{FitsTogether};
-ghost use Rattle.tf_plan_data.specs.Plan.{plan_of};
-ghost use Rattle.tf_plan_data.specs.Served.{AreServed};
 
 use crate::asking::ask;
 use crate::calls::serve;

@@ -1,0 +1,32 @@
+-- What contracts of the crates above cite of this crate and of those below, from one place.
+pub use Rattle.tf_config_data.specs.Words.{config_of, instance_key_of, label_of, meant_at, names_of}
+pub use Rattle.tf_environment.specs.Words.{entries_view, has, IsAcyclic, IsDependence, IsTable, names_in, seen_by, tree_of, with_nulls}
+pub use Rattle.tf_plan_data.specs.Words.{action_of, AreServed, FitsTogether, is_apply, needs_in, plan_of, state_of, step_of}
+pub use Rattle.tf_action_data.specs.Action.{prior_of}
+pub use Rattle.tf_address.specs.Label.{label_text}
+pub use Rattle.tf_change.specs.Bounded.{has_planned_attributes}
+pub use Rattle.tf_change.specs.Instance.{instance_fault_of, instance_of}
+pub use Rattle.tf_decision.specs.Kept.{kept_object}
+pub use Rattle.tf_graph.specs.Digraph.{predecessors_of}
+pub use Rattle.tf_journal.specs.Entries.{fault_of}
+pub use Rattle.tf_names.specs.Texts.{put_text}
+pub use Rattle.tf_outcome.specs.Asked.{AreRequests, asked_for, create_of, destroy_of, ignored_by, Requests, unless_faulty, update_of}
+pub use Rattle.tf_outcome.specs.Ended.{done_of, done_or_skipped, dones_of}
+pub use Rattle.tf_outcome.specs.Fallback.{has_stored_attributes}
+pub use Rattle.tf_outcome.specs.Journal.{entered_verdict, IsJournal, IsOfAction, op_at}
+pub use Rattle.tf_outcome.specs.Message.{fault_message}
+pub use Rattle.tf_outcome.specs.Objects.{object_of, objects_seen}
+pub use Rattle.tf_outcome.specs.Outcome.{call_of, call_of_provider, call_with, comes_of, Done, done_at, is_good, op_of}
+pub use Rattle.tf_outcome.specs.Room.{message_fits}
+pub use Rattle.tf_outcome.specs.Run.{IsRun}
+pub use Rattle.tf_plan_data.specs.Fits.{deposed_key, IsDeclared, IsOfBlock}
+pub use Rattle.tf_plan_data.specs.Plan.{plan_names}
+pub use Rattle.tf_plan_data.specs.Served.{IsServedBy}
+pub use Rattle.tf_protocol.specs.Meaning.{Answer, answered, Asked, asked, schema_in}
+pub use Rattle.tf_protocol.specs.Schema.{SchemaView}
+pub use Rattle.tf_protocol.specs.Verdict.{asks_fully, has_attributes, verdict_on}
+pub use Rattle.tf_provider.specs.Call.{IsServed}
+pub use Rattle.tf_state_data.specs.Record.{record_of}
+pub use Rattle.tf_state_data.specs.Resource.{resource_of}
+pub use Rattle.tf_state_data.specs.State.{outputs_of}
+pub use Rattle.tf_value.specs.Tree.{keys_of}

@@ -1,0 +1,17 @@
+-- What contracts of the crates above cite of this crate and of those below, from one place.
+pub use Rattle.tf_config_data.specs.Words.{config_of, instance_key_of, label_of, meant_at, names_of, unknown}
+pub use Rattle.tf_environment.specs.Words.{AreStandings, entries_view, IsAcyclic, IsDependence, names_in, seen_by, shapes_of, standings_of, StandingView, tree_of}
+pub use Rattle.json.specs.Print.{quoted}
+pub use Rattle.serde_json.specs.Written.{comma_if}
+pub use Rattle.tf_action_data.specs.Action.{action_of, step_of}
+pub use Rattle.tf_action_data.specs.Precedence.{ordered}
+pub use Rattle.tf_names.specs.Needs.{needs_in}
+pub use Rattle.tf_plan_data.specs.Fits.{FitsTogether, is_apply}
+pub use Rattle.tf_plan_data.specs.Plan.{plan_of}
+pub use Rattle.tf_plan_data.specs.Served.{AreServed}
+pub use Rattle.tf_precedence.specs.Ties.{AreSound}
+pub use Rattle.tf_resources.specs.Laws.{AreApart}
+pub use Rattle.tf_resources.specs.Numbering.{a_name, numbered}
+pub use Rattle.tf_resources.specs.Table.{numbered_in, resources_in}
+pub use Rattle.tf_state_data.specs.State.{state_of}
+pub use Rattle.tf_value.specs.Tree.{boolean, items_view, null, texts_view}
