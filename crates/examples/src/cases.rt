@@ -85,6 +85,8 @@ impl<'a> Case<'a> {
 struct Check<'a> {
     alloc: Global,
     case: Case<'a>,
+    /// What the case hands in.
+    texts: Texts<'a>,
     faults: String,
 }
 
@@ -157,23 +159,24 @@ fn check_case<R: Threads + Wait + Sync>(
         Some(state) => Some(state.as_str()),
         None => case.part("state"),
     };
+    let texts = case.texts(state);
     let mut check = Check {
         alloc,
         case,
+        texts,
         faults: String::new(alloc),
     };
     if let Some(part) = case.unknown_part() {
         check.note("a part that no case has:", part)?;
     }
-    let texts = case.texts(state);
     let said = planned(alloc, texts)?;
     if case.part("refused").is_some() {
-        check_refused(rt, &mut check, texts, said.as_str())?;
+        check_refused(rt, &mut check, said.as_str())?;
     } else if case.part("planned").is_some() {
         check.compare("planned", said.as_str())?;
     } else {
         for workers in WORKERS {
-            check_applied(rt, &mut check, texts, said.as_str(), workers)?;
+            check_applied(rt, &mut check, said.as_str(), workers)?;
         }
     }
     Ok(check.faults)
@@ -183,11 +186,10 @@ fn check_case<R: Threads + Wait + Sync>(
 fn check_refused<R: Threads + Wait + Sync>(
     rt: &R,
     check: &mut Check<'_>,
-    texts: Texts<'_>,
     said: &str,
 ) -> Result<(), Fail> {
     check.compare("refused", said)?;
-    let seen = watch_apply(rt, check.alloc, texts, 2)?;
+    let seen = watch_apply(rt, check.alloc, check.texts, 2)?;
     check.compare("refused", seen.errors.as_str())?;
     check.demand(seen.output.is_empty(), "nothing else is told")?;
     check.demand(seen.status == 1, "the status is 1")?;
@@ -198,14 +200,13 @@ fn check_refused<R: Threads + Wait + Sync>(
 fn check_applied<R: Threads + Wait + Sync>(
     rt: &R,
     check: &mut Check<'_>,
-    texts: Texts<'_>,
     planned: &str,
     workers: usize,
 ) -> Result<(), Fail> {
     let Some(manner) = check.case.manner() else {
         return check.note("manner", "isn't known");
     };
-    let seen = watch_manner(rt, check.alloc, texts, workers, manner)?;
+    let seen = watch_manner(rt, check.alloc, check.texts, workers, manner)?;
     let summary = seen.output.strip_prefix(planned).unwrap_or("");
     check.demand(
         summary.starts_with("Apply ") && summary.lines().count() == 1,
@@ -227,7 +228,7 @@ fn check_applied<R: Threads + Wait + Sync>(
         "the status is 2 where something is told, else 0",
     )?;
     if status == 0 {
-        check_again(rt, check, texts, seen.state.as_str())?;
+        check_again(rt, check, seen.state.as_str())?;
     }
     Ok(())
 }
@@ -259,12 +260,11 @@ fn compare_journal(check: &mut Check<'_>, seen: &str) -> Result<(), Fail> {
 fn check_again<R: Threads + Wait + Sync>(
     rt: &R,
     check: &mut Check<'_>,
-    texts: Texts<'_>,
     state: &str,
 ) -> Result<(), Fail> {
     let texts = Texts {
         state: Some(state.as_bytes()),
-        ..texts
+        ..check.texts
     };
     let seen = watch_apply(rt, check.alloc, texts, 1)?;
     let nothing = "No changes.\nApply complete! Resources: 0 added, 0 changed, 0 destroyed.\n";

@@ -1,6 +1,7 @@
 use std::alloc::{AllocError, Global};
 use std::process::Abort;
 use std::test::Fail;
+use test_texts::series;
 use tf_config::{
     Detail, EvalFault, Refusal, blocks_are_in_order, blocks_have_names, faultless_trees_stand,
     names_are_few, read, refusals_are_one,
@@ -22,214 +23,62 @@ fn with_body(alloc: Global, body: &str) -> Result<String, AllocError> {
     format!(in alloc; "{{\"resource\":{{\"sim_net\":{{\"a\":{body}}}}}}}")
 }
 
-fn answers(rt: &impl Abort, alloc: Global, text: &str, want: &str) -> Result<(), Fail> {
+// Such a text is answered so.
+pub(crate) fn answers(rt: &impl Abort, alloc: Global, text: &str, want: &str) -> Result<(), Fail> {
     assert_eq!(rt; answer(alloc, text.as_bytes())?.as_str(), want, "{text}");
     Ok(())
 }
 
-fn bodies_answer(rt: &impl Abort, alloc: Global, rows: &[(&str, &str)]) -> Result<(), Fail> {
-    for (body, want) in rows {
-        answers(rt, alloc, &with_body(alloc, body)?, want)?;
-    }
-    Ok(())
-}
-
-static SHAPES: [(&str, &str); 22] = [
-    ("{}", "0 blocks"),
-    ("{\"//\": NaN}", "error 1 at configuration: NotJson"),
-    ("", "error 1 at configuration: NotJson"),
-    ("{},", "error 1 at configuration: NotJson"),
-    ("{\"//\": [1,]}", "error 1 at configuration: NotJson"),
-    ("{\"//\": \"\\ud800\"}", "error 1 at configuration: NotJson"),
-    ("{\"//\": 1e400}", "error 1 at configuration: NotJson"),
-    ("[]", "error 2 at configuration: BadShape"),
-    ("null", "error 2 at configuration: BadShape"),
-    ("{\"//\": 1.5, \"resource\": {}}", "0 blocks"),
-    ("{\"resource\": []}", "error 2 at resource: BadShape"),
-    ("{\"\": {}}", "error 2 at : BadShape"),
-    (
-        "{\"resource\": {\"var\": {}}}",
-        "error 2 at resource.var: BadShape",
-    ),
-    (
-        "{\"resource\": {\"null\": {}}}",
-        "error 2 at resource.null: BadShape",
-    ),
-    (
-        "{\"resource\": {\"//\": {}}}",
-        "error 2 at resource.//: BadShape",
-    ),
-    (
-        "{\"resource\": {\"1a\": {}}}",
-        "error 2 at resource.1a: BadShape",
-    ),
-    (
-        "{\"resource\": {\"t\": 1}}",
-        "error 2 at resource.t: BadShape",
-    ),
-    (
-        "{\"resource\": {\"t\": {\"//\": {}}}}",
-        "error 2 at resource.t.//: BadShape",
-    ),
-    (
-        "{\"resource\": {\"t\": {\"a b\": {}}}}",
-        "error 2 at resource.t.a b: BadShape",
-    ),
-    (
-        "{\"resource\": {\"t\": {\"a\": null}}}",
-        "error 2 at resource.t.a: BadShape",
-    ),
-    (
-        "{\"resource\": {\"t\": {\"var\": {}}, \"b\": {\"c\": {}, \"d\": {}}}}",
-        "3 blocks",
-    ),
-    (
-        "{\"zz\": 1, \"resource\": {\"t\": {\"b\": 1, \"a\": {\"x\": 1.5}}}}",
-        "error 2 at resource.t.a.x: BadShape",
-    ),
+// Each is read.
+static ACCEPTED: [&str; 31] = [
+    "{}",
+    "{\"//\": 1.5, \"resource\": {}}",
+    "{\"resource\": {\"t\": {\"var\": {}}, \"b\": {\"c\": {}, \"d\": {}}}}",
+    "{\"resource\":{\"sim_net\":{\"a\":{}}}}",
+    "{\"resource\":{\"sim_net\":{\"a\":{\"//\": \"${\", \"x\": null, \"y\": [true, {\"k.1\": -5}]}}}}",
+    "{\"resource\":{\"sim_net\":{\"a\":{\"x\": 9223372036854775807, \"y\": -9223372036854775808}}}}",
+    "{\"resource\":{\"sim_net\":{\"a\":{\"x\": {\"a\": \"$${x}\", \"b\": \"%%{if}\"}, \"y\": \"a$b{\"}}}}",
+    "{\"resource\":{\"sim_net\":{\"a\":{\"x\": \"$${x}\"}}}}",
+    "{\"resource\":{\"sim_net\":{\"a\":{\"x\": \"${1 + 2}\"}}}}",
+    "{\"resource\":{\"sim_net\":{\"a\":{\"x\": \"n-${length([1, \\\"a\\\"])}${null}\"}}}}",
+    "{\"resource\":{\"sim_net\":{\"a\":{\"x\": \"${var.x}\"}}}}",
+    "{\"resource\":{\"sim_net\":{\"a\":{\"x\": \"${sim_net.b.id}\"}}}}",
+    "{\"resource\":{\"sim_net\":{\"a\":{\"x\": \"${true ? 1 : keys(local.y)}\"}}}}",
+    "{\"resource\":{\"sim_net\":{\"a\":{\"x\": \"${upper(1)}\"}}}}",
+    "{\"resource\":{\"sim_net\":{\"a\":{\"x\": \"a${join(1, [toset([])])}\"}}}}",
+    "{\"//\": 1}",
+    "{\"variable\": {}, \"locals\": {}, \"output\": {}, \"resource\": {}}",
+    "{\"variable\": {\"count\": {}, \"var\": {}}}",
+    "{\"variable\": {\"v\": {\"//\": [1.5], \"description\": \"${\", \"type\": \"any\", \"default\": \"${\"}}}",
+    "{\"variable\": {\"v\": {\"type\": \"list(number)\", \"default\": {\"a\": [null, -9223372036854775808]}}}}",
+    "{\"variable\": {\"v\": {\"type\": \"map(bool)\"}}}",
+    "{\"locals\": {\"//\": \"${\", \"a\": 1, \"b\": [\"${local.a}\"]}}",
+    "{\"output\": {\"o\": {\"value\": null}}}",
+    "{\"output\": {\"o\": {\"value\": \"${var.x}\", \"description\": \"${\", \"//\": 0}}}",
+    "{\"resource\": {\"t\": {\"a\": {\"count\": 2}}}}",
+    "{\"resource\": {\"t\": {\"a\": {\"for_each\": {}}}}}",
+    "{\"resource\": {\"t\": {\"a\": {\"depends_on\": []}}}}",
+    "{\"resource\": {\"t\": {\"a\": {\"depends_on\": [\"t.b\", \"t.b\", \"t.a\"]}}}}",
+    "{\"resource\": {\"t\": {\"a\": {\"lifecycle\": {}}}}}",
+    "{\"resource\": {\"t\": {\"a\": {\"lifecycle\": {\"//\": 1, \"create_before_destroy\": true, \"prevent_destroy\": false, \"ignore_changes\": [\"a\", \"b\", \"a\", \"all\"]}}}}}",
+    "{\"resource\": {\"t\": {\"a\": {\"type\": 1, \"value\": \"${count.index}\", \"default\": \"${each.key}\"}}}}",
 ];
 
 #[test]
-fn refuses_shapes(rt: HostRuntime) -> Result<(), Fail> {
-    for (text, want) in &SHAPES {
-        answers(&rt, rt.alloc(), text, want)?;
+fn reads_configurations(rt: HostRuntime) -> Result<(), Fail> {
+    for text in &ACCEPTED {
+        assert!(rt; read(rt.alloc(), text.as_bytes()).is_ok(), "{text}");
     }
     let said = answer(rt.alloc(), b"{\"//\": \"\xff\"}")?;
     assert_eq!(rt; said.as_str(), "error 1 at configuration: NotJson");
-    Ok(())
+    answers(&rt, rt.alloc(), "", "error 1 at configuration: NotJson")
 }
-
-static BODIES: [(&str, &str); 16] = [
-    ("{}", "1 blocks"),
-    (
-        "{\"//\": \"${\", \"x\": null, \"y\": [true, {\"k.1\": -5}]}",
-        "1 blocks",
-    ),
-    (
-        "{\"x\": 9223372036854775807, \"y\": -9223372036854775808}",
-        "1 blocks",
-    ),
-    (
-        "{\"provider\": 1}",
-        "error 2 at resource.sim_net.a.provider: BadShape",
-    ),
-    (
-        "{\"provisioner\": 1}",
-        "error 2 at resource.sim_net.a.provisioner: BadShape",
-    ),
-    (
-        "{\"connection\": 1}",
-        "error 2 at resource.sim_net.a.connection: BadShape",
-    ),
-    ("{\"-x\": 1}", "error 2 at resource.sim_net.a.-x: BadShape"),
-    (
-        "{\"-x\": \"${\"}",
-        "error 2 at resource.sim_net.a.-x: BadShape",
-    ),
-    ("{\"x\": 1.0}", "error 2 at resource.sim_net.a.x: BadShape"),
-    ("{\"x\": 1e3}", "error 2 at resource.sim_net.a.x: BadShape"),
-    ("{\"x\": -0}", "error 2 at resource.sim_net.a.x: BadShape"),
-    (
-        "{\"x\": 9223372036854775808}",
-        "error 2 at resource.sim_net.a.x: BadShape",
-    ),
-    (
-        "{\"x\": {\"a\": 1, \"b%{\": \"${\"}}",
-        "error 2 at resource.sim_net.a.x.b%{: BadShape",
-    ),
-    (
-        "{\"x\": {\"a$${b\": 1}}",
-        "error 2 at resource.sim_net.a.x.a$${b: BadShape",
-    ),
-    (
-        "{\"x\": [0, [\"\", 1, {\"k\": [1.5]}]]}",
-        "error 2 at resource.sim_net.a.x.1.2.k.0: BadShape",
-    ),
-    (
-        "{\"x\": {\"a\": \"$${x}\", \"b\": \"%%{if}\"}, \"y\": \"a$b{\"}",
-        "1 blocks",
-    ),
-];
-
-static TEMPLATES: [(&str, &str); 16] = [
-    ("%{if}", "error 3 at resource.sim_net.a.x: BadTemplate(0)"),
-    (
-        "${1 / 2}",
-        "error 3 at resource.sim_net.a.x: BadTemplate(4)",
-    ),
-    ("${1.5}", "error 3 at resource.sim_net.a.x: BadTemplate(3)"),
-    ("${}", "error 3 at resource.sim_net.a.x: BadTemplate(2)"),
-    ("${", "error 3 at resource.sim_net.a.x: BadTemplate(2)"),
-    (
-        "${9223372036854775808}",
-        "error 3 at resource.sim_net.a.x: BadTemplate(2)",
-    ),
-    (
-        "\u{e9}${",
-        "error 3 at resource.sim_net.a.x: BadTemplate(4)",
-    ),
-    ("a$b%{", "error 3 at resource.sim_net.a.x: BadTemplate(3)"),
-    ("$${x}", "1 blocks"),
-    ("${1 + 2}", "1 blocks"),
-    ("n-${length([1, \\\"a\\\"])}${null}", "1 blocks"),
-    ("${var.x}", "1 blocks"),
-    ("${sim_net.b.id}", "1 blocks"),
-    ("${true ? 1 : keys(local.y)}", "1 blocks"),
-    ("${upper(1)}", "1 blocks"),
-    ("a${join(1, [toset([])])}", "1 blocks"),
-];
-
-#[test]
-fn refuses_bodies(rt: HostRuntime) -> Result<(), Fail> {
-    bodies_answer(&rt, rt.alloc(), &BODIES)
-}
-
-#[test]
-fn refuses_templates(rt: HostRuntime) -> Result<(), Fail> {
-    for (template, want) in &TEMPLATES {
-        let body = format!(in rt.alloc(); "{{\"x\": \"{template}\"}}")?;
-        answers(&rt, rt.alloc(), &with_body(rt.alloc(), &body)?, want)?;
-    }
-    Ok(())
-}
-
-static FIRSTS: [(&str, &str); 7] = [
-    (
-        "{\"x\": [\"a\", [0, \"${1.5}\"], \"${\"], \"y\": \"%{\"}",
-        "error 3 at resource.sim_net.a.x.1.1: BadTemplate(3)",
-    ),
-    (
-        "{\"x\": [0, [\"\", 1, {\"k\": [\"${\"]}]]}",
-        "error 3 at resource.sim_net.a.x.1.2.k.0: BadTemplate(2)",
-    ),
-    (
-        "{\"y\": 1.5, \"x\": \"%{\"}",
-        "error 3 at resource.sim_net.a.x: BadTemplate(0)",
-    ),
-    (
-        "{\"x\": 1.5, \"y\": \"%{\"}",
-        "error 2 at resource.sim_net.a.x: BadShape",
-    ),
-    (
-        "{\"x\": {\"a\": \"${1.5}\", \"b${\": 0}}",
-        "error 3 at resource.sim_net.a.x.a: BadTemplate(3)",
-    ),
-    (
-        "{\"x\": \"${var.x}\", \"y\": [1.5]}",
-        "error 2 at resource.sim_net.a.y.0: BadShape",
-    ),
-    (
-        "{\"x\": \"${f()}\", \"y\": \"${\"}",
-        "error 3 at resource.sim_net.a.y: BadTemplate(2)",
-    ),
-];
 
 static FAULTY: &str =
     "{\"resource\": {\"t\": {\"b\": {\"x\": \"%{\"}, \"a-1\": {\"z\": \"${\"}}, \"s\": {\"c\": {}}}}";
 
 #[test]
 fn tells_the_first_fault(rt: HostRuntime) -> Result<(), Fail> {
-    bodies_answer(&rt, rt.alloc(), &FIRSTS)?;
     answers(
         &rt,
         rt.alloc(),
@@ -288,14 +137,8 @@ fn reads_arguments(rt: HostRuntime) -> Result<(), Fail> {
 
 // A configuration with this many blocks, the first of which has this body.
 fn many(alloc: Global, count: usize, body: &str) -> Result<String, AllocError> {
-    let mut text = String::from_str(alloc, "{\"resource\": {\"t\": {\"a\": ")?;
-    text.push_str(body)?;
-    for n in 1..count {
-        let next = format!(in alloc; ", \"a{n}\": {{}}")?;
-        text.push_str(next.as_str())?;
-    }
-    text.push_str("}}}")?;
-    Ok(text)
+    let first = format!(in alloc; "{{\"resource\": {{\"t\": {{\"a\": {body}")?;
+    series(alloc, first.as_str(), ", \"a#\": {}", 1..count, "}}}")
 }
 
 // An argument below as many arrays that the text nests this deep.

@@ -1,8 +1,9 @@
-//! In which order it is planned, how many pairs have an order, and how often a local is evaluated.
+//! In which order it is planned, and how many pairs have an order.
 
-use crate::door::{count_of, is_known, order_of, text_of};
+use crate::door::{count_of, is_known, order_of};
 use std::alloc::{AllocError, Global};
 use std::test::Fail;
+use test_texts::series;
 
 // A net, and a host on it.
 const NET_AND_HOST: &str =
@@ -81,80 +82,31 @@ fn orders_actions(rt: HostRuntime) -> Result<(), Fail> {
     Ok(())
 }
 
-// A configuration, and how many pairs of actions have an order, or what is refused.
-static COUNTS: [(&str, &str); 3] = [
-    // Each of twenty before each of thirty.
-    (
-        "{\"resource\": {\"sim_net\": {\"a\": {\"count\": 20, \"cidr\": \"${count.index}\"}}, \"sim_host\": {\"h\": {\"count\": 30, \"name\": \"h\", \"depends_on\": [\"sim_net.a\"]}}}}",
-        "600\n",
-    ),
-    // Almost too many pairs.
-    (
-        "{\"resource\": {\"sim_net\": {\"a\": {\"count\": 447, \"cidr\": \"${count.index}\"}}, \"sim_host\": {\"h\": {\"count\": 447, \"name\": \"h\", \"depends_on\": [\"sim_net.a\"]}}}}",
-        "199809\n",
-    ),
-    // Too many.
-    (
-        "{\"resource\": {\"sim_net\": {\"a\": {\"count\": 447, \"cidr\": \"${count.index}\"}}, \"sim_host\": {\"h\": {\"count\": 448, \"name\": \"h\", \"depends_on\": [\"sim_net.a\"]}}}}",
-        "error 14 at configuration: Limit\n",
-    ),
-];
-
 #[test]
 fn counts_pairs(rt: HostRuntime) -> Result<(), Fail> {
-    for (config, want) in &COUNTS {
-        let told = count_of(rt.alloc(), config, "")?;
-        assert_eq!(rt; told.as_str(), *want, "{config}");
-    }
-    Ok(())
-}
-
-// Locals of which each is twice the one before, from 1 on, and a net with the last as its cidr.
-fn doubled(alloc: Global, count: usize) -> Result<String, AllocError> {
-    let mut text = String::from_str(alloc, "{\"locals\": {\"x0\": 1")?;
-    for n in 1..count {
-        let before = n.saturating_sub(1);
-        let next = format!(in alloc; ", \"x{n}\": \"${{local.x{before} + local.x{before}}}\"")?;
-        text.push_str(next.as_str())?;
-    }
-    let last = count.saturating_sub(1);
-    let net = format!(in alloc;
-        "}}, \"resource\": {{\"sim_net\": {{\"a\": {{\"cidr\": \"${{local.x{last}}}\"}}}}}}}}"
-    )?;
-    text.push_str(net.as_str())?;
-    Ok(text)
-}
-
-#[test]
-fn evaluates_a_local_once(rt: HostRuntime) -> Result<(), Fail> {
-    for (count, want) in [
-        (
-            63,
-            "+ sim_net.a\n    cidr = \"4611686018427387904\"\n    id = (known after apply)\nPlan: 1 to add, 0 to change, 0 to destroy.\n",
-        ),
-        (64, "error 9 at sim_net.a.cidr: Evaluate(Overflow)\n"),
+    for (nets, hosts, want) in [
+        (20, 30, "600\n"),
+        (447, 447, "199809\n"),
+        (447, 448, "error 14 at configuration: Limit\n"),
     ] {
-        let text = doubled(rt.alloc(), count)?;
-        let told = text_of(rt.alloc(), text.as_str(), "")?;
-        assert_eq!(rt; told.as_str(), want, "{count}");
+        let config = format!(in rt.alloc();
+            "{{\"resource\": {{\"sim_net\": {{\"a\": {{\"count\": {nets}, \"cidr\": \"${{count.index}}\"}}}}, \"sim_host\": {{\"h\": {{\"count\": {hosts}, \"name\": \"h\", \"depends_on\": [\"sim_net.a\"]}}}}}}}}"
+        )?;
+        let told = count_of(rt.alloc(), config.as_str(), "")?;
+        assert_eq!(rt; told.as_str(), want, "{hosts}");
     }
     Ok(())
 }
 
 // As many hosts, each of which refers to as many of those before it.
 fn chained(alloc: Global, count: usize, back: usize) -> Result<String, AllocError> {
-    let mut text = String::from_str(
-        alloc,
-        "{\"resource\": {\"sim_host\": {\"h0\": {\"name\": \"h\"}",
-    )?;
-    for n in 1..count {
-        let head = format!(in alloc; ", \"h{n}\": {{\"name\": \"h\", \"net\": \"")?;
-        text.push_str(head.as_str())?;
-        for before in n.saturating_sub(back)..n {
-            let part = format!(in alloc; "${{sim_host.h{before}.id}}")?;
-            text.push_str(part.as_str())?;
-        }
-        text.push_str("\"}")?;
+    let mut text = format!(in alloc; "{{\"resource\": {{\"sim_host\": {{")?;
+    for n in 0..count {
+        let comma = if n == 0 { "" } else { ", " };
+        let head = format!(in alloc; "{comma}\"h{n}\": {{\"name\": \"h\", \"net\": \"")?;
+        let named = n.saturating_sub(back)..n;
+        let host = series(alloc, head.as_str(), "${sim_host.h#.id}", named, "\"}")?;
+        text.push_str(host.as_str())?;
     }
     text.push_str("}}}")?;
     Ok(text)

@@ -2,10 +2,6 @@
 #![tactic(auto)]
 
 #[cfg(test)]
-mod meeting;
-#[cfg(test)]
 mod runs;
-#[cfg(test)]
-mod telling;
 #[cfg(test)]
 mod torn;

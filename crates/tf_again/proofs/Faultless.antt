@@ -1,6 +1,7 @@
 -- Of texts that were read nothing is told but of the state.
 use Rattle.std.proofs.Common.{◌≡◌, ◌∙◌, ℕ, true, false, List, [], ◌∷◌, Option, Some, None, IsTrue, inl, inr, refl, sym, subst, arith}
 use Rattle.serde_json.specs.Data.{Data}
+use Rattle.tf_config.proofs.RefusalLaws.{apart}
 use Rattle.tf_config.specs.Demand.{Demand, nothing_fits, holds, of_expression, AreMet, IsMet, Fails}
 use Rattle.tf_config.specs.Laws.{RefusedIsNotRead}
 use Rattle.tf_config.specs.Reading.{IsRefused}
@@ -26,20 +27,6 @@ use Rattle.tf_variables.specs.Reading as variables
 use Rattle.tf_variables.specs.Values.{HasNone, file_checks, value_checks}
 use Rattle.tf_value.specs.Tree.{Entries}
 use Rattle.tf_again.proofs.Reading.{one_tree}
-
--- ---- demands that are met don't fail
-
-expression_apart : (d : expr.Demand) (cause : Cause) → expr.IsMet d → expr.Fails d cause → ⊥
-expression_apart (expr.a_plain_name s) cause met fails = fails.0 met
-expression_apart (expr.a_whole_number n) cause met fails = absurd (cc (met, fails.0))
-expression_apart (expr.a_template s) BadShape met fails = fails
-expression_apart (expr.a_template s) (At offset) met fails = fails met.0 met.1.0
-expression_apart (expr.a_template s) TooDeep met fails = let deep = fails met.0 met.1.0 in absurd (omega (arith, deep, met.1.1))
-
-apart : (d : Demand) (way : Way) → IsMet d → Fails d way → ⊥
-apart nothing_fits way met fails = met
-apart (holds condition) way met fails = absurd (cc (met, fails.0))
-apart (of_expression d) way met fails = expression_apart d fails.0 met fails.1
 
 -- ---- the configuration
 

@@ -26,6 +26,7 @@ use Rattle.tf_precedence.specs.Ties.{TiesView}
 use Rattle.tf_precedence.specs.declared.action.Action.{Action as Ordered}
 use Rattle.tf_precedence.specs.declared.action.Kind.TheVariants.{Apply}
 use Rattle.tf_protocol.specs.Meaning.{Meaning}
+use Rattle.tf_report.proofs.Apart.{apply_is_current}
 use Rattle.tf_resources.proofs.Standing.{places-differ}
 use Rattle.tf_resources.specs.Numbering.{numbered}
 use Rattle.tf_state_data.specs.Resource.{ResourceView}
@@ -90,21 +91,11 @@ module _ (names : List NameView) (prior : StateView) (actions : List ActionView)
 
 -- ---- one action for an instance
 
-pub apply_is_current : (s : StepView) → is_apply s ≡ true → deposed_key s ≡ None
-apply_is_current (create t) h = refl
-apply_is_current (update p t ns) h = refl
-apply_is_current (replacement t ns) h = refl
-apply_is_current (replaced p) h = refl
-apply_is_current (destroyed p) h = refl
-apply_is_current (deposed_destroyed k p) h = absurd (cc)
-
 apply_kind : (s : StepView) → is_apply s ≡ true → kind_of s ≡ Apply
 apply_kind (create t) h = refl
 apply_kind (update p t ns) h = refl
 apply_kind (replacement t ns) h = refl
-apply_kind (replaced p) h = absurd (cc)
-apply_kind (destroyed p) h = absurd (cc)
-apply_kind (deposed_destroyed k p) h = absurd (cc)
+apply_kind _ h = absurd (cc)
 
 module _ (ms : List Meaning) (names : List NameView) (resources : List ResourceView) (actions : List ActionView) (fit : AreFit ms names resources actions) where
   placed : (j : ℕ) (a : ActionView) → slice_get actions j ≡ Some a → IsPlaced (numbered names resources) a

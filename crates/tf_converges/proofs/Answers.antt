@@ -4,22 +4,13 @@ use Rattle.std.specs.List.{list_all, position_from}
 use Rattle.std.specs.Str.{bytes_eq}
 use Rattle.std.proofs.lemmas.Slice.Eq.{bytes_eq-Decides}
 use Rattle.tf_decision.proofs.Aligned.{apart}
-use Rattle.tf_decision.proofs.Replies.{good_is}
+use Rattle.tf_decision.proofs.Replies.{good_is, nowhere}
 use Rattle.tf_protocol.specs.Schema.{AttributeView, SchemaView, IsSchema, ascends, is_below}
 use Rattle.tf_protocol.specs.Verdict.{contradiction, contradicts, contradicts_at, fits_in, has_attributes, is_good_verdict, same_names, verdict_on_object, well_formed}
 use Rattle.tf_value.proofs.Conjunction.{and-both, and-first, and-second}
 use Rattle.tf_value.proofs.Refining.{refined_Decides}
 use Rattle.tf_value.specs.Refinement.{Refines, RefinesEntries, refined}
 use Rattle.tf_value.specs.Tree.{Tree, null, boolean, whole, text, list, map, set, unknown, Entries, no_entries, entry, get, keys_of}
-
-no_place : (b : Bool) (i : ℕ) (rest : Option ℕ) → cond b (Some i) rest ≡ None → (b ≡ false) × (rest ≡ None)
-no_place true i rest h = absurd (cc)
-no_place false i rest h = (refl, h)
-
-nowhere : (p : AttributeView → Bool) (i : ℕ) (xs : List AttributeView) → position_from p i xs ≡ None → list_all (λ x. not (p x)) xs ≡ true
-nowhere p i [] h = refl
-nowhere p i (x ∷ xs) h =
-    let both = no_place (p x) i (position_from p (i + 1) xs) h in and-both (not (p x)) (list_all (λ y. not (p y)) xs) (ap not both.0) (nowhere p (i + 1) xs both.1)
 
 double : (b : Bool) → not (not b) ≡ true → b ≡ true
 double true e = refl
@@ -37,10 +28,6 @@ later k t u es fs (b ∷ others) h =
 entries_refine : (es fs : Entries) (attributes : List AttributeView) → same_names (keys_of es) (each (λ a. a.name) attributes) ≡ true → same_names (keys_of fs) (each (λ a. a.name) attributes) ≡ true
     → ascends attributes ≡ true → list_all (λ a. not (contradicts (get a.name es) (get a.name fs))) attributes ≡ true → RefinesEntries es fs
 entries_refine no_entries no_entries attributes h g up all = tt
-entries_refine no_entries (entry l u fs) [] h g up all = absurd (cc)
-entries_refine no_entries (entry l u fs) (a ∷ others) h g up all = absurd (cc)
-entries_refine (entry k t es) fs [] h g up all = absurd (cc)
-entries_refine (entry k t es) no_entries (a ∷ others) h g up all = absurd (cc)
 entries_refine (entry k t es) (entry l u fs) (a ∷ others) h g up all =
     let is : k ≡ a.name = (bytes_eq-Decides k a.name).0 (and-first (bytes_eq k a.name) _ h) in
     let too : l ≡ a.name = (bytes_eq-Decides l a.name).0 (and-first (bytes_eq l a.name) _ g) in
@@ -56,17 +43,11 @@ entries_refine (entry k t es) (entry l u fs) (a ∷ others) h g up all =
       (refined_Decides t u).0 (double (refined t u) values),
       entries_refine es fs others (and-second (bytes_eq k a.name) _ h) (and-second (bytes_eq l a.name) _ g) (and-second (list_all (λ b. is_below a.name b.name) others) _ up) rest,
     )
+entries_refine _ _ _ h g up all = absurd (cc)
 
 objects_refine : (schema : SchemaView) (t u : Tree) → IsSchema schema → has_attributes schema t ≡ true → has_attributes schema u ≡ true → list_all (λ a. not (contradicts_at t u a)) schema.attributes ≡ true → Refines t u
 objects_refine schema (map es) (map fs) good h g all = entries_refine es fs schema.attributes h g good.ascending all
-objects_refine schema (map es) null good h g all = absurd (cc)
-objects_refine schema (map es) (boolean b) good h g all = absurd (cc)
-objects_refine schema (map es) (whole z) good h g all = absurd (cc)
-objects_refine schema (map es) (text s) good h g all = absurd (cc)
-objects_refine schema (map es) (list ts) good h g all = absurd (cc)
-objects_refine schema (map es) (set ss) good h g all = absurd (cc)
-objects_refine schema (map es) unknown good h g all = absurd (cc)
-objects_refine schema _ u good h g all = absurd (cc)
+objects_refine schema _ _ good h g all = absurd (cc)
 
 -- a good reply is well formed
 pub good_formed : (schema : SchemaView) (o : Option Tree) (u : Tree) → is_good_verdict (verdict_on_object schema o u) ≡ true → well_formed schema u ≡ true

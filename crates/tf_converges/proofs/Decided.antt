@@ -1,13 +1,14 @@
 -- Where nothing is refused, each instance that is looked at is decided; and what is decided of one.
-use Rattle.std.proofs.Common.{◌≡◌, ◌+◌, ◌++◌, ℕ, Bool, true, false, cond, List, [], ◌∷◌, Option, Some, None, Result, Ok, Err, fold, refl}
+use Rattle.std.proofs.Common.{◌≡◌, ◌∙◌, ◌+◌, ◌++◌, ℕ, Bool, true, false, cond, if◌then◌else◌, List, [], ◌∷◌, Option, Some, None, Result, Ok, Err, fold, refl, sym, ap}
 use Rattle.std.specs.List.{AllByRecursion}
 use Rattle.std.specs.Prelude.{slice_get}
 use Rattle.tf_action_data.specs.Action.{StepView}
-use Rattle.tf_change.specs.Instance.{InstanceFaultView, for_each_fault, argument_fault}
-use Rattle.tf_config_data.specs.Config.{LifecycleView}
+use Rattle.tf_address.specs.ObjectId.{InstanceKeyView}
+use Rattle.tf_change.specs.Instance.{InstanceFaultView, for_each_fault, argument_fault, instance_object}
+use Rattle.tf_config_data.specs.Config.{BlockView, LifecycleView}
 use Rattle.tf_config_data.specs.Names.{NameView, Meant, a_local, a_block, directly_before}
 use Rattle.tf_deciding.specs.Deciding.{DecidedView, OfView, version_of, with_block, with_members, with_outcome}
-use Rattle.tf_deciding.specs.Outcome.{OutcomeView, by_decision, member_outcome, orphan_outcome}
+use Rattle.tf_deciding.specs.Outcome.{OutcomeView, by_decision, declared_outcome, member_outcome, no_provider, orphan_outcome, removal_outcome}
 use Rattle.tf_deciding.specs.Stage.{block_members}
 use Rattle.tf_deciding.specs.Steps.{decided_steps}
 use Rattle.tf_deciding.specs.Whole.{with_meant, with_numbered}
@@ -17,8 +18,9 @@ use Rattle.tf_decision.specs.Ignored.{heeding, ignored_fault}
 use Rattle.tf_decision.specs.Prior.{PriorFaultView, first_unfit}
 use Rattle.tf_environment.specs.Shape.{ShapeView}
 use Rattle.tf_environment.specs.Standing.{StandingView, all_stand, environment}
+use Rattle.tf_eval.specs.Environment.{Environment}
 use Rattle.tf_graph.specs.Solutions.{seen_by}
-use Rattle.tf_members.specs.Members.{MemberView, members}
+use Rattle.tf_members.specs.Members.{MemberView, is_among, member, members, records_of}
 use Rattle.tf_protocol.specs.Meaning.{Meaning, schema_in}
 use Rattle.tf_protocol.specs.Schema.{SchemaView}
 use Rattle.tf_resources.specs.Numbering.{NumberedView, a_name, an_orphan}
@@ -77,6 +79,25 @@ by_decision-is records (Err why) steps e = absurd (cc)
 -- an instance is decided, and not refused
 abbrev pub IsFine : OutcomeView → Type 0
 IsFine o = (steps : List StepView) × (o ≡ Ok steps)
+
+-- a member that isn't refused has the steps of a decision
+pub record IsDecidedMember (found : Option SchemaView) (block : BlockView) (env : Environment) (keys : List InstanceKeyView) (records : List RecordView) (key : InstanceKeyView) : Type 0 where
+  pub schema : SchemaView
+  pub has : found ≡ Some schema
+  pub choice : DecisionView
+  pub decides : decision.decision schema block.lifecycle (records_of key records) (instance_object schema block key env) ≡ Ok choice
+  pub outcome : member_outcome found block env (member keys records key) ≡ Ok (decided_steps (records_of key records) choice)
+
+pub decided_member : (found : Option SchemaView) (block : BlockView) (env : Environment) (keys : List InstanceKeyView) (records : List RecordView) (key : InstanceKeyView) → is_among keys key ≡ true
+    → IsFine (member_outcome found block env (member keys records key)) → IsDecidedMember found block env keys records key
+decided_member None block env keys records key among fine = let no : ◌≡◌ {A = OutcomeView} (Err no_provider) (Ok fine.0) = fine.1 in absurd (cc)
+decided_member (Some schema) block env keys records key among fine =
+    let m = member keys records key in
+    let outcome = λ (b : Bool). if b then declared_outcome schema block env m else removal_outcome schema (Some block.lifecycle) m in
+    let own = records_of key records in
+    let p = instance_object schema block key env in
+    let d = by_decision-is own (decision.decision schema block.lifecycle own p) fine.0 (sym (ap outcome among) ∙ fine.1) in
+    record { schema = schema; has = refl; choice = d.0; decides = d.1; outcome = fine.1 ∙ ap Ok (sym d.2) }
 
 not_behind : {A : Type 0} (xs : List A) (x : A) → xs ++ x ∷ [] ≡ [] → ⊥
 not_behind [] x e = cc

@@ -43,7 +43,7 @@ use Rattle.tf_state_data.specs.Resource.{ResourceView, record_at}
 use Rattle.tf_state_data.specs.State.{resource_at}
 use Rattle.tf_syntax.specs.ExprTree as expr
 use Rattle.tf_value.specs.Tree.{Tree, Entries}
-use Rattle.tf_converges.proofs.Decided.{IsDecided, IsFine, by_decision-is, decision_is}
+use Rattle.tf_converges.proofs.Decided.{IsDecided, IsDecidedMember, IsFine, by_decision-is, decided_member, decision_is}
 use Rattle.tf_converges.proofs.Fine.{block_fine, orphan_fine}
 use Rattle.tf_converges.proofs.Lists.{all_contained, all_from, or_first, or_second, to_filter}
 use Rattle.tf_converges.proofs.Members.{instance_holds, member_is, member_there, record_recorded, recorded_holds, recorded_there, same_key}
@@ -139,25 +139,6 @@ pub record IsPlannedAt (p : Setting) (n : ℕ) (block : BlockView) (key : Instan
   pub is : IsDecided schema block.lifecycle (records_in p block key) (instance_object schema block key (env_of p)) decision
   pub done : (s : StepView) → Contains (decided_steps (records_in p block key) decision) s → (a : ActionView) × Contains p.actions a × IsStepOf (of_at p.ms n block.label) key s a
   pub only : (a : ActionView) → Contains p.actions a → a.label ≡ block.label → a.key ≡ key → Contains (decided_steps (records_in p block key) decision) a.step × IsStepOf (of_at p.ms n block.label) key a.step a
-
--- a member that isn't refused has the steps of a decision
-record IsDecidedMember (found : Option SchemaView) (block : BlockView) (env : Environment) (keys : List InstanceKeyView) (records : List RecordView) (key : InstanceKeyView) : Type 0 where
-  schema : SchemaView
-  has : found ≡ Some schema
-  choice : DecisionView
-  decides : choices.decision schema block.lifecycle (records_of key records) (instance_object schema block key env) ≡ Ok choice
-  outcome : member_outcome found block env (member keys records key) ≡ Ok (decided_steps (records_of key records) choice)
-
-decided_member : (found : Option SchemaView) (block : BlockView) (env : Environment) (keys : List InstanceKeyView) (records : List RecordView) (key : InstanceKeyView) → is_among keys key ≡ true
-    → IsFine (member_outcome found block env (member keys records key)) → IsDecidedMember found block env keys records key
-decided_member None block env keys records key among fine = let no : ◌≡◌ {A = OutcomeView} (Err no_provider) (Ok fine.0) = fine.1 in absurd (cc)
-decided_member (Some schema) block env keys records key among fine =
-    let m = member keys records key in
-    let outcome = λ (b : Bool). if b then declared_outcome schema block env m else removal_outcome schema (Some block.lifecycle) m in
-    let own = records_of key records in
-    let p = instance_object schema block key env in
-    let d = by_decision-is own (choices.decision schema block.lifecycle own p) fine.0 (sym (ap outcome among) ∙ fine.1) in
-    record { schema = schema; has = refl; choice = d.0; decides = d.1; outcome = fine.1 ∙ ap Ok (sym d.2) }
 
 steps_one : (o : OutcomeView) (xs ys : List StepView) → o ≡ Ok xs → o ≡ Ok ys → xs ≡ ys
 steps_one o xs ys e f = let same : ◌≡◌ {A = OutcomeView} (Ok xs) (Ok ys) = sym e ∙ f in cc

@@ -24,23 +24,18 @@ use Rattle.tf_converges.specs.Twice.{record_without_flag, resource_without_flags
 
 -- ---- what is found
 
+found_first : {A B : Type 0} (f : A → B) (b : Bool) (a : A) (o : Option A) (rest : Option B) → rest ≡ option_map f o → cond b (Some (f a)) rest ≡ option_map f (cond b (Some a) o)
+found_first f true a o rest h = refl
+found_first f false a o rest h = h
+
 record_found : (id : ObjectIdView) (rs : List RecordView) → record_at id (map record_without_flag rs) ≡ option_map record_without_flag (record_at id rs)
 record_found id [] = refl
-record_found id (r ∷ rs) = by_test (is_eq (object_id_cmp r.id id)) (record_found id rs)
-  where
-    by_test : (b : Bool) → record_at id (map record_without_flag rs) ≡ option_map record_without_flag (record_at id rs)
-        → cond b (Some (record_without_flag r)) (record_at id (map record_without_flag rs)) ≡ option_map record_without_flag (cond b (Some r) (record_at id rs))
-    by_test true h = refl
-    by_test false h = h
+record_found id (r ∷ rs) = found_first record_without_flag (is_eq (object_id_cmp r.id id)) r (record_at id rs) (record_at id (map record_without_flag rs)) (record_found id rs)
 
 resource_found : (label : LabelView) (rs : List ResourceView) → resource_at label (map resource_without_flags rs) ≡ option_map resource_without_flags (resource_at label rs)
 resource_found label [] = refl
-resource_found label (r ∷ rs) = by_test (is_eq (label_cmp r.label label)) (resource_found label rs)
-  where
-    by_test : (b : Bool) → resource_at label (map resource_without_flags rs) ≡ option_map resource_without_flags (resource_at label rs)
-        → cond b (Some (resource_without_flags r)) (resource_at label (map resource_without_flags rs)) ≡ option_map resource_without_flags (cond b (Some r) (resource_at label rs))
-    by_test true h = refl
-    by_test false h = h
+resource_found label (r ∷ rs) =
+    found_first resource_without_flags (is_eq (label_cmp r.label label)) r (resource_at label rs) (resource_at label (map resource_without_flags rs)) (resource_found label rs)
 
 -- the records at an address
 pub records_flagless : (label : LabelView) (rs : List ResourceView) → records_at label (map resource_without_flags rs) ≡ map record_without_flag (records_at label rs)

@@ -48,7 +48,7 @@ use Rattle.tf_value.proofs.Order.{Refines-refl, Refines-trans}
 use Rattle.tf_value.specs.Refinement.{Refines}
 use Rattle.tf_value.specs.Tree.{Tree}
 use Rattle.tf_converges.proofs.After.{IsKept, IsMade, call_at_index, in_deposed, kept_at}
-use Rattle.tf_converges.proofs.Agree.{apply_is_current}
+use Rattle.tf_report.proofs.Apart.{apply_is_current}
 use Rattle.tf_converges.proofs.Answers.{good_refines}
 use Rattle.tf_converges.proofs.Applied.{Applied, setting}
 use Rattle.tf_converges.proofs.Declared.{keys_at, records_in}

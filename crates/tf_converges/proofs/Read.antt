@@ -9,7 +9,7 @@ use Rattle.std.specs.Prelude.{option_and_then}
 use Rattle.std.specs.Ordering.{match_ordering, ordering_reverse}
 use Rattle.serde_json.specs.Data.{Data, null, boolean, number, string, array, object}
 use Rattle.tf_address.specs.Label.{label_cmp}
-use Rattle.tf_config.proofs.BlockLaws.{blocks_in_order}
+use Rattle.tf_config.proofs.BlockLaws.{blocks_in_order, object_keeps}
 use Rattle.tf_config.specs.Config.{Blocks, VariableBody, address_cmp, block_with, names_in, plain_config, plain_variable, put_block, put_variable, variable_with}
 use Rattle.tf_config.specs.Configuration.{AddsInVariable, AddsOfSection, AddsOutput, AddsResource, AddsSection, AddsType, AddsVariable, AddsVariableProperty, BuildsFrom, IsConfiguration}
 use Rattle.tf_config.specs.Words.{is_comment, is_type_name, section_of, variable_property_of}
@@ -18,7 +18,6 @@ use Rattle.tf_config_data.specs.declared.variable.Element.{Element}
 use Rattle.tf_config_data.specs.declared.variable.Element.TheVariants as elements
 use Rattle.tf_config_data.specs.declared.variable.VariableType.{VariableType}
 use Rattle.tf_config_data.specs.declared.variable.VariableType.TheVariants as types
-use Rattle.tf_json_path.proofs.Walks.{Builds-keeps}
 use Rattle.tf_syntax.specs.ExprTree as expr
 use Rattle.tf_value.proofs.Conjunction.{and-both, and-first, and-second}
 use Rattle.tf_value.specs.Json.{tree_from, value_from}
@@ -30,17 +29,6 @@ use Rattle.tf_variables.specs.Types.{element_as, entries_as, fits, fitted, items
 use Rattle.tf_variables.specs.Values.{AreValues, given, taken_of}
 use Rattle.tf_converges.specs.Read.{ReadHasOwnNames, ReadIsSound}
 use Rattle.tf_converges.specs.Twice.{HasOrderedOutputs, HasOwnNames}
-
--- ---- what each member keeps, an object keeps
-
-module _ {B : Type 0} (Adds : List ℕ → Data → B → B → Type 0) (P : B → Type 0) (keeps : (k : List ℕ) (d : Data) (a b : B) → Adds k d a b → P a → P b) where
-  object_keeps : (d : Data) (a b : B) → BuildsFrom Adds d a b → P a → P b
-  object_keeps null a b h p = absurd h
-  object_keeps (boolean x) a b h p = absurd h
-  object_keeps (number x) a b h p = absurd h
-  object_keeps (string x) a b h p = absurd h
-  object_keeps (array x) a b h p = absurd h
-  object_keeps (object ms) a b h p = Builds-keeps Adds P keeps ms a b h p
 
 -- ---- no block is of the type `local`
 
@@ -227,23 +215,11 @@ entries_known e (entry k t es) h =
 
 list_known : (e : Element) (t : Tree) → known t ≡ true → known (value_as (types.List e) t) ≡ true
 list_known e (tree.list ts) h = items_known e ts h
-list_known e tree.null h = h
-list_known e (tree.boolean b) h = h
-list_known e (tree.whole z) h = h
-list_known e (tree.text s) h = h
-list_known e (tree.map es) h = h
-list_known e (tree.set ss) h = h
-list_known e tree.unknown h = h
+list_known e _ h = h
 
 map_known : (e : Element) (t : Tree) → known t ≡ true → known (value_as (types.Map e) t) ≡ true
 map_known e (tree.map es) h = entries_known e es h
-map_known e tree.null h = h
-map_known e (tree.boolean b) h = h
-map_known e (tree.whole z) h = h
-map_known e (tree.text s) h = h
-map_known e (tree.list ts) h = h
-map_known e (tree.set ss) h = h
-map_known e tree.unknown h = h
+map_known e _ h = h
 
 value_known : (value_type : VariableType) (t : Tree) → known t ≡ true → known (value_as value_type t) ≡ true
 value_known (types.One e) t h = element_known e t h

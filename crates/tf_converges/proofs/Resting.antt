@@ -8,7 +8,7 @@ use Rattle.std.proofs.lemmas.Slice.Eq.{bytes_eq-Decides}
 use Rattle.tf_action_data.specs.Action.{ActionView, StepView, create, update, replacement, replaced, destroyed, deposed_destroyed}
 use Rattle.tf_change.specs.Instance.{InstanceFaultView}
 use Rattle.tf_decision.proofs.Aligned.{same_name}
-use Rattle.tf_decision.proofs.Equal.{beside_equal_nothing, nothing_beside_equal, nothing_where_none_differs}
+use Rattle.tf_decision.proofs.Equal.{beside_equal_nothing, none_names, nothing_beside_equal, nothing_where_none_differs}
 use Rattle.tf_decision.proofs.Growing.{updates_grow}
 use Rattle.tf_decision.proofs.Keeping.{updates_argue, updates_named}
 use Rattle.tf_decision.proofs.Replies.{good_is, replies_stay}
@@ -97,18 +97,10 @@ kept_settled schema ignored prior made (a ∷ others) h =
 
 -- ---- where nothing is done, nothing differs
 
-no_update : (planned kept : Tree) (names forces : List (List ℕ)) → update_or_replace planned kept names forces ≡ nothing → ⊥
-no_update planned kept names [] e = cc
-no_update planned kept names (f ∷ fs) e = cc
-
-none_differs : (schema : SchemaView) (planned kept : Tree) (names : List (List ℕ)) → by_differing schema planned kept names ≡ nothing → names ≡ []
-none_differs schema planned kept [] e = refl
-none_differs schema planned kept (n ∷ ns) e = absurd (no_update planned kept (n ∷ ns) (forcing schema (n ∷ ns)) e)
-
 differs_in_nothing : (schema : SchemaView) (ignored : List (List ℕ)) (b : Bool) (there planned : Tree) → cond b (replace planned []) (beside schema ignored there planned) ≡ nothing → differing there (kept_object schema ignored there planned) ≡ []
 differs_in_nothing schema ignored true there planned e = absurd (cc)
 differs_in_nothing schema ignored false there planned e =
-    let kept = kept_object schema ignored there planned in none_differs schema planned kept (differing there kept) e
+    let kept = kept_object schema ignored there planned in none_names schema planned kept (differing there kept) e
 
 -- ---- what was answered well
 

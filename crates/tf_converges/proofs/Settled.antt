@@ -8,7 +8,7 @@ use Rattle.std.specs.Str.{bytes_eq}
 use Rattle.std.proofs.lemmas.Slice.Eq.{bytes_eq-Decides}
 use Rattle.tf_address.specs.ObjectId as keys
 use Rattle.tf_address.specs.ObjectId.{InstanceKeyView}
-use Rattle.tf_change.proofs.Named.{both_empty, faultless, object_is, instance_is}
+use Rattle.tf_change.proofs.Named.{all_named, both_empty, faultless, object_is, instance_is}
 use Rattle.tf_change.specs.Argument.{attribute_value, converted, evaluated, given_value, or_bad_argument, result_then, set_value, unset_value}
 use Rattle.tf_change.specs.Planned.{attribute_faults, fault_at, planned_entries, with_value}
 use Rattle.tf_change.specs.declared.argument.ArgumentFault.{ArgumentFault}
@@ -238,19 +238,6 @@ objects_settled law schema ignored block key env t good is h =
     let object = object_is schema at.0 block.arguments t at.2 in
     let none = faultless schema at.0 block.arguments object.0 in
     let es = planned_entries schema.attributes at.0 block.arguments in
-    let named = planned_named schema.attributes at.0 block.arguments none in
+    let named = all_named schema.attributes at.0 block.arguments none in
     let all = by_name (λ a o. is_computed a.mode || option_map_or known o false) schema.attributes es named good.ascending (pairs_settled law at.0 (seen_known law block.repetition key env at.0 is at.1) schema.attributes block.arguments none) in
     subst (λ (u : Tree). list_all (is_settled schema ignored u) schema.attributes ≡ true) object.1 (settled_by_name schema ignored es schema.attributes (found_by_name schema.attributes good.ascending) all)
-  where
-    first_named : (a : AttributeView) (p : Result Tree ArgumentFault) (rest : Entries) (others : List (List ℕ)) → fault_at a.name p ≡ [] → same_names (keys_of rest) others ≡ true
-        → same_names (keys_of (with_value a.name p rest)) (a.name ∷ others) ≡ true
-    first_named a (Ok u) rest others f same = and-both (bytes_eq a.name a.name) (same_names (keys_of rest) others) (same_name a.name) same
-    first_named a (Err why) rest others f same = absurd (cc)
-
-    planned_named : (attributes : List AttributeView) (seen : Environment) (arguments : expr.Entries) → attribute_faults attributes seen arguments ≡ []
-        → same_names (keys_of (planned_entries attributes seen arguments)) (each (λ a. a.name) attributes) ≡ true
-    planned_named [] seen arguments f = refl
-    planned_named (a ∷ others) seen arguments f =
-        let planned = attribute_value seen a (expr.get a.name arguments) in
-        let both = both_empty (fault_at a.name planned) (attribute_faults others seen arguments) f in
-        first_named a planned (planned_entries others seen arguments) (each (λ b. b.name) others) both.0 (planned_named others seen arguments both.1)

@@ -30,7 +30,7 @@ use Rattle.tf_state_data.specs.Resource.{ResourceView}
 use Rattle.tf_syntax.specs.ExprTree as expr
 use Rattle.tf_value.proofs.Conjunction.{and-both}
 use Rattle.tf_value.specs.Tree.{Tree, Entries}
-use Rattle.tf_converges.proofs.Decided.{IsFine, by_decision-is, decision_is}
+use Rattle.tf_converges.proofs.Decided.{IsFine, decided_member, decision_is}
 use Rattle.tf_converges.proofs.Fine.{block_fine}
 use Rattle.tf_converges.proofs.Members.{all_among, instance_holds}
 use Rattle.tf_converges.proofs.Places.{meant_there}
@@ -72,15 +72,12 @@ beside_some schema ignored prior made (decision.replace t names) e = refl
 -- a member of the configuration that isn't refused stands for an object
 pub fine_stands : (found : Option SchemaView) (block : BlockView) (env : Environment) (keys : List InstanceKeyView) (records : List RecordView) (key : InstanceKeyView) → is_among keys key ≡ true
     → IsFine (member_outcome found block env (member keys records key)) → is_some (option_and_then (λ schema. object_of schema block (records_of key records) env key) found) ≡ true
-fine_stands None block env keys records key among fine = let no : ◌≡◌ {A = OutcomeView} (Err _) (Ok fine.0) = fine.1 in absurd (cc)
-fine_stands (Some schema) block env keys records key among fine =
-    let m = member keys records key in
-    let outcome = λ (b : Bool). if b then declared_outcome schema block env m else removal_outcome schema (Some block.lifecycle) m in
+fine_stands found block env keys records key among fine =
     let own = records_of key records in
-    let p = instance_object schema block key env in
-    let d = by_decision-is own (decision.decision schema block.lifecycle own p) fine.0 (sym (ap outcome among) ∙ fine.1) in
-    let is = decision_is schema block.lifecycle own p d.0 d.1 in
-    ap (λ (r : Result DecisionView RefusalView). is_some (object_unless_refused own r)) d.1 ∙ beside_some schema block.lifecycle.ignore_changes (current own) is.made d.0 is.changes
+    let d = decided_member found block env keys records key among fine in
+    let is = decision_is d.schema block.lifecycle own (instance_object d.schema block key env) d.choice d.decides in
+    ap (λ (o : Option SchemaView). is_some (option_and_then (λ schema. object_of schema block own env key) o)) d.has
+    ∙ ap (λ (r : Result DecisionView RefusalView). is_some (object_unless_refused own r)) d.decides ∙ beside_some d.schema block.lifecycle.ignore_changes (current own) is.made d.choice is.changes
 
 -- ---- objects that stand together
 

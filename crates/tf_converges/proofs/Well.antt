@@ -88,9 +88,7 @@ apply_op : (s : StepView) → is_apply s ≡ true → is_destroy (op_of s) ≡ f
 apply_op (create t) h = refl
 apply_op (update prior t names) h = refl
 apply_op (replacement t names) h = refl
-apply_op (replaced prior) h = absurd (cc)
-apply_op (destroyed prior) h = absurd (cc)
-apply_op (deposed_destroyed key prior) h = absurd (cc)
+apply_op _ h = absurd (cc)
 
 -- ---- good verdicts
 

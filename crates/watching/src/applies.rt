@@ -1,13 +1,14 @@
 //! Plans and applies, and what is seen of them.
 
+use crate::aside::Sided;
+use crate::telling::{listed, tell_of};
 use crate::watched::{Manner, Watched};
 use std::alloc::{AllocError, Global};
-use std::fmt::Debug;
 use std::sync::atomic::{AtomicUsize, Ordering};
 use std::sync::{Arc, Wait};
 use std::test::Fail;
 use std::thread::Threads;
-use tf_cli::{Applied, Refused, Report, Stop, Walked, apply_text, plan_text, print_refused, show};
+use tf_cli::{Applied, Refused, Stop, apply_text, plan_text, print_refused, show};
 use tf_provider::Provider;
 use tf_sim::Sim;
 
@@ -93,14 +94,14 @@ pub fn watch_manner<R: Threads + Wait + Sync>(
     if manner == Manner::Stops(0) {
         stop.set();
     }
-    let watched = Watched {
-        sim: Sim::new(alloc)?,
+    let aside = Watched {
         calls: Arc::try_clone(&calls)?,
         manner,
         stop: Arc::try_clone(&stop)?,
     };
+    let sim = Sim::new(alloc)?;
     let mut providers: Vec<Box<dyn Provider + Sync>> = Vec::new(alloc);
-    providers.push(Box::new(alloc, watched)?)?;
+    providers.push(Box::new(alloc, Sided { sim, aside })?)?;
     let mut seen = apply_by(rt, alloc, texts, &providers, workers, &stop)?;
     seen.calls = calls.load(Ordering::SeqCst);
     Ok(seen)
@@ -129,26 +130,19 @@ pub fn apply_by<R: Threads + Wait + Sync>(
     let mut output = Vec::new(alloc);
     let mut errors = Vec::new(alloc);
     let status = show(&answer, &mut output, &mut errors);
-    let After {
-        state,
-        changed,
-        whole,
-        outcomes,
-        excused,
-        journal,
-    } = state_after(alloc, answer)?;
+    let after = state_after(alloc, answer)?;
     Ok(Seen {
         output: String::from_utf8(output)?,
         errors: String::from_utf8(errors)?,
         status,
-        state,
-        changed,
-        whole,
-        outcomes,
-        excused,
+        state: after.state,
+        changed: after.changed,
+        whole: after.whole,
+        outcomes: after.outcomes,
+        excused: after.excused,
         calls: 0,
-        journal_text: listed(alloc, journal.as_slice())?,
-        journal,
+        journal_text: listed(alloc, after.journal.as_slice())?,
+        journal: after.journal,
     })
 }
 
@@ -170,7 +164,12 @@ pub struct After {
 
 /// What an answer says of the walk, and of the state after it. All else goes.
 pub fn state_after(alloc: Global, answer: Result<Applied, Refused>) -> Result<After, AllocError> {
-    let Ok(applied) = answer else {
+    let Ok(Applied {
+        plan: _,
+        walked,
+        state,
+        changed,
+    }) = answer else {
         return Ok(After {
             state: String::new(alloc),
             changed: false,
@@ -180,54 +179,18 @@ pub fn state_after(alloc: Global, answer: Result<Applied, Refused>) -> Result<Af
             journal: Vec::new(alloc),
         });
     };
-    let Applied {
-        plan: _,
-        walked,
-        state,
-        changed,
-    } = applied;
-    let whole = is_whole(&walked);
-    let Report {
-        state: _,
-        outcomes,
-        diagnostics: _,
-        journal,
-        excused,
-        good: _,
-    } = walked.into_report();
-    let mut called = Vec::new(alloc);
-    for entry in journal.entries() {
-        called.push(entry.action)?;
-    }
+    let told = tell_of(alloc, walked)?;
     Ok(After {
         state: match state {
             Ok(state) => state,
             Err(AllocError) => String::new(alloc),
         },
         changed,
-        whole,
-        outcomes: listed(alloc, outcomes.as_slice())?,
-        excused: listed(alloc, excused.as_slice())?,
-        journal: called,
+        whole: told.whole,
+        outcomes: told.outcomes,
+        excused: told.excused,
+        journal: told.journal,
     })
-}
-
-fn is_whole(walked: &Walked) -> bool {
-    match walked {
-        Walked::Whole(_) => true,
-        Walked::Torn(_) => false,
-    }
-}
-
-/// Things one after another, with commas.
-fn listed<T: Debug>(alloc: Global, things: &[T]) -> Result<String, AllocError> {
-    let mut text = String::new(alloc);
-    for thing in things {
-        let separator = if text.is_empty() { "" } else { ", " };
-        let next = format!(in alloc; "{separator}{thing:?}")?;
-        text.push_str(next.as_str())?;
-    }
-    Ok(text)
 }
 
 /// The plan's text, or the refusals.

@@ -2,9 +2,13 @@
 #![tactic(auto)]
 
 mod applies;
+mod aside;
+mod telling;
 mod watched;
 
 pub use applies::{
     After, Seen, Texts, WORKERS, apply_by, planned, state_after, watch_apply, watch_manner,
 };
+pub use aside::{Aside, Sided};
+pub use telling::{Told, tell_of};
 pub use watched::Manner;

@@ -1,9 +1,10 @@
 //! The provider `sim`, watched.
 
+use crate::aside::Aside;
 use std::sync::Arc;
 use std::sync::atomic::{AtomicUsize, Ordering};
 use tf_cli::Stop;
-use tf_provider::{Provider, Reply, Request, Schema};
+use tf_provider::{Provider, Reply, Request};
 use tf_sim::Sim;
 
 /// What is special about a provider.
@@ -17,31 +18,22 @@ pub enum Manner {
     Stops(usize),
 }
 
-/// The provider `sim`, which counts its calls.
+/// Counts calls.
 #[derive(Drop)]
 pub(crate) struct Watched {
-    pub(crate) sim: Sim,
     pub(crate) calls: Arc<AtomicUsize>,
     pub(crate) manner: Manner,
     pub(crate) stop: Arc<Stop>,
 }
 
-impl Provider for Watched {
-    ghost use Rattle.tf_sim.specs.Table.{sim_meaning};
-
-    ghost meaning = { λ _. sim_meaning };
-
-    fn schema(&self, type_name: &str) -> Option<&Schema> {
-        self.sim.schema(type_name)
-    }
-
-    fn apply(&self, request: &Request) -> Reply {
+impl Aside for Watched {
+    fn reply(&self, sim: &Sim, request: &Request) -> Reply {
         let before = self.calls.fetch_add(1, Ordering::SeqCst);
         match self.manner {
-            Manner::Plain => self.sim.apply(request),
+            Manner::Plain => sim.apply(request),
             Manner::Forgetful => Reply::NoMemory,
             Manner::Stops(after) => {
-                let reply = self.sim.apply(request);
+                let reply = sim.apply(request);
                 if after.checked_sub(1) == Some(before) {
                     self.stop.set();
                 }

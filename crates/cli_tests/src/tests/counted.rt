@@ -6,7 +6,7 @@ use std::process::Abort;
 use std::sync::Wait;
 use std::test::Fail;
 use std::thread::Threads;
-use watching::{Texts, watch_apply};
+use watching::{Seen, Texts, watch_apply};
 
 // Configurations in which some actions are good, some aren't and some are never called.
 static CONFIGS: [&str; 3] = [
@@ -47,14 +47,7 @@ const AFTER: &str =
     r#"{"output": {"o": {"value": "${sim_net.a.id}"}}, "resource": {"sim_host": {"h": {"name": "g", "net": "${sim_net.a.id}", "lifecycle": {"create_before_destroy": true}}, "i": {"name": "i", "net": "${sim_net.a.id}"}}, "sim_net": {"a": {"cidr": "y", "lifecycle": {"create_before_destroy": true}}, "b": {"cidr": "b"}, "e": {"cidr": "e"}}}}"#;
 
 /// Checks that each call is in the journal, and that all of so many calls are made where nothing is refused or excused.
-fn check_counted<R: Abort + Threads + Wait + Sync>(
-    rt: &R,
-    alloc: Global,
-    texts: Texts<'_>,
-    workers: usize,
-    all: usize,
-) -> Result<(), Fail> {
-    let seen = watch_apply(rt, alloc, texts, workers)?;
+fn check_counted(rt: &impl Abort, seen: &Seen, all: usize) {
     assert!(rt; seen.whole);
     assert_eq!(rt; seen.calls, seen.journal.len());
     if seen.status == 1 {
@@ -64,7 +57,6 @@ fn check_counted<R: Abort + Threads + Wait + Sync>(
     } else {
         assert_eq!(rt; seen.status, 2);
     }
-    Ok(())
 }
 
 fn check_configs<R: Abort + Threads + Wait + Sync>(
@@ -73,7 +65,8 @@ fn check_configs<R: Abort + Threads + Wait + Sync>(
     workers: usize,
 ) -> Result<(), Fail> {
     for config in &CONFIGS {
-        check_counted(rt, alloc, Texts::of(config), workers, 4)?;
+        let seen = watch_apply(rt, alloc, Texts::of(config), workers)?;
+        check_counted(rt, &seen, 4);
     }
     Ok(())
 }
@@ -90,10 +83,14 @@ fn a_call_of_two_workers_is_in_the_journal(rt: HostRuntime) -> Result<(), Fail> 
 
 #[test]
 fn a_change_is_in_the_journal(rt: HostRuntime) -> Result<(), Fail> {
-    check_counted(&rt, rt.alloc(), Texts::after(AFTER, PRIOR), 1, 9)
+    let seen = watch_apply(&rt, rt.alloc(), Texts::after(AFTER, PRIOR), 1)?;
+    check_counted(&rt, &seen, 9);
+    Ok(())
 }
 
 #[test]
 fn a_change_of_two_workers_is_in_the_journal(rt: HostRuntime) -> Result<(), Fail> {
-    check_counted(&rt, rt.alloc(), Texts::after(AFTER, PRIOR), 2, 9)
+    let seen = watch_apply(&rt, rt.alloc(), Texts::after(AFTER, PRIOR), 2)?;
+    check_counted(&rt, &seen, 9);
+    Ok(())
 }

@@ -3,22 +3,14 @@
 use crate::tests::applying::check_refused;
 use std::alloc::{AllocError, Global};
 use std::process::Abort;
-use std::sync::Wait;
 use std::test::Fail;
-use std::thread::Threads;
+use test_texts::series;
 use watching::{Seen, Texts, WORKERS, planned, watch_apply};
 
 const BEYOND: &str = "error 14 at configuration: Limit\n";
 
-// What comes of an apply in which each of this many actions is called once and good.
-fn apply_whole<R: Abort + Threads + Wait + Sync>(
-    rt: &R,
-    alloc: Global,
-    texts: Texts<'_>,
-    count: usize,
-    workers: usize,
-) -> Result<Seen, Fail> {
-    let seen = watch_apply(rt, alloc, texts, workers)?;
+// Each of this many actions was called once, and good.
+fn check_whole(rt: &impl Abort, alloc: Global, seen: &Seen, count: usize) -> Result<(), Fail> {
     assert!(rt; seen.whole);
     assert_eq!(rt; seen.errors.as_str(), "");
     assert_eq!(rt; seen.status, 0);
@@ -28,7 +20,7 @@ fn apply_whole<R: Abort + Threads + Wait + Sync>(
         "\nApply complete! Resources: {count} added, 0 changed, 0 destroyed.\n"
     )?;
     assert!(rt; seen.output.ends_with(summary.as_str()));
-    Ok(seen)
+    Ok(())
 }
 
 #[test]
@@ -40,7 +32,8 @@ fn counts_hundreds(rt: HostRuntime) -> Result<(), Fail> {
     "sim_net": {"a": {"count": 400, "cidr": "${count.index}"}}
   }
 }"#;
-    let seen = apply_whole(&rt, rt.alloc(), Texts::of(config), 800, 1)?;
+    let seen = watch_apply(&rt, rt.alloc(), Texts::of(config), 1)?;
+    check_whole(&rt, rt.alloc(), &seen, 800)?;
     for part in [
         "    \"last\": {\n      \"type\": \"string\",\n      \"value\": \"net-399\"\n    },\n    \"number\": {\n      \"type\": \"number\",\n      \"value\": 400\n    }\n",
         "            \"id\": \"host-h0\",\n            \"name\": \"h0\",\n            \"net\": \"net-0\",\n",
@@ -53,13 +46,7 @@ fn counts_hundreds(rt: HostRuntime) -> Result<(), Fail> {
 
 // The texts from 0 on, as a JSON array.
 fn numbers(alloc: Global, count: usize) -> Result<String, AllocError> {
-    let mut text = String::from_str(alloc, "[\"0\"")?;
-    for n in 1..count {
-        let next = format!(in alloc; ", \"{n}\"")?;
-        text.push_str(next.as_str())?;
-    }
-    text.push(']')?;
-    Ok(text)
+    series(alloc, "[\"0\"", ", \"#\"", 1..count, "]")
 }
 
 #[test]
@@ -74,7 +61,8 @@ fn takes_hundreds_of_keys(rt: HostRuntime) -> Result<(), Fail> {
     let keys = numbers(rt.alloc(), 300)?;
     let vars = format!(in rt.alloc(); "{{\"keys\": {keys}}}")?;
     let texts = Texts::with_vars(config, Some(vars.as_str()));
-    let seen = apply_whole(&rt, rt.alloc(), texts, 600, 64)?;
+    let seen = watch_apply(&rt, rt.alloc(), texts, 64)?;
+    check_whole(&rt, rt.alloc(), &seen, 600)?;
     for part in [
         "+ sim_host.h[\"19\"]\n    id = (known after apply)\n    name = \"h19\"\n    net = (known after apply)\n+ sim_host.h[\"190\"]\n",
         "+ sim_net.a[\"29\"]\n    cidr = \"29\"\n    id = (known after apply)\n+ sim_net.a[\"290\"]\n",
@@ -91,25 +79,18 @@ fn takes_hundreds_of_keys(rt: HostRuntime) -> Result<(), Fail> {
 
 // Hosts of which each but the first names the one before it, and has this size.
 fn chain(alloc: Global, count: usize, size: &str) -> Result<String, AllocError> {
-    let mut text = String::from_str(
-        alloc,
-        "{\"resource\": {\"sim_host\": {\"h0\": {\"name\": \"h0\"}",
+    let first = "{\"resource\": {\"sim_host\": {\"h0\": {\"name\": \"h0\"}";
+    let host = format!(in alloc;
+        ", \"h#\": {{\"name\": \"h#\", \"net\": \"${{sim_host.h@.id}}\", \"size\": {size}}}"
     )?;
-    for n in 1..count {
-        let before = n.saturating_sub(1);
-        let next = format!(in alloc;
-            ", \"h{n}\": {{\"name\": \"h{n}\", \"net\": \"${{sim_host.h{before}.id}}\", \"size\": {size}}}"
-        )?;
-        text.push_str(next.as_str())?;
-    }
-    text.push_str("}}}")?;
-    Ok(text)
+    series(alloc, first, host.as_str(), 1..count, "}}}")
 }
 
 #[test]
 fn follows_a_chain(rt: HostRuntime) -> Result<(), Fail> {
     let config = chain(rt.alloc(), 200, "100")?;
-    let seen = apply_whole(&rt, rt.alloc(), Texts::of(config.as_str()), 200, 2)?;
+    let seen = watch_apply(&rt, rt.alloc(), Texts::of(config.as_str()), 2)?;
+    check_whole(&rt, rt.alloc(), &seen, 200)?;
     assert!(rt;
         seen.state.contains(
             "            \"id\": \"host-h199\",\n            \"name\": \"h199\",\n            \"net\": \"host-h198\",\n"
@@ -136,29 +117,25 @@ fn stops_where_a_chain_breaks(rt: HostRuntime) -> Result<(), Fail> {
 
 // Locals of which each is made of the one before it, once or twice, and an output of the last.
 fn locals(alloc: Global, count: usize, is_doubled: bool) -> Result<String, AllocError> {
-    let mut text = String::from_str(alloc, "{\"locals\": {\"x0\": 1")?;
-    for n in 1..count {
-        let before = n.saturating_sub(1);
-        let next = if is_doubled {
-            format!(in alloc; ", \"x{n}\": \"${{local.x{before} + local.x{before}}}\"")?
-        } else {
-            format!(in alloc; ", \"x{n}\": \"${{local.x{before}}}\"")?
-        };
-        text.push_str(next.as_str())?;
-    }
+    let local = if is_doubled {
+        ", \"x#\": \"${local.x@ + local.x@}\""
+    } else {
+        ", \"x#\": \"${local.x@}\""
+    };
     let last = count.saturating_sub(1);
     let output = format!(in alloc;
         "}}, \"output\": {{\"o\": {{\"value\": \"${{local.x{last}}}\"}}}}}}"
     )?;
-    text.push_str(output.as_str())?;
-    Ok(text)
+    let first = "{\"locals\": {\"x0\": 1";
+    series(alloc, first, local, 1..count, output.as_str())
 }
 
 #[test]
 fn evaluates_a_local_once(rt: HostRuntime) -> Result<(), Fail> {
     for (count, is_doubled, value) in [(63, true, "4611686018427387904"), (2_000, false, "1")] {
         let config = locals(rt.alloc(), count, is_doubled)?;
-        let seen = apply_whole(&rt, rt.alloc(), Texts::of(config.as_str()), 0, 1)?;
+        let seen = watch_apply(&rt, rt.alloc(), Texts::of(config.as_str()), 1)?;
+        check_whole(&rt, rt.alloc(), &seen, 0)?;
         let kept = format!(in rt.alloc();
             "    \"o\": {{\n      \"type\": \"number\",\n      \"value\": {value}\n    }}\n"
         )?;
@@ -184,7 +161,8 @@ fn pairs(alloc: Global, hosts: usize) -> Result<String, AllocError> {
 fn keeps_the_limit_on_pairs(rt: HostRuntime) -> Result<(), Fail> {
     let config = pairs(rt.alloc(), 447)?;
     for workers in WORKERS {
-        apply_whole(&rt, rt.alloc(), Texts::of(config.as_str()), 894, workers)?;
+        let seen = watch_apply(&rt, rt.alloc(), Texts::of(config.as_str()), workers)?;
+        check_whole(&rt, rt.alloc(), &seen, 894)?;
     }
     let config = pairs(rt.alloc(), 448)?;
     check_refused(&rt, rt.alloc(), Texts::of(config.as_str()), BEYOND)?;
@@ -214,13 +192,9 @@ fn keeps_the_limit_on_instances(rt: HostRuntime) -> Result<(), Fail> {
 
 // So many declarations in a section, each of this body.
 fn declared(alloc: Global, section: &str, body: &str, count: usize) -> Result<String, AllocError> {
-    let mut text = format!(in alloc; "{{\"{section}\": {{\"a\": {body}")?;
-    for n in 1..count {
-        let next = format!(in alloc; ", \"a{n}\": {body}")?;
-        text.push_str(next.as_str())?;
-    }
-    text.push_str("}}")?;
-    Ok(text)
+    let first = format!(in alloc; "{{\"{section}\": {{\"a\": {body}")?;
+    let more = format!(in alloc; ", \"a#\": {body}")?;
+    series(alloc, first.as_str(), more.as_str(), 1..count, "}}")
 }
 
 #[test]

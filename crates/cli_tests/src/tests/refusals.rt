@@ -3,6 +3,7 @@
 use crate::tests::applying::check_refused;
 use std::alloc::{AllocError, Global};
 use std::test::Fail;
+use test_texts::series;
 use watching::{Texts, planned};
 
 #[test]
@@ -90,16 +91,8 @@ fn nested(alloc: Global, depth: usize) -> Result<String, AllocError> {
 
 // A configuration of this many nets.
 fn nets(alloc: Global, count: usize) -> Result<String, AllocError> {
-    let mut text = String::from_str(
-        alloc,
-        "{\"resource\": {\"sim_net\": {\"a\": {\"cidr\": \"x\"}",
-    )?;
-    for n in 1..count {
-        let next = format!(in alloc; ", \"a{n}\": {{\"cidr\": \"x\"}}")?;
-        text.push_str(next.as_str())?;
-    }
-    text.push_str("}}}")?;
-    Ok(text)
+    let first = "{\"resource\": {\"sim_net\": {\"a\": {\"cidr\": \"x\"}";
+    series(alloc, first, ", \"a#\": {\"cidr\": \"x\"}", 1..count, "}}}")
 }
 
 #[test]

@@ -8,10 +8,10 @@ use std::test::Fail;
 use std::thread::Threads;
 use test_providers::{Meeting, is_set_within, meet};
 use tf_cli::Stop;
-use tf_provider::{Provider, Reply, Request, Schema};
+use tf_provider::{Provider, Reply, Request};
 use tf_sim::Sim;
 use tf_value::Value;
-use watching::{Texts, apply_by};
+use watching::{Aside, Sided, Texts, apply_by};
 
 /// Checks that so many calls, of a provider each, are seen by one another where as many workers make them.
 fn check_meeting<R: Abort + Threads + Wait + Sync>(
@@ -57,24 +57,15 @@ fn four_calls_meet(rt: HostRuntime) -> Result<(), Fail> {
     check_meeting(&rt, rt.alloc(), config, 4, 100_000_000)
 }
 
-/// The provider `sim`, whose create of the net with cidr `a` waits, but not for ever, until that with cidr `net-b` has begun.
+/// The create of the net with cidr `a` waits, but not for ever, until that with cidr `net-b` has begun.
 #[derive(Drop)]
 struct Waiting {
-    sim: Sim,
     begun: AtomicBool,
     misses: Arc<AtomicUsize>,
 }
 
-impl Provider for Waiting {
-    ghost use Rattle.tf_sim.specs.Table.{sim_meaning};
-
-    ghost meaning = { λ _. sim_meaning };
-
-    fn schema(&self, type_name: &str) -> Option<&Schema> {
-        self.sim.schema(type_name)
-    }
-
-    fn apply(&self, request: &Request) -> Reply {
+impl Aside for Waiting {
+    fn reply(&self, sim: &Sim, request: &Request) -> Reply {
         match cidr_of(request) {
             Some("a") if !is_set_within(&self.begun, 10_000_000) => {
                 self.misses.fetch_add(1, Ordering::SeqCst);
@@ -82,7 +73,7 @@ impl Provider for Waiting {
             Some("net-b") => self.begun.store(true, Ordering::SeqCst),
             _ => {}
         }
-        self.sim.apply(request)
+        sim.apply(request)
     }
 }
 
@@ -100,13 +91,13 @@ fn cidr_of(request: &Request) -> Option<&str> {
 fn second_ends_first(rt: HostRuntime) -> Result<(), Fail> {
     let alloc = rt.alloc();
     let misses = Arc::new(alloc, AtomicUsize::new(0))?;
-    let waiting = Waiting {
-        sim: Sim::new(alloc)?,
+    let aside = Waiting {
         begun: AtomicBool::new(false),
         misses: Arc::try_clone(&misses)?,
     };
+    let sim = Sim::new(alloc)?;
     let mut providers: Vec<Box<dyn Provider + Sync>> = Vec::new(alloc);
-    providers.push(Box::new(alloc, waiting)?)?;
+    providers.push(Box::new(alloc, Sided { sim, aside })?)?;
     let config =
         r#"{"resource": {"sim_net": {"a": {"cidr": "a"}, "b": {"cidr": "b"}, "c": {"cidr": "${sim_net.b.id}"}}}}"#;
     let seen = apply_by(&rt, alloc, Texts::of(config), &providers, 2, &Stop::new())?;

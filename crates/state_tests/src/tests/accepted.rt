@@ -3,6 +3,7 @@
 use std::alloc::Global;
 use std::process::Abort;
 use std::test::Fail;
+use test_texts::series;
 use tf_state::{StateFault, read, write};
 
 // The texts of states, as they are written.
@@ -146,18 +147,12 @@ fn refuses_the_last_serial(rt: HostRuntime) {
 }
 
 // The text of a state with this many resources that have records, and one that has none.
-fn many(alloc: Global, count: u32) -> Result<String, Fail> {
-    let mut text = String::from_str(
-        alloc,
-        "{\"version\":4,\"serial\":0,\"lineage\":\"L\",\"resources\":[{\"mode\":\"managed\",\"type\":\"t\",\"name\":\"none\",\"provider\":\"p\",\"instances\":[]}",
-    )?;
-    for number in 0..count {
-        text.push_str(",{\"mode\":\"managed\",\"type\":\"t\",\"name\":\"n")?;
-        text.push_str(&number.to_string(alloc)?)?;
-        text.push_str("\",\"provider\":\"p\",\"instances\":[{\"attributes\":{}}]}")?;
-    }
-    text.push_str("]}")?;
-    Ok(text)
+fn many(alloc: Global, count: usize) -> Result<String, Fail> {
+    let none =
+        "{\"version\":4,\"serial\":0,\"lineage\":\"L\",\"resources\":[{\"mode\":\"managed\",\"type\":\"t\",\"name\":\"none\",\"provider\":\"p\",\"instances\":[]}";
+    let one =
+        ",{\"mode\":\"managed\",\"type\":\"t\",\"name\":\"n#\",\"provider\":\"p\",\"instances\":[{\"attributes\":{}}]}";
+    Ok(series(alloc, none, one, 0..count, "]}")?)
 }
 
 #[test]

@@ -256,20 +256,24 @@ fn tells_states_apart(rt: HostRuntime) -> Result<(), Fail> {
     Ok(())
 }
 
+// Names of types, and those of their providers.
 static PROVIDERS: [(&str, &str); 4] = [
-    (
-        "sim_net",
-        "provider[\"registry.terraform.io/hashicorp/sim\"]",
-    ),
-    ("a_b_c", "provider[\"registry.terraform.io/hashicorp/a\"]"),
-    ("null", "provider[\"registry.terraform.io/hashicorp/null\"]"),
-    ("_x", "provider[\"registry.terraform.io/hashicorp/\"]"),
+    ("sim_net", "sim"),
+    ("a_b_c", "a"),
+    ("null", "null"),
+    ("_x", ""),
 ];
 
 #[test]
 fn names_providers(rt: HostRuntime) -> Result<(), Fail> {
-    for (type_name, want) in &PROVIDERS {
-        assert_eq!(rt; provider_address(rt.alloc(), type_name)?.as_str(), *want);
+    for (type_name, provider) in &PROVIDERS {
+        let want = format!(in rt.alloc();
+            "provider[\"registry.terraform.io/hashicorp/{provider}\"]"
+        )?;
+        assert_eq!(rt;
+            provider_address(rt.alloc(), type_name)?.as_str(),
+            want.as_str()
+        );
     }
     Ok(())
 }

@@ -2,6 +2,7 @@
 
 use std::alloc::Global;
 use std::test::Fail;
+use test_texts::series;
 use tf_state::{StateFault, read};
 
 fn is_bad(alloc: Global, bytes: &[u8]) -> bool {
@@ -24,14 +25,9 @@ fn refuses_bytes_that_are_no_text(rt: HostRuntime) {
 
 // A state with an output whose type nests this deep, and doesn't end.
 fn deep(alloc: Global, depth: usize) -> Result<String, Fail> {
-    let mut text = String::from_str(
-        alloc,
-        "{\"version\":4,\"serial\":0,\"lineage\":\"L\",\"outputs\":{\"o\":{\"value\":0,\"type\":",
-    )?;
-    for _ in 0..depth {
-        text.push('[')?;
-    }
-    Ok(text)
+    let first =
+        "{\"version\":4,\"serial\":0,\"lineage\":\"L\",\"outputs\":{\"o\":{\"value\":0,\"type\":";
+    Ok(series(alloc, first, "[", 0..depth, "")?)
 }
 
 #[test]
