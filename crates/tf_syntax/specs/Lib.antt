@@ -1,3 +1,4 @@
+pub mod Adding
 pub mod ExprNames
 pub mod ExprTree
 pub mod TemplateNames

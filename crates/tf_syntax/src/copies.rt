@@ -27,7 +27,9 @@ impl Clone for Reference {
     ghost is_clone = { λ v w. reference_of w ≡ reference_of v };
 
     fn clone(&self) -> Result<Reference, AllocError> {
-        copy_reference(self)
+        let first = self.first.clone()?;
+        let name = self.name.clone()?;
+        Ok(Reference { first, name })
     }
 }
 
@@ -54,7 +56,7 @@ fn copy_term(term: &Term) -> Result<Term, AllocError>
         Term::Truth(truth) => Ok(Term::Truth(*truth)),
         Term::Null => Ok(Term::Null),
         Term::Quoted(template) => Ok(Term::Quoted(copy(template)?)),
-        Term::Reference(reference) => Ok(Term::Reference(copy_reference(reference)?)),
+        Term::Reference(reference) => Ok(Term::Reference(reference.clone()?)),
         Term::Call(name, terms) => {
             let name = name.clone()?;
             Ok(Term::Call(name, copy_terms(terms)?))
@@ -111,12 +113,4 @@ fn copy_parts(parts: &Vec<(String, Term)>) -> Result<Vec<(String, Term)>, AllocE
         copies.push((text, copy_term(&part.1)?))?;
     }
     Ok(copies)
-}
-
-fn copy_reference(reference: &Reference) -> Result<Reference, AllocError>
-    ensures { IfOk result (λ r. reference_of r ≡ reference_of reference.now) }
-{
-    let first = reference.first.clone()?;
-    let name = reference.name.clone()?;
-    Ok(Reference { first, name })
 }

@@ -11,8 +11,16 @@ use std::default::Emptied;
 impl Clone for Expr {
     ghost is_clone = { λ e f. tree_of f ≡ tree_of e };
 
+    #[cycle(copy)]
     fn clone(&self) -> Result<Expr, AllocError> {
-        copy_expr(self)
+        match self {
+            Expr::Null => Ok(Expr::Null),
+            Expr::Bool(truth) => Ok(Expr::Bool(*truth)),
+            Expr::Int(number) => Ok(Expr::Int(*number)),
+            Expr::Template(template) => Ok(Expr::Template(template.clone()?)),
+            Expr::List(exprs) => Ok(Expr::List(copy_list(exprs)?)),
+            Expr::Map(entries) => Ok(Expr::Map(copy_entries(entries)?)),
+        }
     }
 }
 
@@ -21,18 +29,10 @@ impl Clone for Expr {
 /// # Errors
 ///
 /// Only where memory runs out.
-#[cycle(copy)]
 pub fn copy_expr(expr: &Expr) -> Result<Expr, AllocError>
     ensures { IfOk result (λ e. tree_of e ≡ tree_of expr.now) }
 {
-    match expr {
-        Expr::Null => Ok(Expr::Null),
-        Expr::Bool(truth) => Ok(Expr::Bool(*truth)),
-        Expr::Int(number) => Ok(Expr::Int(*number)),
-        Expr::Template(template) => Ok(Expr::Template(template.clone()?)),
-        Expr::List(exprs) => Ok(Expr::List(copy_list(exprs)?)),
-        Expr::Map(entries) => Ok(Expr::Map(copy_entries(entries)?)),
-    }
+    expr.clone()
 }
 
 #[cycle(copy)]
@@ -41,7 +41,7 @@ fn copy_list(exprs: &Vec<Expr>) -> Result<Vec<Expr>, AllocError>
 {
     let mut copies = Vec::with_capacity(*exprs.allocator(), exprs.len())?;
     for expr in exprs {
-        copies.push(copy_expr(expr)?)?;
+        copies.push(expr.clone()?)?;
     }
     Ok(copies)
 }
@@ -53,7 +53,7 @@ fn copy_entries(entries: &BTreeMap<String, Expr>) -> Result<BTreeMap<String, Exp
     let mut copies = BTreeMap::emptied(entries)?;
     for (key, expr) in entries.iter() {
         let name = key.clone()?;
-        drop(copies.insert(name, copy_expr(expr)?)?);
+        drop(copies.insert(name, expr.clone()?)?);
     }
     Ok(copies)
 }

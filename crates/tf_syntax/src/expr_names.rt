@@ -1,8 +1,9 @@
 //! What an expression names and calls.
 
-ghost use Rattle.std.specs.Prelude.{◌≡◌, ◌++◌, IfOk, OnOk, map, string_bytes};
-ghost use Rattle.tf_syntax.specs.ExprNames.{called_among, called_below, called_by, named_among, named_below, named_by};
-ghost use Rattle.tf_syntax.specs.ExprTree.{entries_view, tree_of, trees_view};
+ghost use Rattle.std.specs.Prelude.{◌≡◌, IfOk, OnOk, map, string_bytes};
+ghost use Rattle.tf_syntax.specs.Adding.{Adds};
+ghost use Rattle.tf_syntax.specs.ExprNames.{called_below, called_by, named_below, named_by};
+ghost use Rattle.tf_syntax.specs.ExprTree.{entries_view, tree_of};
 ghost use Rattle.tf_syntax.specs.TemplateNames.{reference_of};
 
 use crate::expr::Expr;
@@ -49,38 +50,24 @@ fn names_of(alloc: Global, expr: &Expr) -> Result<Names, AllocError>
 
 #[cycle(names)]
 fn add(expr: &Expr, found: &mut Names) -> Result<(), AllocError>
-    ensures named { OnOk result (map reference_of found.new.references.items
-        ≡ map reference_of found.old.references.items ++ named_by (tree_of expr.now)) }
-    ensures called { OnOk result (map string_bytes found.new.functions.items
-        ≡ map string_bytes found.old.functions.items ++ called_by (tree_of expr.now)) }
+    ensures { OnOk result (Adds found.old found.new (named_by (tree_of expr.now)) (called_by (tree_of expr.now))) }
 {
     match expr {
         Expr::Null | Expr::Bool(_) | Expr::Int(_) => Ok(()),
         Expr::Template(template) => add_parts(&template.parts, found),
-        Expr::List(exprs) => add_list(exprs, found),
+        Expr::List(exprs) => {
+            for expr in exprs {
+                add(expr, found)?;
+            }
+            Ok(())
+        }
         Expr::Map(entries) => add_entries(entries, found),
     }
 }
 
 #[cycle(names)]
-fn add_list(exprs: &Vec<Expr>, found: &mut Names) -> Result<(), AllocError>
-    ensures named { OnOk result (map reference_of found.new.references.items
-        ≡ map reference_of found.old.references.items ++ named_among (trees_view exprs.now.items)) }
-    ensures called { OnOk result (map string_bytes found.new.functions.items
-        ≡ map string_bytes found.old.functions.items ++ called_among (trees_view exprs.now.items)) }
-{
-    for expr in exprs {
-        add(expr, found)?;
-    }
-    Ok(())
-}
-
-#[cycle(names)]
 fn add_entries(entries: &BTreeMap<String, Expr>, found: &mut Names) -> Result<(), AllocError>
-    ensures named { OnOk result (map reference_of found.new.references.items
-        ≡ map reference_of found.old.references.items ++ named_below (entries_view entries.now.entries)) }
-    ensures called { OnOk result (map string_bytes found.new.functions.items
-        ≡ map string_bytes found.old.functions.items ++ called_below (entries_view entries.now.entries)) }
+    ensures { OnOk result (Adds found.old found.new (named_below (entries_view entries.now.entries)) (called_below (entries_view entries.now.entries))) }
 {
     for (_, expr) in entries.iter() {
         add(expr, found)?;

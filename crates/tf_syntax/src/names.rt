@@ -1,6 +1,7 @@
 //! What a template names and calls.
 
 ghost use Rattle.std.specs.Prelude.{◌≡◌, [], ◌∷◌, ◌++◌, IfOk, OnOk, map, string_bytes};
+ghost use Rattle.tf_syntax.specs.Adding.{Adds};
 ghost use Rattle.tf_syntax.specs.TemplateNames.{called, called_among, called_between, called_by, named, named_among, named_between, named_by, reference_of};
 ghost use Rattle.tf_syntax.specs.TemplateTree.{parts_view, template_view, terms_view, view};
 
@@ -65,10 +66,7 @@ fn names_of(alloc: Global, template: &Template) -> Result<Names, AllocError>
 
 #[cycle(names)]
 fn add(term: &Term, found: &mut Names) -> Result<(), AllocError>
-    ensures named { OnOk result (map reference_of found.new.references.items
-        ≡ map reference_of found.old.references.items ++ named_by (view term.now)) }
-    ensures called { OnOk result (map string_bytes found.new.functions.items
-        ≡ map string_bytes found.old.functions.items ++ called_by (view term.now)) }
+    ensures { OnOk result (Adds found.old found.new (named_by (view term.now)) (called_by (view term.now))) }
 {
     match term {
         Term::Number(_) | Term::Truth(_) | Term::Null => Ok(()),
@@ -94,10 +92,7 @@ fn add(term: &Term, found: &mut Names) -> Result<(), AllocError>
 
 #[cycle(names)]
 fn add_terms(terms: &Vec<Term>, found: &mut Names) -> Result<(), AllocError>
-    ensures named { OnOk result (map reference_of found.new.references.items
-        ≡ map reference_of found.old.references.items ++ named_among (terms_view terms.now.items)) }
-    ensures called { OnOk result (map string_bytes found.new.functions.items
-        ≡ map string_bytes found.old.functions.items ++ called_among (terms_view terms.now.items)) }
+    ensures { OnOk result (Adds found.old found.new (named_among (terms_view terms.now.items)) (called_among (terms_view terms.now.items))) }
 {
     for term in terms {
         add(term, found)?;
@@ -108,10 +103,7 @@ fn add_terms(terms: &Vec<Term>, found: &mut Names) -> Result<(), AllocError>
 /// Adds what interpolations name and call.
 #[cycle(names)]
 pub(crate) fn add_parts(parts: &Vec<(String, Term)>, found: &mut Names) -> Result<(), AllocError>
-    ensures named { OnOk result (map reference_of found.new.references.items
-        ≡ map reference_of found.old.references.items ++ named_between (parts_view parts.now.items)) }
-    ensures called { OnOk result (map string_bytes found.new.functions.items
-        ≡ map string_bytes found.old.functions.items ++ called_between (parts_view parts.now.items)) }
+    ensures { OnOk result (Adds found.old found.new (named_between (parts_view parts.now.items)) (called_between (parts_view parts.now.items))) }
 {
     for part in parts {
         add(&part.1, found)?;

@@ -9,7 +9,8 @@ use Rattle.serde_json.specs.Find.{of_integer}
 use Rattle.tf_value.specs.Tree.{Tree, null, boolean, whole, text, list, map, set, unknown, Items, no_items, item, Entries, no_entries, entry, text_items, IsHeld, AreHeld, AreHeldEntries}
 use Rattle.tf_value.specs.Known.{known, known_items, known_entries}
 use Rattle.tf_value.specs.Json.{IsJson, IsArray, IsObject, AreTexts, value_data, items_data, entries_data, texts_data, value_from, whole_from, tree_from, items_from, entries_from}
-use Rattle.tf_value.specs.Sets.{has_no_set, items_have_no_set, entries_have_no_set, with_lists, items_with_lists, entries_with_lists}
+use Rattle.tf_value.specs.Parts.{items_have_only, entries_have_only, items_rewritten, entries_rewritten}
+use Rattle.tf_value.specs.Sets.{has_no_set, with_lists}
 use Rattle.tf_value.proofs.Conjunction.{and-first, and-second, and-both}
 use Rattle.tf_value.proofs.WithLists.{no_set-lists, lists-known}
 
@@ -161,13 +162,13 @@ mutual
   tree_from-form (map es) (json.object ms) h = ap map (entries_from-form es ms h)
   tree_from-form _ _ h = absurd (assumption)
 
-  pub items_from-form : (ts : Items) (ds : json.Items) → IsArray ts ds → items_from ds ≡ items_with_lists ts
+  pub items_from-form : (ts : Items) (ds : json.Items) → IsArray ts ds → items_from ds ≡ items_rewritten false true ts
   items_from-form no_items json.no_items h = refl
   items_from-form (item t ts) (json.item d ds) h =
       let p = tree_from-form t d h.0 in let q = items_from-form ts ds h.1 in cc
   items_from-form _ _ h = absurd (assumption)
 
-  pub entries_from-form : (es : Entries) (ms : json.Members) → IsObject es ms → entries_from ms ≡ entries_with_lists es
+  pub entries_from-form : (es : Entries) (ms : json.Members) → IsObject es ms → entries_from ms ≡ entries_rewritten false true es
   entries_from-form no_entries json.no_members h = refl
   entries_from-form (entry k t es) (json.member l d ms) h =
       let a = h.0 in let p = tree_from-form t d h.1 in let q = entries_from-form es ms h.2 in cc
@@ -218,11 +219,11 @@ mutual
   tree_from-no_set (json.array ds) = items_from-no_set ds
   tree_from-no_set (json.object ms) = entries_from-no_set ms
 
-  items_from-no_set : (ds : json.Items) → items_have_no_set (items_from ds) ≡ true
+  items_from-no_set : (ds : json.Items) → items_have_only true false (items_from ds) ≡ true
   items_from-no_set json.no_items = refl
   items_from-no_set (json.item d ds) = and-both _ _ (tree_from-no_set d) (items_from-no_set ds)
 
-  entries_from-no_set : (ms : json.Members) → entries_have_no_set (entries_from ms) ≡ true
+  entries_from-no_set : (ms : json.Members) → entries_have_only true false (entries_from ms) ≡ true
   entries_from-no_set json.no_members = refl
   entries_from-no_set (json.member k d ms) = and-both _ _ (tree_from-no_set d) (entries_from-no_set ms)
 

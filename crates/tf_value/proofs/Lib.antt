@@ -5,10 +5,12 @@ pub mod Keys
 pub mod Order
 pub mod JsonForms
 pub mod Forms
+pub mod Rewriting
 pub mod WithNulls
 pub mod WithLists
 pub mod Ordered
 pub mod Refining
 pub mod Scalars
+pub mod Sent
 pub mod Storing
 pub mod Tables

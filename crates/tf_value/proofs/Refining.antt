@@ -6,8 +6,8 @@ use Rattle.std.proofs.lemmas.Bool.{false≢true}
 use Rattle.std.proofs.lemmas.Bool.Decides.{same_from_decides}
 use Rattle.std.proofs.lemmas.Slice.Eq.{bytes_eq-Decides}
 use Rattle.tf_value.specs.Equality.{same_texts_Decides}
-use Rattle.tf_value.specs.Tree.{Tree, null, boolean, whole, text, list, map as mapped, set, unknown, Items, no_items, item, Entries, no_entries, entry}
-use Rattle.tf_value.specs.Refinement.{Refines, RefinesItems, RefinesEntries, refined, refined_items, refined_entries}
+use Rattle.tf_value.specs.Tree.{Tree, null, boolean, whole, text, list, map as mapped, set, unknown, Items, no_items, item, Entries, no_entries, entry, compared_items, compared_entries}
+use Rattle.tf_value.specs.Refinement.{Refines, RefinesItems, RefinesEntries, refined}
 
 -- where each of two tests decides its fact, both together decide both facts
 both : {P Q : Type 0} (b c : Bool) → Decides b P → Decides c Q → Decides (b && c) (P × Q)
@@ -26,17 +26,17 @@ mutual
   refined_Decides unknown u = (λ e. tt, λ e. refl)
   refined_Decides _ _ = (λ e. false≢true e, λ e. absurd e)
 
-  pub refined_items_Decides : (ts us : Items) → Decides (refined_items ts us) (RefinesItems ts us)
+  pub refined_items_Decides : (ts us : Items) → Decides (compared_items true ts us) (RefinesItems ts us)
   refined_items_Decides no_items no_items = (λ e. tt, λ e. refl)
   refined_items_Decides (item t ts) (item u us) = both _ _ (refined_Decides t u) (refined_items_Decides ts us)
   refined_items_Decides _ _ = (λ e. false≢true e, λ e. absurd e)
 
-  pub refined_entries_Decides : (ts us : Entries) → Decides (refined_entries ts us) (RefinesEntries ts us)
+  pub refined_entries_Decides : (ts us : Entries) → Decides (compared_entries true ts us) (RefinesEntries ts us)
   refined_entries_Decides no_entries no_entries = (λ e. tt, λ e. refl)
   refined_entries_Decides (entry k t ts) (entry l u us) =
-      let rest : Decides (refined t u && refined_entries ts us) (Refines t u × RefinesEntries ts us) =
+      let rest : Decides (refined t u && compared_entries true ts us) (Refines t u × RefinesEntries ts us) =
       both _ _ (refined_Decides t u) (refined_entries_Decides ts us) in
-      let all : Decides (refined_entries (entry k t ts) (entry l u us)) ((k ≡ l) × (Refines t u × RefinesEntries ts us)) =
+      let all : Decides (compared_entries true (entry k t ts) (entry l u us)) ((k ≡ l) × (Refines t u × RefinesEntries ts us)) =
       both _ _ (bytes_eq-Decides k l) rest in
       (λ e. let p = all.0 e in (p.0, p.1.0, p.1.1), λ r. all.1 (r.0, (r.1, r.2)))
   refined_entries_Decides _ _ = (λ e. false≢true e, λ e. absurd e)

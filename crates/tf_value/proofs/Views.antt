@@ -1,7 +1,8 @@
 -- A value, level by level, and a `BTreeMap` beside the entries that it stands for.
-use Rattle.std.proofs.Common.{◌≡◌, ℕ, List, [], ◌∷◌, ◌++◌, Option, Some, None, option_map, String, Vec, BTreeMap, BTreeSet, Global, Bor, Ordering, Less, Equal, Greater, string_bytes, string_cmp, nat_cmp, is_eq, cond, Bool, true, false, map as each, refl, sym, ap, ◌∙◌, subst, append_assoc, rules}
+use Rattle.std.proofs.Common.{◌≡◌, ℕ, List, [], ◌∷◌, ◌++◌, Option, Some, None, option_map, String, Vec, BTreeMap, BTreeSet, Global, Bor, Ordering, Less, Equal, Greater, string_bytes, string_cmp, nat_cmp, is_eq, cond, map as each, refl, sym, ap, ◌∙◌, subst, append_assoc, rules}
 use Rattle.std.proofs.lemmas.Cmp.{nat_list_cmp_total}
 use Rattle.std.proofs.lemmas.List.{append-nil}
+use Rattle.std.proofs.lemmas.Map.Made.{lookup-map_values}
 use Rattle.std.proofs.lemmas.Map.Text.{is_eq-slice_cmp}
 use Rattle.std.specs.Cmp.Lexicographic.{slice_cmp}
 use Rattle.std.specs.List.{AllByRecursion}
@@ -24,14 +25,14 @@ tree_of-Map m = search (rules, the_lemmas)
 pub tree_of-Set : (s : BTreeSet (String Global)) → tree_of (Texts s) ≡ set (texts_view s.keys)
 tree_of-Set s = search (rules, the_lemmas)
 
-found_or : (b : Bool) (v : Value) (rest : Option Value) (r : Option Tree) → option_map tree_of rest ≡ r → option_map tree_of (cond b (Some v) rest) ≡ cond b (Some (tree_of v)) r
-found_or true v rest r e = refl
-found_or false v rest r e = e
+-- what a look-up finds among trees
+get-lookup : (key : List ℕ) (es : List (String Global × Tree)) → lookup (is_at (λ k. slice_cmp nat_cmp key (string_bytes k))) es ≡ get key (entries_of es)
+get-lookup key [] = refl
+get-lookup key (e ∷ es) = rw (← is_eq-slice_cmp key (string_bytes e.0)) (ap (cond (is_eq (slice_cmp nat_cmp key (string_bytes e.0))) (Some e.1)) (get-lookup key es))
 
 -- what a look-up finds in a `BTreeMap<String, Value>`
 pub tree_of-lookup : (key : List ℕ) (es : List Entry) → option_map tree_of (lookup (is_at (λ k. slice_cmp nat_cmp key (string_bytes k))) es) ≡ get key (entries_view es)
-tree_of-lookup key [] = refl
-tree_of-lookup key (e ∷ es) = rw (← is_eq-slice_cmp key (string_bytes e.0)) (found_or (is_eq (slice_cmp nat_cmp key (string_bytes e.0))) e.1 _ _ (tree_of-lookup key es))
+tree_of-lookup key es = sym (lookup-map_values tree_of (is_at (λ k. slice_cmp nat_cmp key (string_bytes k))) es) ∙ get-lookup key (each (λ e. (e.0, tree_of e.1)) es)
 
 entries_view-match_ordering : (o : Ordering) (a b c : List Entry) → entries_view (match_ordering o a b c) ≡ match_ordering o (entries_view a) (entries_view b) (entries_view c)
 entries_view-match_ordering Less a b c = refl

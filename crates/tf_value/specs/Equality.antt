@@ -7,7 +7,7 @@ use Rattle.std.specs.Ordering.{on}
 use Rattle.std.specs.Str.{bytes_eq}
 use Rattle.std.proofs.Common.{ap}
 use Rattle.std.proofs.lemmas.Slice.Eq.{bytes_eq-Decides, slice_eq-Decides}
-use Rattle.tf_value.specs.Tree.{Tree, null, boolean, whole, text, list, map, set, unknown, Items, no_items, item, Entries, no_entries, entry, same, same_items, same_entries, tree_of}
+use Rattle.tf_value.specs.Tree.{Tree, null, boolean, whole, text, list, map, set, unknown, Items, no_items, item, Entries, no_entries, entry, same, same_entries, compared_items, tree_of}
 
 -- where each of two tests decides its fact, both together decide both facts
 both : {P Q R : Type 0} (b c : Bool) → Decides b P → Decides c Q → (P → Q → R) → (R → P × Q) → Decides (b && c) R
@@ -30,7 +30,7 @@ mutual
   same_Decides unknown unknown = (λ e. refl, λ e. refl)
   same_Decides _ _ = (λ e. cc, λ e. cc)
 
-  pub same_items_Decides : (ts us : Items) → Decides (same_items ts us) (ts ≡ us)
+  pub same_items_Decides : (ts us : Items) → Decides (compared_items false ts us) (ts ≡ us)
   same_items_Decides no_items no_items = (λ e. refl, λ e. refl)
   same_items_Decides (item t ts) (item u us) =
       both _ _ (same_Decides t u) (same_items_Decides ts us) (λ p q. cc) (λ r. (cc, cc))

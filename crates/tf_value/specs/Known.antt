@@ -1,23 +1,14 @@
 -- Values without an unknown part.
-use Rattle.std.specs.Prelude.{Bool, true, false, ◌&&◌}
-use Rattle.tf_value.specs.Tree.{Tree, null, boolean, whole, text, list, map, set, unknown, Items, no_items, item, Entries, no_entries, entry}
+use Rattle.std.specs.Prelude.{Bool, true, false}
+use Rattle.tf_value.specs.Parts.{has_only, items_have_only, entries_have_only}
+use Rattle.tf_value.specs.Tree.{Tree, Items, Entries}
 
 -- A value is known where no part of it is unknown; a set has no such part.
-abbrev mutual
-  pub known : Tree → Bool
-  known null = true
-  known (boolean b) = true
-  known (whole z) = true
-  known (text s) = true
-  known (list ts) = known_items ts
-  known (map es) = known_entries es
-  known (set ss) = true
-  known unknown = false
+abbrev pub known : Tree → Bool
+known t = has_only false true t
 
-  pub known_items : Items → Bool
-  known_items no_items = true
-  known_items (item t ts) = known t && known_items ts
+abbrev pub known_items : Items → Bool
+known_items ts = items_have_only false true ts
 
-  pub known_entries : Entries → Bool
-  known_entries no_entries = true
-  known_entries (entry k t es) = known t && known_entries es
+abbrev pub known_entries : Entries → Bool
+known_entries es = entries_have_only false true es

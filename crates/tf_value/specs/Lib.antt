@@ -1,5 +1,6 @@
 pub mod Tree
 pub mod Equality
+pub mod Parts
 pub mod Known
 pub mod Refinement
 pub mod Measure

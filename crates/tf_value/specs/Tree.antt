@@ -1,5 +1,5 @@
 -- What a value is, as plain data: no pointers, no capacities.
-use Rattle.std.specs.Prelude.{ℕ, ℤ, Bool, true, false, if◌then◌else◌, ◌&&◌, Option, Some, None, List, [], ◌∷◌, map as each, String, string_bytes, FitsSigned, ⊤}
+use Rattle.std.specs.Prelude.{ℕ, ℤ, Bool, true, false, if◌then◌else◌, ◌&&◌, ◌||◌, Option, Some, None, List, [], ◌∷◌, map as each, String, string_bytes, FitsSigned, ⊤}
 use Rattle.std.specs.Ordering.{int_eq, nat_cmp, match_ordering}
 use Rattle.std.specs.Cmp.Lexicographic.{pointwise, slice_cmp}
 use Rattle.std.specs.Int.{w64}
@@ -126,25 +126,37 @@ abbrev mutual
   AreSortedEntries no_entries = ⊤
   AreSortedEntries (entry k t es) = IsSorted t × AreSortedEntries es
 
--- Two values are the same where their trees are.
+abbrev pub is_unknown : Tree → Bool
+is_unknown unknown = true
+is_unknown _ = false
+
+-- Whether two values have the same shape (as many items, the same keys), and their scalars and sets are equal. An unknown
+-- part of the first one stands for any part of the second one where `for_any`, else for an unknown one.
 abbrev mutual
-  pub same : Tree → Tree → Bool
-  same null null = true
-  same (boolean b) (boolean c) = beq b c
-  same (whole y) (whole z) = int_eq y z
-  same (text s) (text t) = bytes_eq s t
-  same (list ts) (list us) = same_items ts us
-  same (map ts) (map us) = same_entries ts us
-  same (set ss) (set ts) = pointwise bytes_eq ss ts
-  same unknown unknown = true
-  same _ _ = false
+  pub compared : Bool → Tree → Tree → Bool
+  compared for_any null null = true
+  compared for_any (boolean b) (boolean c) = beq b c
+  compared for_any (whole y) (whole z) = int_eq y z
+  compared for_any (text s) (text t) = bytes_eq s t
+  compared for_any (list ts) (list us) = compared_items for_any ts us
+  compared for_any (map ts) (map us) = compared_entries for_any ts us
+  compared for_any (set ss) (set ts) = pointwise bytes_eq ss ts
+  compared for_any unknown u = for_any || is_unknown u
+  compared for_any _ _ = false
 
-  pub same_items : Items → Items → Bool
-  same_items no_items no_items = true
-  same_items (item t ts) (item u us) = same t u && same_items ts us
-  same_items _ _ = false
+  pub compared_items : Bool → Items → Items → Bool
+  compared_items for_any no_items no_items = true
+  compared_items for_any (item t ts) (item u us) = compared for_any t u && compared_items for_any ts us
+  compared_items for_any _ _ = false
 
-  pub same_entries : Entries → Entries → Bool
-  same_entries no_entries no_entries = true
-  same_entries (entry k t ts) (entry l u us) = bytes_eq k l && (same t u && same_entries ts us)
-  same_entries _ _ = false
+  pub compared_entries : Bool → Entries → Entries → Bool
+  compared_entries for_any no_entries no_entries = true
+  compared_entries for_any (entry k t ts) (entry l u us) = bytes_eq k l && (compared for_any t u && compared_entries for_any ts us)
+  compared_entries for_any _ _ = false
+
+-- Two values are the same where their trees are.
+abbrev pub same : Tree → Tree → Bool
+same t u = compared false t u
+
+abbrev pub same_entries : Entries → Entries → Bool
+same_entries ts us = compared_entries false ts us

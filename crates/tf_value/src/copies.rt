@@ -1,6 +1,6 @@
 // `copy` and `clone`, written out since a derived one says nothing of a type that holds itself.
 ghost use Rattle.std.specs.Prelude.{◌≡◌, IfOk};
-ghost use Rattle.tf_value.specs.Tree.{tree_of, items_view, entries_view, texts_view};
+ghost use Rattle.tf_value.specs.Tree.{tree_of, texts_view};
 
 use crate::value::Value;
 use std::alloc::AllocError;
@@ -16,7 +16,6 @@ impl Clone for Value {
 }
 
 /// An equal value. Refused only where there is no memory.
-#[cycle(copy)]
 pub fn copy(value: &Value) -> Result<Value, AllocError>
     ensures { IfOk result (λ v. tree_of v ≡ tree_of value.now) }
 {
@@ -25,38 +24,28 @@ pub fn copy(value: &Value) -> Result<Value, AllocError>
         Value::Bool(b) => Ok(Value::Bool(*b)),
         Value::Int(number) => Ok(Value::Int(*number)),
         Value::Text(text) => Ok(Value::Text(text.clone()?)),
-        Value::List(items) => Ok(Value::List(copy_items(items)?)),
-        Value::Map(entries) => Ok(Value::Map(copy_entries(entries)?)),
+        Value::List(items) => {
+            let mut copies = Vec::with_capacity(*items.allocator(), items.len())?;
+            for item in items {
+                copies.push(copy(item)?)?;
+            }
+            Ok(Value::List(copies))
+        }
+        Value::Map(entries) => {
+            let mut copies = BTreeMap::emptied(entries)?;
+            for (key, value) in entries.iter() {
+                let name = key.clone()?;
+                drop(copies.insert(name, copy(value)?)?);
+            }
+            Ok(Value::Map(copies))
+        }
         Value::Set(texts) => Ok(Value::Set(copy_texts(texts)?)),
         Value::Unknown => Ok(Value::Unknown),
     }
 }
 
-#[cycle(copy)]
-fn copy_items(items: &Vec<Value>) -> Result<Vec<Value>, AllocError>
-    ensures { IfOk result (λ v. items_view v.items ≡ items_view items.now.items) }
-{
-    let mut copies = Vec::with_capacity(*items.allocator(), items.len())?;
-    for item in items {
-        copies.push(copy(item)?)?;
-    }
-    Ok(copies)
-}
-
-#[cycle(copy)]
-fn copy_entries(entries: &BTreeMap<String, Value>) -> Result<BTreeMap<String, Value>, AllocError>
-    ensures { IfOk result (λ m. entries_view m.entries ≡ entries_view entries.now.entries) }
-{
-    let mut copies = BTreeMap::emptied(entries)?;
-    for (key, value) in entries.iter() {
-        let name = key.clone()?;
-        drop(copies.insert(name, copy(value)?)?);
-    }
-    Ok(copies)
-}
-
 // The same texts.
-pub(crate) fn copy_texts(texts: &BTreeSet<String>) -> Result<BTreeSet<String>, AllocError>
+fn copy_texts(texts: &BTreeSet<String>) -> Result<BTreeSet<String>, AllocError>
     ensures { IfOk result (λ s. texts_view s.keys ≡ texts_view texts.now.keys) }
 {
     let copies = texts.clone()?;

@@ -9,6 +9,7 @@ mod known;
 mod laws;
 mod measure;
 mod nulls;
+mod parts;
 mod reading;
 mod refinement;
 mod scalar;

@@ -1,4 +1,4 @@
-ghost use Rattle.std.specs.Prelude.{◌≡◌, ◌^◌, ◌-◌, min, IfOk, IfErr, Some, true};
+ghost use Rattle.std.specs.Prelude.{◌≡◌, ◌+◌, ◌^◌, ◌-◌, min, IfOk, IfErr, Some, true};
 ghost use Rattle.serde_json.specs.View.{view, items_view as json_items, members_view};
 ghost use Rattle.tf_value.specs.Stored.{MayBeStored};
 ghost use Rattle.tf_value.specs.Tree.{map, tree_of, items_view, entries_view, IsSorted, AreSorted};
@@ -8,7 +8,7 @@ ghost use Rattle.tf_value.specs.Json.{IsUnread, value_from, tree_from, items_fro
 
 use crate::json::JsonFault;
 use crate::measure::{MAX_DEPTH, MAX_WEIGHT};
-use crate::value::Value;
+use crate::value::{Entries, Value};
 use serde_json::{Map, Value as Json};
 use std::alloc::{AllocError, Global};
 use std::collections::BTreeMap;
@@ -28,7 +28,8 @@ pub fn from_json(alloc: Global, json: &Json) -> Result<Value, JsonFault>
     if !is_whole(json) {
         return Err(JsonFault::NotWhole);
     }
-    if weight_of(json) > MAX_WEIGHT || depth_of(json) > MAX_DEPTH {
+    let measure = measure_of(json);
+    if measure.weight > MAX_WEIGHT || measure.depth > MAX_DEPTH {
         return Err(JsonFault::TooLarge);
     }
     Ok(read(alloc, json)?)
@@ -71,79 +72,78 @@ fn members_are_whole(members: &Map<String, Json>) -> bool
     true
 }
 
-// The weight of the value that the tree reads as.
-#[cycle(weigh)]
-fn weight_of(json: &Json) -> u64
+// How much a value weighs, and how deep it is.
+#[derive(Clone, Copy)]
+struct Measure {
+    weight: u64,
+    depth: u32,
+}
+
+// The measure of the value that the tree reads as.
+#[cycle(measure)]
+fn measure_of(json: &Json) -> Measure
     ensures sorted { IsSorted (tree_from (view json.now)) }
-    ensures total { result ≡ min (weight (tree_from (view json.now))) (2 ^ 64 - 1) }
+    ensures weight { result.weight ≡ min (weight (tree_from (view json.now))) (2 ^ 64 - 1) }
+    ensures depth { result.depth ≡ min (depth (tree_from (view json.now))) (2 ^ 32 - 1) }
 {
     match json {
-        Json::String(text) => (text.len() as u64).saturating_add(1),
-        Json::Array(items) => weigh_items(items).saturating_add(1),
-        Json::Object(members) => weigh_members(members).saturating_add(1),
-        _ => 1,
+        Json::String(text) => Measure {
+            weight: (text.len() as u64).saturating_add(1),
+            depth: 0,
+        },
+        Json::Array(items) => around(measure_of_items(items)),
+        Json::Object(members) => around(measure_of_members(members)),
+        _ => Measure {
+            weight: 1,
+            depth: 0,
+        },
     }
 }
 
-#[cycle(weigh)]
-fn weigh_items(items: &Vec<Json>) -> u64
+// The measure of a list or a map whose parts have a measure together.
+fn around(parts: Measure) -> Measure
+    ensures weight { result.weight ≡ min (1 + parts.weight) (2 ^ 64 - 1) }
+    ensures depth { result.depth ≡ min (1 + parts.depth) (2 ^ 32 - 1) }
+{
+    Measure {
+        weight: parts.weight.saturating_add(1),
+        depth: parts.depth.saturating_add(1),
+    }
+}
+
+#[cycle(measure)]
+fn measure_of_items(items: &Vec<Json>) -> Measure
     ensures sorted { AreSorted (items_from (json_items items.now.items)) }
-    ensures total { result ≡ min (weight_of_items (items_from (json_items items.now.items))) (2 ^ 64 - 1) }
+    ensures weight { result.weight ≡ min (weight_of_items (items_from (json_items items.now.items))) (2 ^ 64 - 1) }
+    ensures depth { result.depth ≡ min (depth_of_items (items_from (json_items items.now.items))) (2 ^ 32 - 1) }
 {
-    let mut total = 0u64;
+    let mut weight = 0u64;
+    let mut depth = 0u32;
     for item in items {
-        total = total.saturating_add(weight_of(item));
+        let part = measure_of(item);
+        weight = weight.saturating_add(part.weight);
+        depth = depth.max(part.depth);
     }
-    total
+    Measure { weight, depth }
 }
 
-#[cycle(weigh)]
+#[cycle(measure)]
 #[tactic(auto, using(crate::proofs::Ordered::members_sorted))]
-fn weigh_members(members: &Map<String, Json>) -> u64
+fn measure_of_members(members: &Map<String, Json>) -> Measure
     ensures sorted { IsSorted (map (entries_from (members_view members.now.entries))) }
-    ensures total { result ≡ min (weight_of_entries (entries_from (members_view members.now.entries))) (2 ^ 64 - 1) }
+    ensures weight { result.weight ≡ min (weight_of_entries (entries_from (members_view members.now.entries))) (2 ^ 64 - 1) }
+    ensures depth { result.depth ≡ min (depth_of_entries (entries_from (members_view members.now.entries))) (2 ^ 32 - 1) }
 {
-    let mut total = 0u64;
+    let mut weight = 0u64;
+    let mut depth = 0u32;
     for (key, member) in members.iter() {
-        total = total
+        let part = measure_of(member);
+        weight = weight
             .saturating_add(key.len() as u64)
-            .saturating_add(weight_of(member));
+            .saturating_add(part.weight);
+        depth = depth.max(part.depth);
     }
-    total
-}
-
-// The depth of the value that the tree reads as.
-#[cycle(nest)]
-fn depth_of(json: &Json) -> u32
-    ensures { result ≡ min (depth (tree_from (view json.now))) (2 ^ 32 - 1) }
-{
-    match json {
-        Json::Array(items) => deepest_item(items).saturating_add(1),
-        Json::Object(members) => deepest_member(members).saturating_add(1),
-        _ => 0,
-    }
-}
-
-#[cycle(nest)]
-fn deepest_item(items: &Vec<Json>) -> u32
-    ensures { result ≡ min (depth_of_items (items_from (json_items items.now.items))) (2 ^ 32 - 1) }
-{
-    let mut deepest = 0u32;
-    for item in items {
-        deepest = deepest.max(depth_of(item));
-    }
-    deepest
-}
-
-#[cycle(nest)]
-fn deepest_member(members: &Map<String, Json>) -> u32
-    ensures { result ≡ min (depth_of_entries (entries_from (members_view members.now.entries))) (2 ^ 32 - 1) }
-{
-    let mut deepest = 0u32;
-    for (_, member) in members.iter() {
-        deepest = deepest.max(depth_of(member));
-    }
-    deepest
+    Measure { weight, depth }
 }
 
 // The value that the tree reads as, with an unknown part for a number that isn't whole.
@@ -176,10 +176,7 @@ fn read_items(alloc: Global, items: &Vec<Json>) -> Result<Vec<Value>, AllocError
 }
 
 #[cycle(read)]
-fn read_members(
-    alloc: Global,
-    members: &Map<String, Json>,
-) -> Result<BTreeMap<String, Value>, AllocError>
+fn read_members(alloc: Global, members: &Map<String, Json>) -> Result<Entries, AllocError>
     ensures { IfOk result (λ m. entries_view m.entries ≡ entries_from (members_view members.now.entries)) }
 {
     let mut entries = BTreeMap::new(alloc);

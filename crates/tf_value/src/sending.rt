@@ -7,9 +7,9 @@ ghost use Rattle.serde_json.specs.Find.{of_integer};
 ghost use Rattle.tf_value.specs.Tree.{tree_of, items_view, entries_view, texts_view};
 ghost use Rattle.tf_value.specs.Json.{value_data, items_data, entries_data, texts_data};
 
-use crate::value::Value;
+use crate::value::{Entries, Value};
 use serde::{Described, Serialize, Serializer};
-use std::collections::{BTreeMap, BTreeSet};
+use std::collections::BTreeSet;
 
 impl Described for Value {
     ghost writes = { λ v. SendsValue (value_data (tree_of v)) };
@@ -62,10 +62,7 @@ fn send_items<S: Serializer>(items: &Vec<Value>, out: &mut S) -> Result<(), S::E
 }
 
 #[cycle(send)]
-fn send_entries<S: Serializer>(
-    entries: &BTreeMap<String, Value>,
-    out: &mut S,
-) -> Result<(), S::Error>
+fn send_entries<S: Serializer>(entries: &Entries, out: &mut S) -> Result<(), S::Error>
     ensures { OnOk result (SendsValue (object (entries_data (entries_view entries.now.entries)))
         (S.written out.old) (S.written out.new)) }
 {

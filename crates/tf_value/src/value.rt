@@ -18,12 +18,15 @@ pub enum Value {
     /// Values in order.
     List(Vec<Value>),
     /// Values by key, in byte order of the keys.
-    Map(BTreeMap<String, Value>),
+    Map(Entries),
     /// Texts, each once, in byte order.
     Set(BTreeSet<String>),
     /// A value that will be known only after an apply.
     Unknown,
 }
+
+/// Values by key, as a map holds them.
+pub(crate) type Entries = BTreeMap<String, Value>;
 
 impl Value {
     ghost use Rattle.tf_value.specs.Tree.{tree_of, part_at};

@@ -5,7 +5,7 @@ ghost use Rattle.tf_value.specs.Json.{IsJson, IsObject, IsUnwritten, value_data,
 
 use crate::json::JsonFault;
 use crate::known::{entries_are_known, is_known};
-use crate::value::Value;
+use crate::value::{Entries, Value};
 use serde_json::{Map, Number, Value as Json};
 use std::alloc::{AllocError, Global};
 use std::collections::{BTreeMap, BTreeSet};
@@ -69,10 +69,7 @@ fn written_items(alloc: Global, items: &Vec<Value>) -> Result<Vec<Json>, AllocEr
 }
 
 #[cycle(write)]
-fn written_entries(
-    alloc: Global,
-    entries: &BTreeMap<String, Value>,
-) -> Result<Map<String, Json>, AllocError>
+fn written_entries(alloc: Global, entries: &Entries) -> Result<Map<String, Json>, AllocError>
     ensures held { OnOk result (AreHeldEntries (entries_view entries.now.entries)) }
     ensures value { IfOk result (λ m. members_view m.entries ≡ entries_data (entries_view entries.now.entries)) }
 {

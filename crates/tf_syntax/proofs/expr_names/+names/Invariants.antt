@@ -4,8 +4,8 @@ use Rattle.tf_syntax.specs.ExprTree.{trees_view, entries_view}
 use Rattle.tf_syntax.proofs.Finding.{Finds}
 use Rattle.tf_syntax.proofs.expr_names.+names.Given as goal
 
-abbrev pub invariant-add_list-loop-expr : goal.invariant-add_list-loop-expr
-invariant-add_list-loop-expr l = Finds l.found l.fn.found named_among called_among (trees_view (drop l.expr-index l.expr-items)) (trees_view l.expr-items)
+abbrev pub invariant-add-loop-expr : goal.invariant-add-loop-expr
+invariant-add-loop-expr l = Finds l.found l.fn.found named_among called_among (trees_view (drop l.expr-index l.expr-items)) (trees_view l.expr-items)
 
 abbrev pub invariant-add_entries-loop-expr : goal.invariant-add_entries-loop-expr
 invariant-add_entries-loop-expr l = Finds l.found l.fn.found named_below called_below (entries_view l.expr-iterator) (entries_view l.entries.entries)

@@ -3,8 +3,8 @@ use Rattle.tf_value.specs.Tree.{tree_of, entries_view}
 use Rattle.tf_value.proofs.Views.{ShownBefore}
 use Rattle.tf_value.proofs.copies.+copy.Given as goal
 
-abbrev pub invariant-copy_items-loop-item : goal.invariant-copy_items-loop-item
-invariant-copy_items-loop-item l = map tree_of l.copies.items ≡ map tree_of (take l.item-index l.item-items)
+abbrev pub invariant-loop-item : goal.invariant-loop-item
+invariant-loop-item l = map tree_of l.copies.items ≡ map tree_of (take l.item-index l.item-items)
 
-abbrev pub invariant-copy_entries-loop-key : goal.invariant-copy_entries-loop-key
-invariant-copy_entries-loop-key l = ShownBefore tree_of l.entries.entries l.key-iterator (entries_view l.copies.entries)
+abbrev pub invariant-loop-key : goal.invariant-loop-key
+invariant-loop-key l = ShownBefore tree_of l.initial.key-iterator l.key-iterator (entries_view l.copies.entries)

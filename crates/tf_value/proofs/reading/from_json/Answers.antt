@@ -13,4 +13,4 @@ returns-clause-stored c =
     let t = tree_of c.in_ok-read.field-0 in
     let whole : known (tree_from d) ≡ true = search rules in
     let within : IsWithinLimits t = search rules in
-    read_stored d t c.in_ok-read.ensures whole within c.weight_of.ensures.sorted
+    read_stored d t c.in_ok-read.ensures whole within c.measure_of-measure.ensures.sorted

@@ -1,15 +1,14 @@
 use Rattle.std.proofs.Common.{drop}
-use Rattle.serde.specs.Event.{Log}
 use Rattle.serde_json.specs.Events.{SendsItems, SendsMembers}
 use Rattle.tf_value.specs.Tree.{items_view, entries_view}
 use Rattle.tf_value.specs.Json.{items_data, entries_data}
+use Rattle.tf_value.proofs.Sent.{GoesOn}
 use Rattle.tf_value.proofs.sending.+send.Given as goal
 
--- whatever ends it well from here ends it well from the start
 abbrev pub invariant-send_items-loop-item : goal.invariant-send_items-loop-item
 invariant-send_items-loop-item g l =
-    (end : Log) → SendsItems (items_data (items_view (drop l.item-index l.item-items))) (g.S.Serializer.written l.out) end → SendsItems (items_data (items_view l.item-items)) (g.S.Serializer.written l.initial.out) end
+    GoesOn SendsItems (items_data (items_view (drop l.item-index l.item-items))) (g.S.Serializer.written l.out) (items_data (items_view l.item-items)) (g.S.Serializer.written l.initial.out)
 
 abbrev pub invariant-send_entries-loop-key : goal.invariant-send_entries-loop-key
 invariant-send_entries-loop-key g l =
-    (end : Log) → SendsMembers (entries_data (entries_view l.key-iterator)) (g.S.Serializer.written l.out) end → SendsMembers (entries_data (entries_view l.initial.key-iterator)) (g.S.Serializer.written l.initial.out) end
+    GoesOn SendsMembers (entries_data (entries_view l.key-iterator)) (g.S.Serializer.written l.out) (entries_data (entries_view l.initial.key-iterator)) (g.S.Serializer.written l.initial.out)
