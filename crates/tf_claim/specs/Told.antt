@@ -2,7 +2,7 @@
 use Rattle.std.specs.Prelude.{◌≡◌, ◌<◌, ◌⊎◌, ℕ, Bool, Option, IsTrue, MatchBool, MatchOption, length}
 use Rattle.tf_graph.specs.Digraph.{Digraph, source, predecessors_of}
 use Rattle.tf_claim.specs.Claims.{Stands}
-use Rattle.tf_claim.specs.Views.{Seated, times, saw, saw_all, knew, took, ended, Owes, MayLetGo, OwnsWayTo}
+use Rattle.tf_claim.specs.Views.{Seated, times, saw, saw_all, knew, took, ended, went, Owes, MayLetGo, OwnsWayTo}
 
 -- whether an action was found done
 pub record Sees (g : Digraph) (n : ℕ) (old new : Seated) (found : Bool) : Type 0 where
@@ -25,4 +25,10 @@ pub record Finishes (g : Digraph) (n : ℕ) (old new : Seated) : Type 0 where
   pub table : new.table ≡ old.table
   pub ended_is : new.view ≡ ended n old.view
   pub free : (e : ℕ) → e < length g.edges → source g e ≡ n → MayLetGo g e new.view
+  pub kept : Stands g new.view
+
+-- an edge out of an action that the seat finished is let go of
+pub record LetsGo (g : Digraph) (e : ℕ) (old new : Seated) : Type 0 where
+  pub table : new.table ≡ old.table
+  pub went_is : new.view ≡ went e old.view
   pub kept : Stands g new.view
