@@ -21,6 +21,13 @@ pub record Moves (g : Digraph) (stage stage' : ℕ → ℕ) (v w : View) : Type 
   pub before : (e : ℕ) → e < length g.edges → 0 < stage' (target g e) → stage' (source g e) ≡ 2
   pub says : IsTrueOf g stage' w
 
+-- what holds of each number that stands in a list, and of one more
+one_more : (P : ℕ → Type 0) (n : ℕ) (xs : List ℕ) → P n → ((m : ℕ) → 0 < times m xs → P m) → (m : ℕ) → 0 < times m (n ∷ xs) → P m
+one_more P n xs is all m h = elim (cases_eq n m) [
+  | inl here ↦ subst P here is
+  | inr other ↦ (let t = times-cons_other m n xs other in all m (omega arith))
+]
+
 module _ (g : Digraph) (stage stage' count count' : ℕ → ℕ) (views : List View) (k : ℕ) (v : View) (rule : IsKept g stage count views) (at : get_elem? views k ≡ some v) where
   true_later : (u : View) → ((n : ℕ) → stage n ≤ stage' n) → ((n : ℕ) → stage' n ≤ 2) → IsTrueOf g stage u → IsTrueOf g stage' u
   true_later u up top t =
@@ -102,10 +109,7 @@ module _ (g : Digraph) (stage stage' count count' : ℕ → ℕ) (views : List V
   saw-true n is =
       record {
         own = mine.own;
-        seen = λ m h. elim (cases_eq n m) [
-          | inl here ↦ rw (← here) is
-          | inr other ↦ (let t = times-cons_other m n v.seen other in mine.seen m (omega arith))
-        ];
+        seen = one_more (λ m. stage m ≡ 2) n v.seen is mine.seen;
         known = mine.known;
         let_go = mine.let_go;
         edges = mine.edges;
@@ -116,10 +120,7 @@ module _ (g : Digraph) (stage stage' count count' : ℕ → ℕ) (views : List V
       record {
         own = mine.own;
         seen = mine.seen;
-        known = λ m h. elim (cases_eq n m) [
-          | inl here ↦ rw (← here) is
-          | inr other ↦ (let t = times-cons_other m n v.known other in mine.known m (omega arith))
-        ];
+        known = one_more (λ m. 0 < stage m) n v.known is mine.known;
         let_go = mine.let_go;
         edges = mine.edges;
       }
@@ -272,10 +273,7 @@ module _ (g : Digraph) (stage stage' count count' : ℕ → ℕ) (views : List V
                 (let t = times-cons_same n v.finished in let a = owes.1 in let b = owes.2 in subst P here (omega arith))
             | inr other ↦ (let t = times-cons_other m n v.finished other in rw t (mine.own m))
           ];
-          seen = λ m h. elim (cases_eq n m) [
-            | inl here ↦ rw (← here) is
-            | inr other ↦ (let t = times-cons_other m n v.seen other in later.seen m (omega arith))
-          ];
+          seen = one_more (λ m. stage' m ≡ 2) n v.seen is later.seen;
           known = later.known;
           let_go = λ e. (let o = mine.let_go e in omega arith);
           edges = later.edges;

@@ -5,6 +5,7 @@ ghost use Rattle.std.specs.Prelude.{◌≡◌, ◌<◌, ◌+◌, ◌*◌, ◌⊎
 ghost use Rattle.tf_graph.specs.Digraph.{Digraph, source, target, predecessors_of};
 ghost use Rattle.tf_claim.specs.Views.{nothing, times, saw, saw_all, knew, took, ended, went, went_all, edges_from, both, steps_of, Owes, MayLetGo, HasSeenWayTo, OwnsWayTo, IsWhole};
 ghost use Rattle.tf_claim.specs.Claims.{Begins, Stands};
+ghost use Rattle.tf_claim.specs.Told.{Sees, Tries, Finishes, LetsGo};
 
 use crate::permit::{Finished, Permit};
 use crate::rule::{About, Another, Count, End, Law, Look, Release, Rest, Take, Together};
@@ -98,13 +99,7 @@ impl Claims {
         requires about { (B.graph ≡ self.now.graph) × (B.number ≡ action) }
         requires seat { seat.old.table ≡ self.now.table }
         requires action { action < self.now.graph.nodes }
-        ensures table { seat.new.table ≡ seat.old.table }
-        ensures seen { MatchBool result
-            (seat.new.view ≡ saw action seat.old.view)
-            (seat.new.view ≡ seat.old.view) }
-        ensures again { (0 < times action seat.old.view.seen) ⊎ (0 < times action seat.old.view.finished)
-            → IsTrue result }
-        ensures kept { Stands self.now.graph seat.new.view }
+        ensures { Sees self.now.graph action seat.old seat.new result }
     {
         let found = self
             .table
@@ -137,16 +132,7 @@ impl Claims {
         requires about { (B.graph ≡ self.now.graph) × (B.number ≡ action) }
         requires seat { seat.old.table ≡ self.now.table }
         requires action { action < self.now.graph.nodes }
-        ensures table { seat.new.table ≡ seat.old.table }
-        ensures claimed { MatchOption result
-            ((seat.new.view ≡ seat.old.view)
-            ⊎ (seat.new.view ≡ knew action (saw_all (predecessors_of self.now.graph action) seat.old.view)))
-            (λ permit. (permit ≡ action) × Owes self.now.graph action seat.new.view
-            × (seat.new.view ≡ took action (saw_all (predecessors_of self.now.graph action) seat.old.view))) }
-        ensures own { OwnsWayTo self.now.graph action seat.old.view → MatchOption result
-            (seat.new.view ≡ knew action (saw_all (predecessors_of self.now.graph action) seat.old.view))
-            (λ _. Unit {0}) }
-        ensures kept { Stands self.now.graph seat.new.view }
+        ensures { Tries self.now.graph action seat.old seat.new result }
     {
         if self.is_held_back::<B>(seat, action) || !self.takes::<B>(seat, action) {
             return None;
@@ -214,11 +200,7 @@ impl Claims {
         requires about { (B.graph ≡ self.now.graph) × (B.number ≡ finished) }
         requires seat { seat.old.table ≡ self.now.table }
         requires owed { Owes self.now.graph finished seat.old.view }
-        ensures table { seat.new.table ≡ seat.old.table }
-        ensures ended { seat.new.view ≡ ended finished seat.old.view }
-        ensures free { (e : ℕ) → e < length self.now.graph.edges → source self.now.graph e ≡ finished
-            → MayLetGo self.now.graph e seat.new.view }
-        ensures kept { Stands self.now.graph seat.new.view }
+        ensures { Finishes self.now.graph finished seat.old seat.new }
     {
         self.table
             .shared
@@ -239,18 +221,6 @@ impl Claims {
         self.let_go_as::<Brand>(seat, edge)
     }
 
-    fn let_go_as<B: About>(&self, seat: &mut Seat, edge: usize)
-        requires about { (B.graph ≡ self.now.graph) × (B.number ≡ edge) }
-        requires seat { seat.old.table ≡ self.now.table }
-        requires may { MayLetGo self.now.graph edge seat.old.view }
-        ensures table { seat.new.table ≡ seat.old.table }
-        ensures went { seat.new.view ≡ went edge seat.old.view }
-        ensures kept { Stands self.now.graph seat.new.view }
-    {
-        let (_, action) = self.graph.edges()[edge];
-        self.release::<B>(seat, action);
-    }
-
     /// Lets go of each edge out of an action that this seat finished, in the order of the graph's list, none
     /// of which it has let go of. It takes time linear in their number.
     pub fn let_go_from(&self, seat: &mut Seat, action: usize)
@@ -264,6 +234,17 @@ impl Claims {
         for place in 0..self.graph.successors(action).len() {
             self.let_go_out_as::<Brand>(seat, action, place);
         }
+    }
+
+    /// Lets go of an edge that the step is about.
+    fn let_go_as<B: About>(&self, seat: &mut Seat, edge: usize)
+        requires about { (B.graph ≡ self.now.graph) × (B.number ≡ edge) }
+        requires seat { seat.old.table ≡ self.now.table }
+        requires may { MayLetGo self.now.graph edge seat.old.view }
+        ensures { LetsGo self.now.graph edge seat.old seat.new }
+    {
+        let (_, action) = self.graph.edges()[edge];
+        self.release::<B>(seat, action);
     }
 
     /// Lets go of the edge at a place among those out of an action.
@@ -287,9 +268,7 @@ impl Claims {
         requires seat { seat.old.table ≡ self.now.table }
         requires action { action < self.now.graph.nodes }
         requires may { MayLetGo self.now.graph B.number seat.old.view }
-        ensures table { seat.new.table ≡ seat.old.table }
-        ensures went { seat.new.view ≡ went B.number seat.old.view }
-        ensures kept { Stands self.now.graph seat.new.view }
+        ensures { LetsGo self.now.graph B.number seat.old seat.new }
     {
         self.table
             .shared

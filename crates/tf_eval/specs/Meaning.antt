@@ -21,12 +21,7 @@ and_then (Err fault) next = Err fault
 abbrev pub choice : Tree → Result (Option Bool) EvalFault
 choice (boolean b) = Ok (Some b)
 choice unknown = Ok None
-choice null = Err WrongKind
-choice (whole z) = Err WrongKind
-choice (text s) = Err WrongKind
-choice (list ts) = Err WrongKind
-choice (map es) = Err WrongKind
-choice (set ss) = Err WrongKind
+choice _ = Err WrongKind
 
 -- Only the branch that a condition chooses matters, and neither where the condition isn't known yet.
 abbrev pub chosen : Option Bool → Answer → Answer → Answer

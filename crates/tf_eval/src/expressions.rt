@@ -1,11 +1,10 @@
 //! Evaluation of expressions.
 
-ghost use Rattle.std.specs.Prelude.{map as each};
-ghost use Rattle.tf_value.specs.Tree.{tree_of as value_of, entries_view as entries_of_values};
+ghost use Rattle.tf_value.specs.Tree.{entries_view as entries_of_values};
 ghost use Rattle.tf_operators.specs.Answer.{Gives};
 ghost use Rattle.tf_eval.specs.Answering.{GivesAs};
-ghost use Rattle.tf_eval.specs.ExprMeaning.{meaning, meanings, below};
-ghost use Rattle.tf_syntax.specs.ExprTree.{tree_of, trees_view, entries_view};
+ghost use Rattle.tf_eval.specs.ExprMeaning.{meaning, below};
+ghost use Rattle.tf_syntax.specs.ExprTree.{tree_of, entries_view};
 
 use crate::evaluation::eval;
 use crate::scope::Scope;
@@ -30,25 +29,15 @@ pub fn eval_expr<S: Scope>(alloc: Global, expr: &Expr, scope: &S) -> Result<Valu
         Expr::Bool(truth) => Ok(Value::Bool(*truth)),
         Expr::Int(number) => Ok(Value::Int(*number)),
         Expr::Template(template) => eval(alloc, template, scope),
-        Expr::List(exprs) => list(eval_exprs(alloc, exprs, scope)?),
+        Expr::List(exprs) => {
+            let mut values = Vec::with_capacity(alloc, exprs.len())?;
+            for part in exprs {
+                values.push(eval_expr(alloc, part, scope)?)?;
+            }
+            list(values)
+        }
         Expr::Map(entries) => map(eval_entries(alloc, entries, scope)?),
     }
-}
-
-/// The values of expressions in a row.
-#[cycle(eval)]
-fn eval_exprs<S: Scope>(
-    alloc: Global,
-    exprs: &Vec<Expr>,
-    scope: &S,
-) -> Result<Vec<Value>, EvalFault>
-    ensures { GivesAs (λ v. each value_of v.items) (meanings (S.environment scope.now) (trees_view exprs.now.items)) result }
-{
-    let mut values = Vec::with_capacity(alloc, exprs.len())?;
-    for expr in exprs {
-        values.push(eval_expr(alloc, expr, scope)?)?;
-    }
-    Ok(values)
 }
 
 /// The values of expressions under their names.

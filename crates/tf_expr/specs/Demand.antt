@@ -28,6 +28,13 @@ IsMet (a_plain_name text) = IsPlain text
 IsMet (a_whole_number number) = IsTrue (known (whole_from number))
 IsMet (a_template text) = (w : Woven) × IsTemplate w text
 
+-- what there is to check, in walk order
+abbrev pub Checks : Type 0
+Checks = List (Check Demand)
+
+abbrev pub AreMet : Checks → Type 0
+AreMet = AllMet IsMet
+
 -- How a text fails to be a template: it spells none, or each that it spells is too deep. The offset is free.
 abbrev pub IsNoTemplate : List ℕ → Cause → Type 0
 IsNoTemplate text BadShape = ⊥
@@ -39,14 +46,6 @@ abbrev pub Fails : Demand → Cause → Type 0
 Fails (a_plain_name text) cause = (¬ IsPlain text) × (cause ≡ BadShape)
 Fails (a_whole_number number) cause = (known (whole_from number) ≡ false) × (cause ≡ BadShape)
 Fails (a_template text) cause = IsNoTemplate text cause
-
--- what there is to check, in walk order
-abbrev pub Checks : Type 0
-Checks = List (Check Demand)
-
--- nothing is wrong
-abbrev pub AreMet : Checks → Type 0
-AreMet = AllMet IsMet
 
 -- The first fault of the checks is what is told, or there was no memory.
 abbrev pub Refuses : Checks → Told → Type 0

@@ -40,11 +40,7 @@ pub fn read_expr(alloc: Global, json: &Value) -> Result<Expr, ExprFault>
 ///
 /// As those of `read_expr`.
 #[cycle(read)]
-pub fn read_expr_at<'a>(
-    alloc: Global,
-    path: &'a Path<'a>,
-    json: &'a Value,
-) -> Result<Expr, ExprFault>
+pub fn read_expr_at(alloc: Global, path: &Path<'_>, json: &Value) -> Result<Expr, ExprFault>
     ensures ok { IfOk result (λ e. IsExpr (view json.now) (tree_of e)) }
     ensures fault { IfErr result (λ fault.
         Refuses (expr_checks (place_of path.now) (view json.now)) (told fault)) }

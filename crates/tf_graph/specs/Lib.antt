@@ -8,4 +8,3 @@ pub mod Closure
 pub mod Search
 pub mod Strip
 pub mod Removal
-pub mod Fault

@@ -23,6 +23,18 @@ pub record AreKnown (g : Digraph) (rows : List (List Bool)) (known : List Bool) 
   pub found : (a b : ℕ) → has known a ≡ true → Reaches g a b → has (row_of rows a) b ≡ true
   pub led : (a b : ℕ) → has known a ≡ true → has (row_of rows a) b ≡ true → Reaches g a b
 
+-- what is known of a graph: a row for each node, and the known nodes, whose rows are exactly what these reach
+pub record IsTold (g : Digraph) (rows : List (List Bool)) (known : List Bool) : Type 0 where
+  pub count : length rows ≡ g.nodes
+  pub long : AreLong g.nodes rows
+  pub known_length : length known ≡ g.nodes
+  pub rows_known : AreKnown g rows known
+
+-- the sets of a search have a place for each node
+pub record IsWide (nodes : ℕ) (row settled : List Bool) : Type 0 where
+  pub row_length : length row ≡ nodes
+  pub settled_length : length settled ≡ nodes
+
 -- a search from a node on its way: the row holds only what the node reaches; the settled ones are members with
 -- all that they reach; whatever was reached is pending, or settled, or its successors are members
 pub record IsSearch (g : Digraph) (start : ℕ) (row settled : List Bool) (pending : List ℕ) : Type 0 where

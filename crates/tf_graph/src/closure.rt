@@ -5,7 +5,7 @@ ghost use Rattle.tf_graph.specs.Digraph.{Digraph};
 ghost use Rattle.tf_graph.specs.Path.{Reaches};
 ghost use Rattle.tf_graph.specs.NodeSet.{has};
 ghost use Rattle.tf_graph.specs.Closure.{IsClosure, reaches};
-ghost use Rattle.tf_graph.specs.Search.{row_of, missing, AreLong, AreKnown, IsSearch, IsWalk};
+ghost use Rattle.tf_graph.specs.Search.{row_of, missing, AreLong, IsSearch, IsTold, IsWalk, IsWide};
 
 use crate::graph::Graph;
 use crate::node_set::NodeSet;
@@ -89,23 +89,27 @@ fn fill(
     node: usize,
 ) -> Result<(), AllocError>
     requires node { node < graph.now.nodes }
-    requires count { length rows.old ≡ graph.now.nodes }
-    requires long { AreLong graph.now.nodes rows.old }
-    requires known_length { length known.old ≡ graph.now.nodes }
-    requires known { AreKnown graph.now rows.old known.old }
-    ensures long { AreLong graph.now.nodes rows.new }
-    ensures known_length { length known.new ≡ length known.old }
-    ensures known { AreKnown graph.now rows.new known.new }
+    requires told { IsTold graph.now rows.old known.old }
+    ensures told { IsTold graph.now rows.new known.new }
     ensures done { OnOk result (has known.new node ≡ true) }
     ensures kept { (k : ℕ) → has known.old k ≡ true → has known.new k ≡ true }
 {
     if known.contains(node) {
         return Ok(());
     }
-    let row = reached_from(alloc, graph, rows, known, node)?;
+    let row = reached_from(alloc, &Told { graph, rows, known }, node)?;
     rows[node] = row;
     known.insert(node);
     Ok(())
+}
+
+/// What is known of a graph: the rows of some of its nodes.
+#[derive(Clone, Copy)]
+struct Told<'a> {
+    graph: &'a Graph,
+    rows: &'a [NodeSet],
+    /// The nodes whose rows are known.
+    known: &'a NodeSet,
 }
 
 /// What a search from a node has found.
@@ -120,23 +124,14 @@ struct Search {
 }
 
 /// The nodes that a node reaches.
-fn reached_from(
-    alloc: Global,
-    graph: &Graph,
-    rows: &[NodeSet],
-    known: &NodeSet,
-    node: usize,
-) -> Result<NodeSet, AllocError>
-    requires node { node < graph.now.nodes }
-    requires count { length rows.now ≡ graph.now.nodes }
-    requires long { AreLong graph.now.nodes rows.now }
-    requires known_length { length known.now ≡ graph.now.nodes }
-    requires known { AreKnown graph.now rows.now known.now }
-    ensures length { IfOk result (λ row. length row ≡ graph.now.nodes) }
-    ensures found { IfOk result (λ row. (b : ℕ) → Reaches graph.now node b → has row b ≡ true) }
-    ensures led { IfOk result (λ row. (b : ℕ) → has row b ≡ true → Reaches graph.now node b) }
+fn reached_from(alloc: Global, told: &Told<'_>, node: usize) -> Result<NodeSet, AllocError>
+    requires node { node < told.now.graph.now.nodes }
+    requires told { IsTold told.now.graph.now told.now.rows.now told.now.known.now }
+    ensures length { IfOk result (λ row. length row ≡ told.now.graph.now.nodes) }
+    ensures found { IfOk result (λ row. (b : ℕ) → Reaches told.now.graph.now node b → has row b ≡ true) }
+    ensures led { IfOk result (λ row. (b : ℕ) → has row b ≡ true → Reaches told.now.graph.now node b) }
 {
-    let nodes = graph.nodes();
+    let nodes = told.graph.nodes();
     let row = NodeSet::new(alloc, nodes)?;
     let settled = NodeSet::new(alloc, nodes)?;
     let mut search = Search {
@@ -147,71 +142,49 @@ fn reached_from(
     search.pending.push(node)?;
     while let Some(next) = search.pending.pop() {
         if !search.settled.contains(next) {
-            visit(graph, rows, known, &mut search, next)?;
+            visit(told, &mut search, next)?;
         }
     }
     Ok(search.row)
 }
 
 /// Looks at the successors of a node.
-fn visit(
-    graph: &Graph,
-    rows: &[NodeSet],
-    known: &NodeSet,
-    search: &mut Search,
-    node: usize,
-) -> Result<(), AllocError>
-    requires node { node < graph.now.nodes }
-    requires count { length rows.now ≡ graph.now.nodes }
-    requires long { AreLong graph.now.nodes rows.now }
-    requires known_length { length known.now ≡ graph.now.nodes }
-    requires known { AreKnown graph.now rows.now known.now }
-    requires row_length { length search.old.row ≡ graph.now.nodes }
-    requires settled_length { length search.old.settled ≡ graph.now.nodes }
-    ensures row_length { length search.new.row ≡ length search.old.row }
-    ensures settled_length { length search.new.settled ≡ length search.old.settled }
+fn visit(told: &Told<'_>, search: &mut Search, node: usize) -> Result<(), AllocError>
+    requires node { node < told.now.graph.now.nodes }
+    requires told { IsTold told.now.graph.now told.now.rows.now told.now.known.now }
+    requires wide { IsWide told.now.graph.now.nodes search.old.row search.old.settled }
+    ensures wide { IsWide told.now.graph.now.nodes search.new.row search.new.settled }
     ensures search { OnOk result ((start : ℕ)
-        → IsSearch graph.now start search.old.row search.old.settled (search.old.pending.items ++ node ∷ [])
-        → IsSearch graph.now start search.new.row search.new.settled search.new.pending.items) }
-    ensures smaller { OnOk result (missing search.new.row graph.now.nodes + vec_len search.new.pending
-        ≤ missing search.old.row graph.now.nodes + vec_len search.old.pending) }
+        → IsSearch told.now.graph.now start search.old.row search.old.settled (search.old.pending.items ++ node ∷ [])
+        → IsSearch told.now.graph.now start search.new.row search.new.settled search.new.pending.items) }
+    ensures smaller { OnOk result (missing search.new.row told.now.graph.now.nodes + vec_len search.new.pending
+        ≤ missing search.old.row told.now.graph.now.nodes + vec_len search.old.pending) }
 {
-    for next in graph.successors(node) {
-        reach(graph, rows, known, search, *next)?;
+    for next in told.graph.successors(node) {
+        reach(told, search, *next)?;
     }
     Ok(())
 }
 
 /// Notes that a node is reached.
-fn reach(
-    graph: &Graph,
-    rows: &[NodeSet],
-    known: &NodeSet,
-    search: &mut Search,
-    node: usize,
-) -> Result<(), AllocError>
-    requires node { node < graph.now.nodes }
-    requires count { length rows.now ≡ graph.now.nodes }
-    requires long { AreLong graph.now.nodes rows.now }
-    requires known_length { length known.now ≡ graph.now.nodes }
-    requires known { AreKnown graph.now rows.now known.now }
-    requires row_length { length search.old.row ≡ graph.now.nodes }
-    requires settled_length { length search.old.settled ≡ graph.now.nodes }
-    ensures row_length { length search.new.row ≡ length search.old.row }
-    ensures settled_length { length search.new.settled ≡ length search.old.settled }
-    ensures search { OnOk result ((start : ℕ) (rest : List ℕ) → Reaches graph.now start node
-        → IsSearch graph.now start search.old.row search.old.settled (search.old.pending.items ++ rest)
-        → IsSearch graph.now start search.new.row search.new.settled (search.new.pending.items ++ rest)
+fn reach(told: &Told<'_>, search: &mut Search, node: usize) -> Result<(), AllocError>
+    requires node { node < told.now.graph.now.nodes }
+    requires told { IsTold told.now.graph.now told.now.rows.now told.now.known.now }
+    requires wide { IsWide told.now.graph.now.nodes search.old.row search.old.settled }
+    ensures wide { IsWide told.now.graph.now.nodes search.new.row search.new.settled }
+    ensures search { OnOk result ((start : ℕ) (rest : List ℕ) → Reaches told.now.graph.now start node
+        → IsSearch told.now.graph.now start search.old.row search.old.settled (search.old.pending.items ++ rest)
+        → IsSearch told.now.graph.now start search.new.row search.new.settled (search.new.pending.items ++ rest)
         × (has search.new.row node ≡ true)) }
     ensures kept { OnOk result ((k : ℕ) → has search.old.row k ≡ true → has search.new.row k ≡ true) }
-    ensures smaller { OnOk result (missing search.new.row graph.now.nodes + vec_len search.new.pending
-        ≤ missing search.old.row graph.now.nodes + vec_len search.old.pending) }
+    ensures smaller { OnOk result (missing search.new.row told.now.graph.now.nodes + vec_len search.new.pending
+        ≤ missing search.old.row told.now.graph.now.nodes + vec_len search.old.pending) }
 {
     if search.settled.contains(node) {
         return Ok(());
     }
-    if known.contains(node) {
-        let row = &rows[node];
+    if told.known.contains(node) {
+        let row = &told.rows[node];
         search.row.insert(node);
         search.row.add_all(row);
         search.settled.insert(node);

@@ -2,13 +2,9 @@
 
 ghost use Rattle.std.specs.Prelude.{◌≡◌, ◌<◌, ◌≤◌, ◌↔◌, ◌==◌, ◌++◌, ◌∷◌, [], ℕ, length, All, Some, IfOk, OnOk, IsErrOf, MatchBool, if◌then◌else◌};
 ghost use Rattle.tf_graph.specs.Digraph.{Digraph, IsWithin, HasOutside, sources_into, targets_from, predecessors_of, successors_of};
-ghost use Rattle.tf_graph.specs.Fault.{text_of};
 ghost use Rattle.tf_graph.specs.Lists.{row};
-ghost use Rattle.tf_graph.specs.declared.graph.GraphFault.TheVariants.{OutOfMemory};
 
 use std::alloc::{AllocError, AllocFailed, Global};
-use std::error::Error;
-use std::fmt;
 use std::marker::Model;
 
 /// The most nodes that a graph may have.
@@ -24,28 +20,6 @@ pub enum GraphFault {
     /// Memory ran out.
     OutOfMemory,
 }
-
-impl From<AllocError> for GraphFault {
-    ghost from_gives = { λ _ fault. fault ≡ OutOfMemory };
-
-    fn from(_error: AllocError) -> GraphFault {
-        GraphFault::OutOfMemory
-    }
-}
-
-impl fmt::Display for GraphFault {
-    ghost output = { λ fault. Some (text_of fault) };
-
-    fn fmt<W: fmt::Write>(&self, f: &mut fmt::Formatter<W>) -> fmt::Result {
-        match self {
-            GraphFault::TooMany => write!(f, "more than 8000 nodes"),
-            GraphFault::OutOfRange => write!(f, "an edge has an end that is no node"),
-            GraphFault::OutOfMemory => write!(f, "out of memory"),
-        }
-    }
-}
-
-impl Error for GraphFault {}
 
 /// A finite directed graph: a number of nodes, and a list of edges. An edge `(a, b)` says that `a`
 /// stands before `b`. Self-loops are edges like any other, and an edge may stand more than once.
@@ -84,6 +58,16 @@ impl Graph {
         if !is_within(nodes, edges) {
             return Err(GraphFault::OutOfRange);
         }
+        Graph::of(alloc, nodes, edges).map_err(|_| GraphFault::OutOfMemory)
+    }
+
+    /// The graph of `nodes` nodes, named 0 up, with these edges, whose ends are nodes. Refused only
+    /// where there is no memory.
+    pub fn of(alloc: Global, nodes: usize, edges: &[(usize, usize)]) -> Result<Graph, AllocError>
+        requires few { nodes ≤ MAX_NODES }
+        requires within { IsWithin nodes edges.now }
+        ensures { IfOk result (λ g. (g.nodes ≡ nodes) × (g.edges ≡ edges.now)) }
+    {
         let (before, after) = neighbours(alloc, nodes, edges)?;
         let edges = Vec::from_slice(alloc, edges)?;
         Ok(Graph {
@@ -98,11 +82,7 @@ impl Graph {
     pub fn copy(&self, alloc: Global) -> Result<Graph, AllocError>
         ensures { IfOk result (λ copy. copy ≡ self.now) }
     {
-        match Graph::new(alloc, self.nodes(), self.edges()) {
-            Ok(copy) => Ok(copy),
-            Err(GraphFault::OutOfMemory) => Err(AllocError),
-            Err(GraphFault::TooMany | GraphFault::OutOfRange) => unreachable!(),
-        }
+        Graph::of(alloc, self.nodes(), self.edges())
     }
 
     /// How many nodes there are.

@@ -3,10 +3,11 @@
 ghost use Rattle.std.specs.Prelude.{◌≡◌, IsTrue, pos, vec_len};
 ghost use Rattle.tf_value.specs.Tree.{list, tree_of, items_view};
 ghost use Rattle.tf_operators.specs.Answer.{Answers, Gives, whole_value};
-ghost use Rattle.tf_operators.specs.Functions.{call_value, takes, length_value, join_value, spaced, spaced_value};
+ghost use Rattle.tf_operators.specs.Functions.{call_value, takes, length_value, join_value, merge_value, concat_value, spaced, spaced_value};
+ghost use Rattle.tf_operators.specs.declared.function.Function.TheVariants.{Merge, Concat};
 ghost use Rattle.tf_operators.specs.Joining.{joined_value};
 
-use crate::collections::{concat, keys, merge, toset, values};
+use crate::collections::{concat, has_unknown, keys, merge, toset, values};
 use crate::fault::EvalFault;
 use crate::function::Function;
 use crate::joining::Joiner;
@@ -24,8 +25,7 @@ pub fn call(alloc: Global, function: Function, arguments: Vec<Value>) -> Result<
 {
     let mut arguments = arguments;
     match function {
-        Function::Merge => return merge(alloc, arguments),
-        Function::Concat => return concat(alloc, arguments),
+        Function::Merge | Function::Concat => return in_one(alloc, function, arguments),
         _ => {}
     }
     let Some(last) = arguments.pop() else {
@@ -40,6 +40,20 @@ pub fn call(alloc: Global, function: Function, arguments: Vec<Value>) -> Result<
             Some(separator) => join(alloc, separator, last),
             None => Err(EvalFault::Arity),
         },
+    }
+}
+
+// Maps in one, or lists.
+fn in_one(alloc: Global, function: Function, arguments: Vec<Value>) -> Result<Value, EvalFault>
+    ensures merge { function ≡ Merge → Gives (merge_value (items_view arguments.items)) result }
+    ensures concat { function ≡ Concat → Gives (concat_value (items_view arguments.items)) result }
+{
+    if has_unknown(&arguments) {
+        return Ok(Value::Unknown);
+    }
+    match function {
+        Function::Merge => merge(alloc, arguments),
+        _ => concat(alloc, arguments),
     }
 }
 

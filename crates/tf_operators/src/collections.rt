@@ -1,11 +1,11 @@
 //! Functions on lists, maps and sets.
 
 ghost use Rattle.std.specs.Prelude.{◌≡◌, IfOk, OnOk, map as each, []};
-ghost use Rattle.std.specs.BTreeMap.{keys as map_keys, values as map_values};
-ghost use Rattle.tf_value.specs.Tree.{tree_of, items_view, entries_view};
+ghost use Rattle.std.specs.BTreeMap.{keys as map_keys};
+ghost use Rattle.tf_value.specs.Tree.{no_entries, tree_of, items_view, entries_view};
 ghost use Rattle.tf_value.specs.declared.value.Value.{Text};
 ghost use Rattle.tf_operators.specs.Answer.{Answers, Gives, any_unknown};
-ghost use Rattle.tf_operators.specs.Functions.{keys_value, values_value, merge_value, concat_value, laid_over, set_value, toset_value, texts_value, texts_with};
+ghost use Rattle.tf_operators.specs.Functions.{keys_value, values_value, concatenated, entries_value, items_value, laid_over, merged_onto, set_value, toset_value, texts_value, texts_with};
 
 use crate::building::{list, map};
 use crate::fault::EvalFault;
@@ -36,24 +36,15 @@ pub(crate) fn values(alloc: Global, argument: Value) -> Result<Value, EvalFault>
 {
     match argument {
         Value::Unknown => Ok(Value::Unknown),
-        Value::Map(entries) => Ok(Value::List(entry_values(alloc, entries)?)),
+        Value::Map(entries) => Ok(Value::List(entries.into_values().collect(alloc)?)),
         _ => Err(EvalFault::WrongKind),
     }
 }
 
-fn entry_values(alloc: Global, entries: BTreeMap<String, Value>) -> Result<Vec<Value>, AllocError>
-    ensures { IfOk result (λ v. v.items ≡ map_values entries) }
-{
-    entries.into_values().collect(alloc)
-}
-
 // Maps in one.
 pub(crate) fn merge(alloc: Global, arguments: Vec<Value>) -> Result<Value, EvalFault>
-    ensures { Gives (merge_value (items_view arguments.items)) result }
+    ensures { Gives (entries_value (merged_onto no_entries (items_view arguments.items))) result }
 {
-    if has_unknown(&arguments) {
-        return Ok(Value::Unknown);
-    }
     let mut merged = BTreeMap::new(alloc);
     for argument in arguments {
         match argument {
@@ -79,11 +70,8 @@ fn lay_over(
 
 // Lists, one behind the other.
 pub(crate) fn concat(alloc: Global, arguments: Vec<Value>) -> Result<Value, EvalFault>
-    ensures { Gives (concat_value (items_view arguments.items)) result }
+    ensures { Gives (items_value (concatenated (items_view arguments.items))) result }
 {
-    if has_unknown(&arguments) {
-        return Ok(Value::Unknown);
-    }
     let mut joined = Vec::new(alloc);
     for argument in arguments {
         match argument {
@@ -133,7 +121,7 @@ fn set_of_texts(alloc: Global, items: Vec<Value>) -> Result<Value, EvalFault>
 }
 
 // Whether one of several values is unknown as a whole.
-fn has_unknown(values: &Vec<Value>) -> bool
+pub(crate) fn has_unknown(values: &Vec<Value>) -> bool
     ensures { result ≡ any_unknown (items_view values.now.items) }
 {
     for value in values {

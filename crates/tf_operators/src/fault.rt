@@ -37,14 +37,15 @@ impl fmt::Display for EvalFault {
     ghost output = { λ fault. Some (eval_fault_name fault) };
 
     fn fmt<W: fmt::Write>(&self, f: &mut fmt::Formatter<W>) -> fmt::Result {
-        match self {
-            EvalFault::Overflow => write!(f, "Overflow"),
-            EvalFault::WrongKind => write!(f, "WrongKind"),
-            EvalFault::Missing => write!(f, "Missing"),
-            EvalFault::Arity => write!(f, "Arity"),
-            EvalFault::TooLarge => write!(f, "TooLarge"),
-            EvalFault::OutOfMemory => write!(f, "OutOfMemory"),
-        }
+        let name = match self {
+            EvalFault::Overflow => "Overflow",
+            EvalFault::WrongKind => "WrongKind",
+            EvalFault::Missing => "Missing",
+            EvalFault::Arity => "Arity",
+            EvalFault::TooLarge => "TooLarge",
+            EvalFault::OutOfMemory => "OutOfMemory",
+        };
+        f.write_str(name)
     }
 }
 

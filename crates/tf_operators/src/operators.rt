@@ -2,7 +2,7 @@
 
 ghost use Rattle.std.specs.Prelude.{◌≡◌, ℤ, FitsSigned, SomeIff};
 ghost use Rattle.std.specs.Int.{w64};
-ghost use Rattle.tf_value.specs.Tree.{boolean, whole, tree_of};
+ghost use Rattle.tf_value.specs.Tree.{tree_of};
 ghost use Rattle.tf_operators.specs.Answer.{Answers, whole_value};
 ghost use Rattle.tf_operators.specs.Operators.{unary_value, binary_value, equal_value, unequal_value, scalars_value, truths_value, wholes_value};
 
@@ -66,32 +66,20 @@ fn scalars(operator: Operator, left: Value, right: Value) -> Result<Value, EvalF
 {
     match left {
         Value::Unknown => Ok(Value::Unknown),
-        Value::Bool(left) => with_truth(operator, left, right),
-        Value::Int(left) => with_whole(operator, left, right),
+        Value::Bool(left) => match right {
+            Value::Unknown => Ok(Value::Unknown),
+            Value::Bool(right) => truths(operator, left, right),
+            _ => Err(EvalFault::WrongKind),
+        },
+        Value::Int(left) => match right {
+            Value::Unknown => Ok(Value::Unknown),
+            Value::Int(right) => wholes(operator, left, right),
+            _ => Err(EvalFault::WrongKind),
+        },
         _ => match right {
             Value::Unknown => Ok(Value::Unknown),
             _ => Err(EvalFault::WrongKind),
         },
-    }
-}
-
-fn with_truth(operator: Operator, left: bool, right: Value) -> Result<Value, EvalFault>
-    ensures { Answers (scalars_value operator (boolean left) (tree_of right)) result }
-{
-    match right {
-        Value::Unknown => Ok(Value::Unknown),
-        Value::Bool(right) => truths(operator, left, right),
-        _ => Err(EvalFault::WrongKind),
-    }
-}
-
-fn with_whole(operator: Operator, left: i64, right: Value) -> Result<Value, EvalFault>
-    ensures { Answers (scalars_value operator (whole left) (tree_of right)) result }
-{
-    match right {
-        Value::Unknown => Ok(Value::Unknown),
-        Value::Int(right) => wholes(operator, left, right),
-        _ => Err(EvalFault::WrongKind),
     }
 }
 

@@ -125,6 +125,11 @@ module _ {A : Type 0} (f : ℕ → List A) where
       let long : length all ≡ length (found ++ f from) + length (made f (from + 1) to) = ap length (sym step) ∙ length-append (found ++ f from) (made f (from + 1) to) in
       omega (arith, long)
 
+  pub made-many : (most from to : ℕ) (found all : List A) → from < to → found ++ made f from to ≡ all → most < length (found ++ f from) → most < length all
+  made-many most from to found all h e many =
+      let long = made-long from to found all h e in
+      omega (arith, long, many)
+
   from_made : (n from : ℕ) (x : A) → Contains (flat_map f (range_with_len from n)) x → (k : ℕ) × (from ≤ k) × (k < from + n) × Contains (f k) x
   from_made zero from x c = absurd (omega (arith, c.1))
   from_made (suc n) from x c = elim (Contains-append_cases (f from) (flat_map f (range_with_len (from + 1) n)) x c) [

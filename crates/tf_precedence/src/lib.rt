@@ -5,7 +5,6 @@
 #![tactic(auto)]
 
 mod action;
-mod graphs;
 mod late;
 pub mod laws;
 mod order;

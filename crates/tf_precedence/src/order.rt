@@ -4,12 +4,10 @@ ghost use Rattle.std.specs.Prelude.{◌≡◌, ◌≤◌, ◌<◌, ◌+◌, ◌+
 ghost use Rattle.tf_precedence.specs.Before.{are_halves, is_before, is_dependent, is_destroyed_first};
 ghost use Rattle.tf_precedence.specs.Order.{IsOrder, pairs, pairs_into};
 ghost use Rattle.tf_precedence.specs.Ties.{AreSound, ties_of};
-ghost use Rattle.tf_precedence.specs.declared.order.OrderFault.TheVariants.{OutOfMemory};
 
 use crate::action::{Action, Kind};
-use crate::graphs::graph_of;
 use crate::ties::Ties;
-use std::alloc::{AllocError, AllocFailed, Global};
+use std::alloc::Global;
 use std::marker::Model;
 use tf_graph::{Graph, MAX_NODES};
 
@@ -23,22 +21,6 @@ pub enum OrderFault {
     TooMany,
     /// Memory ran out.
     OutOfMemory,
-}
-
-impl From<AllocError> for OrderFault {
-    ghost from_gives = { λ _ fault. fault ≡ OutOfMemory };
-
-    fn from(_error: AllocError) -> OrderFault {
-        OrderFault::OutOfMemory
-    }
-}
-
-impl<T: Drop> From<AllocFailed<T>> for OrderFault {
-    ghost from_gives = { λ _ fault. fault ≡ OutOfMemory };
-
-    fn from(_error: AllocFailed<T>) -> OrderFault {
-        OrderFault::OutOfMemory
-    }
 }
 
 /// The order of a plan's actions, as a graph whose nodes are their places in the plan. An edge `(a, b)` says that
@@ -75,8 +57,10 @@ impl Order {
         ensures too_many { IsErrOf result OrderFault.TooMany → MAX_PAIRS < length (pairs (ties_of ties.now) actions.now) }
     {
         let pairs = all_pairs(alloc, ties, actions)?;
-        let graph = graph_of(alloc, actions.len(), pairs.as_slice())?;
-        Ok(Order { graph })
+        match Graph::of(alloc, actions.len(), pairs.as_slice()) {
+            Ok(graph) => Ok(Order { graph }),
+            Err(_) => Err(OrderFault::OutOfMemory),
+        }
     }
 
     /// The graph. No chain of its edges leads back, and some rank rises along each.
@@ -144,8 +128,7 @@ fn add_if(
     if found.len() == MAX_PAIRS {
         return Err(OrderFault::TooMany);
     }
-    found.push(pair)?;
-    Ok(())
+    found.push(pair).map_err(|_| OrderFault::OutOfMemory)
 }
 
 /// Whether an action is before another.

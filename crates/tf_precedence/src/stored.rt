@@ -5,7 +5,6 @@ ghost use Rattle.tf_graph.specs.Closure.{reaches};
 ghost use Rattle.tf_graph.specs.Digraph.{IsWithin};
 ghost use Rattle.tf_precedence.specs.Stored.{IsStored, turned};
 
-use crate::graphs::graph_of;
 use std::alloc::{AllocError, Global};
 use tf_graph::{Closure, Graph, MAX_NODES};
 
@@ -33,7 +32,7 @@ impl Stored {
         ensures { IfOk result (λ stored. IsStored resources dependencies.now stored) }
     {
         let edges = turn(alloc, dependencies)?;
-        let graph = graph_of(alloc, resources, edges.as_slice())?;
+        let graph = Graph::of(alloc, resources, edges.as_slice())?;
         let table = graph.closure(alloc)?;
         Ok(Stored { graph, table })
     }

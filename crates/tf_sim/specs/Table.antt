@@ -6,7 +6,8 @@ use Rattle.tf_value.specs.Tree.{Tree, text, whole, map, part_at, put}
 use Rattle.tf_protocol.specs.Schema.{AttributeView, SchemaView}
 use Rattle.tf_protocol.specs.Meaning.{Asked, Answer, Meaning, object, gone, failed}
 use Rattle.tf_protocol.specs.declared.request.Op.{Op}
-use Rattle.tf_protocol.specs.declared.request.Op.TheVariants.{Create, Destroy}
+use Rattle.tf_protocol.specs.declared.request.Op.TheVariants.{Create}
+use Rattle.tf_protocol.specs.Verdict.{is_destroy}
 use Rattle.tf_protocol.specs.declared.schema.Kind.{Kind}
 use Rattle.tf_protocol.specs.declared.schema.Kind.TheVariants as kind
 use Rattle.tf_protocol.specs.declared.schema.Mode.{Mode}
@@ -53,10 +54,6 @@ with_text key value t = t
 abbrev pub is_create : Op → Bool
 is_create Create = true
 is_create _ = false
-
-abbrev pub is_destroy : Op → Bool
-is_destroy Destroy = true
-is_destroy _ = false
 
 -- the tag `lie` is answered as `truth`
 abbrev pub with_truth : Tree → Tree

@@ -7,9 +7,9 @@ use Rattle.tf_eval.proofs.Entries.{ValuedBefore}
 use Rattle.tf_eval.proofs.expressions.+eval.Given as goal
 
 -- what is valued so far, and the rest
-abbrev pub invariant-eval_exprs-loop-expr : goal.invariant-eval_exprs-loop-expr
-invariant-eval_exprs-loop-expr g l =
-    meanings (g.S.Scope.environment l.scope) (trees_view l.exprs.items) ≡ onto (map value_of l.values.items) (meanings (g.S.Scope.environment l.scope) (trees_view (drop l.expr-index l.exprs.items)))
+abbrev pub invariant-eval_expr-loop-part : goal.invariant-eval_expr-loop-part
+invariant-eval_expr-loop-part g l =
+    meanings (g.S.Scope.environment l.scope) (trees_view l.part-items) ≡ onto (map value_of l.values.items) (meanings (g.S.Scope.environment l.scope) (trees_view (drop l.part-index l.part-items)))
 
 -- the entries so far are valued
 abbrev pub invariant-eval_entries-loop-key : goal.invariant-eval_entries-loop-key

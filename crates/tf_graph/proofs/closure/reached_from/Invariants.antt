@@ -1,13 +1,12 @@
-use Rattle.std.proofs.Common.{◌≡◌, ◌+◌, length, vec_len}
-use Rattle.tf_graph.specs.Search.{IsSearch, missing}
+use Rattle.std.proofs.Common.{◌+◌, vec_len}
+use Rattle.tf_graph.specs.Search.{IsSearch, IsWide, missing}
 use Rattle.tf_graph.proofs.closure.reached_from.Given as goal
 
 abbrev pub invariant-loop-next : goal.invariant-loop-next
 invariant-loop-next l = record {
-  row_length : length l.search.row ≡ l.graph.nodes;
-  settled_length : length l.search.settled ≡ l.graph.nodes;
-  search : IsSearch l.graph l.node l.search.row l.search.settled l.search.pending.items;
+  wide : IsWide l.told.graph.now.nodes l.search.row l.search.settled;
+  search : IsSearch l.told.graph.now l.node l.search.row l.search.settled l.search.pending.items;
 }
 
 abbrev pub decreases-loop-next : goal.decreases-loop-next
-decreases-loop-next l = missing l.search.row l.graph.nodes + vec_len l.search.pending
+decreases-loop-next l = missing l.search.row l.told.graph.now.nodes + vec_len l.search.pending

@@ -1,4 +1,4 @@
-use Rattle.std.proofs.Common.{◌≡◌, ◌∷◌, [], ◌++◌, sym, ap, ◌∙◌, subst, true}
+use Rattle.std.proofs.Common.{◌≡◌, ◌∷◌, [], ◌++◌, sym, ap, ◌∙◌, subst, true, inl, inr}
 use Rattle.std.specs.Option.{option_to_list}
 use Rattle.tf_operators.specs.Answer.{Gives}
 use Rattle.tf_operators.specs.Functions.{takes}
@@ -7,13 +7,13 @@ use Rattle.tf_operators.proofs.calls.call.Goals as goal
 
 pub returns-in-Merge : goal.returns-in-Merge
 returns-in-Merge c =
-    let fit : takes c.args.function _ ≡ true = ap (takes c.args.function) (sym c.args.arguments.ok.0) ∙ c.requires in
-    subst (λ a. Gives a c.merge.result) (sym (call-Merge c.args.function c.args.arguments.items c.in-Merge.is fit)) c.merge.ensures
-
-pub returns-in-Concat : goal.returns-in-Concat
-returns-in-Concat c =
-    let fit : takes c.args.function _ ≡ true = ap (takes c.args.function) (sym c.args.arguments.ok.0) ∙ c.requires in
-    subst (λ a. Gives a c.concat.result) (sym (call-Concat c.args.function c.args.arguments.items c.in-Concat.is fit)) c.concat.ensures
+    let f = c.args.function in
+    let all = c.args.arguments.items in
+    let fit : takes f _ ≡ true = ap (takes f) (sym c.args.arguments.ok.0) ∙ c.requires in
+    elim c.in-Merge.is [
+      | inl maps ↦ subst (λ a. Gives a c.in_one.result) (sym (call-Merge f all maps fit)) (c.in_one.ensures.merge maps)
+      | inr lists ↦ subst (λ a. Gives a c.in_one.result) (sym (call-Concat f all lists fit)) (c.in_one.ensures.concat lists)
+    ]
 
 pub returns-in-Some-pop : goal.returns-in-Some-pop
 returns-in-Some-pop c =

@@ -1,7 +1,7 @@
-use Rattle.std.proofs.Common.{◌≡◌, cond, Some, Ok, option_map, sym, ap, ◌∙◌}
+use Rattle.std.proofs.Common.{◌≡◌, Some, option_map, sym, ap, ◌∙◌}
 use Rattle.std.proofs.lemmas.List.{nil_from_length}
 use Rattle.std.specs.Vec.Iter.{into_iter_items}
-use Rattle.tf_value.specs.Tree.{unknown, item, items_view, tree_of}
+use Rattle.tf_value.specs.Tree.{item, items_view, tree_of}
 use Rattle.tf_value.proofs.Views.{tree_of-List}
 use Rattle.tf_operators.specs.Answer.{items_behind, list_value}
 use Rattle.tf_operators.specs.Functions.{concatenated, items_value}
@@ -26,6 +26,4 @@ returns c =
     let done = c.loop-argument.joined.items in
     let joined : concatenated (items_view all) ≡ Some (items_view done) =
     sym c.loop-argument.invariant ∙ ap (λ xs. option_map (items_behind (items_view done)) (concatenated (items_view xs))) (nil_from_length _ (sym c.loop-argument.argument-iterator.rest.ok.0 ∙ c.in-None.ensures.steps.0)) ∙ ap Some (items_behind-nil (items_view done)) in
-    let known = sym c.has_unknown.ensures ∙ c.if-has_unknown.false in
-    let answer = ap (λ b. cond b (Ok unknown) (items_value (concatenated (items_view all)))) known ∙ ap items_value joined in
-    Gives-equal (list_value (items_view done)) _ c.list.result (sym answer) c.list.ensures
+    Gives-equal (list_value (items_view done)) _ c.list.result (sym (ap items_value joined)) c.list.ensures

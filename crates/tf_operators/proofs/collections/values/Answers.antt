@@ -1,4 +1,5 @@
-use Rattle.std.proofs.Common.{Ok, sym, ap, ◌∙◌}
+use Rattle.std.proofs.Common.{◌≡◌, Ok, sym, ap, ◌∙◌, rules}
+use Rattle.std.specs.Map.{values_of}
 use Rattle.tf_value.specs.Tree.{list, items_view, tree_of}
 use Rattle.tf_value.proofs.Views.{tree_of-List, tree_of-Map}
 use Rattle.tf_operators.specs.Functions.{values_value}
@@ -8,5 +9,7 @@ use Rattle.tf_operators.proofs.collections.values.Goals as goal
 pub returns-in-Map : goal.returns-in-Map
 returns-in-Map c =
     let seen = ap tree_of c.in-Map.is ∙ tree_of-Map c.in-Map.entries in
-    let found = value_items-view c.in-Map.entries.entries ∙ ap items_view (sym c.in_ok-entry_values-in-Map.ensures) in
-    ap values_value seen ∙ ap (λ ts. Ok (list ts)) found ∙ ap Ok (sym (tree_of-List c.in_ok-entry_values-in-Map.field-0))
+    let items = c.in_ok-collect-in-Map.field-0 in
+    let e : items.items ≡ values_of c.in-Map.entries.entries = search rules in
+    let found = value_items-view c.in-Map.entries.entries ∙ ap items_view (sym e) in
+    ap values_value seen ∙ ap (λ ts. Ok (list ts)) found ∙ ap Ok (sym (tree_of-List items))

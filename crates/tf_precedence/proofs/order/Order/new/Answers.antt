@@ -3,11 +3,11 @@ use Rattle.tf_precedence.proofs.Listed.{pairs-within, pairs-order}
 use Rattle.tf_precedence.specs.Ties.{ties_of}
 use Rattle.tf_precedence.proofs.order.Order.new.Goals as goal
 
-pub graph_of-requires-clause-within : goal.graph_of-requires-clause-within
-graph_of-requires-clause-within c =
+pub of-requires-clause-within : goal.of-requires-clause-within
+of-requires-clause-within c =
     rw (c.as_slice.ensures.value ∙ c.in_ok-pairs.ensures.pairs) (pairs-within (ties_of c.args.ties.now) c.args.actions.now)
 
 pub invariant_of-result : goal.invariant_of-result
 invariant_of-result c =
-    pairs-order (ties_of c.args.ties.now) c.args.actions.now c.requires.sound c.in_ok-graph.graph c.in_ok-graph.ensures.0
-    (c.in_ok-graph.ensures.1 ∙ c.as_slice.ensures.value ∙ c.in_ok-pairs.ensures.pairs)
+    pairs-order (ties_of c.args.ties.now) c.args.actions.now c.requires.sound c.in-Ok.graph c.in-Ok.ensures.0
+    (c.in-Ok.ensures.1 ∙ c.as_slice.ensures.value ∙ c.in_ok-pairs.ensures.pairs)

@@ -4,8 +4,8 @@ use Rattle.tf_precedence.proofs.Turned.{needed-reached, turned-within}
 use Rattle.tf_precedence.specs.Stored.{turned}
 use Rattle.tf_precedence.proofs.stored.Stored.new.Goals as goal
 
-pub graph_of-requires-clause-within : goal.graph_of-requires-clause-within
-graph_of-requires-clause-within c =
+pub of-requires-clause-within : goal.of-requires-clause-within
+of-requires-clause-within c =
     rw (c.as_slice.ensures.value ∙ c.in_ok-edges.ensures) (turned-within c.args.resources c.args.dependencies.now c.requires.within)
 
 pub returns : goal.returns
