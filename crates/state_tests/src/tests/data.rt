@@ -256,17 +256,14 @@ fn tells_states_apart(rt: HostRuntime) -> Result<(), Fail> {
     Ok(())
 }
 
-// Names of types, and those of their providers.
-static PROVIDERS: [(&str, &str); 4] = [
-    ("sim_net", "sim"),
-    ("a_b_c", "a"),
-    ("null", "null"),
-    ("_x", ""),
-];
-
 #[test]
 fn names_providers(rt: HostRuntime) -> Result<(), Fail> {
-    for (type_name, provider) in &PROVIDERS {
+    for (type_name, provider) in [
+        ("sim_net", "sim"),
+        ("a_b_c", "a"),
+        ("null", "null"),
+        ("_x", ""),
+    ] {
         let want = format!(in rt.alloc();
             "provider[\"registry.terraform.io/hashicorp/{provider}\"]"
         )?;
