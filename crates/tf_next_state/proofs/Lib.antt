@@ -5,4 +5,5 @@ mod Counted
 pub mod Finding
 pub mod One
 pub mod OneByOne
+pub mod Pending
 pub mod Validity

@@ -122,6 +122,14 @@ pub record IsChanged (label : LabelView) (r s : ResourceView) (before after : Li
   pub others : (l : LabelView) → same_label label l ≡ false → resource_at l after ≡ resource_at l before
   pub heads : heads_of after ≡ heads_of before
 
+false_and : (b c : Bool) → c ≡ false → (b && c) ≡ false
+false_and true c e = e
+false_and false c e = refl
+
+false_first : (b c : Bool) → b ≡ false → (b && c) ≡ false
+false_first false c e = refl
+false_first true c e = absurd (cc)
+
 known_of : (label : LabelView) (id : ObjectIdView) (rs : List ResourceView) (r : ResourceView) → resource_at label rs ≡ Some r → record_among label id rs ≡ record_at id r.records
 known_of label id rs r e = ap (option_and_then (λ (r : ResourceView). record_at id r.records)) e
 
@@ -142,14 +150,6 @@ module _ (a : ApplyView) (before after : List ResourceView) (r s : ResourceView)
       known_of a.label (object_at a.given.key deposed) after s change.there ∙ is.own deposed
       ∙ ap (λ (p : Places). after_by (Some a) a.given.key p deposed) (λ i d. sym (places d) i)
       ∙ ap (λ (o : Option ApplyView). after_by o a.given.key (places_among a.label a.given.key before) deposed) (sym (found_first (applies_it a.label a.given.key) a [] true test))
-
-  false_and : (b c : Bool) → c ≡ false → (b && c) ≡ false
-  false_and true c e = e
-  false_and false c e = refl
-
-  false_first : (b c : Bool) → b ≡ false → (b && c) ≡ false
-  false_first false c e = refl
-  false_first true c e = absurd (cc)
 
   -- another instance of the resource
   applied_beside : (key : InstanceKeyView) (deposed : Option (List ℕ)) → same_instance_key a.given.key key ≡ false → AppliedAt a.label key deposed
@@ -212,14 +212,6 @@ module _ (d : DestroyView) (before after : List ResourceView) (r s : ResourceVie
       let one : object_at d.id.key id.deposed ≡ id = ap (λ k. object_at k id.deposed) keys in
       ap (λ i. record_at i s.records) (sym one) ∙ is.own id.deposed ∙ other_left d.id d.left d.id.deposed id.deposed (places_in d.id.key r.records) f ∙ ap (λ i. record_at i r.records) one
 
-  false_second : (b c : Bool) → c ≡ false → (b && c) ≡ false
-  false_second true c e = e
-  false_second false c e = refl
-
-  false_one : (b c : Bool) → b ≡ false → (b && c) ≡ false
-  false_one false c e = refl
-  false_one true c e = absurd (cc)
-
   destroyed_beside : (id : ObjectIdView) (b c : Bool) → same_instance_key d.id.key id.key ≡ b → option_eq bytes_eq d.id.deposed id.deposed ≡ c → same_object_id d.id id ≡ false → record_at id s.records ≡ record_at id r.records
   destroyed_beside id true false e f n = beside_at id e f
   destroyed_beside id true true e f n =
@@ -229,12 +221,12 @@ module _ (d : DestroyView) (before after : List ResourceView) (r s : ResourceVie
 
   destroyed_at : (label : LabelView) (id : ObjectIdView) (b c : Bool) → same_label d.label label ≡ b → same_object_id d.id id ≡ c → DestroyedAt label id
   destroyed_at label id false c e f =
-      undestroyed label id (false_one (same_label d.label label) (same_object_id d.id id) e) (ap (option_and_then (λ (r : ResourceView). record_at id r.records)) (change.others label e))
+      undestroyed label id (false_first (same_label d.label label) (same_object_id d.id id) e) (ap (option_and_then (λ (r : ResourceView). record_at id r.records)) (change.others label e))
   destroyed_at label id true true e f =
       subst (λ l. DestroyedAt l id) ((label_Decides d.label label).0 e) (subst (λ i. DestroyedAt d.label i) ((object_id_Decides d.id id).0 f) destroyed_here)
   destroyed_at label id true false e f =
       subst (λ l. DestroyedAt l id) ((label_Decides d.label label).0 e)
-      (undestroyed d.label id (false_second (same_label d.label d.label) (same_object_id d.id id) f)
+      (undestroyed d.label id (false_and (same_label d.label d.label) (same_object_id d.id id) f)
       (known_of d.label id after s change.there ∙ destroyed_beside id (same_instance_key d.id.key id.key) (option_eq bytes_eq d.id.deposed id.deposed) refl refl f ∙ sym (known_of d.label id before r change.was)))
 
   -- what came of one destroy

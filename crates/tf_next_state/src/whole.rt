@@ -52,15 +52,26 @@ fn recorded(mut resources: Vec<Resource>, events: Events<'_>) -> Vec<Resource>
     requires room { HaveRoom (count_of (map (λ a. a.label) (events_of events).applies)) resources.items }
     ensures { IsRecorded (events_of events.entry) (map resource_of resources.items) (map resource_of result.items) }
 {
+    record_all(&mut resources, events);
+    resources
+}
+
+/// Records what came of all actions.
+fn record_all(resources: &mut [Resource], events: Events<'_>)
+    requires ordered { AreByAddress (map resource_of resources.old) }
+    requires apart { AreEachAboutOne (events_of events) }
+    requires there { AreThere (map (λ a. a.label) (events_of events).applies) (map resource_of resources.old) }
+    requires room { HaveRoom (count_of (map (λ a. a.label) (events_of events).applies)) resources.old }
+    ensures { IsRecorded (events_of events.entry) (map resource_of resources.old) (map resource_of resources.new) }
+{
     let Events {
         destroys,
         applies,
         renewals,
     } = events;
-    destroy_all(&mut resources, destroys);
-    renew_all(&mut resources, renewals);
-    apply_all(&mut resources, applies);
-    resources
+    destroy_all(resources, destroys);
+    renew_all(resources, renewals);
+    apply_all(resources, applies);
 }
 
 /// Those resources of which an object is known.
