@@ -8,6 +8,7 @@
 mod arrays;
 mod blocks;
 mod demand;
+mod kinds;
 mod laws;
 mod literals;
 mod objects;

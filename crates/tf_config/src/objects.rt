@@ -15,6 +15,17 @@ use std::alloc::Global;
 use tf_json_path::Path;
 use tf_refusal::Refusal;
 
+/// What stands at a place of the tree, with the memory for what it says.
+#[derive(Clone, Copy)]
+pub(crate) struct Part<'a> {
+    /// The memory.
+    pub(crate) alloc: Global,
+    /// The place.
+    pub(crate) path: &'a Path<'a>,
+    /// What stands there.
+    pub(crate) value: &'a Value,
+}
+
 /// What the members of one kind of object say, and what is demanded of them.
 pub(crate) trait Members {
     /// What they say together.
@@ -28,41 +39,32 @@ pub(crate) trait Members {
 
     ghost checks: { Self → PropertyChecks };
 
-    /// Adds what one member says.
+    /// Adds what the member of a name says.
     ///
     /// # Errors
     ///
     /// The first fault in it, in walk order, or `OutOfMemory`.
-    fn add<'a>(
-        &self,
-        alloc: Global,
-        path: &'a Path<'a>,
-        name: &'a str,
-        value: &'a Value,
-        said: &mut Self::Said,
-    ) -> Result<(), Refusal>
-        ensures ok { OnOk result (adds self.now name.now (view value.now) (told_by said.old) (told_by said.new)) }
+    fn add(&self, name: &str, part: &Part<'_>, said: &mut Self::Said) -> Result<(), Refusal>
+        ensures ok { OnOk result (adds self.now name.now (view part.now.value.now) (told_by said.old) (told_by said.new)) }
         ensures fault { IfErr result (λ refusal.
-            Refuses (checks self.now (place_of path.now) name.now (view value.now)) (told refusal)) };
+            Refuses (checks self.now (place_of part.now.path.now) name.now (view part.now.value.now)) (told refusal)) };
 }
 
 /// Adds what the members of an object say, in byte order of their names. Anything but an object is refused with 2.
-pub(crate) fn add_members<'a, M: Members>(
+pub(crate) fn add_members<M: Members>(
     members: &M,
-    alloc: Global,
-    path: &'a Path<'a>,
-    value: &'a Value,
+    part: &Part<'_>,
     said: &mut M::Said,
 ) -> Result<(), Refusal>
     requires sound { IsSound (M.adds members.now) (M.checks members.now) }
     ensures ok { OnOk result
-        (BuildsFrom (M.adds members.now) (view value.now) (M.told_by said.old) (M.told_by said.new)) }
+        (BuildsFrom (M.adds members.now) (view part.now.value.now) (M.told_by said.old) (M.told_by said.new)) }
     ensures fault { IfErr result (λ refusal.
-        Refuses (object_checks (M.checks members.now) (place_of path.now) (view value.now)) (told refusal)) }
+        Refuses (object_checks (M.checks members.now) (place_of part.now.path.now) (view part.now.value.now)) (told refusal)) }
 {
-    match value {
-        Value::Object(object) => add_each_member(members, alloc, path, object, said),
-        _ => Err(bad_shape(alloc, path)),
+    match part.value {
+        Value::Object(object) => add_each_member(members, part.alloc, part.path, object, said),
+        _ => Err(bad_shape(part.alloc, part.path)),
     }
 }
 
@@ -83,7 +85,8 @@ pub(crate) fn add_each_member<'a, M: Members>(
 {
     for (key, value) in object.iter() {
         let name = key.as_str();
-        members.add(alloc, &Path::Member(path, name), name, value, said)?;
+        let path = &Path::Member(path, name);
+        members.add(name, &Part { alloc, path, value }, said)?;
     }
     Ok(())
 }

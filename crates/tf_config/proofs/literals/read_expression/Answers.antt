@@ -8,4 +8,4 @@ use Rattle.tf_config.proofs.literals.read_expression.Goals as goal
 pub returns-in_err-expr-clause-fault : goal.returns-in_err-expr-clause-fault
 returns-in_err-expr-clause-fault c =
     let p = err_from_is_err_and c.from_residual.result c.from_residual.ensures.1 in
-    rw (p.1, p.2) (Refuses-expression (expr_checks (place_of c.args.path.now) (view c.args.json.now)) _ c.in_err-expr.ensures.fault)
+    rw (p.1, p.2) (Refuses-expression (expr_checks (place_of c.args.part.now.path.now) (view c.args.part.now.value.now)) _ c.in_err-expr.ensures.fault)

@@ -2,7 +2,7 @@ use Rattle.std.proofs.Common.{map, sym, ap, ◌∙◌}
 use Rattle.tf_config.proofs.Puts.{variables-insert_entry}
 use Rattle.tf_config.specs.Config.{variable_body}
 use Rattle.tf_config_data.specs.Config.{variable_of}
-use Rattle.tf_config.proofs.variables.VariablesMembers.add.Goals as goal
+use Rattle.tf_config.proofs.kinds.VariablesMembers.add.Goals as goal
 
 pub returns-clause-ok : goal.returns-clause-ok
 returns-clause-ok c =

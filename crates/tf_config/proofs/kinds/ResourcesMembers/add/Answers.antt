@@ -2,7 +2,7 @@ use Rattle.std.proofs.Common.{map, sym, ap, ◌∙◌}
 use Rattle.tf_config.proofs.Puts.{blocks-insert_entry}
 use Rattle.tf_config.specs.Config.{block_body}
 use Rattle.tf_config_data.specs.Config.{block_of}
-use Rattle.tf_config.proofs.blocks.ResourcesMembers.add.Goals as goal
+use Rattle.tf_config.proofs.kinds.ResourcesMembers.add.Goals as goal
 
 pub returns-clause-ok : goal.returns-clause-ok
 returns-clause-ok c =

@@ -1,5 +1,5 @@
 use Rattle.tf_config.proofs.Sound.{variables_sound, locals_sound, outputs_sound, types_sound}
-use Rattle.tf_config.proofs.reading.SectionsMembers.add.Goals as goal
+use Rattle.tf_config.proofs.kinds.SectionsMembers.add.Goals as goal
 
 pub add_members-requires : goal.add_members-requires
 add_members-requires c = record { sound = variables_sound }

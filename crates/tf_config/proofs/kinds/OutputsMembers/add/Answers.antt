@@ -1,7 +1,7 @@
 use Rattle.std.proofs.Common.{sym, ap, ◌∙◌}
 use Rattle.tf_syntax.proofs.ExprViews.{entries_view-insert_entry}
 use Rattle.tf_syntax.specs.ExprTree.{tree_of, entries_view}
-use Rattle.tf_config.proofs.outputs.OutputsMembers.add.Goals as goal
+use Rattle.tf_config.proofs.kinds.OutputsMembers.add.Goals as goal
 
 pub returns-clause-ok : goal.returns-clause-ok
 returns-clause-ok c =
