@@ -1,5 +1,5 @@
 -- The parts of the format that hold no properties of their own: what is demanded of each, and what it says.
-use Rattle.std.specs.Prelude.{◌≡◌, ℕ, ◌+◌, Bool, IsTrue, is_some, Some, List, [], ◌∷◌, ◌++◌, ⊤}
+use Rattle.std.specs.Prelude.{◌≡◌, ℕ, ◌+◌, Bool, IsTrue, is_some, Some, List, [], ◌∷◌, ◌++◌, MatchResult, Result, ⊤}
 use Rattle.std.specs.Fmt.{decimal}
 use Rattle.serde_json.specs.Data.{Data, null, boolean, number, string, array, object, Items, no_items, item, Members, no_members, member}
 use Rattle.tf_address.specs.Label.{LabelView}
@@ -13,7 +13,9 @@ use Rattle.tf_json_path.specs.Walk.{each_item}
 use Rattle.tf_value.specs.Json.{tree_from, value_from}
 use Rattle.tf_value.specs.Measure.{is_within, IsWithinLimits}
 use Rattle.tf_value.specs.Tree as values
-use Rattle.tf_config.specs.Demand.{Checks, AreMet, nothing_fits, holds, a_name, of_expression}
+use Rattle.tf_refusal.specs.Refusal.{told}
+use Rattle.tf_refusal.specs.declared.refusal.Refusal.{Refusal}
+use Rattle.tf_config.specs.Demand.{Checks, AreMet, Refuses, nothing_fits, holds, a_name, of_expression}
 use Rattle.tf_config.specs.Words.{label_in, type_in}
 
 -- nothing is allowed here
@@ -27,6 +29,10 @@ PartChecks = List (List ℕ) → Data → Checks
 -- What says something has no fault.
 abbrev pub IsPartSound : {A : Type 0} → (Data → A → Type 0) → PartChecks → Type 0
 IsPartSound {A} Says checks = (place : List (List ℕ)) (value : Data) (said : A) → Says value said → AreMet (checks place value)
+
+-- What is read at a place is what stands there, or the first fault in it is told.
+abbrev pub Reads : {A T : Type 0} → (Data → A → Type 0) → PartChecks → (T → A) → List (List ℕ) → Data → Result T Refusal → Type 0
+Reads Says checks told_by place value answer = MatchResult answer (λ read. Says value (told_by read)) (λ refusal. Refuses (checks place value) (told refusal))
 
 -- ---- scalars
 

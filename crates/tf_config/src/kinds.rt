@@ -7,12 +7,10 @@ ghost use Rattle.tf_config_data.specs.Config.{blocks_of, config_of, lifecycle_of
 ghost use Rattle.tf_syntax.specs.ExprTree.{entries_view, tree_of, Entries, Tree};
 
 use crate::arrays::read_array;
-use crate::blocks::{read_body, read_lifecycle};
+use crate::bodies::{add_expression, read_body, read_lifecycle, read_output, read_variable};
 use crate::demand::{bad_shape, demand_name, demand_type_name};
 use crate::literals::{demand_text, read_expression, read_flag, read_literal, read_type};
 use crate::objects::{Members, Part, add_members};
-use crate::outputs::{add_expression, read_output};
-use crate::variables::read_variable;
 use crate::words::{
     BlockProperty, LifecycleProperty, LocalsProperty, OutputProperty, Section, VariableProperty,
     block_property_named, lifecycle_property_named, locals_property_named, output_property_named,

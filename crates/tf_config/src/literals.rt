@@ -3,7 +3,7 @@
 ghost use Rattle.serde_json.specs.View.{items_view, members_view, view};
 ghost use Rattle.std.specs.Prelude.{IfErr, IfOk, List, OnOk, ℕ};
 ghost use Rattle.tf_config.specs.Demand.{Judges, Refuses};
-ghost use Rattle.tf_config.specs.Parts.{expression_checks, flag_checks, item_number_checks, literal_checks, member_number_checks, number_checks, text_checks, type_text_checks, IsFlag, IsLiteral, IsText, NamesType};
+ghost use Rattle.tf_config.specs.Parts.{expression_checks, flag_checks, item_number_checks, literal_checks, member_number_checks, number_checks, text_checks, type_text_checks, IsFlag, IsLiteral, IsText, NamesType, Reads};
 ghost use Rattle.tf_expr.specs.Reading.{IsExpr};
 ghost use Rattle.tf_json_path.specs.Place.{place_of};
 ghost use Rattle.tf_refusal.specs.Refusal.{told};
@@ -24,9 +24,7 @@ use tf_value::{JsonFault, Value, from_json};
 
 /// An expression.
 pub(crate) fn read_expression(part: &Part<'_>) -> Result<Expr, Refusal>
-    ensures ok { IfOk result (λ e. IsExpr (view part.now.value.now) (tree_of e)) }
-    ensures fault { IfErr result (λ refusal.
-        Refuses (expression_checks (place_of part.now.path.now) (view part.now.value.now)) (told refusal)) }
+    ensures { Reads IsExpr expression_checks tree_of (place_of part.now.path.now) (view part.now.value.now) result }
 {
     let expr = read_expr_at(part.alloc, part.path, part.value)?;
     Ok(expr)
@@ -46,9 +44,7 @@ pub(crate) fn demand_text(part: &Part<'_>) -> Result<(), Refusal>
 
 /// A truth value.
 pub(crate) fn read_flag(part: &Part<'_>) -> Result<bool, Refusal>
-    ensures ok { IfOk result (λ flag. IsFlag (view part.now.value.now) flag) }
-    ensures fault { IfErr result (λ refusal.
-        Refuses (flag_checks (place_of part.now.path.now) (view part.now.value.now)) (told refusal)) }
+    ensures { Reads IsFlag flag_checks (λ flag. flag) (place_of part.now.path.now) (view part.now.value.now) result }
 {
     match part.value {
         Json::Bool(flag) => Ok(*flag),
@@ -58,9 +54,7 @@ pub(crate) fn read_flag(part: &Part<'_>) -> Result<bool, Refusal>
 
 /// The type of a variable.
 pub(crate) fn read_type(part: &Part<'_>) -> Result<VariableType, Refusal>
-    ensures ok { IfOk result (λ value_type. NamesType (view part.now.value.now) value_type) }
-    ensures fault { IfErr result (λ refusal.
-        Refuses (type_text_checks (place_of part.now.path.now) (view part.now.value.now)) (told refusal)) }
+    ensures { Reads NamesType type_text_checks (λ value_type. value_type) (place_of part.now.path.now) (view part.now.value.now) result }
 {
     match part.value {
         Json::String(text) => match type_named(text.as_str()) {

@@ -7,5 +7,5 @@ pub returns-clause-ok : goal.returns-clause-ok
 returns-clause-ok c =
     let put_in = ap entries_view c.in_ok-insert.ensures.entries ∙ entries_view-insert_entry c.args.outputs.now.entries c.in_ok-name.name c.in_ok-expr.expr in (
       c.in_ok-demand_name.ensures.0,
-      (tree_of c.in_ok-expr.expr, c.in_ok-expr.ensures.ok, sym (put_in ∙ rw c.in_ok-name.ensures.ok)),
+      (tree_of c.in_ok-expr.expr, c.in_ok-expr.ensures, sym (put_in ∙ rw c.in_ok-name.ensures.ok)),
     )
