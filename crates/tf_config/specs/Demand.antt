@@ -31,6 +31,14 @@ IsMet nothing_fits = ⊥
 IsMet (holds condition) = IsTrue condition
 IsMet (of_expression demand) = expr.IsMet demand
 
+-- what there is to check, in walk order
+abbrev pub Checks : Type 0
+Checks = List (Check Demand)
+
+-- nothing is wrong
+abbrev pub AreMet : Checks → Type 0
+AreMet = AllMet IsMet
+
 -- 2, BadShape
 abbrev pub bad_shape : Way
 bad_shape = (code.bad_shape, bare)
@@ -40,14 +48,6 @@ abbrev pub Fails : Demand → Way → Type 0
 Fails nothing_fits way = way ≡ bad_shape
 Fails (holds condition) way = (condition ≡ false) × (way ≡ bad_shape)
 Fails (of_expression demand) way = (cause : Cause) × expr.Fails demand cause × (way ≡ way_of cause)
-
--- what there is to check, in walk order
-abbrev pub Checks : Type 0
-Checks = List (Check Demand)
-
--- nothing is wrong
-abbrev pub AreMet : Checks → Type 0
-AreMet = AllMet IsMet
 
 -- The first fault of some checks is what is told, or there was no memory.
 abbrev pub RefusesBy : {D : Type 0} → (D → Type 0) → (D → Way → Type 0) → List (Check D) → Told → Type 0

@@ -268,7 +268,7 @@ impl Members for BlockProperties {
 
     ghost checks = { λ _. block_property_checks };
 
-    #[tactic(auto, using(crate::proofs::Sound::addresses_sound))]
+    #[tactic(auto, using(crate::proofs::PartFits::address_fits))]
     fn add(&self, name: &str, part: &Part<'_>, block: &mut Block) -> Result<(), Refusal> {
         match block_property_named(name) {
             BlockProperty::Comment => Ok(()),
@@ -309,7 +309,7 @@ impl Members for LifecycleProperties {
 
     ghost checks = { λ _. lifecycle_property_checks };
 
-    #[tactic(auto, using(crate::proofs::Sound::names_sound))]
+    #[tactic(auto, using(crate::proofs::PartFits::name_fits))]
     fn add(&self, name: &str, part: &Part<'_>, lifecycle: &mut Lifecycle) -> Result<(), Refusal> {
         match lifecycle_property_named(name) {
             LifecycleProperty::Comment => Ok(()),
