@@ -39,7 +39,10 @@ fn put(
         ≡ (if is_at label (numbered_view numbered.entry) then Some place else found_in places.old (label_pair label))) }
 {
     match numbered.address() {
-        Some(label) => places.put(alloc, label.type_name.as_str(), label.name.as_str(), place),
+        Some(label) => {
+            places.put(alloc, label.type_name.as_str(), label.name.as_str(), place)?;
+            Ok(())
+        }
         None => Ok(()),
     }
 }
