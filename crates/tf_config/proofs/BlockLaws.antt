@@ -22,7 +22,7 @@ use Rattle.tf_config.specs.declared.words.Section.TheVariants as sections
 -- ---- what each block keeps, a configuration keeps
 
 module _ {B : Type 0} (Adds : List ℕ → Data → B → B → Type 0) (P : B → Type 0) (keeps : (k : List ℕ) (d : Data) (a b : B) → Adds k d a b → P a → P b) where
-  object_keeps : (d : Data) (a b : B) → BuildsFrom Adds d a b → P a → P b
+  pub object_keeps : (d : Data) (a b : B) → BuildsFrom Adds d a b → P a → P b
   object_keeps null a b h p = absurd h
   object_keeps (boolean x) a b h p = absurd h
   object_keeps (number x) a b h p = absurd h
@@ -93,16 +93,18 @@ blocks_in_order tree config h = configuration_keeps (IsStrictlySortedBy address_
 
 -- ---- names
 
-names_put_at : (o : Ordering) (block c : BlockView) (cs : Blocks) → HasNames block → AllByRecursion HasNames (c ∷ cs) → AllByRecursion HasNames (put_block block cs)
-    → AllByRecursion HasNames (match_ordering o (block ∷ c ∷ cs) (record block { label = c.label } ∷ cs) (c ∷ put_block block cs))
-names_put_at Less block c cs h all more = (h, all)
-names_put_at Equal block c cs h all more = all
-names_put_at Greater block c cs h all more = (all.0, more)
+-- what holds of the address of each block and of one more holds with that put in
+module _ (P : LabelView → Type 0) where
+  put_all_at : (o : Ordering) (block c : BlockView) (cs : Blocks) → P block.label → AllByRecursion (λ b. P b.label) (c ∷ cs) → AllByRecursion (λ b. P b.label) (put_block block cs)
+      → AllByRecursion (λ b. P b.label) (match_ordering o (block ∷ c ∷ cs) (record block { label = c.label } ∷ cs) (c ∷ put_block block cs))
+  put_all_at Less block c cs h all more = (h, all)
+  put_all_at Equal block c cs h all more = all
+  put_all_at Greater block c cs h all more = (all.0, more)
 
-names_put : (block : BlockView) (cs : Blocks) → HasNames block → AllByRecursion HasNames cs → AllByRecursion HasNames (put_block block cs)
-names_put block [] h all = (h, tt)
-names_put block (c ∷ cs) h all = names_put_at (address_cmp block c) block c cs h all (names_put block cs h all.1)
+  pub put_all : (block : BlockView) (cs : Blocks) → P block.label → AllByRecursion (λ b. P b.label) cs → AllByRecursion (λ b. P b.label) (put_block block cs)
+  put_all block [] h all = (h, tt)
+  put_all block (c ∷ cs) h all = put_all_at (address_cmp block c) block c cs h all (put_all block cs h all.1)
 
 pub blocks_named : (tree : Data) (config : ConfigView) → IsConfiguration tree config → AllByRecursion HasNames config.blocks
 blocks_named tree config h =
-    configuration_keeps (AllByRecursion HasNames) (λ label body a of_type of_name all. names_put (block_with label body) a (of_type, of_name) all) tree config h tt
+    configuration_keeps (AllByRecursion HasNames) (λ label body a of_type of_name all. put_all (λ l. (is_name l.type_name ≡ true) × (is_name l.name ≡ true)) (block_with label body) a (of_type, of_name) all) tree config h tt

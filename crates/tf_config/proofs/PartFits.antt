@@ -16,7 +16,7 @@ use Rattle.tf_value.specs.Known.{known, known_items, known_entries}
 use Rattle.tf_value.specs.Tree as values
 use Rattle.tf_config.proofs.Fits.{Fits}
 use Rattle.tf_config.specs.Demand.{AreMet, IsMet, of_expression}
-use Rattle.tf_config.specs.Parts.{expression_checks, text_checks, IsText, flag_checks, IsFlag, type_text_checks, NamesType, number_checks, item_number_checks, member_number_checks, literal_checks, IsLiteral, name_checks, IsNameText, address_checks, IsAddressText}
+use Rattle.tf_config.specs.Parts.{expression_checks, text_checks, IsText, flag_checks, IsFlag, found_checks, Finds, type_text_checks, NamesType, number_checks, item_number_checks, member_number_checks, literal_checks, IsLiteral, name_checks, IsNameText, address_checks, IsAddressText}
 use Rattle.tf_config.specs.Words.{label_in, type_in}
 
 pub expression_fits : Fits Tree expression_checks IsExpr
@@ -84,32 +84,36 @@ what_is_there (Some x) h = (x, refl)
 pub one_there : {A : Type 0} (o : Option A) (x y : A) → o ≡ Some x → o ≡ Some y → x ≡ y
 one_there o x y h j = let both : Some x ≡ Some y = sym h ∙ j in cc
 
-type_met : (place : List (List ℕ)) (d : Data) (t : VariableType) → NamesType d t → AreMet (type_text_checks place d)
-type_met place null t h = absurd h
-type_met place (boolean x) t h = absurd h
-type_met place (number x) t h = absurd h
-type_met place (string x) t h = (is_there (type_in x) t h, tt)
-type_met place (array x) t h = absurd h
-type_met place (object x) t h = absurd h
+module _ {A : Type 0} (find : List ℕ → Option A) where
+  found_met : (place : List (List ℕ)) (d : Data) (x : A) → Finds find d x → AreMet (found_checks find place d)
+  found_met place null x h = absurd h
+  found_met place (boolean b) x h = absurd h
+  found_met place (number n) x h = absurd h
+  found_met place (string s) x h = (is_there (find s) x h, tt)
+  found_met place (array ds) x h = absurd h
+  found_met place (object ms) x h = absurd h
 
-type_from_met : (place : List (List ℕ)) (d : Data) → AreMet (type_text_checks place d) → (t : VariableType) × NamesType d t
-type_from_met place null h = absurd h.0
-type_from_met place (boolean x) h = absurd h.0
-type_from_met place (number x) h = absurd h.0
-type_from_met place (string x) h = what_is_there (type_in x) h.0
-type_from_met place (array x) h = absurd h.0
-type_from_met place (object x) h = absurd h.0
+  found_from_met : (place : List (List ℕ)) (d : Data) → AreMet (found_checks find place d) → (x : A) × Finds find d x
+  found_from_met place null h = absurd h.0
+  found_from_met place (boolean b) h = absurd h.0
+  found_from_met place (number n) h = absurd h.0
+  found_from_met place (string s) h = what_is_there (find s) h.0
+  found_from_met place (array ds) h = absurd h.0
+  found_from_met place (object ms) h = absurd h.0
 
-type_same : (d : Data) (t u : VariableType) → NamesType d t → NamesType d u → t ≡ u
-type_same null t u h j = absurd h
-type_same (boolean x) t u h j = absurd h
-type_same (number x) t u h j = absurd h
-type_same (string x) t u h j = one_there (type_in x) t u h j
-type_same (array x) t u h j = absurd h
-type_same (object x) t u h j = absurd h
+  found_same : (d : Data) (x y : A) → Finds find d x → Finds find d y → x ≡ y
+  found_same null x y h j = absurd h
+  found_same (boolean b) x y h j = absurd h
+  found_same (number n) x y h j = absurd h
+  found_same (string s) x y h j = one_there (find s) x y h j
+  found_same (array ds) x y h j = absurd h
+  found_same (object ms) x y h j = absurd h
+
+  pub found_fits : Fits A (found_checks find) (Finds find)
+  found_fits = record { met = found_met; from_met = found_from_met; same = found_same }
 
 pub type_fits : Fits VariableType type_text_checks NamesType
-type_fits = record { met = type_met; from_met = type_from_met; same = type_same }
+type_fits = found_fits type_in
 
 -- ---- elements of arrays
 
@@ -132,32 +136,8 @@ name_from_met place (object x) h = absurd h.0
 pub name_fits : Fits (List ℕ) name_checks IsNameText
 name_fits = record { met = name_met; from_met = name_from_met; same = λ d s t h j. one_text s t (sym h.0 ∙ j.0) }
 
-address_met : (place : List (List ℕ)) (d : Data) (l : LabelView) → IsAddressText d l → AreMet (address_checks place d)
-address_met place null l h = absurd h
-address_met place (boolean x) l h = absurd h
-address_met place (number x) l h = absurd h
-address_met place (string x) l h = (is_there (label_in x) l h, tt)
-address_met place (array x) l h = absurd h
-address_met place (object x) l h = absurd h
-
-address_from_met : (place : List (List ℕ)) (d : Data) → AreMet (address_checks place d) → (l : LabelView) × IsAddressText d l
-address_from_met place null h = absurd h.0
-address_from_met place (boolean x) h = absurd h.0
-address_from_met place (number x) h = absurd h.0
-address_from_met place (string x) h = what_is_there (label_in x) h.0
-address_from_met place (array x) h = absurd h.0
-address_from_met place (object x) h = absurd h.0
-
-address_same : (d : Data) (l m : LabelView) → IsAddressText d l → IsAddressText d m → l ≡ m
-address_same null l m h j = absurd h
-address_same (boolean x) l m h j = absurd h
-address_same (number x) l m h j = absurd h
-address_same (string x) l m h j = one_there (label_in x) l m h j
-address_same (array x) l m h j = absurd h
-address_same (object x) l m h j = absurd h
-
 pub address_fits : Fits LabelView address_checks IsAddressText
-address_fits = record { met = address_met; from_met = address_from_met; same = address_same }
+address_fits = found_fits label_in
 
 -- ---- literal values
 

@@ -17,14 +17,15 @@ use Rattle.tf_refusal.specs.Refusal.{DetailView, Told, fault}
 
 -- ---- demands
 
-expression_apart : (d : expr.Demand) (cause : Cause) → expr.IsMet d → expr.Fails d cause → ⊥
+-- what is met of an expression does not fail
+pub expression_apart : (d : expr.Demand) (cause : Cause) → expr.IsMet d → expr.Fails d cause → ⊥
 expression_apart (expr.a_plain_name s) cause met fails = fails.0 met
 expression_apart (expr.a_whole_number n) cause met fails = absurd (cc (met, fails.0))
 expression_apart (expr.a_template s) BadShape met fails = fails
 expression_apart (expr.a_template s) (At offset) met fails = fails met.0 met.1.0
 expression_apart (expr.a_template s) TooDeep met fails = let deep = fails met.0 met.1.0 in absurd (omega (arith, deep, met.1.1))
 
-apart : (d : Demand) (way : Way) → IsMet d → Fails d way → ⊥
+pub apart : (d : Demand) (way : Way) → IsMet d → Fails d way → ⊥
 apart nothing_fits way met fails = met
 apart (holds condition) way met fails = absurd (cc (met, fails.0))
 apart (of_expression d) way met fails = expression_apart d fails.0 met fails.1

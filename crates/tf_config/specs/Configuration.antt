@@ -74,15 +74,15 @@ checks_in_variable in_variable.Default place value = literal_checks place value
 checks_in_variable in_variable.Description place value = text_checks place value
 checks_in_variable in_variable.Other place value = wrong place
 
-abbrev pub variable_property_checks : PropertyChecks
-variable_property_checks place name = checks_in_variable (variable_property_of name) place
-
 abbrev pub AddsInVariable : VariableProperty → Data → VariableBody → VariableBody → Type 0
 AddsInVariable in_variable.Comment value before after = before ≡ after
 AddsInVariable in_variable.Type value before after = Adds NamesType value (λ t. record before { value_type = t }) after
 AddsInVariable in_variable.Default value before after = Adds IsLiteral value (λ t. record before { default = Some t }) after
 AddsInVariable in_variable.Description value before after = Adds IsText value (λ text. before) after
 AddsInVariable in_variable.Other value before after = ⊥
+
+abbrev pub variable_property_checks : PropertyChecks
+variable_property_checks place name = checks_in_variable (variable_property_of name) place
 
 abbrev pub AddsVariableProperty : List ℕ → Data → VariableBody → VariableBody → Type 0
 AddsVariableProperty name = AddsInVariable (variable_property_of name)
@@ -105,12 +105,12 @@ abbrev pub checks_in_locals : LocalsProperty → PropertyChecks
 checks_in_locals in_locals.Comment place name value = []
 checks_in_locals in_locals.Local place name value = named_checks expression_checks place name value
 
-abbrev pub local_checks : PropertyChecks
-local_checks place name = checks_in_locals (locals_property_of name) place name
-
 abbrev pub AddsInLocals : LocalsProperty → List ℕ → Data → Entries → Entries → Type 0
 AddsInLocals in_locals.Comment name value before after = before ≡ after
 AddsInLocals in_locals.Local name value before after = AddsNamed IsExpr name value (λ e. put name e before) after
+
+abbrev pub local_checks : PropertyChecks
+local_checks place name = checks_in_locals (locals_property_of name) place name
 
 abbrev pub AddsLocal : List ℕ → Data → Entries → Entries → Type 0
 AddsLocal name = AddsInLocals (locals_property_of name) name
@@ -124,14 +124,14 @@ checks_in_output in_output.Value place value = expression_checks place value
 checks_in_output in_output.Description place value = text_checks place value
 checks_in_output in_output.Other place value = wrong place
 
-abbrev pub output_property_checks : PropertyChecks
-output_property_checks place name = checks_in_output (output_property_of name) place
-
 abbrev pub AddsInOutput : OutputProperty → Data → Option Tree → Option Tree → Type 0
 AddsInOutput in_output.Comment value before after = before ≡ after
 AddsInOutput in_output.Value value before after = Adds IsExpr value (λ e. Some e) after
 AddsInOutput in_output.Description value before after = Adds IsText value (λ text. before) after
 AddsInOutput in_output.Other value before after = ⊥
+
+abbrev pub output_property_checks : PropertyChecks
+output_property_checks place name = checks_in_output (output_property_of name) place
 
 abbrev pub AddsOutputProperty : List ℕ → Data → Option Tree → Option Tree → Type 0
 AddsOutputProperty name = AddsInOutput (output_property_of name)
@@ -160,15 +160,15 @@ checks_in_lifecycle in_lifecycle.PreventDestroy place value = flag_checks place 
 checks_in_lifecycle in_lifecycle.IgnoreChanges place value = array_checks name_checks place value
 checks_in_lifecycle in_lifecycle.Other place value = wrong place
 
-abbrev pub lifecycle_property_checks : PropertyChecks
-lifecycle_property_checks place name = checks_in_lifecycle (lifecycle_property_of name) place
-
 abbrev pub AddsInLifecycle : LifecycleProperty → Data → LifecycleView → LifecycleView → Type 0
 AddsInLifecycle in_lifecycle.Comment value before after = before ≡ after
 AddsInLifecycle in_lifecycle.CreateBeforeDestroy value before after = Adds IsFlag value (λ flag. record before { create_before_destroy = flag }) after
 AddsInLifecycle in_lifecycle.PreventDestroy value before after = Adds IsFlag value (λ flag. record before { prevent_destroy = flag }) after
 AddsInLifecycle in_lifecycle.IgnoreChanges value before after = Adds (SaysList IsNameText) value (λ names. record before { ignore_changes = names }) after
 AddsInLifecycle in_lifecycle.Other value before after = ⊥
+
+abbrev pub lifecycle_property_checks : PropertyChecks
+lifecycle_property_checks place name = checks_in_lifecycle (lifecycle_property_of name) place
 
 abbrev pub AddsLifecycleProperty : List ℕ → Data → LifecycleView → LifecycleView → Type 0
 AddsLifecycleProperty name = AddsInLifecycle (lifecycle_property_of name)
@@ -187,9 +187,6 @@ checks_in_block in_block.Lifecycle place name value = object_checks lifecycle_pr
 checks_in_block in_block.Refused place name value = wrong place
 checks_in_block in_block.Argument place name value = named_checks expression_checks place name value
 
-abbrev pub block_property_checks : PropertyChecks
-block_property_checks place name = checks_in_block (block_property_of name) place name
-
 abbrev pub AddsInBlock : BlockProperty → List ℕ → Data → BlockBody → BlockBody → Type 0
 AddsInBlock in_block.Comment name value before after = before ≡ after
 AddsInBlock in_block.Count name value before after = Adds IsExpr value (λ e. record before { repetition = count e }) after
@@ -198,6 +195,9 @@ AddsInBlock in_block.DependsOn name value before after = Adds (SaysList IsAddres
 AddsInBlock in_block.Lifecycle name value before after = Adds IsLifecycle value (λ lifecycle. record before { lifecycle = lifecycle }) after
 AddsInBlock in_block.Refused name value before after = ⊥
 AddsInBlock in_block.Argument name value before after = AddsNamed IsExpr name value (λ e. record before { arguments = put name e before.arguments }) after
+
+abbrev pub block_property_checks : PropertyChecks
+block_property_checks place name = checks_in_block (block_property_of name) place name
 
 abbrev pub AddsBlockProperty : List ℕ → Data → BlockBody → BlockBody → Type 0
 AddsBlockProperty name = AddsInBlock (block_property_of name) name

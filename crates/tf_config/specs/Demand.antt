@@ -18,6 +18,10 @@ pub data Demand : Type 0 where
   -- what is demanded of a part of an expression
   of_expression : expr.Demand → Demand
 
+-- what there is to check, in walk order
+abbrev pub Checks : Type 0
+Checks = List (Check Demand)
+
 -- the text is a name
 abbrev pub a_name : List ℕ → Demand
 a_name text = holds (is_name text)
@@ -31,6 +35,10 @@ IsMet nothing_fits = ⊥
 IsMet (holds condition) = IsTrue condition
 IsMet (of_expression demand) = expr.IsMet demand
 
+-- nothing is wrong
+abbrev pub AreMet : Checks → Type 0
+AreMet = AllMet IsMet
+
 -- 2, BadShape
 abbrev pub bad_shape : Way
 bad_shape = (code.bad_shape, bare)
@@ -40,14 +48,6 @@ abbrev pub Fails : Demand → Way → Type 0
 Fails nothing_fits way = way ≡ bad_shape
 Fails (holds condition) way = (condition ≡ false) × (way ≡ bad_shape)
 Fails (of_expression demand) way = (cause : Cause) × expr.Fails demand cause × (way ≡ way_of cause)
-
--- what there is to check, in walk order
-abbrev pub Checks : Type 0
-Checks = List (Check Demand)
-
--- nothing is wrong
-abbrev pub AreMet : Checks → Type 0
-AreMet = AllMet IsMet
 
 -- The first fault of some checks is what is told, or there was no memory.
 abbrev pub RefusesBy : {D : Type 0} → (D → Type 0) → (D → Way → Type 0) → List (Check D) → Told → Type 0
@@ -59,9 +59,13 @@ RefusesBy IsMet Fails checks (fault code place detail) = IsFirst IsMet Fails pla
 abbrev pub Refuses : Checks → Told → Type 0
 Refuses = RefusesBy IsMet Fails
 
+-- An answer that is fine where something holds: that does, or the first fault of some checks is told.
+abbrev pub FineOrRefuses : {T : Type 0} → Type 0 → Checks → Result T Refusal → Type 0
+FineOrRefuses Holds checks answer = MatchResult answer (λ _. Holds) (λ refusal. Refuses checks (told refusal))
+
 -- An answer that only judges: all checks are met, or the first fault is told.
 abbrev pub Judges : {T : Type 0} → Checks → Result T Refusal → Type 0
-Judges checks answer = MatchResult answer (λ _. AreMet checks) (λ refusal. Refuses checks (told refusal))
+Judges checks = FineOrRefuses (AreMet checks) checks
 
 -- a fault at the place, or there was no memory to say so
 abbrev pub TellsAt : List ℕ → Way → Told → Type 0

@@ -1,5 +1,5 @@
 -- The parts of the format that hold no properties of their own: what is demanded of each, and what it says.
-use Rattle.std.specs.Prelude.{◌≡◌, ℕ, ◌+◌, Bool, IsTrue, is_some, Some, List, [], ◌∷◌, ◌++◌, ⊤}
+use Rattle.std.specs.Prelude.{◌≡◌, ℕ, ◌+◌, Bool, IsTrue, is_some, Option, Some, List, [], ◌∷◌, ◌++◌, MatchResult, Result, ⊤}
 use Rattle.std.specs.Fmt.{decimal}
 use Rattle.serde_json.specs.Data.{Data, null, boolean, number, string, array, object, Items, no_items, item, Members, no_members, member}
 use Rattle.tf_address.specs.Label.{LabelView}
@@ -13,7 +13,9 @@ use Rattle.tf_json_path.specs.Walk.{each_item}
 use Rattle.tf_value.specs.Json.{tree_from, value_from}
 use Rattle.tf_value.specs.Measure.{is_within, IsWithinLimits}
 use Rattle.tf_value.specs.Tree as values
-use Rattle.tf_config.specs.Demand.{Checks, AreMet, nothing_fits, holds, a_name, of_expression}
+use Rattle.tf_refusal.specs.Refusal.{told}
+use Rattle.tf_refusal.specs.declared.refusal.Refusal.{Refusal}
+use Rattle.tf_config.specs.Demand.{Checks, AreMet, Refuses, nothing_fits, holds, a_name, of_expression}
 use Rattle.tf_config.specs.Words.{label_in, type_in}
 
 -- nothing is allowed here
@@ -27,6 +29,10 @@ PartChecks = List (List ℕ) → Data → Checks
 -- What says something has no fault.
 abbrev pub IsPartSound : {A : Type 0} → (Data → A → Type 0) → PartChecks → Type 0
 IsPartSound {A} Says checks = (place : List (List ℕ)) (value : Data) (said : A) → Says value said → AreMet (checks place value)
+
+-- What is read at a place is what stands there, or the first fault in it is told.
+abbrev pub Reads : {A T : Type 0} → (Data → A → Type 0) → PartChecks → (T → A) → List (List ℕ) → Data → Result T Refusal → Type 0
+Reads Says checks told_by place value answer = MatchResult answer (λ read. Says value (told_by read)) (λ refusal. Refuses (checks place value) (told refusal))
 
 -- ---- scalars
 
@@ -50,14 +56,21 @@ flag_checks place _ = wrong place
 abbrev pub IsFlag : Data → Bool → Type 0
 IsFlag value flag = value ≡ boolean flag
 
+-- a text by which something is found
+abbrev pub found_checks : {A : Type 0} → (List ℕ → Option A) → PartChecks
+found_checks find place (string text) = demanded place (holds (is_some (find text)))
+found_checks find place _ = wrong place
+
+abbrev pub Finds : {A : Type 0} → (List ℕ → Option A) → Data → A → Type 0
+Finds find (string text) x = find text ≡ Some x
+Finds find _ x = ⊥
+
 -- a text that names a type
 abbrev pub type_text_checks : PartChecks
-type_text_checks place (string text) = demanded place (holds (is_some (type_in text)))
-type_text_checks place _ = wrong place
+type_text_checks = found_checks type_in
 
 abbrev pub NamesType : Data → VariableType → Type 0
-NamesType (string text) value_type = type_in text ≡ Some value_type
-NamesType _ value_type = ⊥
+NamesType = Finds type_in
 
 -- ---- literal values
 
@@ -119,9 +132,7 @@ IsNameText value text = (value ≡ string text) × IsTrue (is_name text)
 
 -- a text that is the address of a resource
 abbrev pub address_checks : PartChecks
-address_checks place (string text) = demanded place (holds (is_some (label_in text)))
-address_checks place _ = wrong place
+address_checks = found_checks label_in
 
 abbrev pub IsAddressText : Data → LabelView → Type 0
-IsAddressText (string text) label = label_in text ≡ Some label
-IsAddressText _ label = ⊥
+IsAddressText = Finds label_in

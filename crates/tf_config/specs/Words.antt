@@ -24,22 +24,22 @@ use Rattle.tf_config_data.specs.declared.variable.VariableType.TheVariants as ty
 abbrev pub is_comment : List ℕ → Bool
 is_comment name = bytes_eq name (codes "//")
 
+-- what a name is among words: what is said of the first that it is, or something else
+abbrev pub among : {P : Type 0} → List (List ℕ × P) → P → List ℕ → P
+among [] other name = other
+among (word ∷ words) other name = if bytes_eq name word.0 then word.1 else among words other name
+
 -- what a property at the top is
 abbrev pub section_of : List ℕ → Section
 section_of name =
     if is_comment name then sections.Comment
-    else (if bytes_eq name (codes "variable") then sections.Variables
-    else (if bytes_eq name (codes "locals") then sections.Locals
-    else (if bytes_eq name (codes "output") then sections.Outputs
-    else (if bytes_eq name (codes "resource") then sections.Resources else sections.Other))))
+    else among ((codes "variable", sections.Variables) ∷ (codes "locals", sections.Locals) ∷ (codes "output", sections.Outputs) ∷ (codes "resource", sections.Resources) ∷ []) sections.Other name
 
 -- what a property in the body of a variable is
 abbrev pub variable_property_of : List ℕ → VariableProperty
 variable_property_of name =
     if is_comment name then in_variable.Comment
-    else (if bytes_eq name (codes "type") then in_variable.Type
-    else (if bytes_eq name (codes "default") then in_variable.Default
-    else (if bytes_eq name (codes "description") then in_variable.Description else in_variable.Other)))
+    else among ((codes "type", in_variable.Type) ∷ (codes "default", in_variable.Default) ∷ (codes "description", in_variable.Description) ∷ []) in_variable.Other name
 
 -- what a property of `locals` is
 abbrev pub locals_property_of : List ℕ → LocalsProperty
@@ -49,8 +49,7 @@ locals_property_of name = if is_comment name then in_locals.Comment else in_loca
 abbrev pub output_property_of : List ℕ → OutputProperty
 output_property_of name =
     if is_comment name then in_output.Comment
-    else (if bytes_eq name (codes "value") then in_output.Value
-    else (if bytes_eq name (codes "description") then in_output.Description else in_output.Other))
+    else among ((codes "value", in_output.Value) ∷ (codes "description", in_output.Description) ∷ []) in_output.Other name
 
 -- the names that a resource body may not have
 abbrev pub refused_properties : List (List ℕ)
@@ -60,19 +59,16 @@ refused_properties = codes "connection" ∷ codes "provider" ∷ codes "provisio
 abbrev pub block_property_of : List ℕ → BlockProperty
 block_property_of name =
     if is_comment name then in_block.Comment
-    else (if bytes_eq name (codes "count") then in_block.Count
-    else (if bytes_eq name (codes "for_each") then in_block.ForEach
-    else (if bytes_eq name (codes "depends_on") then in_block.DependsOn
-    else (if bytes_eq name (codes "lifecycle") then in_block.Lifecycle
-    else (if list_any (bytes_eq name) refused_properties then in_block.Refused else in_block.Argument)))))
+    else among ((codes "count", in_block.Count) ∷ (codes "for_each", in_block.ForEach)
+    ∷ (codes "depends_on", in_block.DependsOn) ∷ (codes "lifecycle", in_block.Lifecycle) ∷ [])
+    (if list_any (bytes_eq name) refused_properties then in_block.Refused else in_block.Argument) name
 
 -- what a property of `lifecycle` is
 abbrev pub lifecycle_property_of : List ℕ → LifecycleProperty
 lifecycle_property_of name =
     if is_comment name then in_lifecycle.Comment
-    else (if bytes_eq name (codes "create_before_destroy") then in_lifecycle.CreateBeforeDestroy
-    else (if bytes_eq name (codes "prevent_destroy") then in_lifecycle.PreventDestroy
-    else (if bytes_eq name (codes "ignore_changes") then in_lifecycle.IgnoreChanges else in_lifecycle.Other)))
+    else among ((codes "create_before_destroy", in_lifecycle.CreateBeforeDestroy)
+    ∷ (codes "prevent_destroy", in_lifecycle.PreventDestroy) ∷ (codes "ignore_changes", in_lifecycle.IgnoreChanges) ∷ []) in_lifecycle.Other name
 
 -- the names that are no resource types, since expressions give them another meaning
 abbrev pub reserved_types : List (List ℕ)

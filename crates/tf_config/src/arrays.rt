@@ -12,6 +12,7 @@ ghost use Rattle.tf_json_path.specs.Walk.{each_item};
 ghost use Rattle.tf_refusal.specs.Refusal.{told};
 
 use crate::demand::{bad_shape, demand_name};
+use crate::objects::Part;
 use crate::words::is_type_name;
 use serde_json::Value;
 use std::alloc::{AllocError, Global};
@@ -19,14 +20,11 @@ use tf_address::{Label, is_name};
 use tf_json_path::Path;
 use tf_refusal::Refusal;
 
-/// What the elements of one kind of array say, and what is demanded of each.
-trait Elements {
-    /// What one says.
-    type Said: Drop;
-
+/// What one kind of array holds.
+pub(crate) trait Listed: Drop + Sized {
     ghost Told: { Type 0 };
 
-    ghost told_by: { Self.Said → Told };
+    ghost told_by: { Self → Told };
 
     ghost says: { Data → Told → Type 0 };
 
@@ -37,36 +35,31 @@ trait Elements {
     /// # Errors
     ///
     /// The first fault in it, in walk order, or `OutOfMemory`.
-    fn read(&self, alloc: Global, path: &Path<'_>, value: &Value) -> Result<Self::Said, Refusal>
-        ensures ok { IfOk result (λ said. says (view value.now) (told_by said)) }
+    fn read(part: &Part<'_>) -> Result<Self, Refusal>
+        ensures ok { IfOk result (λ said. says (view part.now.value.now) (told_by said)) }
         ensures fault { IfErr result (λ refusal.
-            Refuses (checks (place_of path.now) (view value.now)) (told refusal)) };
+            Refuses (checks (place_of part.now.path.now) (view part.now.value.now)) (told refusal)) };
 }
 
 /// What the elements of an array say, in order. Anything but an array is refused with 2.
-fn read_array<'a, E: Elements>(
-    elements: &E,
-    alloc: Global,
-    path: &'a Path<'a>,
-    value: &'a Value,
-) -> Result<Vec<E::Said>, Refusal>
+pub(crate) fn read_array<E: Listed>(part: &Part<'_>) -> Result<Vec<E>, Refusal>
     requires sound { IsPartSound E.says E.checks }
-    ensures ok { IfOk result (λ all. SaysList E.says (view value.now) (map E.told_by all.items)) }
+    ensures ok { IfOk result (λ all.
+        SaysList E.says (view part.now.value.now) (map E.told_by all.items)) }
     ensures fault { IfErr result (λ refusal.
-        Refuses (array_checks E.checks (place_of path.now) (view value.now)) (told refusal)) }
+        Refuses (array_checks E.checks (place_of part.now.path.now) (view part.now.value.now)) (told refusal)) }
 {
-    match value {
-        Value::Array(items) => read_each(elements, alloc, path, items),
-        _ => Err(bad_shape(alloc, path)),
+    match part.value {
+        Value::Array(items) => read_each(part.alloc, part.path, items),
+        _ => Err(bad_shape(part.alloc, part.path)),
     }
 }
 
-fn read_each<'a, E: Elements>(
-    elements: &E,
+fn read_each<'a, E: Listed>(
     alloc: Global,
     path: &'a Path<'a>,
     items: &'a Vec<Value>,
-) -> Result<Vec<E::Said>, Refusal>
+) -> Result<Vec<E>, Refusal>
     requires sound { IsPartSound E.says E.checks }
     ensures ok { IfOk result (λ all.
         EachSays E.says (items_view items.now.items) (map E.told_by all.items)) }
@@ -75,33 +68,16 @@ fn read_each<'a, E: Elements>(
         (told refusal)) }
 {
     let mut all = Vec::with_capacity(alloc, items.len())?;
-    for (position, item) in items.iter().enumerate() {
-        let said = elements.read(alloc, &Path::Item(path, position), item)?;
+    for (position, value) in items.iter().enumerate() {
+        let path = &Path::Item(path, position);
+        let said = E::read(&Part { alloc, path, value })?;
         all.push(said)?;
     }
     Ok(all)
 }
 
-/// An array of names.
-#[tactic(auto, using(crate::proofs::Sound::names_sound))]
-pub(crate) fn read_names<'a>(
-    alloc: Global,
-    path: &'a Path<'a>,
-    value: &'a Value,
-) -> Result<Vec<String>, Refusal>
-    ensures ok { IfOk result (λ names. SaysList IsNameText (view value.now) (map string_bytes names.items)) }
-    ensures fault { IfErr result (λ refusal.
-        Refuses (array_checks name_checks (place_of path.now) (view value.now)) (told refusal)) }
-{
-    read_array(&Names, alloc, path, value)
-}
-
-#[derive(Drop)]
-struct Names;
-
-impl Elements for Names {
-    type Said = String;
-
+/// A text that is a name.
+impl Listed for String {
     ghost Told = { List ℕ };
 
     ghost told_by = { λ name. string_bytes name };
@@ -110,37 +86,19 @@ impl Elements for Names {
 
     ghost checks = { name_checks };
 
-    fn read(&self, alloc: Global, path: &Path<'_>, value: &Value) -> Result<String, Refusal> {
-        match value {
+    fn read(part: &Part<'_>) -> Result<String, Refusal> {
+        match part.value {
             Value::String(text) => {
-                demand_name(alloc, path, text.as_str())?;
-                Ok(String::from_str(alloc, text.as_str())?)
+                demand_name(part.alloc, part.path, text.as_str())?;
+                Ok(String::from_str(part.alloc, text.as_str())?)
             }
-            _ => Err(bad_shape(alloc, path)),
+            _ => Err(bad_shape(part.alloc, part.path)),
         }
     }
 }
 
-/// An array of the addresses of resources.
-#[tactic(auto, using(crate::proofs::Sound::addresses_sound))]
-pub(crate) fn read_addresses<'a>(
-    alloc: Global,
-    path: &'a Path<'a>,
-    value: &'a Value,
-) -> Result<Vec<Label>, Refusal>
-    ensures ok { IfOk result (λ labels. SaysList IsAddressText (view value.now) (map label_of labels.items)) }
-    ensures fault { IfErr result (λ refusal.
-        Refuses (array_checks address_checks (place_of path.now) (view value.now)) (told refusal)) }
-{
-    read_array(&Addresses, alloc, path, value)
-}
-
-#[derive(Drop)]
-struct Addresses;
-
-impl Elements for Addresses {
-    type Said = Label;
-
+/// A text that is the address of a resource.
+impl Listed for Label {
     ghost Told = { LabelView };
 
     ghost told_by = { λ label. label_of label };
@@ -149,13 +107,13 @@ impl Elements for Addresses {
 
     ghost checks = { address_checks };
 
-    fn read(&self, alloc: Global, path: &Path<'_>, value: &Value) -> Result<Label, Refusal> {
-        match value {
-            Value::String(text) => match label_named(alloc, text.as_str())? {
+    fn read(part: &Part<'_>) -> Result<Label, Refusal> {
+        match part.value {
+            Value::String(text) => match label_named(part.alloc, text.as_str())? {
                 Some(label) => Ok(label),
-                None => Err(bad_shape(alloc, path)),
+                None => Err(bad_shape(part.alloc, part.path)),
             },
-            _ => Err(bad_shape(alloc, path)),
+            _ => Err(bad_shape(part.alloc, part.path)),
         }
     }
 }

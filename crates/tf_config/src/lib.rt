@@ -6,14 +6,13 @@
 #![tactic(auto)]
 
 mod arrays;
-mod blocks;
+mod bodies;
 mod demand;
+mod kinds;
 mod laws;
 mod literals;
 mod objects;
-mod outputs;
 mod reading;
-mod variables;
 mod words;
 
 pub use demand::{fault_at, file_fault};

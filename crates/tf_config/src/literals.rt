@@ -3,7 +3,7 @@
 ghost use Rattle.serde_json.specs.View.{items_view, members_view, view};
 ghost use Rattle.std.specs.Prelude.{IfErr, IfOk, List, OnOk, ℕ};
 ghost use Rattle.tf_config.specs.Demand.{Judges, Refuses};
-ghost use Rattle.tf_config.specs.Parts.{expression_checks, flag_checks, item_number_checks, literal_checks, member_number_checks, number_checks, text_checks, type_text_checks, IsFlag, IsLiteral, IsText, NamesType};
+ghost use Rattle.tf_config.specs.Parts.{expression_checks, flag_checks, item_number_checks, literal_checks, member_number_checks, number_checks, text_checks, type_text_checks, IsFlag, IsLiteral, IsText, NamesType, Reads};
 ghost use Rattle.tf_expr.specs.Reading.{IsExpr};
 ghost use Rattle.tf_json_path.specs.Place.{place_of};
 ghost use Rattle.tf_refusal.specs.Refusal.{told};
@@ -11,6 +11,7 @@ ghost use Rattle.tf_syntax.specs.ExprTree.{tree_of};
 ghost use Rattle.tf_value.specs.Tree as values;
 
 use crate::demand::{bad_shape, demand_whole};
+use crate::objects::Part;
 use crate::words::type_named;
 use serde_json::{Map, Value as Json};
 use std::alloc::Global;
@@ -22,59 +23,45 @@ use tf_syntax::Expr;
 use tf_value::{JsonFault, Value, from_json};
 
 /// An expression.
-pub(crate) fn read_expression<'a>(
-    alloc: Global,
-    path: &'a Path<'a>,
-    json: &'a Json,
-) -> Result<Expr, Refusal>
-    ensures ok { IfOk result (λ e. IsExpr (view json.now) (tree_of e)) }
-    ensures fault { IfErr result (λ refusal.
-        Refuses (expression_checks (place_of path.now) (view json.now)) (told refusal)) }
+pub(crate) fn read_expression(part: &Part<'_>) -> Result<Expr, Refusal>
+    ensures { Reads IsExpr expression_checks tree_of (place_of part.now.path.now) (view part.now.value.now) result }
 {
-    let expr = read_expr_at(alloc, path, json)?;
+    let expr = read_expr_at(part.alloc, part.path, part.value)?;
     Ok(expr)
 }
 
 /// Any text, which says nothing to the engine.
-pub(crate) fn demand_text(alloc: Global, path: &Path<'_>, json: &Json) -> Result<(), Refusal>
-    ensures ok { OnOk result ((text : List ℕ) × IsText (view json.now) text) }
+pub(crate) fn demand_text(part: &Part<'_>) -> Result<(), Refusal>
+    ensures ok { OnOk result ((text : List ℕ) × IsText (view part.now.value.now) text) }
     ensures fault { IfErr result (λ refusal.
-        Refuses (text_checks (place_of path.now) (view json.now)) (told refusal)) }
+        Refuses (text_checks (place_of part.now.path.now) (view part.now.value.now)) (told refusal)) }
 {
-    match json {
+    match part.value {
         Json::String(_) => Ok(()),
-        _ => Err(bad_shape(alloc, path)),
+        _ => Err(bad_shape(part.alloc, part.path)),
     }
 }
 
 /// A truth value.
-pub(crate) fn read_flag(alloc: Global, path: &Path<'_>, json: &Json) -> Result<bool, Refusal>
-    ensures ok { IfOk result (λ flag. IsFlag (view json.now) flag) }
-    ensures fault { IfErr result (λ refusal.
-        Refuses (flag_checks (place_of path.now) (view json.now)) (told refusal)) }
+pub(crate) fn read_flag(part: &Part<'_>) -> Result<bool, Refusal>
+    ensures { Reads IsFlag flag_checks (λ flag. flag) (place_of part.now.path.now) (view part.now.value.now) result }
 {
-    match json {
+    match part.value {
         Json::Bool(flag) => Ok(*flag),
-        _ => Err(bad_shape(alloc, path)),
+        _ => Err(bad_shape(part.alloc, part.path)),
     }
 }
 
 /// The type of a variable.
-pub(crate) fn read_type(
-    alloc: Global,
-    path: &Path<'_>,
-    json: &Json,
-) -> Result<VariableType, Refusal>
-    ensures ok { IfOk result (λ value_type. NamesType (view json.now) value_type) }
-    ensures fault { IfErr result (λ refusal.
-        Refuses (type_text_checks (place_of path.now) (view json.now)) (told refusal)) }
+pub(crate) fn read_type(part: &Part<'_>) -> Result<VariableType, Refusal>
+    ensures { Reads NamesType type_text_checks (λ value_type. value_type) (place_of part.now.path.now) (view part.now.value.now) result }
 {
-    match json {
+    match part.value {
         Json::String(text) => match type_named(text.as_str()) {
             Some(value_type) => Ok(value_type),
-            None => Err(bad_shape(alloc, path)),
+            None => Err(bad_shape(part.alloc, part.path)),
         },
-        _ => Err(bad_shape(alloc, path)),
+        _ => Err(bad_shape(part.alloc, part.path)),
     }
 }
 

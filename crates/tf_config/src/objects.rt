@@ -2,18 +2,28 @@
 
 ghost use Rattle.serde_json.specs.Data.{Data};
 ghost use Rattle.serde_json.specs.View.{members_view, view};
-ghost use Rattle.std.specs.Prelude.{IfErr, List, OnOk, ℕ};
+ghost use Rattle.std.specs.Prelude.{List, ℕ};
 ghost use Rattle.tf_config.specs.Configuration.{below, object_checks, BuildsFrom, IsSound, PropertyChecks};
-ghost use Rattle.tf_config.specs.Demand.{Refuses};
+ghost use Rattle.tf_config.specs.Demand.{FineOrRefuses};
 ghost use Rattle.tf_json_path.specs.Place.{place_of};
 ghost use Rattle.tf_json_path.specs.Walk.{each, Builds};
-ghost use Rattle.tf_refusal.specs.Refusal.{told};
 
 use crate::demand::bad_shape;
 use serde_json::{Map, Value};
 use std::alloc::Global;
 use tf_json_path::Path;
 use tf_refusal::Refusal;
+
+/// What stands at a place of the tree, with the memory for what it says.
+#[derive(Clone, Copy)]
+pub(crate) struct Part<'a> {
+    /// The memory.
+    pub(crate) alloc: Global,
+    /// The place.
+    pub(crate) path: &'a Path<'a>,
+    /// What stands there.
+    pub(crate) value: &'a Value,
+}
 
 /// What the members of one kind of object say, and what is demanded of them.
 pub(crate) trait Members {
@@ -28,41 +38,29 @@ pub(crate) trait Members {
 
     ghost checks: { Self → PropertyChecks };
 
-    /// Adds what one member says.
+    /// Adds what the member of a name says.
     ///
     /// # Errors
     ///
     /// The first fault in it, in walk order, or `OutOfMemory`.
-    fn add<'a>(
-        &self,
-        alloc: Global,
-        path: &'a Path<'a>,
-        name: &'a str,
-        value: &'a Value,
-        said: &mut Self::Said,
-    ) -> Result<(), Refusal>
-        ensures ok { OnOk result (adds self.now name.now (view value.now) (told_by said.old) (told_by said.new)) }
-        ensures fault { IfErr result (λ refusal.
-            Refuses (checks self.now (place_of path.now) name.now (view value.now)) (told refusal)) };
+    fn add(&self, name: &str, part: &Part<'_>, said: &mut Self::Said) -> Result<(), Refusal>
+        ensures { FineOrRefuses (adds self.now name.now (view part.now.value.now) (told_by said.old) (told_by said.new))
+            (checks self.now (place_of part.now.path.now) name.now (view part.now.value.now)) result };
 }
 
 /// Adds what the members of an object say, in byte order of their names. Anything but an object is refused with 2.
-pub(crate) fn add_members<'a, M: Members>(
+pub(crate) fn add_members<M: Members>(
     members: &M,
-    alloc: Global,
-    path: &'a Path<'a>,
-    value: &'a Value,
+    part: &Part<'_>,
     said: &mut M::Said,
 ) -> Result<(), Refusal>
     requires sound { IsSound (M.adds members.now) (M.checks members.now) }
-    ensures ok { OnOk result
-        (BuildsFrom (M.adds members.now) (view value.now) (M.told_by said.old) (M.told_by said.new)) }
-    ensures fault { IfErr result (λ refusal.
-        Refuses (object_checks (M.checks members.now) (place_of path.now) (view value.now)) (told refusal)) }
+    ensures { FineOrRefuses (BuildsFrom (M.adds members.now) (view part.now.value.now) (M.told_by said.old) (M.told_by said.new))
+        (object_checks (M.checks members.now) (place_of part.now.path.now) (view part.now.value.now)) result }
 {
-    match value {
-        Value::Object(object) => add_each_member(members, alloc, path, object, said),
-        _ => Err(bad_shape(alloc, path)),
+    match part.value {
+        Value::Object(object) => add_each_member(members, part.alloc, part.path, object, said),
+        _ => Err(bad_shape(part.alloc, part.path)),
     }
 }
 
@@ -75,15 +73,13 @@ pub(crate) fn add_each_member<'a, M: Members>(
     said: &mut M::Said,
 ) -> Result<(), Refusal>
     requires sound { IsSound (M.adds members.now) (M.checks members.now) }
-    ensures ok { OnOk result
-        (Builds (M.adds members.now) (members_view object.now.entries) (M.told_by said.old) (M.told_by said.new)) }
-    ensures fault { IfErr result (λ refusal.
-        Refuses (each (below (M.checks members.now) (place_of path.now)) (members_view object.now.entries))
-        (told refusal)) }
+    ensures { FineOrRefuses (Builds (M.adds members.now) (members_view object.now.entries) (M.told_by said.old) (M.told_by said.new))
+        (each (below (M.checks members.now) (place_of path.now)) (members_view object.now.entries)) result }
 {
     for (key, value) in object.iter() {
         let name = key.as_str();
-        members.add(alloc, &Path::Member(path, name), name, value, said)?;
+        let path = &Path::Member(path, name);
+        members.add(name, &Part { alloc, path, value }, said)?;
     }
     Ok(())
 }

@@ -5,18 +5,15 @@ ghost use Rattle.tf_config.specs.Config.{plain_config};
 ghost use Rattle.tf_config.specs.Configuration.{below, configuration_checks, section_checks, whole_file, AddsSection, IsConfiguration};
 ghost use Rattle.tf_config.specs.Demand.{Refuses, TellsAt};
 ghost use Rattle.tf_config.specs.Reading.{max_bytes, max_declared, IsRefused, IsTree, IsWithinCounts, TellsNotJson};
-ghost use Rattle.tf_config_data.specs.Config.{config_of, ConfigView};
+ghost use Rattle.tf_config_data.specs.Config.{config_of};
 ghost use Rattle.tf_json_path.specs.Place.{dotted, place_of};
 ghost use Rattle.tf_json_path.specs.Walk.{each, Builds};
 ghost use Rattle.tf_refusal.specs.Refusal.{bare, told};
 ghost use Rattle.tf_refusal.specs.Code.{limit};
 
-use crate::blocks::Types;
-use crate::demand::{CONFIGURATION, bad_shape, file_fault, whole_file_fault};
-use crate::objects::{Members, add_each_member, add_members};
-use crate::outputs::{Locals, Outputs};
-use crate::variables::Variables;
-use crate::words::{Section, section_named};
+use crate::demand::{CONFIGURATION, file_fault, whole_file_fault};
+use crate::kinds::Sections;
+use crate::objects::add_each_member;
 use serde_json::{Map, Value};
 use std::alloc::Global;
 use std::collections::BTreeMap;
@@ -139,40 +136,4 @@ fn read_sections<'a>(
     };
     add_each_member(&Sections, alloc, path, members, &mut config)?;
     Ok(config)
-}
-
-/// The properties at the top of a configuration.
-#[derive(Drop)]
-struct Sections;
-
-impl Members for Sections {
-    type Said = Config;
-
-    ghost Told = { ConfigView };
-
-    ghost told_by = { λ config. config_of config };
-
-    ghost adds = { λ _. AddsSection };
-
-    ghost checks = { λ _. section_checks };
-
-    fn add<'a>(
-        &self,
-        alloc: Global,
-        path: &'a Path<'a>,
-        name: &'a str,
-        value: &'a Value,
-        config: &mut Config,
-    ) -> Result<(), Refusal> {
-        match section_named(name) {
-            Section::Comment => Ok(()),
-            Section::Variables => {
-                add_members(&Variables, alloc, path, value, &mut config.variables)
-            }
-            Section::Locals => add_members(&Locals, alloc, path, value, &mut config.locals),
-            Section::Outputs => add_members(&Outputs, alloc, path, value, &mut config.outputs),
-            Section::Resources => add_members(&Types, alloc, path, value, &mut config.resources),
-            Section::Other => Err(bad_shape(alloc, path)),
-        }
-    }
 }

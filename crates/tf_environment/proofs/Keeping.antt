@@ -75,16 +75,16 @@ stand_same kept p s h =
 stand_other : (kept : List Standing) (p n : ℕ) (s : Standing) → n ≢ p → standings_of (set kept p s) n ≡ standings_of kept n
 stand_other kept p n s h = ap (λ xs. get_or xs n None) (map-set standing_of kept p s) ∙ get_or-set_other (map standing_of kept) p n (standing_of s) None h
 
-chosen : (b : Bool) (x y : StandingView) → b ≡ true → ◌≡◌ {A = StandingView} (if b then x else y) x
+pub chosen : (b : Bool) (x y : StandingView) → b ≡ true → ◌≡◌ {A = StandingView} (if b then x else y) x
 chosen true x y h = refl
 chosen false x y h = absurd (cc)
 
-left_out : (b : Bool) (x y : StandingView) → b ≡ false → ◌≡◌ {A = StandingView} (if b then x else y) y
+pub left_out : (b : Bool) (x y : StandingView) → b ≡ false → ◌≡◌ {A = StandingView} (if b then x else y) y
 left_out false x y h = refl
 left_out true x y h = absurd (cc)
 
 -- a member of a longer front is one of the shorter one, or the last
-earlier : (order : List ℕ) (i p n : ℕ) → i < length order → p ≡ slice_index order i → n ≢ p → Contains (take (i + 1) order) n → Contains (take i order) n
+pub earlier : (order : List ℕ) (i p n : ℕ) → i < length order → p ≡ slice_index order i → n ≢ p → Contains (take (i + 1) order) n → Contains (take i order) n
 earlier order i p n h is other held =
     let k : ℕ = held.0 in
     let short = length-take (i + 1) order in

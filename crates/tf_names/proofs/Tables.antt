@@ -1,6 +1,6 @@
 -- The table of names: what is looked up in it, and what is found on the way through lists and maps.
-use Rattle.std.proofs.Common.{◌≡◌, ℕ, zero, suc, ◌+◌, ◌<◌, ◌≤◌, Bool, true, false, cond, List, [], ◌∷◌, ◌++◌, Option, None, Some, option_map, length, get_or, drop, drop-cons, map, refl, sym, ap, ◌∙◌, add-one, arith, append_assoc}
-use Rattle.tf_config_data.specs.Names.{NameView, meant_at, place_of, same_pair, place_before, places}
+use Rattle.std.proofs.Common.{◌≡◌, ℕ, zero, suc, ◌+◌, ◌<◌, ◌≤◌, List, [], ◌∷◌, ◌++◌, Option, None, Some, option_map, length, get_or, drop, drop-cons, map, refl, sym, ap, ◌∙◌, add-one, arith, append_assoc}
+use Rattle.tf_config_data.specs.Names.{NameView, meant_at, place_of, place_before, places}
 use Rattle.tf_syntax.specs.TemplateNames.{Pair}
 use Rattle.tf_names.specs.Table.{named_view}
 use Rattle.tf_names.specs.declared.named.Named.{Named}
@@ -27,26 +27,6 @@ meant_at-map (x ∷ ns) (suc i) n h is = meant_at-map ns i n (omega arith) is
 -- the place of a name among those from a position on
 abbrev pub place_from : List Named → ℕ → Pair → Option ℕ
 place_from all i pair = option_map (λ k. k + i) (place_of (map named_view (drop i all)) pair)
-
-pub place_from-first : (all : List Named) (pair : Pair) → place_from all 0 pair ≡ place_of (map named_view all) pair
-place_from-first all pair = add_none (place_of (map named_view all) pair)
-  where
-    add_none : (o : Option ℕ) → option_map (λ k. k + 0) o ≡ o
-    add_none None = refl
-    add_none (Some k) = ap Some (omega arith)
-
-pub place_from-past : (all : List Named) (i : ℕ) (pair : Pair) → length all ≤ i → place_from all i pair ≡ None
-place_from-past all i pair h = rw (drop_all all i h) refl
-
--- one position further to the front
-pub place_from-step : (all : List Named) (i : ℕ) (n : Named) (pair : Pair) → i < length all → n ≡ get_or all i n
-    → place_from all i pair ≡ cond (same_pair (named_view n).name pair) (Some i) (place_from all (i + 1) pair)
-place_from-step all i n pair h is = rw (drop_next all i n h is) (by_test (same_pair (named_view n).name pair) (place_of (map named_view (drop (i + 1) all)) pair))
-  where
-    by_test : (b : Bool) (o : Option ℕ) → option_map (λ k. k + i) (cond b (Some 0) (option_map suc o)) ≡ cond b (Some i) (option_map (λ k. k + (i + 1)) o)
-    by_test true o = ap Some (omega arith)
-    by_test false None = refl
-    by_test false (Some k) = ap Some (omega arith)
 
 -- the places of names one after another
 place_before-append : (o : Option ℕ) (xs ys : List ℕ) → place_before o (xs ++ ys) ≡ place_before o xs ++ ys

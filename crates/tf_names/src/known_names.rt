@@ -49,9 +49,10 @@ impl Context {
     }
 }
 
-/// What a configuration declares.
+/// What a configuration declares, and the memory for what is told of it.
 #[derive(Clone, Copy)]
 struct Known<'a, 'n> {
+    alloc: Global,
     config: &'a Config,
     names: &'a Names<'n>,
 }
@@ -83,16 +84,11 @@ impl Known<'_, '_> {
         true
     }
 
-    fn knows_names(
-        &self,
-        alloc: Global,
-        context: Context,
-        template: &Template,
-    ) -> Result<bool, AllocError>
+    fn knows_names(&self, context: Context, template: &Template) -> Result<bool, AllocError>
         ensures { IfOk result (λ known. known ≡ knows_names (declared_of self.now) context (template_view template.now)) }
     {
-        let references = references(alloc, template)?;
-        let functions = functions(alloc, template)?;
+        let references = references(self.alloc, template)?;
+        let functions = functions(self.alloc, template)?;
         Ok(self.knows_all(context, references.as_slice()) && are_functions(functions.as_slice()))
     }
 }
@@ -145,73 +141,58 @@ pub fn demand_known_names(alloc: Global, config: &Config, names: &Names<'_>) -> 
     requires { names_in names.now ≡ names_of (config_of config.now) }
     ensures { JudgesNames (declared_in (config_of config.now)) (config_checks (config_of config.now)) result }
 {
-    let known = Known { config, names };
+    let known = Known {
+        alloc,
+        config,
+        names,
+    };
     let locals = Path::Member(&Path::Root, "locals");
-    demand_entries(alloc, known, Context::Plain, &locals, &config.locals)?;
-    demand_outputs(alloc, known, &config.outputs)?;
-    demand_blocks(alloc, known, &config.resources)?;
+    demand_entries(known, Context::Plain, &locals, &config.locals)?;
+    demand_outputs(known, &config.outputs)?;
+    demand_blocks(known, &config.resources)?;
     Ok(())
 }
 
-fn demand_outputs(
-    alloc: Global,
-    known: Known<'_, '_>,
-    outputs: &BTreeMap<String, Expr>,
-) -> Result<(), Refusal>
+fn demand_outputs(known: Known<'_, '_>, outputs: &BTreeMap<String, Expr>) -> Result<(), Refusal>
     ensures { JudgesNames (declared_of known.entry) (output_checks (entries_view outputs.now.entries)) result }
 {
     for (name, expr) in outputs.iter() {
-        demand_output(alloc, known, name.as_str(), expr)?;
+        demand_output(known, name.as_str(), expr)?;
     }
     Ok(())
 }
 
 /// The value of an output.
-fn demand_output(
-    alloc: Global,
-    known: Known<'_, '_>,
-    name: &str,
-    expr: &Expr,
-) -> Result<(), Refusal>
+fn demand_output(known: Known<'_, '_>, name: &str, expr: &Expr) -> Result<(), Refusal>
     ensures { JudgesNames (declared_of known.entry) (name_checks Plain (codes "value" ∷ name.now ∷ codes "output" ∷ []) (tree_of expr.now)) result }
 {
     let output = Path::Member(&Path::Root, "output");
     let body = Path::Member(&output, name);
     let value = Path::Member(&body, "value");
-    demand_expr(alloc, known, Context::Plain, &value, expr)
+    demand_expr(known, Context::Plain, &value, expr)
 }
 
-fn demand_blocks(
-    alloc: Global,
-    known: Known<'_, '_>,
-    blocks: &BTreeMap<Label, Block>,
-) -> Result<(), Refusal>
+fn demand_blocks(known: Known<'_, '_>, blocks: &BTreeMap<Label, Block>) -> Result<(), Refusal>
     ensures { JudgesNames (declared_of known.entry) (block_checks (blocks_of blocks.now.entries)) result }
 {
     for (label, block) in blocks.iter() {
-        demand_resource(alloc, known, label, block)?;
+        demand_resource(known, label, block)?;
     }
     Ok(())
 }
 
 /// The block of a resource.
-fn demand_resource(
-    alloc: Global,
-    known: Known<'_, '_>,
-    label: &Label,
-    block: &Block,
-) -> Result<(), Refusal>
+fn demand_resource(known: Known<'_, '_>, label: &Label, block: &Block) -> Result<(), Refusal>
     ensures { JudgesNames (declared_of known.entry) (body_checks (block_place (label_of label.now)) (body_of (block_at (label_of label.now) block.now))) result }
 {
     let resource = Path::Member(&Path::Root, "resource");
     let kind = Path::Member(&resource, label.type_name.as_str());
     let name = Path::Member(&kind, label.name.as_str());
-    demand_block(alloc, known, &name, block)
+    demand_block(known, &name, block)
 }
 
 /// The block stands at the path.
 fn demand_block<'a>(
-    alloc: Global,
     known: Known<'_, '_>,
     path: &'a Path<'a>,
     block: &'a Block,
@@ -219,12 +200,11 @@ fn demand_block<'a>(
     ensures { (label : LabelView) → JudgesNames (declared_of known.entry)
         (body_checks (place_at path.now) (body_of (block_at label block.now))) result }
 {
-    let properties = properties_of(alloc, block)?;
-    demand_properties(alloc, known, &*path, properties.as_slice())
+    let properties = properties_of(known.alloc, block)?;
+    demand_properties(known, &*path, properties.as_slice())
 }
 
 fn demand_properties<'a>(
-    alloc: Global,
     known: Known<'_, '_>,
     path: &'a Path<'a>,
     properties: &'a [Property<'a>],
@@ -232,18 +212,12 @@ fn demand_properties<'a>(
     ensures { JudgesNames (declared_of known.entry) (body_checks (place_at path.now) (map property_view properties.now)) result }
 {
     for property in properties {
-        demand_value(
-            alloc,
-            known,
-            &Path::Member(path, property.name),
-            &property.value,
-        )?;
+        demand_value(known, &Path::Member(path, property.name), &property.value)?;
     }
     Ok(())
 }
 
 fn demand_value<'a>(
-    alloc: Global,
     known: Known<'_, '_>,
     path: &'a Path<'a>,
     value: &'a Value<'a>,
@@ -251,13 +225,12 @@ fn demand_value<'a>(
     ensures { JudgesNames (declared_of known.entry) (property_checks (place_at path.now) (value_view value.now)) result }
 {
     match value {
-        Value::Expression(context, expr) => demand_expr(alloc, known, *context, path, expr),
-        Value::Resources(labels) => demand_labels(alloc, known, path, labels),
+        Value::Expression(context, expr) => demand_expr(known, *context, path, expr),
+        Value::Resources(labels) => demand_labels(known, path, labels),
     }
 }
 
 fn demand_labels<'a>(
-    alloc: Global,
     known: Known<'_, '_>,
     path: &'a Path<'a>,
     labels: &'a [Label],
@@ -265,17 +238,12 @@ fn demand_labels<'a>(
     ensures { JudgesNames (declared_of known.entry) (label_checks (place_at path.now) 0 (map label_of labels.now)) result }
 {
     for (position, label) in labels.iter().enumerate() {
-        demand_label(alloc, known, &Path::Item(path, position), label)?;
+        demand_label(known, &Path::Item(path, position), label)?;
     }
     Ok(())
 }
 
-fn demand_label(
-    alloc: Global,
-    known: Known<'_, '_>,
-    path: &Path<'_>,
-    label: &Label,
-) -> Result<(), Refusal>
+fn demand_label(known: Known<'_, '_>, path: &Path<'_>, label: &Label) -> Result<(), Refusal>
     ensures { JudgesNames (declared_of known.entry) (demanded (place_at path.now) (a_resource (label_of label.now))) result }
 {
     let place = known
@@ -284,14 +252,13 @@ fn demand_label(
     if place.is_some() {
         Ok(())
     } else {
-        Err(names_unknown(alloc, path))
+        Err(names_unknown(known.alloc, path))
     }
 }
 
 /// The expression stands at the path.
 #[cycle(names)]
 fn demand_expr<'a>(
-    alloc: Global,
     known: Known<'_, '_>,
     context: Context,
     path: &'a Path<'a>,
@@ -301,15 +268,20 @@ fn demand_expr<'a>(
 {
     match expr {
         Expr::Null | Expr::Bool(_) | Expr::Int(_) => Ok(()),
-        Expr::Template(template) => demand_template(alloc, known, context, path, template),
-        Expr::List(exprs) => demand_items(alloc, known, context, path, exprs),
-        Expr::Map(entries) => demand_entries(alloc, known, context, path, entries),
+        Expr::Template(template) => {
+            if known.knows_names(context, template)? {
+                Ok(())
+            } else {
+                Err(names_unknown(known.alloc, path))
+            }
+        }
+        Expr::List(exprs) => demand_items(known, context, path, exprs),
+        Expr::Map(entries) => demand_entries(known, context, path, entries),
     }
 }
 
 #[cycle(names)]
 fn demand_items<'a>(
-    alloc: Global,
     known: Known<'_, '_>,
     context: Context,
     path: &'a Path<'a>,
@@ -318,14 +290,13 @@ fn demand_items<'a>(
     ensures { JudgesNames (declared_of known.entry) (item_name_checks context (place_at path.now) 0 (trees_view exprs.now.items)) result }
 {
     for (position, expr) in exprs.iter().enumerate() {
-        demand_expr(alloc, known, context, &Path::Item(path, position), expr)?;
+        demand_expr(known, context, &Path::Item(path, position), expr)?;
     }
     Ok(())
 }
 
 #[cycle(names)]
 fn demand_entries<'a>(
-    alloc: Global,
     known: Known<'_, '_>,
     context: Context,
     path: &'a Path<'a>,
@@ -334,30 +305,7 @@ fn demand_entries<'a>(
     ensures { JudgesNames (declared_of known.entry) (entry_name_checks context (place_at path.now) (entries_view entries.now.entries)) result }
 {
     for (key, expr) in entries.iter() {
-        demand_expr(
-            alloc,
-            known,
-            context,
-            &Path::Member(path, key.as_str()),
-            expr,
-        )?;
+        demand_expr(known, context, &Path::Member(path, key.as_str()), expr)?;
     }
     Ok(())
-}
-
-fn demand_template<'a>(
-    alloc: Global,
-    known: Known<'_, '_>,
-    context: Context,
-    path: &'a Path<'a>,
-    template: &'a Template,
-) -> Result<(), Refusal>
-    ensures { JudgesNames (declared_of known.entry)
-        (demanded (place_at path.now) (only_known_names context (template_view template.now))) result }
-{
-    if known.knows_names(alloc, context, template)? {
-        Ok(())
-    } else {
-        Err(names_unknown(alloc, path))
-    }
 }

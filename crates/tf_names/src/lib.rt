@@ -18,4 +18,5 @@ pub use dependence::Dependence;
 pub use judging::judge;
 pub use known_names::{Context, demand_known_names};
 pub use named::Named;
+pub use places::Places;
 pub use table::Names;

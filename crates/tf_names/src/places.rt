@@ -1,6 +1,6 @@
 //! The places of names.
 
-ghost use Rattle.std.specs.Prelude.{◌≡◌, ℕ, Some, IfOk, OnOk, if◌then◌else◌, map};
+ghost use Rattle.std.specs.Prelude.{◌≡◌, ℕ, None, Some, IfOk, OnOk, if◌then◌else◌, map};
 ghost use Rattle.tf_config_data.specs.Names.{place_of, same_pair};
 ghost use Rattle.tf_names.specs.Named.{named_view};
 ghost use Rattle.tf_names.specs.Places.{found_in};
@@ -12,11 +12,20 @@ use std::collections::BTreeMap;
 
 /// The places of names, by the text before the dot and then by the one after it.
 #[derive(Drop)]
-pub(crate) struct Places {
+pub struct Places {
     by_first: BTreeMap<String, BTreeMap<String, usize>>,
 }
 
 impl Places {
+    /// No name has a place.
+    pub fn empty(alloc: Global) -> Places
+        ensures { (pair : Pair) → found_in result pair ≡ None }
+    {
+        Places {
+            by_first: BTreeMap::new(alloc),
+        }
+    }
+
     /// The places of the names in a list, from 0 on. Of names that are the same it has the first.
     ///
     /// # Errors
@@ -25,9 +34,7 @@ impl Places {
     pub(crate) fn of(alloc: Global, entries: &[Named<'_>]) -> Result<Places, AllocError>
         ensures { IfOk result (λ places. (pair : Pair) → found_in places pair ≡ place_of (map named_view entries.now) pair) }
     {
-        let mut places = Places {
-            by_first: BTreeMap::new(alloc),
-        };
+        let mut places = Places::empty(alloc);
         for place in (0..entries.len()).rev() {
             let (first, name) = entries[place].texts();
             places.put(alloc, first, name, place)?;
@@ -36,7 +43,7 @@ impl Places {
     }
 
     /// The place of a name, by the two texts around its dot; `None` where it has none.
-    pub(crate) fn find(&self, first: &str, name: &str) -> Option<usize>
+    pub fn find(&self, first: &str, name: &str) -> Option<usize>
         ensures { result ≡ found_in self.now (first.now, name.now) }
     {
         let names = self.by_first.get(first)?;
@@ -44,7 +51,11 @@ impl Places {
     }
 
     /// Puts a name at a place, and nowhere else.
-    fn put(
+    ///
+    /// # Errors
+    ///
+    /// Only where memory runs out.
+    pub fn put(
         &mut self,
         alloc: Global,
         first: &str,

@@ -5,7 +5,7 @@ use Rattle.tf_expr.specs.Reading.{expr_checks}
 use Rattle.tf_json_path.specs.Place.{place_of}
 use Rattle.tf_config.proofs.literals.read_expression.Goals as goal
 
-pub returns-in_err-expr-clause-fault : goal.returns-in_err-expr-clause-fault
-returns-in_err-expr-clause-fault c =
+pub returns-in_err-expr : goal.returns-in_err-expr
+returns-in_err-expr c =
     let p = err_from_is_err_and c.from_residual.result c.from_residual.ensures.1 in
-    rw (p.1, p.2) (Refuses-expression (expr_checks (place_of c.args.path.now) (view c.args.json.now)) _ c.in_err-expr.ensures.fault)
+    rw (p.1, p.2) (Refuses-expression (expr_checks (place_of c.args.part.now.path.now) (view c.args.part.now.value.now)) _ c.in_err-expr.ensures.fault)

@@ -11,17 +11,15 @@ use Rattle.tf_names.proofs.known_names.+names.Goals as goal
 
 pub demand_items-loop-position-preserved : goal.demand_items-loop-position-preserved
 demand_items-loop-position-preserved t c =
-    let context = c.args.context in
     let place = place_of c.args.path.now in
     let all = c.deref-expr-items.result.now in
     let i = c.loop-position.position in
     let left = rw (drop_next all i c.expr-item.result c.loop-position-test.true c.expr-item.is) at c.loop-position.invariant in
-    left_more (declared_of c.args.known) (item_name_checks context place 0 (trees_view all)) (name_checks context (decimal i ∷ place) (tree_of c.expr-item.result)) (item_name_checks context place (i + 1) (trees_view (drop (i + 1) all))) left
+    left_more (declared_of c.args.known) (item_name_checks c.args.context place 0 (trees_view all)) (name_checks c.args.context (decimal i ∷ place) (tree_of c.expr-item.result)) (item_name_checks c.args.context place (i + 1) (trees_view (drop (i + 1) all))) left
     (rw place_of-Item at c.in_ok-demand_expr.ensures)
 
 pub demand_items-returns-in_err-demand_expr : goal.demand_items-returns-in_err-demand_expr
 demand_items-returns-in_err-demand_expr t c =
-    let context = c.args.context in
     let place = place_of c.args.path.now in
     let all = c.deref-expr-items.result.now in
     let i = c.loop-position.position in
@@ -29,22 +27,20 @@ demand_items-returns-in_err-demand_expr t c =
     let left = rw (drop_next all i c.expr-item.result c.loop-position-test.true c.expr-item.is) at c.loop-position.invariant in
     let first = rw place_of-Item at c.in_err-demand_expr.ensures in
     rw (p.1, p.2, ← c.deref-expr-items.ensures.value)
-    (left_refused (declared_of c.args.known) (item_name_checks context place 0 (trees_view all)) (name_checks context (decimal i ∷ place) (tree_of c.expr-item.result)) (item_name_checks context place (i + 1) (trees_view (drop (i + 1) all))) _ left first)
+    (left_refused (declared_of c.args.known) (item_name_checks c.args.context place 0 (trees_view all)) (name_checks c.args.context (decimal i ∷ place) (tree_of c.expr-item.result)) (item_name_checks c.args.context place (i + 1) (trees_view (drop (i + 1) all))) _ left first)
 
 pub demand_entries-loop-key-preserved : goal.demand_entries-loop-key-preserved
 demand_entries-loop-key-preserved t c =
-    let context = c.args.context in
     let place = place_of c.args.path.now in
     let left = rw c.in-Some.ensures.steps at c.loop-key.invariant in
     let known = rw (place_of-Member, c.as_str.ensures.value) at c.in_ok-demand_expr.ensures in
-    left_more (declared_of c.args.known) (entry_name_checks context place (entries_view c.args.entries.now.entries)) (name_checks context (string_bytes c.in-Some.key.now ∷ place) (tree_of c.in-Some.expr.now)) (entry_name_checks context place (entries_view c.next.new.self)) left known
+    left_more (declared_of c.args.known) (entry_name_checks c.args.context place (entries_view c.args.entries.now.entries)) (name_checks c.args.context (string_bytes c.in-Some.key.now ∷ place) (tree_of c.in-Some.expr.now)) (entry_name_checks c.args.context place (entries_view c.next.new.self)) left known
 
 pub demand_entries-returns-in_err-demand_expr : goal.demand_entries-returns-in_err-demand_expr
 demand_entries-returns-in_err-demand_expr t c =
-    let context = c.args.context in
     let place = place_of c.args.path.now in
     let p = err_from_is_err_and c.from_residual.result c.from_residual.ensures.1 in
     let left = rw c.in-Some.ensures.steps at c.loop-key.invariant in
     let first = rw (place_of-Member, c.as_str.ensures.value) at c.in_err-demand_expr.ensures in
     rw (p.1, p.2)
-    (left_refused (declared_of c.args.known) (entry_name_checks context place (entries_view c.args.entries.now.entries)) (name_checks context (string_bytes c.in-Some.key.now ∷ place) (tree_of c.in-Some.expr.now)) (entry_name_checks context place (entries_view c.next.new.self)) _ left first)
+    (left_refused (declared_of c.args.known) (entry_name_checks c.args.context place (entries_view c.args.entries.now.entries)) (name_checks c.args.context (string_bytes c.in-Some.key.now ∷ place) (tree_of c.in-Some.expr.now)) (entry_name_checks c.args.context place (entries_view c.next.new.self)) _ left first)

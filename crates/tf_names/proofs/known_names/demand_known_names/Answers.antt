@@ -19,17 +19,15 @@ returns-in_err-demand_outputs c =
     let cfg = config_of c.args.config.now in
     let e = err_from_is_err_and c.from_residual-in_err-demand_outputs.result c.from_residual-in_err-demand_outputs.ensures.1 in
     let locals = rw (place_of-Member, place_of-Root, c.requires) at c.in_ok-demand_entries.ensures in
-    let first = rw c.requires at c.in_err-demand_outputs.ensures in
-    rw (e.1, e.2) (second_refused (declared_in cfg) (entry_name_checks Plain (codes "locals" ∷ []) cfg.locals) (output_checks cfg.outputs) (block_checks cfg.blocks) _ locals first)
+    rw (e.1, e.2) (second_refused (declared_in cfg) (entry_name_checks Plain (codes "locals" ∷ []) cfg.locals) (output_checks cfg.outputs) (block_checks cfg.blocks) _ locals (rw c.requires at c.in_err-demand_outputs.ensures))
 
 pub returns-in_err-demand_blocks : goal.returns-in_err-demand_blocks
 returns-in_err-demand_blocks c =
     let cfg = config_of c.args.config.now in
     let e = err_from_is_err_and c.from_residual-in_err-demand_blocks.result c.from_residual-in_err-demand_blocks.ensures.1 in
     let locals = rw (place_of-Member, place_of-Root, c.requires) at c.in_ok-demand_entries.ensures in
-    let outputs = rw c.requires at c.in_ok-demand_outputs.ensures in
-    let first = rw c.requires at c.in_err-demand_blocks.ensures in
-    rw (e.1, e.2) (third_refused (declared_in cfg) (entry_name_checks Plain (codes "locals" ∷ []) cfg.locals) (output_checks cfg.outputs) (block_checks cfg.blocks) _ locals outputs first)
+    rw (e.1, e.2) (third_refused (declared_in cfg) (entry_name_checks Plain (codes "locals" ∷ []) cfg.locals) (output_checks cfg.outputs) (block_checks cfg.blocks) _ locals
+    (rw c.requires at c.in_ok-demand_outputs.ensures) (rw c.requires at c.in_err-demand_blocks.ensures))
 
 pub returns : goal.returns
 returns c =
