@@ -25,4 +25,4 @@ pub use scope::NamesScope;
 pub use shape::Shape;
 pub use stage::{Expansion, Instanced, Objects, Resource, Stage};
 pub use standing::{Standing, evaluated};
-pub use table::{Declarations, all_stand, standings};
+pub use table::{Declarations, all_stand, no_standings, standing_at, standings};

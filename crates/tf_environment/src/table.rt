@@ -72,7 +72,7 @@ fn standings_in<T: Stage>(
         (names_in declared.now.names.now) order.now wanted.now (standings_of kept.items)) }
     ensures only { IfOk result (λ kept. OnlyWanted wanted.now (standings_of kept.items)) }
 {
-    let mut kept = nothing(alloc, declared.names.len())?;
+    let mut kept = no_standings(alloc, declared.names.len())?;
     for place in order {
         let is_wanted = contains(wanted, *place);
         let standing = stand_at(alloc, stage, declared, kept.as_slice(), *place, is_wanted)?;
@@ -82,7 +82,11 @@ fn standings_in<T: Stage>(
 }
 
 /// As many places, at none of which anything stands.
-fn nothing(alloc: Global, count: usize) -> Result<Vec<Standing>, AllocError>
+///
+/// # Errors
+///
+/// Only where memory runs out.
+pub fn no_standings(alloc: Global, count: usize) -> Result<Vec<Standing>, AllocError>
     ensures length { IfOk result (λ kept. length kept.items ≡ count) }
     ensures none { IfOk result (λ kept. (n : ℕ) → standings_of kept.items n ≡ None) }
 {
@@ -120,6 +124,25 @@ fn stand_at<T: Stage>(
     if !is_wanted || !all_stand(kept, declared.dependence.before(place)) {
         return Ok(Standing::Nothing);
     }
+    standing_at(alloc, stage, declared, kept, place)
+}
+
+/// What the name at a place stands for, by what names stand for so far, whatever is before it.
+///
+/// # Errors
+///
+/// Only where memory runs out.
+pub fn standing_at<T: Stage>(
+    alloc: Global,
+    stage: &T,
+    declared: &Declarations,
+    kept: &[Standing],
+    place: usize,
+) -> Result<Standing, AllocError>
+    requires { place < length (names_in declared.now.names.now) }
+    ensures { IfOk result (λ standing. standing_of standing ≡ stands_at (T.stage stage.now) place (meant_at (names_in declared.now.names.now) place)
+        (environment (entries_view declared.now.variables.now.entries) (names_in declared.now.names.now) (standings_of kept.now))) }
+{
     let scope = NamesScope {
         variables: declared.variables,
         names: declared.names,
