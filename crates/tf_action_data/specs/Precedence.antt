@@ -1,27 +1,22 @@
 -- What the order of actions sees of an action.
 use Rattle.std.specs.Prelude.{Bool, true, false}
-use Rattle.tf_action_data.specs.Action.{ActionView, StepView, create, update, replacement, replaced, destroyed, deposed_destroyed}
+use Rattle.tf_action_data.specs.Action.{ActionView, StepView, replacement, replaced, destroyed, deposed_destroyed}
 use Rattle.tf_precedence.specs.declared.action.Action.{Action as Ordered}
 use Rattle.tf_precedence.specs.declared.action.Kind.{Kind}
 use Rattle.tf_precedence.specs.declared.action.Kind.TheVariants.{Apply, Destroy, DestroyDeposed}
 
 -- it creates or updates the current object, or destroys it, or a deposed one
 abbrev pub kind_of : StepView → Kind
-kind_of (create asked) = Apply
-kind_of (update prior asked names) = Apply
-kind_of (replacement asked names) = Apply
 kind_of (replaced prior) = Destroy
 kind_of (destroyed prior) = Destroy
 kind_of (deposed_destroyed key prior) = DestroyDeposed
+kind_of _ = Apply
 
 -- it is half of a replace
 abbrev pub is_half : StepView → Bool
-is_half (create asked) = false
-is_half (update prior asked names) = false
 is_half (replacement asked names) = true
 is_half (replaced prior) = true
-is_half (destroyed prior) = false
-is_half (deposed_destroyed key prior) = false
+is_half _ = false
 
 -- an action as the order of actions sees it
 abbrev pub ordered : ActionView → Ordered

@@ -22,6 +22,10 @@ all_at P [] n x h e = absurd (cc)
 all_at P (y ∷ ys) zero x h e = let same : y ≡ x = cc in subst P same h.0
 all_at P (y ∷ ys) (suc n) x h e = all_at P ys n x h.1 e
 
+-- what holds of each, seen in another way, holds of what an index reads
+pub read_at : {A B : Type 0} (f : A → B) (P : B → Type 0) (xs : List A) (n : ℕ) (x : A) → AllByRecursion P (map f xs) → n < length xs → x ≡ get_or xs n x → P (f x)
+read_at f P xs n x h below e = all_at P (map f xs) n (f x) h (slice_get-map f xs n x below e)
+
 -- what comes of the action at a place
 pub call_at-is : (ms : List Meaning) (requests : Requests) (plan : PlanView) (n : ℕ) (seen : List (ℕ × Done)) (a : ActionView) → slice_get plan.actions n ≡ Some a
     → call_at ms requests plan n seen ≡ call_with ms requests plan (objects_by plan seen) a

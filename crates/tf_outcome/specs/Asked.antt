@@ -19,9 +19,7 @@ abbrev pub op_of : StepView → Op
 op_of (create asked) = Create
 op_of (update prior asked names) = Update
 op_of (replacement asked names) = Create
-op_of (replaced prior) = Destroy
-op_of (destroyed prior) = Destroy
-op_of (deposed_destroyed key prior) = Destroy
+op_of _ = Destroy
 
 -- ---- the objects that are asked for
 

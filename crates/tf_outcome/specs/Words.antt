@@ -1,7 +1,7 @@
 -- What contracts of the crates above cite of this crate and of those below, from one place.
 pub use Rattle.tf_config_data.specs.Words.{config_of, instance_key_of, label_of, meant_at, names_of}
 pub use Rattle.tf_environment.specs.Words.{entries_view, has, IsAcyclic, IsDependence, IsTable, names_in, seen_by, tree_of, with_nulls}
-pub use Rattle.tf_plan_data.specs.Words.{action_of, AreServed, FitsTogether, is_apply, needs_in, plan_of, state_of, step_of}
+pub use Rattle.tf_plan_data.specs.Words.{action_of, AreServed, deposed_key, FitsTogether, is_apply, IsDeclared, IsOfBlock, IsServedBy, needs_in, plan_names, plan_of, state_of, step_of}
 pub use Rattle.tf_action_data.specs.Action.{prior_of}
 pub use Rattle.tf_address.specs.Label.{label_text}
 pub use Rattle.tf_change.specs.Bounded.{has_planned_attributes}
@@ -19,9 +19,6 @@ pub use Rattle.tf_outcome.specs.Objects.{object_of, objects_seen}
 pub use Rattle.tf_outcome.specs.Outcome.{call_of, call_of_provider, call_with, comes_of, Done, done_at, is_good, op_of}
 pub use Rattle.tf_outcome.specs.Room.{message_fits}
 pub use Rattle.tf_outcome.specs.Run.{IsRun}
-pub use Rattle.tf_plan_data.specs.Fits.{deposed_key, IsDeclared, IsOfBlock}
-pub use Rattle.tf_plan_data.specs.Plan.{plan_names}
-pub use Rattle.tf_plan_data.specs.Served.{IsServedBy}
 pub use Rattle.tf_protocol.specs.Meaning.{Answer, answered, Asked, asked, schema_in}
 pub use Rattle.tf_protocol.specs.Schema.{SchemaView}
 pub use Rattle.tf_protocol.specs.Verdict.{asks_fully, has_attributes, verdict_on}

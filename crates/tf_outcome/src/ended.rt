@@ -1,6 +1,6 @@
 //! What came of an action.
 
-ghost use Rattle.std.specs.Prelude.{◌≡◌, string_bytes};
+ghost use Rattle.std.specs.Prelude.{◌≡◌, ◌≤◌, [], None, replicate, string_bytes, vec_capacity};
 ghost use Rattle.tf_change.specs.Instance.{instance_fault_of};
 ghost use Rattle.tf_outcome.specs.Message.{fault_message};
 
@@ -38,4 +38,16 @@ pub enum Ended {
     Faulted(Faulted),
     /// The provider was called, and its reply was judged.
     Called(Judged),
+}
+
+/// A list of so many actions, none of which has ended, in an empty one with room for them.
+pub fn not_ended(mut results: Vec<Option<Ended>>, count: usize) -> Vec<Option<Ended>>
+    requires empty { results.items ≡ [] }
+    requires room { count ≤ vec_capacity results }
+    ensures { result.items ≡ replicate count None }
+{
+    for _ in 0..count {
+        results.push_reserved(None);
+    }
+    results
 }

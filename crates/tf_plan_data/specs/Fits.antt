@@ -1,7 +1,7 @@
 -- What each plan that is made of a configuration and a prior state keeps to.
 use Rattle.std.specs.Prelude.{◌≡◌, ◌+◌, ◌<◌, ◌^◌, ℕ, Bool, true, false, List, Option, None, Some, map, slice_get, ⊤}
 use Rattle.std.specs.List.{AllByRecursion}
-use Rattle.tf_action_data.specs.Action.{ActionView, StepView, create, update, replacement, replaced, destroyed, deposed_destroyed, action_of}
+use Rattle.tf_action_data.specs.Action.{ActionView, StepView, replaced, destroyed, deposed_destroyed, action_of}
 use Rattle.tf_address.specs.Label.{LabelView}
 use Rattle.tf_address.specs.ObjectId.{InstanceKeyView, single, number, name}
 use Rattle.tf_config_data.specs.Config.{BlockView, config_of}
@@ -13,12 +13,10 @@ use Rattle.tf_plan_data.specs.declared.plan.Plan.{Plan}
 
 -- it creates or updates an object
 abbrev pub is_apply : StepView → Bool
-is_apply (create asked) = true
-is_apply (update prior asked names) = true
-is_apply (replacement asked names) = true
 is_apply (replaced prior) = false
 is_apply (destroyed prior) = false
 is_apply (deposed_destroyed key prior) = false
+is_apply _ = true
 
 -- the key of the deposed object that a step destroys; none where it is about the current object
 abbrev pub deposed_key : StepView → Option (List ℕ)

@@ -6,9 +6,9 @@ pub use Rattle.serde_json.specs.Written.{comma_if}
 pub use Rattle.tf_action_data.specs.Action.{action_of, step_of}
 pub use Rattle.tf_action_data.specs.Precedence.{ordered}
 pub use Rattle.tf_names.specs.Needs.{needs_in}
-pub use Rattle.tf_plan_data.specs.Fits.{FitsTogether, is_apply}
-pub use Rattle.tf_plan_data.specs.Plan.{plan_of}
-pub use Rattle.tf_plan_data.specs.Served.{AreServed}
+pub use Rattle.tf_plan_data.specs.Fits.{deposed_key, FitsTogether, is_apply, IsDeclared, IsOfBlock}
+pub use Rattle.tf_plan_data.specs.Plan.{plan_names, plan_of}
+pub use Rattle.tf_plan_data.specs.Served.{AreServed, IsServedBy}
 pub use Rattle.tf_precedence.specs.Ties.{AreSound}
 pub use Rattle.tf_resources.specs.Laws.{AreApart}
 pub use Rattle.tf_resources.specs.Numbering.{a_name, numbered}

@@ -54,29 +54,20 @@ action_lines late a = step_lines (late a.resource) (address_text a.label a.key) 
 -- a step makes an object, also in the place of one
 abbrev pub adds : StepView → Bool
 adds (create asked) = true
-adds (update prior asked names) = false
 adds (replacement asked names) = true
-adds (replaced prior) = false
-adds (destroyed prior) = false
-adds (deposed_destroyed key prior) = false
+adds _ = false
 
 -- it changes one
 abbrev pub changes : StepView → Bool
-changes (create asked) = false
 changes (update prior asked names) = true
-changes (replacement asked names) = false
-changes (replaced prior) = false
-changes (destroyed prior) = false
-changes (deposed_destroyed key prior) = false
+changes _ = false
 
 -- it destroys one, also one whose place another takes
 abbrev pub destroys : StepView → Bool
 destroys (create asked) = false
 destroys (update prior asked names) = false
 destroys (replacement asked names) = false
-destroys (replaced prior) = true
-destroys (destroyed prior) = true
-destroys (deposed_destroyed key prior) = true
+destroys _ = true
 
 -- how many actions have a step of a kind
 abbrev pub count_of : (StepView → Bool) → List ActionView → ℕ

@@ -163,9 +163,7 @@ fn show_summary(text: &mut String, actions: &[Action]) -> Result<(), AllocError>
     ensures { OnOk result (string_bytes text.new ≡ string_bytes text.old
         ++ summary_line (count_of adds (map action_of actions.now)) (count_of changes (map action_of actions.now)) (count_of destroys (map action_of actions.now))) }
 {
-    let add = count_adding(actions);
-    let change = count_changing(actions);
-    let destroy = count_destroying(actions);
+    let (add, change, destroy) = counts(actions);
     summarize(text, add, change, destroy)
 }
 
@@ -178,40 +176,21 @@ fn summarize(text: &mut String, add: usize, change: usize, destroy: usize) -> Re
     )
 }
 
-fn count_adding(actions: &[Action]) -> usize
-    ensures { result ≡ count_by (λ a. adds (step_of a.step)) actions.now }
+/// How many actions make an object, change one and destroy one.
+fn counts(actions: &[Action]) -> (usize, usize, usize)
+    ensures add { result.0 ≡ count_by (λ a. adds (step_of a.step)) actions.now }
+    ensures change { result.1 ≡ count_by (λ a. changes (step_of a.step)) actions.now }
+    ensures destroy { result.2 ≡ count_by (λ a. destroys (step_of a.step)) actions.now }
 {
-    let mut count = 0;
+    let mut add = 0;
+    let mut change = 0;
+    let mut destroy = 0;
     for action in actions {
-        if adds(action) {
-            count += 1;
-        }
+        add += usize::from(adds(action));
+        change += usize::from(changes(action));
+        destroy += usize::from(destroys(action));
     }
-    count
-}
-
-fn count_changing(actions: &[Action]) -> usize
-    ensures { result ≡ count_by (λ a. changes (step_of a.step)) actions.now }
-{
-    let mut count = 0;
-    for action in actions {
-        if changes(action) {
-            count += 1;
-        }
-    }
-    count
-}
-
-fn count_destroying(actions: &[Action]) -> usize
-    ensures { result ≡ count_by (λ a. destroys (step_of a.step)) actions.now }
-{
-    let mut count = 0;
-    for action in actions {
-        if destroys(action) {
-            count += 1;
-        }
-    }
-    count
+    (add, change, destroy)
 }
 
 /// Whether an action makes an object.

@@ -12,6 +12,7 @@ use Rattle.tf_graph.proofs.Edges.{all_by_contained}
 use Rattle.tf_graph.proofs.Solving.{all_by_at}
 use Rattle.tf_graph.specs.Solutions.{Ranked}
 use Rattle.tf_value.specs.Tree.{Tree, Entries}
+use Rattle.tf_environment.proofs.Keeping.{earlier, stand_other, stand_same}
 use Rattle.tf_environment.specs.Shape.{ShapeView}
 use Rattle.tf_environment.specs.Stages.{applying}
 use Rattle.tf_environment.specs.Standing.{StandingView, AreStandings, environment, stands_at}
@@ -19,7 +20,7 @@ use Rattle.tf_environment.specs.Views.{standing_of, standings_of}
 use Rattle.tf_environment.specs.declared.standing.Standing.{Standing}
 use Rattle.tf_request.specs.Requests.{is_resource}
 use Rattle.tf_request.specs.Wanted.{IsWanted, itself, is_local}
-use Rattle.tf_request.proofs.Answering.{stand_same, stand_other, earlier, next_is}
+use Rattle.tf_request.proofs.Answering.{next_is}
 
 -- an element of a list is there
 pub element : (xs : List ℕ) (i p : ℕ) → i < length xs → p ≡ slice_index xs i → Contains xs p

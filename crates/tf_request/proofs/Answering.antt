@@ -17,7 +17,7 @@ use Rattle.tf_value.specs.Tree.{Tree, Entries}
 use Rattle.tf_eval.proofs.Locality.{expressions_local}
 use Rattle.tf_eval.specs.Environment.{Environment}
 use Rattle.tf_eval.specs.Locality.{AgreeOn}
-use Rattle.tf_environment.proofs.Keeping.{AreKept}
+use Rattle.tf_environment.proofs.Keeping.{AreKept, chosen, earlier, left_out, stand_other, stand_same}
 use Rattle.tf_environment.proofs.Locals.{all_seen, applying_local}
 use Rattle.tf_environment.proofs.Places.{along, names_stay}
 use Rattle.tf_environment.proofs.Seen.{agree_on}
@@ -102,39 +102,6 @@ module _ (shapes : ℕ → ShapeView) (objects : ℕ → InstanceKeyView → Tre
       answered_same p (meant_at names p) (environment variables names kept) (environment variables names standings)
       (λ is. agree_on variables names kept standings (refers_at (meant_at names p)) (same is))
       ∙ sym (stands_alone variables names ranked standings solves p h)
-
-pub stand_same : (kept : List Standing) (p : ℕ) (s : Standing) → p < length kept → standings_of (set kept p s) p ≡ standing_of s
-stand_same kept p s h =
-    let inside : p < length (map standing_of kept) = rw (length-map kept standing_of) h in
-    ap (λ xs. get_or xs p None) (map-set standing_of kept p s) ∙ get_or-set_same (map standing_of kept) p (standing_of s) None inside
-
-pub stand_other : (kept : List Standing) (p n : ℕ) (s : Standing) → n ≢ p → standings_of (set kept p s) n ≡ standings_of kept n
-stand_other kept p n s h = ap (λ xs. get_or xs n None) (map-set standing_of kept p s) ∙ get_or-set_other (map standing_of kept) p n (standing_of s) None h
-
--- a member of a longer front is one of the shorter one, or the last
-pub earlier : (order : List ℕ) (i p n : ℕ) → i < length order → p ≡ slice_index order i → n ≢ p → Contains (take (i + 1) order) n → Contains (take i order) n
-earlier order i p n h is other held =
-    let k : ℕ = held.0 in
-    let short = length-take (i + 1) order in
-    let shorter = length-take i order in
-    let bounds : k < i + 1 = omega (arith, held.1, short) in
-    elim (cases_eq k i) [
-      | inl last ↦
-          let read : get_or (take (i + 1) order) k n ≡ n = held.2 in
-          let there : n ≡ p = sym read ∙ get_or-take (i + 1) order k n (omega arith) ∙ get_or_default order k n 0 (omega arith) ∙ ap (λ j. slice_index order j) last ∙ sym is in
-          absurd (other there)
-      | inr before ↦
-          let below : k < i = omega arith in
-          (k, omega (arith, shorter), get_or-take i order k n below ∙ sym (get_or-take (i + 1) order k n (omega arith)) ∙ held.2)
-    ]
-
-chosen : (b : Bool) (x y : StandingView) → b ≡ true → ◌≡◌ {A = StandingView} (if b then x else y) x
-chosen true x y h = refl
-chosen false x y h = absurd (cc)
-
-left_out : (b : Bool) (x y : StandingView) → b ≡ false → ◌≡◌ {A = StandingView} (if b then x else y) y
-left_out false x y h = refl
-left_out true x y h = absurd (cc)
 
 module _ (shapes : ℕ → ShapeView) (objects : ℕ → InstanceKeyView → Tree) (variables : Entries) (names : List NameView) (order : List ℕ) (wanted : List Bool) where
   -- what the name at a place stands for, by what is kept; nothing where it isn't wanted

@@ -49,7 +49,7 @@ get_known stays name (entry k t es) (entry l u fs) v h is p =
     let same : k ≡ l = h.0 in
     rw (sym same) (pick_known stays (bytes_eq name k) t u (get name es) (get name fs) v h.1 (get_known stays name es fs v h.2 is) is p)
 
-part_known : KnownStays → (name : List ℕ) (t u v : Tree) → Refines t u → known v ≡ true → part_at name t ≡ Some v → part_at name u ≡ Some v
+pub part_known : KnownStays → (name : List ℕ) (t u v : Tree) → Refines t u → known v ≡ true → part_at name t ≡ Some v → part_at name u ≡ Some v
 part_known stays name (map es) (map fs) v h is p = get_known stays name es fs v h is p
 part_known stays name (map es) _ v h is p = absurd (assumption)
 part_known stays name _ u v h is p = absurd (cc)

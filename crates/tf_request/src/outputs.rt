@@ -34,7 +34,7 @@ pub fn output_value<R: Results>(
         (shapes_of shapes.now) (R.objects results.now) (tree_of expr.now) output) }
 {
     let named = declared.names.named_in(alloc, expr)?;
-    let kept = answered_standings(alloc, declared, shapes, results, named.as_slice())?;
+    let kept = answered_standings(alloc, declared, shapes, named.as_slice(), results)?;
     let scope = NamesScope {
         variables: declared.variables,
         names: declared.names,

@@ -45,7 +45,7 @@ pub fn request<R: Results>(
         unreachable!()
     };
     let named = named_for_instance(alloc, declared.names, block)?;
-    let kept = answered_standings(alloc, declared, shapes, results, named.as_slice())?;
+    let kept = answered_standings(alloc, declared, shapes, named.as_slice(), results)?;
     let scope = NamesScope {
         variables: declared.variables,
         names: declared.names,

@@ -7,7 +7,7 @@ use Rattle.tf_plan_text.proofs.text.show_summary.Goals as goal
 pub returns : goal.returns
 returns c =
     let actions = c.args.actions.now in
-    let add = c.count_adding-add.ensures ∙ sym (count-mapped (λ (a : ActionView). adds a.step) action_of actions) in
-    let change = c.count_changing-change.ensures ∙ sym (count-mapped (λ (a : ActionView). changes a.step) action_of actions) in
-    let destroy = c.count_destroying-destroy.ensures ∙ sym (count-mapped (λ (a : ActionView). destroys a.step) action_of actions) in
+    let add = c.counts-add.ensures.add ∙ sym (count-mapped (λ (a : ActionView). adds a.step) action_of actions) in
+    let change = c.counts-add.ensures.change ∙ sym (count-mapped (λ (a : ActionView). changes a.step) action_of actions) in
+    let destroy = c.counts-add.ensures.destroy ∙ sym (count-mapped (λ (a : ActionView). destroys a.step) action_of actions) in
     rw (← add, ← change, ← destroy) c.summarize.ensures

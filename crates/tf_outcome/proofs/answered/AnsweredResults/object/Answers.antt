@@ -1,5 +1,4 @@
-use Rattle.std.proofs.Common.{◌≡◌, ◌∙◌, true, false, IfOk, map, get_or, sym, subst}
-use Rattle.std.specs.Prelude.{slice_get}
+use Rattle.std.proofs.Common.{◌≡◌, ◌∙◌, IfOk, map, sym, subst}
 use Rattle.tf_action_data.specs.Action.{action_of}
 use Rattle.tf_address.specs.ObjectId.{instance_key_of}
 use Rattle.tf_names.specs.Table.{names_in}
@@ -7,7 +6,6 @@ use Rattle.tf_state_data.specs.State.{state_of}
 use Rattle.tf_value.specs.Tree.{Tree, tree_of}
 use Rattle.tf_outcome.proofs.Lookup.{object-here, object-later, object-none}
 use Rattle.tf_outcome.specs.Ended.{dones_of}
-use Rattle.tf_outcome.specs.Objects.{is_of}
 use Rattle.tf_outcome.specs.Outcome.{done_at}
 use Rattle.tf_outcome.proofs.answered.AnsweredResults.object.Goals as goal
 
@@ -16,9 +14,7 @@ returns-then-applies_to c =
     let s = c.args.self.now in
     let results = done_at (dones_of s.results.now) in
     let key = instance_key_of c.args.key.now in
-    let is : is_of (slice_get (map action_of s.actions.now) (get_or s.seen.now c.loop-action.action-index 0)) c.args.place key ≡ true =
-    sym c.applies_to.ensures ∙ c.if-applies_to.true in
-    let here = object-here (names_in s.names.now) (state_of s.prior.now) (map action_of s.actions.now) results s.seen.now c.loop-action.action-index c.args.place key c.loop-action-test.true is in
+    let here = object-here (names_in s.names.now) (state_of s.prior.now) (map action_of s.actions.now) results s.seen.now c.loop-action.action-index c.args.place key c.loop-action-test.true (sym c.applies_to.ensures ∙ c.if-applies_to.true) in
     subst (λ (t : Tree). IfOk c.object_at.result (λ value. tree_of value ≡ t)) (sym here ∙ c.loop-action.invariant) c.object_at.ensures
 
 pub loop-action-preserved : goal.loop-action-preserved
@@ -26,9 +22,8 @@ loop-action-preserved c =
     let s = c.args.self.now in
     let results = done_at (dones_of s.results.now) in
     let key = instance_key_of c.args.key.now in
-    let isnt : is_of (slice_get (map action_of s.actions.now) (get_or s.seen.now c.loop-action.action-index 0)) c.args.place key ≡ false =
-    sym c.applies_to.ensures ∙ c.if-applies_to.false in
-    sym (object-later (names_in s.names.now) (state_of s.prior.now) (map action_of s.actions.now) results s.seen.now c.loop-action.action-index c.args.place key c.loop-action-test.true isnt) ∙ c.loop-action.invariant
+    sym (object-later (names_in s.names.now) (state_of s.prior.now) (map action_of s.actions.now) results s.seen.now c.loop-action.action-index c.args.place key c.loop-action-test.true (sym c.applies_to.ensures ∙ c.if-applies_to.false))
+    ∙ c.loop-action.invariant
 
 pub returns : goal.returns
 returns c =

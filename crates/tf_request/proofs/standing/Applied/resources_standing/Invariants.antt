@@ -2,9 +2,9 @@ use Rattle.tf_environment.specs.Views.{shapes_of}
 use Rattle.tf_names.specs.Table.{names_in}
 use Rattle.tf_value.specs.Tree.{entries_view}
 use Rattle.tf_request.proofs.Alone.{AreAlone}
-use Rattle.tf_request.proofs.standing.resources_standing.Given as goal
+use Rattle.tf_request.proofs.standing.Applied.resources_standing.Given as goal
 
 abbrev pub invariant-loop-place : goal.invariant-loop-place
 invariant-loop-place g l =
-    AreAlone (shapes_of l.stage.shapes.now) (g.R.Results.objects l.stage.objects.now.results.now) (entries_view l.declared.variables.now.entries) (names_in l.declared.names.now)
+    AreAlone (shapes_of l.self.shapes.now) (g.R.Results.objects l.self.results.now) (entries_view l.self.declared.now.variables.now.entries) (names_in l.self.declared.now.names.now)
     l.resources l.place-index l.kept.items
