@@ -7,7 +7,7 @@ use Rattle.json.specs.Lex.{tokens}
 use Rattle.serde_json.specs.Data.{Data, number, array, object, item, Members, no_members, member, put}
 use Rattle.serde_json.specs.Find.{get, get_member}
 use Rattle.serde_json.specs.Read.{number_of, of_json, of_items, of_members, max_depth}
-use Rattle.tf_json_text.specs.Plain.{IsAny, IsSorted, AreSorted, AreSortedMembers, ReadIsSorted}
+use Rattle.tf_json_text.specs.Plain.{IsAny, IsSorted, AreOrderly, AreOrderlyMembers, ReadIsSorted}
 use Rattle.tf_json_text.proofs.Puts.{cmp, orderly-put}
 
 -- what is there has a property
@@ -33,18 +33,18 @@ mutual
   sorted-of_json (json.boolean b) = tt
   sorted-of_json (json.number s) = of_map (λ _. ⊤) IsSorted number (λ n h. tt) (number_of s) (any (number_of s))
   sorted-of_json (json.string s) = tt
-  sorted-of_json (json.array js) = of_map AreSorted IsSorted array (λ ds h. h) (of_items js) (sorted-of_items js)
-  sorted-of_json (json.object ms) = of_map AreSortedMembers IsSorted object (λ ns h. h) (of_members ms no_members) (sorted-of_members ms no_members tt)
+  sorted-of_json (json.array js) = of_map (AreOrderly IsAny) IsSorted array (λ ds h. h) (of_items js) (sorted-of_items js)
+  sorted-of_json (json.object ms) = of_map (AreOrderlyMembers IsAny) IsSorted object (λ ns h. h) (of_members ms no_members) (sorted-of_members ms no_members tt)
 
-  sorted-of_items : (js : json.Items) → OfSome AreSorted (of_items js)
+  sorted-of_items : (js : json.Items) → OfSome (AreOrderly IsAny) (of_items js)
   sorted-of_items json.no_items = tt
   sorted-of_items (json.item j js) =
-      of_then IsSorted AreSorted (λ d. option_map (item d) (of_items js)) (λ d h. of_map AreSorted AreSorted (item d) (λ ds k. (h, k)) (of_items js) (sorted-of_items js)) (of_json j) (sorted-of_json j)
+      of_then IsSorted (AreOrderly IsAny) (λ d. option_map (item d) (of_items js)) (λ d h. of_map (AreOrderly IsAny) (AreOrderly IsAny) (item d) (λ ds k. (h, k)) (of_items js) (sorted-of_items js)) (of_json j) (sorted-of_json j)
 
-  sorted-of_members : (ms : json.Members) (found : Members) → AreSortedMembers found → OfSome AreSortedMembers (of_members ms found)
+  sorted-of_members : (ms : json.Members) (found : Members) → AreOrderlyMembers IsAny found → OfSome (AreOrderlyMembers IsAny) (of_members ms found)
   sorted-of_members json.no_members found h = h
   sorted-of_members (json.member k j ms) found h =
-      of_then IsSorted AreSortedMembers (λ d. of_members ms (put k d found)) (λ d p. sorted-of_members ms (put k d found) (orderly-put IsAny k d found p h)) (of_json j) (sorted-of_json j)
+      of_then IsSorted (AreOrderlyMembers IsAny) (λ d. of_members ms (put k d found)) (λ d p. sorted-of_members ms (put k d found) (orderly-put IsAny k d found p h)) (of_json j) (sorted-of_json j)
 
 pub read_is_sorted : ReadIsSorted
 read_is_sorted text d e =
@@ -56,7 +56,7 @@ member_at Less k d ms e p more is = more is
 member_at Equal k d ms e p more is = let same : d ≡ e = cc in subst IsSorted same p
 member_at Greater k d ms e p more is = more is
 
-sorted-get_member : (k : List ℕ) (ms : Members) (e : Data) → AreSortedMembers ms → get_member k ms ≡ Some e → IsSorted e
+sorted-get_member : (k : List ℕ) (ms : Members) (e : Data) → AreOrderlyMembers IsAny ms → get_member k ms ≡ Some e → IsSorted e
 sorted-get_member k no_members e h is = absurd (cc)
 sorted-get_member k (member l d ms) e h is = member_at (cmp k l) k d ms e h.1 (sorted-get_member k ms e h.2) is
 

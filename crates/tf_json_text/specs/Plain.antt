@@ -52,12 +52,6 @@ IsAny n = ⊤
 abbrev pub IsSorted : Data → Type 0
 IsSorted d = IsOrderly IsAny d
 
-abbrev pub AreSorted : Items → Type 0
-AreSorted ds = AreOrderly IsAny ds
-
-abbrev pub AreSortedMembers : Members → Type 0
-AreSortedMembers ms = AreOrderlyMembers IsAny ms
-
 -- The text of a plain tree that nests no deeper than a reader goes is read as that tree.
 abbrev pub TextReadsBack : Type 0
 TextReadsBack = (d : Data) → IsPlain d → depth d ≤ max_depth → read (text_of d) ≡ Some d

@@ -38,34 +38,10 @@ pub outputs-members : (es : Entries) → outputs_data es ≡ members_for output_
 outputs-members no_entries = refl
 outputs-members (entry k t es) = ap (member k (output_data t)) (outputs-members es)
 
-abbrev join : Entries → Entries → Entries
-join no_entries fs = fs
-join (entry k t es) fs = entry k t (join es fs)
-
-join_assoc : (es fs gs : Entries) → join (join es fs) gs ≡ join es (join fs gs)
-join_assoc no_entries fs gs = refl
-join_assoc (entry k t es) fs gs = ap (entry k t) (join_assoc es fs gs)
-
-join_nothing : (es : Entries) → join es no_entries ≡ es
-join_nothing no_entries = refl
-join_nothing (entry k t es) = ap (entry k t) (join_nothing es)
-
--- a key is above each of these
-abbrev AreBelow : Entries → List ℕ → Type 0
-AreBelow no_entries k = Unit {0}
-AreBelow (entry l t es) k = (slice_cmp nat_cmp k l ≡ Greater) × AreBelow es k
-
-abbrev AllBelow : Entries → Entries → Type 0
-AllBelow found no_entries = Unit {0}
-AllBelow found (entry k t es) = AreBelow found k × AllBelow found es
-
-put-last : (k : List ℕ) (t : Tree) (found : Entries) → AreBelow found k → put k t found ≡ join found (entry k t no_entries)
-put-last k t no_entries h = refl
-put-last k t (entry l u es) h = rw h.0 (ap (entry l u) (put-last k t es h.1))
-
-AreBelow-join : (found : Entries) (l : List ℕ) (t : Tree) (k : List ℕ) → AreBelow found k → slice_cmp nat_cmp k l ≡ Greater → AreBelow (join found (entry l t no_entries)) k
-AreBelow-join no_entries l t k h e = (e, tt)
-AreBelow-join (entry m u es) l t k h e = (h.0, AreBelow-join es l t k h.1 e)
+-- entries put one after another
+abbrev puts : Entries → Entries → Entries
+puts no_entries found = found
+puts (entry k t es) found = puts es (put k t found)
 
 -- the keys of a table stand in order, whatever is shown of the values
 abbrev KeysRise : Entries → Type 0
@@ -76,30 +52,30 @@ keys_rise : (es : Entries) → ArePlainMembers (entries_data es) → KeysRise es
 keys_rise no_entries h = tt
 keys_rise (entry k t es) h = (h.0, keys_rise es h.2)
 
-AllBelow-join : (found : Entries) (l : List ℕ) (t : Tree) (es : Entries) → AllBelow found es → AreAbove l (entries_data es) → AllBelow (join found (entry l t no_entries)) es
-AllBelow-join found l t no_entries h a = tt
-AllBelow-join found l t (entry k u es) h a = (AreBelow-join found l t k h.0 (nat_list_cmp_total.antisymm k l ∙ ap ordering_reverse a.0), AllBelow-join found l t es h.1 a.1)
+-- what is put behind the first entry leaves it first
+puts-behind : (k : List ℕ) (t : Tree) (es found : Entries) → AreAbove k (entries_data es) → puts es (entry k t found) ≡ entry k t (puts es found)
+puts-behind k t no_entries found h = refl
+puts-behind k t (entry l u es) found h =
+    let above : slice_cmp nat_cmp l k ≡ Greater = nat_list_cmp_total.antisymm l k ∙ ap ordering_reverse h.0 in
+    rw above (puts-behind k t es (put l u found) h.1)
 
-AllBelow-nothing : (es : Entries) → AllBelow no_entries es
-AllBelow-nothing no_entries = tt
-AllBelow-nothing (entry k t es) = (tt, AllBelow-nothing es)
+-- so a table is put together as it stands
+puts-table : (es : Entries) → KeysRise es → puts es no_entries ≡ es
+puts-table no_entries rise = refl
+puts-table (entry k t es) rise = puts-behind k t es no_entries rise.0 ∙ ap (entry k t) (puts-table es rise.1)
 
 -- each value is read back
 abbrev pub AreBack : (Data → Option Tree) → (Tree → Data) → Entries → Type 0
 AreBack read_one show no_entries = Unit {0}
 AreBack read_one show (entry k t es) = (read_one (show t) ≡ Some t) × AreBack read_one show es
 
-values_onto : (read_one : Data → Option Tree) (show : Tree → Data) (es found : Entries) → AreBack read_one show es → KeysRise es → AllBelow found es
-    → values_in read_one (members_for show es) found ≡ Some (join found es)
-values_onto read_one show no_entries found back rise h = ap Some (sym (join_nothing found))
-values_onto read_one show (entry k t es) found back rise h =
-    ap (λ o. option_and_then (λ u. values_in read_one (members_for show es) (put k u found)) o) back.0
-    ∙ ap (values_in read_one (members_for show es)) (put-last k t found h.0)
-    ∙ values_onto read_one show es (join found (entry k t no_entries)) back.1 rise.1 (AllBelow-join found k t es h.1 rise.0)
-    ∙ ap Some (join_assoc found (entry k t no_entries) es)
+values_onto : (read_one : Data → Option Tree) (show : Tree → Data) (es found : Entries) → AreBack read_one show es → values_in read_one (members_for show es) found ≡ Some (puts es found)
+values_onto read_one show no_entries found back = refl
+values_onto read_one show (entry k t es) found back =
+    ap (λ o. option_and_then (λ u. values_in read_one (members_for show es) (put k u found)) o) back.0 ∙ values_onto read_one show es (put k t found) back.1
 
 pub values-back : (read_one : Data → Option Tree) (show : Tree → Data) (es : Entries) → AreBack read_one show es → ArePlainMembers (entries_data es) → values_in read_one (members_for show es) no_entries ≡ Some es
-values-back read_one show es back plain = values_onto read_one show es no_entries back (keys_rise es plain) (AllBelow-nothing es)
+values-back read_one show es back plain = values_onto read_one show es no_entries back ∙ ap Some (puts-table es (keys_rise es plain))
 
 saved-back : (es : Entries) → AreSaved es → AreBack value_in value_data es
 saved-back no_entries h = tt

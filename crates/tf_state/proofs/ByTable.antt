@@ -1,5 +1,5 @@
 -- A tree is read as a record, a resource or a state exactly where it says that one by the table.
-use Rattle.std.proofs.Common.{◌≡◌, ℕ, ◌^◌, Bool, true, ◌&&◌, cond, List, Option, Some, None, option_map, codes, refl, ap, sym, ◌∙◌, []}
+use Rattle.std.proofs.Common.{◌≡◌, subst, ℕ, ◌^◌, Bool, true, ◌&&◌, cond, List, Option, Some, None, option_map, codes, refl, ap, sym, ◌∙◌, []}
 use Rattle.std.specs.Prelude.{option_and_then}
 use Rattle.std.proofs.lemmas.Bool.{and_parts}
 use Rattle.serde_json.specs.Data.{Data, array}
@@ -48,17 +48,8 @@ record RecordParts (ok : Bool) (keys : Option InstanceKeyView) (deposed : Option
 record_parts : (ok : Bool) (keys : Option InstanceKeyView) (deposed : Option (Option (List ℕ))) (values : Option Tree) (versions : Option ℕ) (statuses : Option Bool) (lists : Option (List (List ℕ))) (flags : Option Bool) (r : RecordView)
     → whole_record ok keys deposed values versions statuses lists flags ≡ Some r → RecordParts ok keys deposed values versions statuses lists flags r
 record_parts true (Some k) (Some p) (Some a) (Some v) (Some t) (Some ds) (Some f) r e =
-    let is = same _ r e in
-    record {
-      holds = refl;
-      key = ap (λ (q : RecordView). Some q.id.key) is;
-      gone = ap (λ (q : RecordView). Some q.id.deposed) is;
-      attributes = ap (λ (q : RecordView). Some q.attributes) is;
-      version = ap (λ (q : RecordView). Some q.schema_version) is;
-      tainted = ap (λ (q : RecordView). Some q.tainted) is;
-      dependencies = ap (λ (q : RecordView). Some q.dependencies) is;
-      flag = ap (λ (q : RecordView). Some q.create_before_destroy) is;
-    }
+    subst (RecordParts true (Some k) (Some p) (Some a) (Some v) (Some t) (Some ds) (Some f)) (same _ r e)
+    (record { holds = refl; key = refl; gone = refl; attributes = refl; version = refl; tainted = refl; dependencies = refl; flag = refl })
 record_parts _ _ _ _ _ _ _ _ r e = absurd (cc)
 
 pub record_says : (d : Data) (r : RecordView) → record_in d ≡ Some r → SaysRecord d r
@@ -101,32 +92,25 @@ whole_resource ok kinds names providers lists =
     (λ records. record { label = record { type_name = type_name; name = its_name }; provider = provider; records = records }) lists) providers) names) kinds)
     None
 
-record ResourceParts (ok : Bool) (kinds names providers : Option (List ℕ)) (lists : Option (List RecordView)) (r : ResourceView) : Type 0 where
-  holds : ok ≡ true
+record ResourceParts (shaped managed : Bool) (kinds names providers : Option (List ℕ)) (lists : Option (List RecordView)) (r : ResourceView) : Type 0 where
+  only : shaped ≡ true
+  mode : managed ≡ true
   type_name : kinds ≡ Some r.label.type_name
   name : names ≡ Some r.label.name
   provider : providers ≡ Some r.provider
   records : lists ≡ Some r.records
 
-resource_parts : (ok : Bool) (kinds names providers : Option (List ℕ)) (lists : Option (List RecordView)) (r : ResourceView) → whole_resource ok kinds names providers lists ≡ Some r → ResourceParts ok kinds names providers lists r
-resource_parts true (Some k) (Some n) (Some p) (Some rs) r e =
-    let is = same _ r e in
-    record {
-      holds = refl;
-      type_name = ap (λ (q : ResourceView). Some q.label.type_name) is;
-      name = ap (λ (q : ResourceView). Some q.label.name) is;
-      provider = ap (λ (q : ResourceView). Some q.provider) is;
-      records = ap (λ (q : ResourceView). Some q.records) is;
-    }
-resource_parts _ _ _ _ _ r e = absurd (cc)
+resource_parts : (shaped managed : Bool) (kinds names providers : Option (List ℕ)) (lists : Option (List RecordView)) (r : ResourceView) → whole_resource (shaped && managed) kinds names providers lists ≡ Some r → ResourceParts shaped managed kinds names providers lists r
+resource_parts true true (Some k) (Some n) (Some p) (Some rs) r e =
+    subst (ResourceParts true true (Some k) (Some n) (Some p) (Some rs)) (same _ r e) (record { only = refl; mode = refl; type_name = refl; name = refl; provider = refl; records = refl })
+resource_parts _ _ _ _ _ _ r e = absurd (cc)
 
 pub resource_says : (d : Data) (r : ResourceView) → resource_in d ≡ Some r → SaysResource d r
 resource_says d r e =
-    let parts = resource_parts (is_shaped shapes.Resource d && is_managed (get (codes "mode") d)) (name_in (get (codes "type") d)) (name_in (get (codes "name") d)) (text_in (get (codes "provider") d)) (instances_in (get (codes "instances") d)) r e in
-    let shape = and_parts (is_shaped shapes.Resource d) (is_managed (get (codes "mode") d)) parts.holds in
+    let parts = resource_parts (is_shaped shapes.Resource d) (is_managed (get (codes "mode") d)) (name_in (get (codes "type") d)) (name_in (get (codes "name") d)) (text_in (get (codes "provider") d)) (instances_in (get (codes "instances") d)) r e in
     record {
-      only = shape.0;
-      mode = managed_says (get (codes "mode") d) shape.1;
+      only = parts.only;
+      mode = managed_says (get (codes "mode") d) parts.mode;
       type_name = name_says (get (codes "type") d) r.label.type_name parts.type_name;
       name = name_says (get (codes "name") d) r.label.name parts.name;
       provider = text_says (get (codes "provider") d) r.provider parts.provider;

@@ -1,5 +1,6 @@
 -- No number of a state's text is a float.
 use Rattle.std.proofs.Common.{◌≡◌, ℕ, pos, negsuc, ℤ, Bool, true, false, ◌||◌, List, [], ◌∷◌, codes, refl, map as each, Ordering, Less, Equal, Greater}
+use Rattle.std.proofs.lemmas.Bool.{or_parts}
 use Rattle.std.specs.Cmp.Lexicographic.{slice_cmp}
 use Rattle.std.specs.Ordering.{nat_cmp, match_ordering}
 use Rattle.serde_json.specs.Data as json
@@ -7,7 +8,7 @@ use Rattle.serde_json.specs.Find.{of_integer, is_float}
 use Rattle.serde_json.specs.View.{items_of}
 use Rattle.serde_json.specs.Written.{has_float, items_have_float, members_have_float}
 use Rattle.tf_value.specs.Json.{value_data, items_data, entries_data, texts_data}
-use Rattle.tf_value.specs.Tree.{Tree, null, boolean, whole as whole_number, text, list, map, set, unknown, Items, no_items, item, Entries, no_entries, entry}
+use Rattle.tf_value.specs.Tree.{Tree, whole as whole_number, list, map, set, Items, no_items, item, Entries, no_entries, entry}
 use Rattle.std.specs.Prelude.{Option, Some, None, option_map}
 use Rattle.tf_address.specs.ObjectId.{InstanceKeyView, single, number, name}
 use Rattle.tf_state_data.specs.Record.{RecordView}
@@ -28,56 +29,27 @@ texts_data-whole : (ss : List (List ℕ)) → items_have_float (texts_data ss) �
 texts_data-whole [] = refl
 texts_data-whole (s ∷ ss) = texts_data-whole ss
 
+-- neither in a value's form nor in its type
 mutual
-  value_data-whole : (t : Tree) → has_float (value_data t) ≡ false
-  value_data-whole null = refl
-  value_data-whole (boolean b) = refl
-  value_data-whole (whole_number z) = of_integer-whole z
-  value_data-whole (text s) = refl
-  value_data-whole (list ts) = items_data-whole ts
-  value_data-whole (map es) = entries_data-whole es
-  value_data-whole (set ss) = texts_data-whole ss
-  value_data-whole unknown = refl
+  value-whole : (t : Tree) → (has_float (value_data t) ≡ false) × (has_float (type_data t) ≡ false)
+  value-whole (whole_number z) = (of_integer-whole z, refl)
+  value-whole (list ts) = let p = items-whole ts in (p.0, neither _ _ p.1 refl)
+  value-whole (map es) = let p = entries-whole es in (p.0, neither _ _ p.1 refl)
+  value-whole (set ss) = (texts_data-whole ss, refl)
+  value-whole _ = (refl, refl)
 
-  items_data-whole : (ts : Items) → items_have_float (items_data ts) ≡ false
-  items_data-whole no_items = refl
-  items_data-whole (item t ts) = neither _ _ (value_data-whole t) (items_data-whole ts)
+  items-whole : (ts : Items) → (items_have_float (items_data ts) ≡ false) × (items_have_float (item_types ts) ≡ false)
+  items-whole no_items = (refl, refl)
+  items-whole (item t ts) = let p = value-whole t in let q = items-whole ts in (neither _ _ p.0 q.0, neither _ _ p.1 q.1)
 
-  entries_data-whole : (es : Entries) → members_have_float (entries_data es) ≡ false
-  entries_data-whole no_entries = refl
-  entries_data-whole (entry k t es) = neither _ _ (value_data-whole t) (entries_data-whole es)
-
-mutual
-  type_data-whole : (t : Tree) → has_float (type_data t) ≡ false
-  type_data-whole null = refl
-  type_data-whole (boolean b) = refl
-  type_data-whole (whole_number z) = refl
-  type_data-whole (text s) = refl
-  type_data-whole (list ts) = neither _ _ (item_types-whole ts) refl
-  type_data-whole (map es) = neither _ _ (entry_types-whole es) refl
-  type_data-whole (set ss) = refl
-  type_data-whole unknown = refl
-
-  item_types-whole : (ts : Items) → items_have_float (item_types ts) ≡ false
-  item_types-whole no_items = refl
-  item_types-whole (item t ts) = neither _ _ (type_data-whole t) (item_types-whole ts)
-
-  entry_types-whole : (es : Entries) → members_have_float (entry_types es) ≡ false
-  entry_types-whole no_entries = refl
-  entry_types-whole (entry k t es) = neither _ _ (type_data-whole t) (entry_types-whole es)
+  entries-whole : (es : Entries) → (members_have_float (entries_data es) ≡ false) × (members_have_float (entry_types es) ≡ false)
+  entries-whole no_entries = (refl, refl)
+  entries-whole (entry k t es) = let p = value-whole t in let q = entries-whole es in (neither _ _ p.0 q.0, neither _ _ p.1 q.1)
 
 put_at : (o : Ordering) (a b c : json.Members) → members_have_float a ≡ false → members_have_float b ≡ false → members_have_float c ≡ false → members_have_float (match_ordering o a b c) ≡ false
 put_at Less a b c e f g = e
 put_at Equal a b c e f g = f
 put_at Greater a b c e f g = g
-
-first_part : (b c : Bool) → (b || c) ≡ false → b ≡ false
-first_part false c e = refl
-first_part true c e = e
-
-later_part : (b c : Bool) → (b || c) ≡ false → c ≡ false
-later_part false c e = e
-later_part true c e = absurd (cc)
 
 -- no number in the value, or in the members, is a float
 record IsWhole (d : json.Data) : Type 0 where
@@ -95,9 +67,8 @@ no_members-whole = record { fact = refl }
 put_false : (k : List ℕ) (d : json.Data) (ms : json.Members) → has_float d ≡ false → members_have_float ms ≡ false → members_have_float (json.put k d ms) ≡ false
 put_false k d json.no_members e f = neither _ _ e refl
 put_false k d (json.member l x ms) e f =
-    let first = first_part (has_float x) _ f in
-    let later = later_part (has_float x) _ f in
-    put_at (slice_cmp nat_cmp k l) (json.member k d (json.member l x ms)) (json.member l d ms) (json.member l x (json.put k d ms)) (neither _ _ e f) (neither _ _ e later) (neither _ _ first (put_false k d ms e later))
+    let parts = or_parts (has_float x) _ f in
+    put_at (slice_cmp nat_cmp k l) (json.member k d (json.member l x ms)) (json.member l d ms) (json.member l x (json.put k d ms)) (neither _ _ e f) (neither _ _ e parts.1) (neither _ _ parts.0 (put_false k d ms e parts.1))
 
 put-whole : (k : List ℕ) (d : json.Data) (ms : json.Members) → IsWhole d → AreWhole ms → AreWhole (json.put k d ms)
 put-whole k d ms e f = record { fact = put_false k d ms e.fact f.fact }
@@ -150,7 +121,7 @@ record_data-whole r =
     let d = put_some-whole (codes "dependencies") _ _ (dependencies_data-whole r.dependencies) c in
     let e = put_some-whole (codes "create_before_destroy") _ _ (flag_data-whole r.create_before_destroy) d in
     let f = put-whole (codes "schema_version") _ _ (number-whole r.schema_version) e in
-    (put-whole (codes "attributes") _ _ (whole (value_data r.attributes) (value_data-whole r.attributes)) f).fact
+    (put-whole (codes "attributes") _ _ (whole (value_data r.attributes) (value-whole r.attributes).0) f).fact
 
 records-whole : (rs : List RecordView) → items_have_float (items_of (each record_data rs)) ≡ false
 records-whole [] = refl
@@ -167,7 +138,7 @@ resources-whole (r ∷ rs) = neither _ _ (resource_data-whole r) (resources-whol
 
 output_data-whole : (t : Tree) → has_float (output_data t) ≡ false
 output_data-whole t =
-    (put-whole (codes "type") _ _ (whole (type_data t) (type_data-whole t)) (put-whole (codes "value") _ _ (whole (value_data t) (value_data-whole t)) no_members-whole)).fact
+    (put-whole (codes "type") _ _ (whole (type_data t) (value-whole t).1) (put-whole (codes "value") _ _ (whole (value_data t) (value-whole t).0) no_members-whole)).fact
 
 outputs_data-whole : (es : Entries) → members_have_float (outputs_data es) ≡ false
 outputs_data-whole no_entries = refl

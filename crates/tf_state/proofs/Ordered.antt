@@ -1,5 +1,5 @@
 -- A `BTreeMap` beside the list in order that it stands for.
-use Rattle.std.proofs.Common.{◌≡◌, true, false, List, [], ◌∷◌, map, Option, Some, None, option_map, Ordering, Less, Equal, Greater, is_eq, cond, refl, ap, ◌∙◌}
+use Rattle.std.proofs.Common.{◌≡◌, Bool, true, false, sym, List, [], ◌∷◌, map, Option, Some, None, option_map, Ordering, Less, Equal, Greater, is_eq, cond, refl, ap, ◌∙◌}
 use Rattle.std.specs.BTreeMap.{insert_entry, is_at}
 use Rattle.std.specs.Cmp.{IsTotalOrder}
 use Rattle.std.specs.List.{AllByRecursion}
@@ -36,7 +36,7 @@ shown-ordered R cmp see f sees [] h = tt
 shown-ordered R cmp see f sees (e ∷ es) h = (shown-below R cmp see f sees e es h.0, shown-ordered R cmp see f sees es h.1)
 
 -- a key that isn't there goes in at its place
-pub put_new-insert_entry : {K X A : Type 0} (R : K → K → Ordering) (cmp : A → A → Ordering) (f : K × X → A) → SeesOrder R cmp f → (k : K) (v : X) (es : List (K × X)) → lookup (is_at (R k)) es ≡ None
+put_new-insert_entry : {K X A : Type 0} (R : K → K → Ordering) (cmp : A → A → Ordering) (f : K × X → A) → SeesOrder R cmp f → (k : K) (v : X) (es : List (K × X)) → lookup (is_at (R k)) es ≡ None
     → put_new cmp (f (k, v)) (map f es) ≡ Some (map f (insert_entry R es k v))
 put_new-insert_entry R cmp f sees k v [] none = refl
 put_new-insert_entry R cmp f sees k v (e ∷ es) none =
@@ -50,7 +50,7 @@ taken_at Equal a b bs e found later some below more = refl
 taken_at Greater a b bs e found later some below more = ap (option_map (λ cs. b ∷ cs)) (more some)
 
 -- a key that is there is refused
-pub put_new-taken : {K X A : Type 0} (R : K → K → Ordering) (cmp : A → A → Ordering) (f : K × X → A) → IsTotalOrder R → SeesOrder R cmp f → (k : K) (v : X) (es : List (K × X)) → IsStrictlySortedBy R (keys_of es)
+put_new-taken : {K X A : Type 0} (R : K → K → Ordering) (cmp : A → A → Ordering) (f : K × X → A) → IsTotalOrder R → SeesOrder R cmp f → (k : K) (v : X) (es : List (K × X)) → IsStrictlySortedBy R (keys_of es)
     → is_some (lookup (is_at (R k)) es) ≡ true → put_new cmp (f (k, v)) (map f es) ≡ None
 unfolding IsStrictlySortedBy
 put_new-taken R cmp f total sees k v [] sorted some = absurd (cc)
@@ -58,6 +58,17 @@ put_new-taken R cmp f total sees k v (e ∷ es) sorted some =
     rw (sees (k, v) e) (taken_at (R k e.0) (f (k, v)) (f e) (map f es) e (lookup (is_at (R k)) es) (put_new cmp (f (k, v)) (map f es)) some (λ below. lookup-none (is_at (R k)) (e ∷ es) (none_below_head total k e es sorted below))
     (put_new-taken R cmp f total sees k v es sorted.1))
 
-pub none_from_false : {X : Type 0} (o : Option X) → is_some o ≡ false → o ≡ None
+none_from_false : {X : Type 0} (o : Option X) → is_some o ≡ false → o ≡ None
 none_from_false None e = refl
 none_from_false (Some x) e = absurd (cc)
+
+-- an insert that finds nothing at the key puts something new in
+pub new_put : {K X A : Type 0} (R : K → K → Ordering) (cmp : A → A → Ordering) (f : K × X → A) → SeesOrder R cmp f → (k : K) (v : X) (es now : List (K × X)) (old : Option X) (is_taken : Bool)
+    → old ≡ lookup (is_at (R k)) es → now ≡ insert_entry R es k v → is_taken ≡ is_some old → is_taken ≡ false → put_new cmp (f (k, v)) (map f es) ≡ Some (map f now)
+new_put R cmp f sees k v es now old is_taken was is told free =
+    put_new-insert_entry R cmp f sees k v es (sym was ∙ none_from_false old (sym told ∙ free)) ∙ sym (ap (λ xs. Some (map f xs)) is)
+
+-- and one that finds something is no put of anything new
+pub taken_put : {K X A : Type 0} (R : K → K → Ordering) (cmp : A → A → Ordering) (f : K × X → A) → IsTotalOrder R → SeesOrder R cmp f → (k : K) (v : X) (es : List (K × X)) (old : Option X) (is_taken : Bool)
+    → IsStrictlySortedBy R (keys_of es) → old ≡ lookup (is_at (R k)) es → is_taken ≡ is_some old → is_taken ≡ true → put_new cmp (f (k, v)) (map f es) ≡ None
+taken_put R cmp f total sees k v es old is_taken sorted was told taken = put_new-taken R cmp f total sees k v es sorted (ap is_some (sym was) ∙ sym told ∙ taken)

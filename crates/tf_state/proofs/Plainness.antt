@@ -145,53 +145,31 @@ set-depth : (ss : List (List ℕ)) → items_depth (texts_data ss) ≤ 0
 set-depth [] = omega arith
 set-depth (s ∷ ss) = omega (arith, set-depth ss)
 
+-- a value's form nests as deep as the value, and its type twice as deep at most
 mutual
-  value-depth : (t : Tree) → depth (value_data t) ≤ measure.depth t
-  value-depth null = omega arith
-  value-depth (truth b) = omega arith
-  value-depth (whole z) = omega arith
-  value-depth (text s) = omega arith
-  value-depth (list ts) = omega (arith, items-depth ts)
-  value-depth (map es) = omega (arith, entries-depth es)
-  value-depth (set ss) = omega (arith, set-depth ss)
-  value-depth unknown = omega arith
+  value-depth : (t : Tree) → (depth (value_data t) ≤ measure.depth t) × (depth (type_data t) ≤ 2 * measure.depth t)
+  value-depth (list ts) = let p = items-depth ts in (omega (arith, p.0), omega (arith, p.1))
+  value-depth (map es) = let p = entries-depth es in (omega (arith, p.0), omega (arith, p.1))
+  value-depth (set ss) = (omega (arith, set-depth ss), omega arith)
+  value-depth _ = (omega arith, omega arith)
 
-  items-depth : (ts : Items) → items_depth (items_data ts) ≤ measure.depth_of_items ts
-  items-depth no_items = omega arith
-  items-depth (item t ts) = omega (arith, value-depth t, items-depth ts)
+  items-depth : (ts : Items) → (items_depth (items_data ts) ≤ measure.depth_of_items ts) × (items_depth (item_types ts) ≤ 2 * measure.depth_of_items ts)
+  items-depth no_items = (omega arith, omega arith)
+  items-depth (item t ts) = let p = value-depth t in let q = items-depth ts in (omega (arith, p.0, q.0), omega (arith, p.1, q.1))
 
-  entries-depth : (es : Entries) → members_depth (entries_data es) ≤ measure.depth_of_entries es
-  entries-depth no_entries = omega arith
-  entries-depth (entry k t es) = omega (arith, value-depth t, entries-depth es)
-
-mutual
-  type-depth : (t : Tree) → depth (type_data t) ≤ 2 * measure.depth t
-  type-depth null = omega arith
-  type-depth (truth b) = omega arith
-  type-depth (whole z) = omega arith
-  type-depth (text s) = omega arith
-  type-depth (list ts) = omega (arith, item_types-depth ts)
-  type-depth (map es) = omega (arith, entry_types-depth es)
-  type-depth (set ss) = omega arith
-  type-depth unknown = omega arith
-
-  item_types-depth : (ts : Items) → items_depth (item_types ts) ≤ 2 * measure.depth_of_items ts
-  item_types-depth no_items = omega arith
-  item_types-depth (item t ts) = omega (arith, type-depth t, item_types-depth ts)
-
-  entry_types-depth : (es : Entries) → members_depth (entry_types es) ≤ 2 * measure.depth_of_entries es
-  entry_types-depth no_entries = omega arith
-  entry_types-depth (entry k t es) = omega (arith, type-depth t, entry_types-depth es)
+  entries-depth : (es : Entries) → (members_depth (entries_data es) ≤ measure.depth_of_entries es) × (members_depth (entry_types es) ≤ 2 * measure.depth_of_entries es)
+  entries-depth no_entries = (omega arith, omega arith)
+  entries-depth (entry k t es) = let p = value-depth t in let q = entries-depth es in (omega (arith, p.0, q.0), omega (arith, p.1, q.1))
 
 saved-depth : (es : Entries) → AreSaved es → members_depth (entries_data es) ≤ 32
 saved-depth no_entries h = omega arith
 saved-depth (entry k t es) h =
-    let within : measure.depth t ≤ 32 = h.0.2.1 in omega (arith, value-depth t, within, saved-depth es h.1)
+    let within : measure.depth t ≤ 32 = h.0.2.1 in omega (arith, (value-depth t).0, within, saved-depth es h.1)
 
 output-depth : (t : Tree) → measure.depth t ≤ 32 → depth (output_data t) ≤ 65
 output-depth t h =
-    let type_shallow : depth (type_data t) ≤ 64 = omega (arith, type-depth t) in
-    let value_shallow : depth (value_data t) ≤ 64 = omega (arith, value-depth t) in
+    let type_shallow : depth (type_data t) ≤ 64 = omega (arith, (value-depth t).1) in
+    let value_shallow : depth (value_data t) ≤ 64 = omega (arith, (value-depth t).0) in
     let nothing : members_depth no_members ≤ 64 = omega arith in
     omega (arith, depth-put (codes "type") (type_data t) (put (codes "value") (value_data t) no_members) 64 type_shallow (depth-put (codes "value") (value_data t) no_members 64 value_shallow nothing))
 

@@ -10,13 +10,14 @@ use Rattle.std.proofs.lemmas.Bool.{and_parts}
 use Rattle.std.proofs.lemmas.Cmp.{nat_list_cmp_total}
 use Rattle.serde_json.specs.Data as json
 use Rattle.serde_json.specs.Find.{get}
-use Rattle.tf_json_text.specs.Plain.{IsPlain, ArePlain, ArePlainMembers, IsSorted, AreSorted, AreSortedMembers}
+use Rattle.tf_json_text.specs.Plain.{IsPlain, ArePlain, ArePlainMembers, IsSorted, IsAny, AreOrderly, AreOrderlyMembers}
 use Rattle.tf_json_text.proofs.Puts.{plain-put}
 use Rattle.tf_json_text.proofs.Sorted.{read_is_sorted, sorted-get}
 use Rattle.tf_value.specs.Json.{IsJson, IsArray, IsObject, AreTexts, value_data, entries_data, tree_from}
 use Rattle.tf_value.specs.Known.{known}
 use Rattle.tf_value.specs.Tree.{Tree, null, boolean, whole, text, list, map, set, Items, no_items, item, Entries, no_entries, entry, put}
 use Rattle.tf_value.proofs.Forms.{form_of, form-held, form-tree_from, tree_from-no_set, IsJson-one_form}
+use Rattle.tf_value.proofs.Tables.{at_order}
 use Rattle.tf_value.specs.Stored.{IsTable}
 use Rattle.tf_state.specs.Laws.{ReadIsValid}
 use Rattle.tf_address.specs.Label.{label_cmp}
@@ -57,12 +58,12 @@ mutual
   form-plain (set ss) (json.array ds) h s = texts-plain ss ds h
   form-plain _ _ h s = absurd (assumption)
 
-  array-plain : (ts : Items) (ds : json.Items) → IsArray ts ds → AreSorted ds → ArePlain ds
+  array-plain : (ts : Items) (ds : json.Items) → IsArray ts ds → AreOrderly IsAny ds → ArePlain ds
   array-plain no_items json.no_items h s = tt
   array-plain (item t ts) (json.item d ds) h s = (form-plain t d h.0 s.0, array-plain ts ds h.1 s.1)
   array-plain _ _ h s = absurd (assumption)
 
-  object-plain : (es : Entries) (ms : json.Members) → IsObject es ms → AreSortedMembers ms → ArePlainMembers ms
+  object-plain : (es : Entries) (ms : json.Members) → IsObject es ms → AreOrderlyMembers IsAny ms → ArePlainMembers ms
   object-plain no_entries json.no_members h s = tt
   object-plain (entry k t es) (json.member l d ms) h s = (s.0, form-plain t d h.1 s.1, object-plain es ms h.2 s.2)
   object-plain _ _ h s = absurd (assumption)
@@ -94,20 +95,15 @@ entries_data-put : (k : List ℕ) (t : Tree) (es : Entries) → entries_data (pu
 entries_data-put k t no_entries = refl
 entries_data-put k t (entry l u es) = shown-put (slice_cmp nat_cmp k l) _ _ _ ∙ rw (entries_data-put k t es) refl
 
-saved_at : (o : Ordering) (a b c : Entries) → AreSaved a → AreSaved b → AreSaved c → AreSaved (match_ordering o a b c)
-saved_at Less a b c p q r = p
-saved_at Equal a b c p q r = q
-saved_at Greater a b c p q r = r
-
 saved-put : (k : List ℕ) (t : Tree) (es : Entries) → IsSaved t → AreSaved es → AreSaved (put k t es)
 saved-put k t no_entries p h = (p, tt)
-saved-put k t (entry l u es) p h = saved_at (slice_cmp nat_cmp k l) (entry k t (entry l u es)) (entry l t es) (entry l u (put k t es)) (p, h) (p, h.1) (h.0, saved-put k t es p h.1)
+saved-put k t (entry l u es) p h = at_order AreSaved (slice_cmp nat_cmp k l) (entry k t (entry l u es)) (entry l t es) (entry l u (put k t es)) (p, h) (p, h.1) (h.0, saved-put k t es p h.1)
 
 table-put : (k : List ℕ) (t : Tree) (es : Entries) → IsFine t → IsShown es → IsShown (put k t es)
 table-put k t es fine h =
     (subst ArePlainMembers (sym (entries_data-put k t es)) (plain-put k (value_data t) (entries_data es) fine.1 h.0), saved-put k t es fine.0 h.1)
 
-table-read : (read_one : json.Data → Option Tree) → ((d : json.Data) (t : Tree) → IsSorted d → read_one d ≡ Some t → IsFine t) → (ms : json.Members) (found es : Entries) → AreSortedMembers ms → IsShown found → values_in read_one ms found ≡ Some es
+table-read : (read_one : json.Data → Option Tree) → ((d : json.Data) (t : Tree) → IsSorted d → read_one d ≡ Some t → IsFine t) → (ms : json.Members) (found es : Entries) → AreOrderlyMembers IsAny ms → IsShown found → values_in read_one ms found ≡ Some es
     → IsShown es
 table-read read_one fine json.no_members found es s h e = subst IsShown (same found es e) h
 table-read read_one fine (json.member k d ms) found es s h e =
@@ -126,7 +122,7 @@ output-fine d t s e =
 
 -- sorted items that are read as something with a property, put to others with it, leave all with it and in order
 gathered : {A K : Type 0} (read_one : json.Data → Option A) (key : A → K) (cmp : K → K → Ordering) → IsTotalOrder cmp → (P : A → Type 0) → ((d : json.Data) (x : A) → IsSorted d → read_one d ≡ Some x → P x)
-    → (ds : json.Items) (found xs : List A) → AreSorted ds → AllByRecursion P found × IsStrictlySortedBy cmp (each key found) → gather read_one (λ a b. cmp (key a) (key b)) ds found ≡ Some xs
+    → (ds : json.Items) (found xs : List A) → AreOrderly IsAny ds → AllByRecursion P found × IsStrictlySortedBy cmp (each key found) → gather read_one (λ a b. cmp (key a) (key b)) ds found ≡ Some xs
     → AllByRecursion P xs × IsStrictlySortedBy cmp (each key xs)
 gathered read_one key cmp total P valid json.no_items found xs s h e = subst (λ ys. AllByRecursion P ys × IsStrictlySortedBy cmp (each key ys)) (same found xs e) h
 gathered {A} read_one key cmp total P valid (json.item d ds) found xs s h e =
@@ -179,7 +175,8 @@ addresses_at Less s t ts is p h more = (p, (nat_list_cmp_total.antisymm t s ∙ 
 addresses_at Equal s t ts is p h more = h
 addresses_at Greater s t ts is p h more = (h.0, put_text-all (λ u. slice_cmp nat_cmp u t ≡ Greater) s ts is h.1, more)
 
-addresses-put : (s : List ℕ) (ts : List (List ℕ)) → is_address s ≡ true → AreAddresses ts → AreAddresses (put_text s ts)
+-- an address that is put among others leaves them in order
+pub addresses-put : (s : List ℕ) (ts : List (List ℕ)) → is_address s ≡ true → AreAddresses ts → AreAddresses (put_text s ts)
 addresses-put s [] p h = (p, tt, tt)
 addresses-put s (t ∷ ts) p h = addresses_at (slice_cmp nat_cmp s t) s t ts refl p h (addresses-put s ts p h.2)
 

@@ -1,5 +1,5 @@
 -- Tables beside the members that are written for them.
-use Rattle.std.proofs.Common.{◌≡◌, ℕ, ◌^◌, ◌<◌, ℤ, pos, negsuc, true, List, [], ◌∷◌, Less, nat_cmp, arith, rules}
+use Rattle.std.proofs.Common.{false, ◌≡◌, ℕ, ◌^◌, ◌<◌, ℤ, pos, negsuc, true, List, [], ◌∷◌, Less, nat_cmp, arith, rules}
 use Rattle.std.specs.Cmp.Lexicographic.{slice_cmp}
 use Rattle.std.specs.Int.{w64}
 use Rattle.std.specs.List.{AllByRecursion}
@@ -12,7 +12,8 @@ use Rattle.tf_json_text.specs.Plain.{IsPlain, ArePlain, ArePlainMembers, AreAbov
 use Rattle.tf_value.specs.Json.{value_data, items_data, entries_data, texts_data}
 use Rattle.tf_value.specs.Known.{known}
 use Rattle.tf_value.specs.Measure.{IsWithinLimits}
-use Rattle.tf_value.specs.Sets.{has_no_set, items_have_no_set, entries_have_no_set}
+use Rattle.tf_value.specs.Parts.{items_have_only, entries_have_only}
+use Rattle.tf_value.specs.Sets.{has_no_set}
 use Rattle.tf_value.proofs.Conjunction.{and-first, and-second}
 use Rattle.tf_value.specs.Stored.{EachMayBeStored, IsTable}
 use Rattle.tf_value.specs.Tree.{Tree, null, boolean, whole, text, list, map, set, unknown, Items, no_items, item, Entries, no_entries, entry, keys_of, IsHeld, AreHeld, AreHeldEntries, IsSorted, AreSorted, AreSortedEntries}
@@ -88,11 +89,11 @@ mutual
   plain-sorted (set ss) e h = absurd (cc)
   plain-sorted unknown e h = tt
 
-  plain-sorted_items : (ts : Items) → items_have_no_set ts ≡ true → ArePlain (items_data ts) → AreSorted ts
+  plain-sorted_items : (ts : Items) → items_have_only true false ts ≡ true → ArePlain (items_data ts) → AreSorted ts
   plain-sorted_items no_items e h = tt
   plain-sorted_items (item t ts) e h = (plain-sorted t (and-first _ _ e) h.0, plain-sorted_items ts (and-second _ _ e) h.1)
 
-  plain-sorted_entries : (es : Entries) → entries_have_no_set es ≡ true → ArePlainMembers (entries_data es) → AreSortedEntries es
+  plain-sorted_entries : (es : Entries) → entries_have_only true false es ≡ true → ArePlainMembers (entries_data es) → AreSortedEntries es
   plain-sorted_entries no_entries e h = tt
   plain-sorted_entries (entry k t es) e h = (plain-sorted t (and-first _ _ e) h.1, plain-sorted_entries es (and-second _ _ e) h.2)
 

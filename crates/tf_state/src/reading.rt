@@ -19,6 +19,9 @@ use std::alloc::Global;
 use std::collections::BTreeMap;
 use tf_state_data::{Object, State};
 
+/// The outputs of a state, by name.
+pub(crate) type Outputs = BTreeMap<String, Object>;
+
 /// The most resources with records that a state may have.
 const MAX_RESOURCES: usize = 4_000;
 
@@ -119,7 +122,7 @@ fn read_terraform_version(alloc: Global, json: Option<&Json>) -> Result<String, 
     }
 }
 
-fn read_outputs(alloc: Global, json: Option<&Json>) -> Result<BTreeMap<String, Object>, StateFault>
+fn read_outputs(alloc: Global, json: Option<&Json>) -> Result<Outputs, StateFault>
     ensures ok { IfOk result (λ m. outputs_in (option_map (λ v. view v.now) json.entry) ≡ Some (outputs_of m.entries)) }
     ensures err { IfErr result (λ e. IsRefused (outputs_in (option_map (λ v. view v.now) json.entry)) e) }
 {
@@ -130,15 +133,12 @@ fn read_outputs(alloc: Global, json: Option<&Json>) -> Result<BTreeMap<String, O
     }
 }
 
-fn read_each_output(
-    alloc: Global,
-    members: &Map<String, Json>,
-) -> Result<BTreeMap<String, Object>, StateFault>
+fn read_each_output(alloc: Global, members: &Map<String, Json>) -> Result<Outputs, StateFault>
     ensures ok { IfOk result (λ m. values_in output_in (members_view members.now.entries) no_entries ≡ Some (outputs_of m.entries)) }
     ensures err { IfErr result (λ e. IsRefused (values_in output_in (members_view members.now.entries) no_entries) e) }
 {
     let mut outputs = BTreeMap::new(alloc);
-    for (key, member) in members.iter() {
+    for (key, member) in members {
         let output = read_output(alloc, member)?;
         let name = key.clone()?;
         drop(outputs.insert(name, output)?);

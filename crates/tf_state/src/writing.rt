@@ -12,12 +12,12 @@ ghost use Rattle.tf_state.specs.Sending.{SendsWhere};
 ghost use Rattle.tf_state.specs.Text.{output_data, outputs_data, record_data, resource_data, state_data, state_text};
 ghost use Rattle.tf_value.specs.Tree.{tree_of};
 
+use crate::reading::Outputs;
 use crate::record_writing::send_record;
 use crate::resource_reading::has_records;
 use crate::types::send_type;
 use serde::{Described, Serialize, Serializer};
 use std::alloc::{AllocError, Global};
-use std::collections::BTreeMap;
 use tf_state_data::{Object, Record, Resource, State};
 
 /// The one text of a state: Terraform's state file format, version 4, two spaces a level, keys in byte order,
@@ -67,14 +67,11 @@ fn send_state<S: Serializer>(state: &State, out: &mut S) -> Result<(), S::Error>
     out.end_map()
 }
 
-fn send_outputs<S: Serializer>(
-    outputs: &BTreeMap<String, Object>,
-    out: &mut S,
-) -> Result<(), S::Error>
+fn send_outputs<S: Serializer>(outputs: &Outputs, out: &mut S) -> Result<(), S::Error>
     ensures { OnOk result (SendsValue (object (outputs_data (outputs_of outputs.now.entries))) (S.written out.old) (S.written out.new)) }
 {
     out.begin_map(Some(outputs.len()))?;
-    for (name, output) in outputs.iter() {
+    for (name, output) in outputs {
         out.key(name.as_str())?;
         send_output(output, out)?;
     }

@@ -39,15 +39,16 @@ unfolding IsStrictlySortedBy
 sorted-put k t no_entries h = (tt, tt)
 sorted-put k t (entry m u es) h = sorted_at (slice_cmp nat_cmp k m) k m t u es refl h (sorted-put k t es h.1)
 
-stored_at : (o : Ordering) (a b c : Entries) → EachMayBeStored a → EachMayBeStored b → EachMayBeStored c → EachMayBeStored (match_ordering o a b c)
-stored_at Less a b c p q r = p
-stored_at Equal a b c p q r = q
-stored_at Greater a b c p q r = r
+-- what holds of entries in each order holds of those that an order picks
+pub at_order : (P : Entries → Type 0) (o : Ordering) (a b c : Entries) → P a → P b → P c → P (match_ordering o a b c)
+at_order P Less a b c p q r = p
+at_order P Equal a b c p q r = q
+at_order P Greater a b c p q r = r
 
 stored-put : (k : List ℕ) (t : Tree) (es : Entries) → MayBeStored t → EachMayBeStored es → EachMayBeStored (put k t es)
 stored-put k t no_entries p h = (p, tt)
 stored-put k t (entry l u es) p h =
-    stored_at (slice_cmp nat_cmp k l) (entry k t (entry l u es)) (entry l t es) (entry l u (put k t es)) (p, h) (p, h.1) (h.0, stored-put k t es p h.1)
+    at_order EachMayBeStored (slice_cmp nat_cmp k l) (entry k t (entry l u es)) (entry l t es) (entry l u (put k t es)) (p, h) (p, h.1) (h.0, stored-put k t es p h.1)
 
 pub table-put : (k : List ℕ) (t : Tree) (es : Entries) → MayBeStored t → IsTable es → IsTable (put k t es)
 table-put k t es p h = (sorted-put k t es h.0, stored-put k t es p h.1)

@@ -1,12 +1,10 @@
--- whatever ends it well from here ends it well from the start
 use Rattle.std.proofs.Common.{map, string_bytes}
-use Rattle.serde.specs.Event.{Log}
 use Rattle.serde_json.specs.Data.{string}
 use Rattle.serde_json.specs.Events.{SendsItems}
 use Rattle.serde_json.specs.View.{items_of}
+use Rattle.tf_value.proofs.Sent.{GoesOn}
 use Rattle.tf_state.proofs.record_writing.send_texts.Given as goal
 
 abbrev pub invariant-loop-text : goal.invariant-loop-text
 invariant-loop-text g l =
-    (end : Log) → SendsItems (items_of (map string (map string_bytes l.text-iterator))) (g.S.Serializer.written l.out) end
-    → SendsItems (items_of (map string (map string_bytes l.initial.text-iterator))) (g.S.Serializer.written l.initial.out) end
+    GoesOn SendsItems (items_of (map string (map string_bytes l.text-iterator))) (g.S.Serializer.written l.out) (items_of (map string (map string_bytes l.initial.text-iterator))) (g.S.Serializer.written l.initial.out)

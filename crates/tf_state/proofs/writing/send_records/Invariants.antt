@@ -1,13 +1,11 @@
--- whatever ends it well from here ends it well from the start
 use Rattle.std.proofs.Common.{map, drop}
-use Rattle.serde.specs.Event.{Log}
 use Rattle.serde_json.specs.Events.{SendsItems}
 use Rattle.serde_json.specs.View.{items_of}
 use Rattle.tf_state_data.specs.Record.{record_of}
 use Rattle.tf_state.specs.Text.{record_data}
+use Rattle.tf_value.proofs.Sent.{GoesOn}
 use Rattle.tf_state.proofs.writing.send_records.Given as goal
 
 abbrev pub invariant-loop-record : goal.invariant-loop-record
 invariant-loop-record g l =
-    (end : Log) → SendsItems (items_of (map record_data (map record_of (drop l.record-index l.records)))) (g.S.Serializer.written l.out) end
-    → SendsItems (items_of (map record_data (map record_of l.records))) (g.S.Serializer.written l.initial.out) end
+    GoesOn SendsItems (items_of (map record_data (map record_of (drop l.record-index l.records)))) (g.S.Serializer.written l.out) (items_of (map record_data (map record_of l.records))) (g.S.Serializer.written l.initial.out)
