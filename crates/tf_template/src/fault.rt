@@ -8,7 +8,7 @@ ghost use Rattle.tf_template.specs.declared.token.Kind.TheVariants.{CloseBrace, 
 
 use crate::token::{Kind, Token, next_token};
 use crate::word::number_of;
-use std::alloc::{AllocError, AllocFailed};
+use std::alloc::AllocError;
 
 /// Why a text isn't read.
 #[derive(Clone, Copy, Debug, PartialEq, Eq)]
@@ -21,18 +21,11 @@ pub(crate) enum Fault {
     OutOfMemory,
 }
 
-impl From<AllocError> for Fault {
+impl<E: Into<AllocError>> From<E> for Fault {
     ghost from_gives = { λ _ fault. fault ≡ OutOfMemory };
 
-    fn from(_error: AllocError) -> Fault {
-        Fault::OutOfMemory
-    }
-}
-
-impl<T: Drop> From<AllocFailed<T>> for Fault {
-    ghost from_gives = { λ _ fault. fault ≡ OutOfMemory };
-
-    fn from(_error: AllocFailed<T>) -> Fault {
+    fn from(error: E) -> Fault {
+        let _: AllocError = error.into();
         Fault::OutOfMemory
     }
 }
