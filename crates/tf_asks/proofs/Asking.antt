@@ -1,6 +1,7 @@
 -- What is asked for an action is what its requests say.
 use Rattle.std.proofs.Common.{◌≡◌, ◌∙◌, ℕ, true, List, length, Option, Some, Result, Ok, Err, IfOk, sym, ap, subst}
 use Rattle.std.specs.Option.{option_map_or}
+use Rattle.std.specs.declared.alloc.AllocError.{AllocError}
 use Rattle.tf_address.specs.ObjectId.{InstanceKeyView}
 use Rattle.tf_change.proofs.Named.{instances_named}
 use Rattle.tf_change.specs.Instance.{InstanceFaultView, instance_of}
@@ -71,6 +72,22 @@ pub has_all-made : (plan : PlanView) → Ranked (directly_before (plan_names pla
     → IsRequest plan.variables (plan_names plan) plan.shapes objects a.resource a.key schema (instance_of made) → IfOk made (λ v. has_attributes schema (tree_of v) ≡ true)
 has_all-made plan ranked objects a schema (Ok v) block h = has_all plan ranked objects a schema (tree_of v) block h
 has_all-made plan ranked objects a schema (Err e) block h = search
+
+-- What is made by the same names and shapes as the plan's.
+module _ (plan : PlanView) (ranked : Ranked (directly_before (plan_names plan))) (names : List NameView) (shapes : ℕ → ShapeView) (same : names ≡ plan_names plan) (alike : shapes ≡ plan.shapes)
+    (objects : ℕ → InstanceKeyView → Tree) (a : ActionView) (schema : SchemaView) (block : IsOfBlock (plan_names plan) a) (result : Result (Result Value InstanceFault) AllocError)
+    (made_by : IfOk result (λ made. IsRequest plan.variables names shapes objects a.resource a.key schema (instance_of made))) where
+  -- it is what any requests say
+  pub made_as_asked : IfOk result (λ made. (requests : Requests) → AreRequests plan requests → instance_of made ≡ requests objects a schema)
+  made_as_asked =
+      if_ok-weaker (λ made. IsRequest plan.variables names shapes objects a.resource a.key schema (instance_of made)) (λ made. (requests : Requests) → AreRequests plan requests → instance_of made ≡ requests objects a schema) result
+      (λ made h requests are. is_requested plan requests ranked are objects a schema (instance_of made) block (asked_by_plan plan names shapes objects a.resource a.key schema (instance_of made) same alike h)) made_by
+
+  -- and has all that the schema has
+  pub made_fully : IfOk result (λ made. IfOk made (λ v. has_attributes schema (tree_of v) ≡ true))
+  made_fully =
+      if_ok-weaker (λ made. IsRequest plan.variables names shapes objects a.resource a.key schema (instance_of made)) (λ made. IfOk made (λ v. has_attributes schema (tree_of v) ≡ true)) result
+      (λ made h. has_all-made plan ranked objects a schema made block (asked_by_plan plan names shapes objects a.resource a.key schema (instance_of made) same alike h)) made_by
 
 -- what comes of asking by the schema of the first provider that has the type is what comes of the action
 pub asked-with : (ms : List Meaning) (requests : Requests) (plan : PlanView) (objects : ℕ → InstanceKeyView → Tree) (a : ActionView) (schema : SchemaView) (made : Result Asked InstanceFaultView)

@@ -1,7 +1,6 @@
 -- What was planned stays in the request.
 use Rattle.std.proofs.Common.{◌≡◌, ◌∙◌, ℕ, Bool, true, false, if◌then◌else◌, List, Option, Some, None, Result, Ok, Err, refl, sym, ap}
 use Rattle.std.specs.Prelude.{option_and_then}
-use Rattle.std.specs.Str.{bytes_eq}
 use Rattle.tf_action_data.specs.Action.{ActionView, StepView, create, update, replacement, replaced, destroyed, deposed_destroyed}
 use Rattle.tf_address.specs.ObjectId.{InstanceKeyView}
 use Rattle.tf_change.specs.Instance.{InstanceFaultView, instance_object}
@@ -18,10 +17,11 @@ use Rattle.tf_environment.specs.Standing.{StandingView, AreStandings, environmen
 use Rattle.tf_plan_data.specs.Plan.{PlanView, plan_names}
 use Rattle.tf_protocol.specs.Meaning.{Asked, Meaning}
 use Rattle.tf_protocol.specs.Schema.{SchemaView}
+use Rattle.tf_request.proofs.Staying.{part_known}
 use Rattle.tf_value.specs.Known.{known}
 use Rattle.tf_value.specs.Laws.{KnownStays}
-use Rattle.tf_value.specs.Refinement.{Refines, RefinesEntries}
-use Rattle.tf_value.specs.Tree.{Tree, Entries, no_entries, entry, map, get, part_at}
+use Rattle.tf_value.specs.Refinement.{Refines}
+use Rattle.tf_value.specs.Tree.{Tree, part_at}
 use Rattle.tf_asks.specs.Laws.{IsAnsweredPlan, KnownAttributesStay, RefinesWhere, RequestsRefine}
 use Rattle.tf_outcome.specs.Asked.{asked_by_step, create_of, ignored_by, unless_faulty, update_of}
 
@@ -82,26 +82,6 @@ requests_refine exist grow instances updates ms plan objects standings requests 
     (λ t u p q. instances schema block a.key one other t u grown.references p (sym same ∙ q)) x y
 
 -- ---- known attributes
-
-pick_known : KnownStays → (here : Bool) (t u : Tree) (rest others : Option Tree) (v : Tree) → Refines t u → (rest ≡ Some v → others ≡ Some v) → known v ≡ true
-    → (if here then Some t else rest) ≡ Some v → (if here then Some u else others) ≡ Some v
-pick_known stays true t u rest others v h more is p =
-    let e : t ≡ v = (cc) in
-    let f : v ≡ u = stays v u is (rw (sym e) h) in
-    ap (λ x. Some x) (sym f)
-pick_known stays false t u rest others v h more is p = more p
-
-get_known : KnownStays → (name : List ℕ) (es fs : Entries) (v : Tree) → RefinesEntries es fs → known v ≡ true → get name es ≡ Some v → get name fs ≡ Some v
-get_known stays name no_entries fs v h is p = absurd (cc)
-get_known stays name (entry k t es) no_entries v h is p = absurd h
-get_known stays name (entry k t es) (entry l u fs) v h is p =
-    let same : k ≡ l = h.0 in
-    rw (sym same) (pick_known stays (bytes_eq name k) t u (get name es) (get name fs) v h.1 (get_known stays name es fs v h.2 is) is p)
-
-part_known : KnownStays → (name : List ℕ) (t u v : Tree) → Refines t u → known v ≡ true → part_at name t ≡ Some v → part_at name u ≡ Some v
-part_known stays name (map es) (map fs) v h is p = get_known stays name es fs v h is p
-part_known stays name (map es) _ v h is p = absurd (assumption)
-part_known stays name _ u v h is p = absurd (cc)
 
 known_where : KnownStays → (name : List ℕ) (o x : Option Tree) (v : Tree) → RefinesWhere o x → known v ≡ true → option_and_then (part_at name) o ≡ Some v → option_and_then (part_at name) x ≡ Some v
 known_where stays name None x v h is p = absurd (cc)

@@ -23,30 +23,30 @@ use Rattle.tf_outcome.specs.Asked.{asked_by_step, create_of, destroy_of, ignored
 
 -- ---- what was decided
 
-fit_decided : (o : Option PriorFaultView) (r : Result DecisionView RefusalView) (d : DecisionView) → unless_unfit o r ≡ Ok d → r ≡ Ok d
+pub fit_decided : (o : Option PriorFaultView) (r : Result DecisionView RefusalView) (d : DecisionView) → unless_unfit o r ≡ Ok d → r ≡ Ok d
 fit_decided None r d e = e
 fit_decided (Some fault) r d e = absurd (cc)
 
-not_prevented : (prevents : Bool) (x d : DecisionView) → unless_prevented prevents x ≡ Ok d → x ≡ d
+pub not_prevented : (prevents : Bool) (x d : DecisionView) → unless_prevented prevents x ≡ Ok d → x ≡ d
 not_prevented false x d e = cc
 not_prevented true decision.nothing d e = cc
 not_prevented true (decision.create t) d e = cc
 not_prevented true (decision.update t names) d e = cc
 not_prevented true (decision.replace t names) d e = absurd (cc)
 
-changed : (schema : SchemaView) (lifecycle : LifecycleView) (prior : Option RecordView) (q : Result Tree InstanceFaultView) (d : DecisionView) → decided schema lifecycle prior q ≡ Ok d
+pub changed : (schema : SchemaView) (lifecycle : LifecycleView) (prior : Option RecordView) (q : Result Tree InstanceFaultView) (d : DecisionView) → decided schema lifecycle prior q ≡ Ok d
     → (t : Tree) × (q ≡ Ok t) × (change schema lifecycle.ignore_changes prior t ≡ d)
 changed schema lifecycle prior (Ok t) d e = (t, refl, not_prevented lifecycle.prevent_destroy (change schema lifecycle.ignore_changes prior t) d e)
 changed schema lifecycle prior (Err why) d e = absurd (cc)
 
-heeded : (o : Option (List ℕ)) (p : Result Tree InstanceFaultView) (t : Tree) → heeding o p ≡ Ok t → p ≡ Ok t
+pub heeded : (o : Option (List ℕ)) (p : Result Tree InstanceFaultView) (t : Tree) → heeding o p ≡ Ok t → p ≡ Ok t
 heeded None p t e = e
 heeded (Some name) (Ok u) t e = absurd (cc)
 heeded (Some name) (Err (for_each_fault why)) t e = absurd (cc)
 heeded (Some name) (Err (argument_fault found)) t e = absurd (cc)
 
 -- a decision is a change by what the block makes of the instance
-decision_is : (schema : SchemaView) (lifecycle : LifecycleView) (records : List RecordView) (p : Result Tree InstanceFaultView) (d : DecisionView) → decision.decision schema lifecycle records p ≡ Ok d
+pub decision_is : (schema : SchemaView) (lifecycle : LifecycleView) (records : List RecordView) (p : Result Tree InstanceFaultView) (d : DecisionView) → decision.decision schema lifecycle records p ≡ Ok d
     → (t : Tree) × (p ≡ Ok t) × (change schema lifecycle.ignore_changes (current records) t ≡ d)
 decision_is schema lifecycle records p d e =
     let q = heeding (ignored_fault schema lifecycle.ignore_changes) p in

@@ -1,7 +1,11 @@
 -- What is had before a call, or what is wrong with its request.
-use Rattle.std.specs.Prelude.{Result, Ok, Err}
+use Rattle.std.specs.Prelude.{ℕ, List, Option, Result, Ok, Err}
+use Rattle.tf_action_data.specs.Action.{ActionView}
 use Rattle.tf_change.specs.Instance.{InstanceFaultView, instance_fault_of}
+use Rattle.tf_plan_data.specs.Address.{address_text}
 use Rattle.tf_protocol.specs.Meaning.{Asked, asked}
+use Rattle.tf_protocol.specs.declared.request.Op.{Op}
+use Rattle.tf_value.specs.Tree.{Tree}
 use Rattle.tf_outcome.specs.declared.asking.Asking.{Asking}
 use Rattle.tf_outcome.specs.declared.ended.Faulted.{Faulted}
 
@@ -9,3 +13,8 @@ use Rattle.tf_outcome.specs.declared.ended.Faulted.{Faulted}
 abbrev pub asked_by : Result Asking Faulted → Result Asked InstanceFaultView
 asked_by (Ok asking) = Ok (asked asking.request)
 asked_by (Err f) = Err (instance_fault_of f.fault)
+
+-- what is asked about the instance of an action
+abbrev pub asking_of : ActionView → Op → Option (List ℕ) → Option Tree → Option Tree → Asked
+asking_of a op deposed prior object =
+    record { op = op; address = address_text a.label a.key; type_name = a.label.type_name; deposed = deposed; prior = prior; object = object }

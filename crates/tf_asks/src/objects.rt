@@ -13,55 +13,55 @@ use tf_protocol::Schema;
 use tf_request::{Results, request};
 use tf_value::Value;
 
-/// What the block of an action's instance makes of it by its type's schema, where instances stand for these results; or what
-/// is wrong with it.
-pub(crate) fn made_object<R: Results>(
-    alloc: Global,
-    plan: &Plan,
-    names: &Names<'_>,
-    schema: &Schema,
-    action: &Action,
-    results: &R,
-) -> Result<Result<Value, InstanceFault>, AllocError>
-    requires fits { FitsTogether plan.now }
-    requires names { names_in names.now ≡ names_of (config_of plan.now.config) }
-    requires block { IsOfBlock (names_of (config_of plan.now.config)) (action_of action.now) }
-    ensures made { IfOk result (λ made. (requests : Requests) → AreRequests (plan_of plan.now) requests
-        → instance_of made ≡ requests (R.objects results.now) (action_of action.now) schema.now) }
-    ensures fully { IfOk result (λ made. IfOk made (λ object. has_attributes schema.now (tree_of object) ≡ true)) }
-    ensures within { IfOk result (λ made. IfOk made (λ object. has_planned_attributes (tree_of object) ≡ true)) }
-{
-    let declared = Declarations {
-        variables: &plan.variables,
-        names,
-        dependence: &plan.dependence,
-    };
-    let shapes = plan.shapes.as_slice();
-    request(
-        alloc,
-        &declared,
-        shapes,
-        schema,
-        action.resource,
-        &action.key,
-        results,
-    )
+/// What an object is asked for by: the action of a plan, the names of its configuration, the schema of the action's type,
+/// and the results that instances stand for.
+#[derive(Drop)]
+pub(crate) struct Task<'a, 'n, R> {
+    pub alloc: Global,
+    pub plan: &'a Plan,
+    pub names: &'a Names<'n>,
+    pub schema: &'a Schema,
+    pub action: &'a Action,
+    pub results: &'a R,
 }
 
-/// An object with what is kept of the prior one, both what the provider sets and what the block of its resource ignores.
-pub(crate) fn kept(
-    alloc: Global,
-    names: &Names<'_>,
-    schema: &Schema,
-    action: &Action,
-    prior: &Value,
-    object: &Value,
-) -> Result<Value, AllocError>
-    requires { (action_of action.now).resource < length (names_in names.now) }
-    ensures { IfOk result (λ v. tree_of v ≡ kept_object schema.now (ignored_by (meant_at (names_in names.now) (action_of action.now).resource)) (tree_of prior.now) (tree_of object.now)) }
-{
-    let ignored = ignored_by(names, action.resource);
-    kept_object(alloc, schema, ignored, prior, object)
+impl<R: Results> Task<'_, '_, R> {
+    /// What the block of the action's instance makes of it, or what is wrong with it.
+    pub(crate) fn made_object(&self) -> Result<Result<Value, InstanceFault>, AllocError>
+        requires fits { FitsTogether self.now.plan.now }
+        requires names { names_in self.now.names.now ≡ names_of (config_of self.now.plan.now.config) }
+        requires block { IsOfBlock (names_of (config_of self.now.plan.now.config)) (action_of self.now.action.now) }
+        ensures made { IfOk result (λ made. (requests : Requests) → AreRequests (plan_of self.now.plan.now) requests
+            → instance_of made ≡ requests (R.objects self.now.results.now) (action_of self.now.action.now) self.now.schema.now) }
+        ensures fully { IfOk result (λ made. IfOk made (λ object. has_attributes self.now.schema.now (tree_of object) ≡ true)) }
+        ensures within { IfOk result (λ made. IfOk made (λ object. has_planned_attributes (tree_of object) ≡ true)) }
+    {
+        let action = self.action;
+        let declared = Declarations {
+            variables: &self.plan.variables,
+            names: self.names,
+            dependence: &self.plan.dependence,
+        };
+        let shapes = self.plan.shapes.as_slice();
+        request(
+            self.alloc,
+            &declared,
+            shapes,
+            self.schema,
+            action.resource,
+            &action.key,
+            self.results,
+        )
+    }
+
+    /// An object with what is kept of the prior one, both what the provider sets and what the block of its resource ignores.
+    pub(crate) fn kept(&self, prior: &Value, object: &Value) -> Result<Value, AllocError>
+        requires { (action_of self.now.action.now).resource < length (names_in self.now.names.now) }
+        ensures { IfOk result (λ v. tree_of v ≡ kept_object self.now.schema.now (ignored_by (meant_at (names_in self.now.names.now) (action_of self.now.action.now).resource)) (tree_of prior.now) (tree_of object.now)) }
+    {
+        let ignored = ignored_by(self.names, self.action.resource);
+        kept_object(self.alloc, self.schema, ignored, prior, object)
+    }
 }
 
 /// The names of the attributes whose changes the block of a resource ignores.

@@ -3,11 +3,11 @@
 ghost use Rattle.std.specs.Prelude.{◌≡◌, true, Some, map, IfOk, IsSomeAnd, IsTrue, option_map, string_bytes};
 ghost use Rattle.tf_outcome.specs.Words.{action_of, AreRequests, asked, asked_for, asks_fully, call_with, comes_of, config_of, create_of, destroy_of, FitsTogether, has_planned_attributes, ignored_by, IsDeclared, IsOfBlock, IsServedBy, kept_object, meant_at, names_in, names_of, plan_of, prior_of, Requests, schema_in, tree_of, unless_faulty, update_of};
 ghost use Rattle.tf_protocol.specs.declared.request.Op.TheVariants.{Create, Update};
-ghost use Rattle.tf_asks.specs.AskedBy.{asked_by};
+ghost use Rattle.tf_asks.specs.AskedBy.{asked_by, asking_of};
 ghost use Rattle.tf_outcome.specs.Asked.{op_of};
 
 use crate::messages::faulted;
-use crate::objects::{kept, made_object};
+use crate::objects::Task;
 use crate::rooms::{fallback_for, least_room, message_room};
 use std::alloc::{AllocError, Global};
 use tf_names::Names;
@@ -44,100 +44,86 @@ pub fn ask_provider<R: Results>(
     ensures op { IfOk result (λ made. IfOk made (λ asking. (asked asking.request).op ≡ op_of (action_of action.now).step)) }
 {
     match schema_for(providers, action.label.type_name.as_str()) {
-        Some(schema) => ask(alloc, plan, names, schema, action, results),
+        Some(schema) => {
+            let task = Task {
+                alloc,
+                plan,
+                names,
+                schema,
+                action,
+                results,
+            };
+            task.ask()
+        }
         None => unreachable!(),
     }
 }
 
-/// What is asked for an action of a plan by its type's schema, or what is wrong with it, where instances stand for
-/// these results.
-fn ask<R: Results>(
-    alloc: Global,
-    plan: &Plan,
-    names: &Names<'_>,
-    schema: &Schema,
-    action: &Action,
-    results: &R,
-) -> Result<Result<Asking, Faulted>, AllocError>
-    requires fits { FitsTogether plan.now }
-    requires names { names_in names.now ≡ names_of (config_of plan.now.config) }
-    requires declared { IsDeclared (names_of (config_of plan.now.config)) (action_of action.now) }
-    ensures asked { IfOk result (λ made. (requests : Requests) → AreRequests (plan_of plan.now) requests
-        → asked_by made ≡ asked_for (names_of (config_of plan.now.config)) schema.now (action_of action.now) (requests (R.objects results.now) (action_of action.now) schema.now)) }
-    ensures fully { IfOk result (λ made. IfOk made (λ asking. asks_fully (asked asking.request) schema.now ≡ true)) }
-    ensures type_name { IfOk result (λ made. IfOk made (λ asking. (asked asking.request).type_name ≡ (action_of action.now).label.type_name)) }
-    ensures op { IfOk result (λ made. IfOk made (λ asking. (asked asking.request).op ≡ op_of (action_of action.now).step)) }
-{
-    match &action.step {
-        Step::Create(_) | Step::Replacement(_, _) => {
-            ask_create(alloc, plan, names, schema, action, results)
+impl<R: Results> Task<'_, '_, R> {
+    /// What is asked for the action, or what is wrong with it.
+    fn ask(&self) -> Result<Result<Asking, Faulted>, AllocError>
+        requires fits { FitsTogether self.now.plan.now }
+        requires names { names_in self.now.names.now ≡ names_of (config_of self.now.plan.now.config) }
+        requires declared { IsDeclared (names_of (config_of self.now.plan.now.config)) (action_of self.now.action.now) }
+        ensures asked { IfOk result (λ made. (requests : Requests) → AreRequests (plan_of self.now.plan.now) requests
+            → asked_by made ≡ asked_for (names_of (config_of self.now.plan.now.config)) self.now.schema.now (action_of self.now.action.now)
+            (requests (R.objects self.now.results.now) (action_of self.now.action.now) self.now.schema.now)) }
+        ensures fully { IfOk result (λ made. IfOk made (λ asking. asks_fully (asked asking.request) self.now.schema.now ≡ true)) }
+        ensures type_name { IfOk result (λ made. IfOk made (λ asking. (asked asking.request).type_name ≡ (action_of self.now.action.now).label.type_name)) }
+        ensures op { IfOk result (λ made. IfOk made (λ asking. (asked asking.request).op ≡ op_of (action_of self.now.action.now).step)) }
+    {
+        match &self.action.step {
+            Step::Create(_) | Step::Replacement(_, _) => self.ask_create(),
+            Step::Update(prior, _, _) => self.ask_update(prior),
+            Step::Replaced(prior) | Step::Destroy(prior) => {
+                Ok(Ok(destroying(self.alloc, self.action, None, prior)?))
+            }
+            Step::DestroyDeposed(key, prior) => Ok(Ok(destroying(
+                self.alloc,
+                self.action,
+                Some(key.clone()?),
+                prior,
+            )?)),
         }
-        Step::Update(prior, _, _) => {
-            ask_update(alloc, plan, names, schema, action, results, prior)
-        }
-        Step::Replaced(prior) | Step::Destroy(prior) => {
-            Ok(Ok(destroying(alloc, action, None, prior)?))
-        }
-        Step::DestroyDeposed(key, prior) => Ok(Ok(destroying(
-            alloc,
-            action,
-            Some(key.clone()?),
-            prior,
-        )?)),
     }
-}
 
-/// What is asked for a create, or what is wrong with it.
-fn ask_create<R: Results>(
-    alloc: Global,
-    plan: &Plan,
-    names: &Names<'_>,
-    schema: &Schema,
-    action: &Action,
-    results: &R,
-) -> Result<Result<Asking, Faulted>, AllocError>
-    requires fits { FitsTogether plan.now }
-    requires names { names_in names.now ≡ names_of (config_of plan.now.config) }
-    requires block { IsOfBlock (names_of (config_of plan.now.config)) (action_of action.now) }
-    ensures asked { IfOk result (λ made. (requests : Requests) → AreRequests (plan_of plan.now) requests
-        → asked_by made ≡ unless_faulty (create_of (action_of action.now)) (requests (R.objects results.now) (action_of action.now) schema.now)) }
-    ensures fully { IfOk result (λ made. IfOk made (λ asking. asks_fully (asked asking.request) schema.now ≡ true)) }
-    ensures type_name { IfOk result (λ made. IfOk made (λ asking. (asked asking.request).type_name ≡ (action_of action.now).label.type_name)) }
-    ensures op { IfOk result (λ made. IfOk made (λ asking. (asked asking.request).op ≡ Create)) }
-{
-    match made_object(alloc, plan, names, schema, action, results)? {
-        Ok(object) => Ok(Ok(creating(alloc, action, object)?)),
-        Err(fault) => Ok(Err(faulted(alloc, fault)?)),
-    }
-}
-
-/// What is asked for an update of an object, or what is wrong with it.
-fn ask_update<R: Results>(
-    alloc: Global,
-    plan: &Plan,
-    names: &Names<'_>,
-    schema: &Schema,
-    action: &Action,
-    results: &R,
-    prior: &Object,
-) -> Result<Result<Asking, Faulted>, AllocError>
-    requires fits { FitsTogether plan.now }
-    requires names { names_in names.now ≡ names_of (config_of plan.now.config) }
-    requires block { IsOfBlock (names_of (config_of plan.now.config)) (action_of action.now) }
-    ensures asked { IfOk result (λ made. (requests : Requests) → AreRequests (plan_of plan.now) requests
-        → asked_by made ≡ unless_faulty (λ t. update_of (action_of action.now) (prior_of prior.now)
-        (kept_object schema.now (ignored_by (meant_at (names_of (config_of plan.now.config)) (action_of action.now).resource)) (prior_of prior.now) t))
-        (requests (R.objects results.now) (action_of action.now) schema.now)) }
-    ensures fully { IfOk result (λ made. IfOk made (λ asking. asks_fully (asked asking.request) schema.now ≡ true)) }
-    ensures type_name { IfOk result (λ made. IfOk made (λ asking. (asked asking.request).type_name ≡ (action_of action.now).label.type_name)) }
-    ensures op { IfOk result (λ made. IfOk made (λ asking. (asked asking.request).op ≡ Update)) }
-{
-    match made_object(alloc, plan, names, schema, action, results)? {
-        Ok(object) => {
-            let wanted = kept(alloc, names, schema, action, &prior.value, &object)?;
-            Ok(Ok(updating(alloc, action, prior, wanted)?))
+    /// What is asked for a create, or what is wrong with it.
+    fn ask_create(&self) -> Result<Result<Asking, Faulted>, AllocError>
+        requires fits { FitsTogether self.now.plan.now }
+        requires names { names_in self.now.names.now ≡ names_of (config_of self.now.plan.now.config) }
+        requires block { IsOfBlock (names_of (config_of self.now.plan.now.config)) (action_of self.now.action.now) }
+        ensures asked { IfOk result (λ made. (requests : Requests) → AreRequests (plan_of self.now.plan.now) requests
+            → asked_by made ≡ unless_faulty (create_of (action_of self.now.action.now)) (requests (R.objects self.now.results.now) (action_of self.now.action.now) self.now.schema.now)) }
+        ensures fully { IfOk result (λ made. IfOk made (λ asking. asks_fully (asked asking.request) self.now.schema.now ≡ true)) }
+        ensures type_name { IfOk result (λ made. IfOk made (λ asking. (asked asking.request).type_name ≡ (action_of self.now.action.now).label.type_name)) }
+        ensures op { IfOk result (λ made. IfOk made (λ asking. (asked asking.request).op ≡ Create)) }
+    {
+        match self.made_object()? {
+            Ok(object) => Ok(Ok(creating(self.alloc, self.action, object)?)),
+            Err(fault) => Ok(Err(faulted(self.alloc, fault)?)),
         }
-        Err(fault) => Ok(Err(faulted(alloc, fault)?)),
+    }
+
+    /// What is asked for an update of an object, or what is wrong with it.
+    fn ask_update(&self, prior: &Object) -> Result<Result<Asking, Faulted>, AllocError>
+        requires fits { FitsTogether self.now.plan.now }
+        requires names { names_in self.now.names.now ≡ names_of (config_of self.now.plan.now.config) }
+        requires block { IsOfBlock (names_of (config_of self.now.plan.now.config)) (action_of self.now.action.now) }
+        ensures asked { IfOk result (λ made. (requests : Requests) → AreRequests (plan_of self.now.plan.now) requests
+            → asked_by made ≡ unless_faulty (λ t. update_of (action_of self.now.action.now) (prior_of prior.now)
+            (kept_object self.now.schema.now (ignored_by (meant_at (names_of (config_of self.now.plan.now.config)) (action_of self.now.action.now).resource)) (prior_of prior.now) t))
+            (requests (R.objects self.now.results.now) (action_of self.now.action.now) self.now.schema.now)) }
+        ensures fully { IfOk result (λ made. IfOk made (λ asking. asks_fully (asked asking.request) self.now.schema.now ≡ true)) }
+        ensures type_name { IfOk result (λ made. IfOk made (λ asking. (asked asking.request).type_name ≡ (action_of self.now.action.now).label.type_name)) }
+        ensures op { IfOk result (λ made. IfOk made (λ asking. (asked asking.request).op ≡ Update)) }
+    {
+        match self.made_object()? {
+            Ok(object) => {
+                let wanted = self.kept(&prior.value, &object)?;
+                Ok(Ok(updating(self.alloc, self.action, prior, wanted)?))
+            }
+            Err(fault) => Ok(Err(faulted(self.alloc, fault)?)),
+        }
     }
 }
 
@@ -148,14 +134,7 @@ fn creating(alloc: Global, action: &Action, object: Value) -> Result<Asking, All
 {
     let message = message_room(alloc, &object)?;
     let fallback = fallback_for(alloc, &object)?;
-    let request = Request {
-        op: Op::Create,
-        address: address_text(alloc, &action.label, &action.key)?,
-        type_name: action.label.type_name.clone()?,
-        deposed: None,
-        prior: None,
-        object: Some(object),
-    };
+    let request = request_for(alloc, action, Op::Create, None, None, Some(object))?;
     Ok(Asking {
         request,
         message,
@@ -173,14 +152,8 @@ fn updating(
     ensures { IfOk result (λ asking. asked asking.request ≡ update_of (action_of action.now) (prior_of prior.now) (tree_of object)) }
 {
     let message = message_room(alloc, &object)?;
-    let request = Request {
-        op: Op::Update,
-        address: address_text(alloc, &action.label, &action.key)?,
-        type_name: action.label.type_name.clone()?,
-        deposed: None,
-        prior: Some(prior.value.clone()?),
-        object: Some(object),
-    };
+    let prior = Some(prior.value.clone()?);
+    let request = request_for(alloc, action, Op::Update, None, prior, Some(object))?;
     Ok(Asking {
         request,
         message,
@@ -198,17 +171,32 @@ fn destroying(
     ensures { IfOk result (λ asking. asked asking.request ≡ destroy_of (action_of action.now) (option_map string_bytes deposed) (prior_of prior.now)) }
 {
     let message = least_room(alloc)?;
-    let request = Request {
-        op: Op::Destroy,
-        address: address_text(alloc, &action.label, &action.key)?,
-        type_name: action.label.type_name.clone()?,
-        deposed,
-        prior: Some(prior.value.clone()?),
-        object: None,
-    };
+    let prior = Some(prior.value.clone()?);
+    let request = request_for(alloc, action, Op::Destroy, deposed, prior, None)?;
     Ok(Asking {
         request,
         message,
         fallback: None,
+    })
+}
+
+/// A request about the instance of an action.
+fn request_for(
+    alloc: Global,
+    action: &Action,
+    op: Op,
+    deposed: Option<String>,
+    prior: Option<Value>,
+    object: Option<Value>,
+) -> Result<Request, AllocError>
+    ensures { IfOk result (λ request. asked request ≡ asking_of (action_of action.now) op (option_map string_bytes deposed) (option_map tree_of prior) (option_map tree_of object)) }
+{
+    Ok(Request {
+        op,
+        address: address_text(alloc, &action.label, &action.key)?,
+        type_name: action.label.type_name.clone()?,
+        deposed,
+        prior,
+        object,
     })
 }

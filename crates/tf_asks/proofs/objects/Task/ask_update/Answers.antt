@@ -12,19 +12,19 @@ use Rattle.tf_request.specs.Requests.{is_resource}
 use Rattle.tf_value.specs.Tree.{tree_of}
 use Rattle.tf_value.specs.declared.value.Value.{Value}
 use Rattle.tf_outcome.specs.Asked.{ignored_by}
-use Rattle.tf_asks.proofs.requests.ask_update.Goals as goal
+use Rattle.tf_asks.proofs.objects.Task.ask_update.Goals as goal
 
 pub kept-requires : goal.kept-requires
 kept-requires g c =
-    let names = names_of (config_of c.args.plan.now.config) in
-    let place = c.args.action.now.resource in
+    let names = names_of (config_of c.args.self.now.plan.now.config) in
+    let place = c.args.self.now.action.now.resource in
     subst (λ (ns : List NameView). place < length ns) (sym c.requires.names) (resource_below names place (ap is_resource c.requires.block.stands))
 
 pub returns-in_ok-updating-in-Ok-clause-fully : goal.returns-in_ok-updating-in-Ok-clause-fully
 returns-in_ok-updating-in-Ok-clause-fully g c =
-    let schema = c.args.schema.now in
-    let a = action_of c.args.action.now in
-    let ignored = ignored_by (meant_at (names_in c.args.names.now) a.resource) in
+    let schema = c.args.self.now.schema.now in
+    let a = action_of c.args.self.now.action.now in
+    let ignored = ignored_by (meant_at (names_in c.args.self.now.names.now) a.resource) in
     let planned : has_attributes schema (tree_of c.in-Ok.object) ≡ true =
     subst (λ (r : Result Value InstanceFault). IfOk r (λ v. has_attributes schema (tree_of v) ≡ true)) c.in-Ok.is c.in_ok-object.ensures.fully in
     ap (λ (r : Asked). asks_fully r schema) c.in_ok-updating-in-Ok.ensures

@@ -1,0 +1,17 @@
+use Rattle.std.proofs.Common.{ap}
+use Rattle.tf_action_data.specs.Action.{action_of}
+use Rattle.tf_environment.specs.Views.{shapes_of}
+use Rattle.tf_names.specs.Table.{names_in}
+use Rattle.tf_plan_data.specs.Plan.{plan_of}
+use Rattle.tf_asks.proofs.Asking.{made_as_asked, made_fully}
+use Rattle.tf_asks.proofs.objects.Task.made_object.Goals as goal
+
+pub returns-clause-made : goal.returns-clause-made
+returns-clause-made g c =
+    made_as_asked (plan_of c.args.self.now.plan.now) (c.requires.fits.dependence.ranked c.requires.fits.acyclic) (names_in c.args.self.now.names.now) (shapes_of c.as_slice-shapes.result.now) c.requires.names
+    (ap shapes_of c.as_slice-shapes.ensures.value) (g.R.Results.objects c.args.self.now.results.now) (action_of c.args.self.now.action.now) c.args.self.now.schema.now c.requires.block c.request.result c.request.ensures.request
+
+pub returns-clause-fully : goal.returns-clause-fully
+returns-clause-fully g c =
+    made_fully (plan_of c.args.self.now.plan.now) (c.requires.fits.dependence.ranked c.requires.fits.acyclic) (names_in c.args.self.now.names.now) (shapes_of c.as_slice-shapes.result.now) c.requires.names
+    (ap shapes_of c.as_slice-shapes.ensures.value) (g.R.Results.objects c.args.self.now.results.now) (action_of c.args.self.now.action.now) c.args.self.now.schema.now c.requires.block c.request.result c.request.ensures.request
