@@ -1,11 +1,15 @@
 -- What a put and a remove change: what stands at the one address, or is known of the one object, and nothing else.
 use Rattle.std.specs.Prelude.{◌≡◌, false, Some, None}
 use Rattle.std.specs.Ordering.{is_eq}
-use Rattle.tf_address.specs.Label.{LabelView, label_cmp}
-use Rattle.tf_address.specs.ObjectId.{ObjectIdView, object_id_cmp}
-use Rattle.tf_state_data.specs.Record.{RecordView}
-use Rattle.tf_state_data.specs.Resource.{ResourceView, record_at, with_record, without_record}
-use Rattle.tf_state_data.specs.State.{StateView, resource_at, with_resource, without_resource}
+pub use Rattle.tf_address.specs.Label.{LabelView}
+use Rattle.tf_address.specs.Label.{label_cmp}
+pub use Rattle.tf_address.specs.ObjectId.{ObjectIdView}
+use Rattle.tf_address.specs.ObjectId.{object_id_cmp}
+pub use Rattle.tf_state_data.specs.Record.{RecordView}
+pub use Rattle.tf_state_data.specs.Resource.{ResourceView}
+use Rattle.tf_state_data.specs.Resource.{record_at, with_record, without_record}
+pub use Rattle.tf_state_data.specs.State.{StateView}
+use Rattle.tf_state_data.specs.State.{resource_at, with_resource, without_resource}
 
 -- A resource that was put stands at its address, and at each other address what stood there before.
 pub record PutChangesOneResource (new : ResourceView) (s : StateView) : Type 0 where

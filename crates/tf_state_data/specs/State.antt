@@ -24,13 +24,7 @@ outputs_of es = entries_of (map (λ e. (e.0, tree_of e.1.value)) es)
 
 abbrev pub state_of : State → StateView
 state_of s =
-    record {
-      serial = s.serial;
-      lineage = string_bytes s.lineage;
-      terraform_version = string_bytes s.terraform_version;
-      outputs = outputs_of s.outputs.entries;
-      resources = map resource_of s.resources.items;
-    }
+    record { serial = s.serial; lineage = string_bytes s.lineage; terraform_version = string_bytes s.terraform_version; outputs = outputs_of s.outputs.entries; resources = map resource_of s.resources.items }
 
 -- the state before anything exists
 abbrev pub empty_state : List ℕ → StateView

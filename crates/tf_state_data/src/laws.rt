@@ -1,11 +1,6 @@
 // Laws of puts and removes, proved for every state and resource: each function's contract is a law, and its body
 // does nothing.
-ghost use Rattle.tf_address.specs.Label.{LabelView};
-ghost use Rattle.tf_state_data.specs.Laws.{PutChangesOneRecord, PutChangesOneResource, RemoveChangesOneRecord, RemoveChangesOneResource};
-ghost use Rattle.tf_address.specs.ObjectId.{ObjectIdView};
-ghost use Rattle.tf_state_data.specs.Record.{RecordView};
-ghost use Rattle.tf_state_data.specs.Resource.{ResourceView};
-ghost use Rattle.tf_state_data.specs.State.{StateView};
+ghost use Rattle.tf_state_data.specs.Laws.{LabelView, ObjectIdView, PutChangesOneRecord, PutChangesOneResource, RecordView, RemoveChangesOneRecord, RemoveChangesOneResource, ResourceView, StateView};
 
 /// A put and a remove of a resource change what stands at its address alone.
 pub fn puts_and_removes_change_one_resource()

@@ -4,7 +4,6 @@ use Rattle.tf_address.specs.Label.{label_cmp, label_of}
 use Rattle.tf_state_data.proofs.Edits.{by_address, search_answers}
 use Rattle.tf_state_data.proofs.state.State.search.Goals as goal
 
--- the closure compares keys, and the slice has the elements
 pub returns : goal.returns
 returns c =
     let position = c.binary_search_by.ensures.position (λ r. label_cmp (label_of r.label) (label_of c.args.label.now)) (always_returns_same _ _ _ (λ a r g called. (search rules, search rules))) in
