@@ -13,4 +13,4 @@ pub mod verdict;
 pub use provider::{Provider, first_provider, schema_for};
 pub use request::{Op, Reply, Request};
 pub use schema::{Attribute, Kind, Mode, Schema, SchemaFault};
-pub use verdict::{Verdict, asks_fully, has_attributes, judge, well_formed};
+pub use verdict::{Verdict, asks_fully, has_attributes, is_allowed, judge, well_formed};

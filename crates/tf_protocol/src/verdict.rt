@@ -140,7 +140,7 @@ fn fits(value: &Value, attribute: &Attribute) -> bool
 }
 
 /// Whether a value is null where it may be, or of the attribute's kind.
-fn is_allowed(value: &Value, attribute: &Attribute) -> bool
+pub fn is_allowed(value: &Value, attribute: &Attribute) -> bool
     ensures { result ≡ is_allowed (attribute_of attribute.now) (tree_of value.now) }
 {
     match value {

@@ -140,7 +140,6 @@ impl fmt::Display for Cause<'_> {
 
 /// What stands behind a refusal's name: nothing, or the detail in parentheses.
 impl fmt::Display for Detail {
-    ghost use Rattle.tf_refusal.specs.Refusal.{detail_of};
     ghost use Rattle.tf_refusal.specs.Text.{detail_text};
 
     ghost output = { λ detail. Some (detail_text (detail_of detail)) };
