@@ -78,7 +78,7 @@ impl<'a> Names<'a> {
         ensures { IfOk result (λ before. before.items ≡ directly_before (names_in self.now) place) }
     {
         let mut found = Vec::new(alloc);
-        self.add_meant(alloc, self.at(place), &mut found)?;
+        self.add_meant(self.at(place), &mut found)?;
         Ok(found)
     }
 
@@ -92,14 +92,13 @@ impl<'a> Names<'a> {
         ensures { IfOk result (λ found. found.items ≡ places (names_in self.now) (named_by (tree_of expr.now))) }
     {
         let mut found = Vec::new(alloc);
-        self.add_named(alloc, expr, &mut found)?;
+        self.add_named(expr, &mut found)?;
         Ok(found)
     }
 
     /// Adds the places of what a name refers to.
     fn add_meant(
         &self,
-        alloc: Global,
         named: Named<'_>,
         found: &mut Vec<usize>,
     ) -> Result<(), AllocError>
@@ -107,9 +106,9 @@ impl<'a> Names<'a> {
             ≡ found.old.items ++ places (names_in self.now) (refers (named_view named.entry).meant)) }
     {
         match named {
-            Named::Local(_, expr) => self.add_named(alloc, expr, found),
+            Named::Local(_, expr) => self.add_named(expr, found),
             Named::Resource(_, block) => {
-                self.add_block(alloc, block, found)?;
+                self.add_block(block, found)?;
                 Ok(())
             }
         }
@@ -118,15 +117,14 @@ impl<'a> Names<'a> {
     /// Adds the places of what a block refers to.
     fn add_block(
         &self,
-        alloc: Global,
         block: &Block,
         found: &mut Vec<usize>,
     ) -> Result<(), AllocError>
         ensures { OnOk result ((label : LabelView) → found.new.items
             ≡ found.old.items ++ places (names_in self.now) (block_refers (block_at label block.now))) }
     {
-        self.add_repetition(alloc, &block.repetition, found)?;
-        self.add_named_below(alloc, &block.arguments, found)?;
+        self.add_repetition(&block.repetition, found)?;
+        self.add_named_below(&block.arguments, found)?;
         self.add_labels(block.depends_on.as_slice(), found)?;
         Ok(())
     }
@@ -134,7 +132,6 @@ impl<'a> Names<'a> {
     /// Adds the places of what `count` or `for_each` names.
     fn add_repetition(
         &self,
-        alloc: Global,
         repetition: &Repetition,
         found: &mut Vec<usize>,
     ) -> Result<(), AllocError>
@@ -144,7 +141,7 @@ impl<'a> Names<'a> {
         match repetition {
             Repetition::Single => Ok(()),
             Repetition::Count(expr) | Repetition::ForEach(expr) => {
-                self.add_named(alloc, expr, found)
+                self.add_named(expr, found)
             }
         }
     }
@@ -163,7 +160,6 @@ impl<'a> Names<'a> {
     /// Adds the places of what the expressions of a map name.
     fn add_named_below(
         &self,
-        alloc: Global,
         entries: &BTreeMap<String, Expr>,
         found: &mut Vec<usize>,
     ) -> Result<(), AllocError>
@@ -171,7 +167,7 @@ impl<'a> Names<'a> {
             ≡ found.old.items ++ places (names_in self.now) (named_below (entries_view entries.now.entries))) }
     {
         for (_, expr) in entries.iter() {
-            self.add_named(alloc, expr, found)?;
+            self.add_named(expr, found)?;
         }
         Ok(())
     }
@@ -179,13 +175,12 @@ impl<'a> Names<'a> {
     /// Adds the places of what an expression names.
     fn add_named(
         &self,
-        alloc: Global,
         expr: &Expr,
         found: &mut Vec<usize>,
     ) -> Result<(), AllocError>
         ensures { OnOk result (found.new.items ≡ found.old.items ++ places (names_in self.now) (named_by (tree_of expr.now))) }
     {
-        let references = expr.references(alloc)?;
+        let references = expr.references(*found.allocator())?;
         for reference in &references {
             self.add_place(reference.first.as_str(), reference.name.as_str(), found)?;
         }

@@ -1,5 +1,5 @@
 -- What has a number, one after another: its place, and the lists of names and orphans as far as a loop has come.
-use Rattle.std.proofs.Common.{◌≡◌, ◌∙◌, ◌+◌, ◌<◌, ◌≤◌, ℕ, zero, suc, ◌||◌, Bool, true, false, cond, List, [], ◌∷◌, ◌++◌, Option, None, Some, is_some, option_map, length, get_or, take, drop, drop-cons, map, filter, refl, sym, ap, add-one, arith}
+use Rattle.std.proofs.Common.{◌≡◌, ◌∙◌, ◌+◌, ◌<◌, ℕ, suc, ◌||◌, Bool, true, false, cond, List, [], ◌∷◌, ◌++◌, Option, None, Some, is_some, option_map, length, take, drop, map, filter, refl, sym, ap}
 use Rattle.std.specs.List.{list_any}
 use Rattle.std.specs.Prelude.{slice_get}
 use Rattle.std.proofs.lemmas.List.{map-append, take_more}
@@ -16,43 +16,9 @@ use Rattle.tf_resources.specs.Numbering.{NumberedView, a_name, has_block, is_at,
 use Rattle.tf_resources.specs.declared.numbered.Numbered.{Numbered}
 use Rattle.tf_resources.specs.declared.numbered.Numbered.TheVariants.{Name}
 
--- ---- places, from the last to the first
-
-drop_next : {A : Type 0} → (all : List A) (i : ℕ) (x : A) → i < length all → x ≡ get_or all i x → drop i all ≡ x ∷ drop (i + 1) all
-drop_next all i x within is = rw add-one (drop-cons all i x within ∙ ap (λ y. y ∷ drop (suc i) all) (sym is))
-
-drop_all : {A : Type 0} → (all : List A) (i : ℕ) → length all ≤ i → drop i all ≡ []
-drop_all [] i h = drop_none i
-  where
-    drop_none : {A : Type 0} → (i : ℕ) → drop {A = A} i [] ≡ []
-    drop_none zero = refl
-    drop_none (suc i) = refl
-drop_all (x ∷ all) zero h = absurd (omega arith)
-drop_all (x ∷ all) (suc i) h = drop_all all i (omega arith)
-
 -- the place of a resource among those from a position on
 abbrev pub place_from : List Numbered → ℕ → LabelView → Option ℕ
 place_from all i label = option_map (λ k. k + i) (place_in (map numbered_view (drop i all)) label)
-
-pub place_from-first : (all : List Numbered) (label : LabelView) → place_from all 0 label ≡ place_in (map numbered_view all) label
-place_from-first all label = add_none (place_in (map numbered_view all) label)
-  where
-    add_none : (o : Option ℕ) → option_map (λ k. k + 0) o ≡ o
-    add_none None = refl
-    add_none (Some k) = ap Some (omega arith)
-
-pub place_from-past : (all : List Numbered) (i : ℕ) (label : LabelView) → length all ≤ i → place_from all i label ≡ None
-place_from-past all i label h = rw (drop_all all i h) refl
-
--- one position further to the front
-pub place_from-step : (all : List Numbered) (i : ℕ) (n : Numbered) (label : LabelView) → i < length all → n ≡ get_or all i n
-    → place_from all i label ≡ cond (is_at label (numbered_view n)) (Some i) (place_from all (i + 1) label)
-place_from-step all i n label h is = rw (drop_next all i n h is) (by_test (is_at label (numbered_view n)) (place_in (map numbered_view (drop (i + 1) all)) label))
-  where
-    by_test : (b : Bool) (o : Option ℕ) → option_map (λ k. k + i) (cond b (Some 0) (option_map suc o)) ≡ cond b (Some i) (option_map (λ k. k + (i + 1)) o)
-    by_test true o = ap Some (omega arith)
-    by_test false None = refl
-    by_test false (Some k) = ap Some (omega arith)
 
 -- ---- names and orphans, from the first to the last
 

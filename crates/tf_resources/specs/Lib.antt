@@ -1,7 +1,6 @@
 pub mod Numbering
 pub mod Dependencies
 pub mod Marks
-pub mod Places
 pub mod Numbered
 pub mod Table
 pub mod Laws

@@ -1,20 +1,20 @@
 //! The numbers of resources.
 
 ghost use Rattle.std.specs.Prelude.{◌≡◌, ◌<◌, ◌++◌, ◌∷◌, [], Some, is_some, not, filter, IfOk, OnOk, length, map, slice_get, if◌then◌else◌};
-ghost use Rattle.tf_address.specs.Label.{LabelView, label_of};
+ghost use Rattle.tf_config_data.specs.Words.{label_of, label_pair, LabelView};
+ghost use Rattle.tf_names.specs.Places.{found_in};
 ghost use Rattle.tf_names.specs.Table.{names_in};
 ghost use Rattle.tf_resources.specs.Dependencies.{named_place};
 ghost use Rattle.tf_resources.specs.Numbered.{numbered_view};
 ghost use Rattle.tf_resources.specs.Numbering.{a_name, an_orphan, numbered, place_in};
-ghost use Rattle.tf_resources.specs.Places.{found_in};
 ghost use Rattle.tf_state_data.specs.Resource.{resource_of};
 ghost use Rattle.tf_state_data.specs.State.{state_of};
 
 use crate::numbered::Numbered;
-use crate::places::Places;
+use crate::places::places_of;
 use std::alloc::{AllocError, Global};
 use tf_address::Label;
-use tf_names::Names;
+use tf_names::{Names, Places};
 use tf_state_data::{Resource, State};
 
 /// The resources of a configuration and of a prior state together, by number. The names of the configuration keep their
@@ -25,7 +25,7 @@ pub struct Numbering<'a> {
     numbered: Vec<Numbered<'a>>,
     places: Places,
     state: &'a State,
-    ghost placed: { (label : LabelView) → found_in places label ≡ place_in (map numbered_view numbered.items) label },
+    ghost placed: { (label : LabelView) → found_in places (label_pair label) ≡ place_in (map numbered_view numbered.items) label },
 }
 
 impl<'a> Numbering<'a> {
@@ -45,9 +45,9 @@ impl<'a> Numbering<'a> {
         ensures resources { IfOk result (λ n. resources_in n ≡ (state_of state.now).resources) }
     {
         let mut numbered = numbered_names(alloc, names)?;
-        let blocks = Places::of(alloc, numbered.as_slice())?;
+        let blocks = places_of(alloc, numbered.as_slice())?;
         add_orphans(&mut numbered, &blocks, state.resources())?;
-        let places = Places::of(alloc, numbered.as_slice())?;
+        let places = places_of(alloc, numbered.as_slice())?;
         Ok(Numbering {
             numbered,
             places,
@@ -114,7 +114,7 @@ fn add_orphans<'a>(
     resources: &'a [Resource],
 ) -> Result<(), AllocError>
     ensures { OnOk result (map numbered_view numbered.new.items ≡ map numbered_view numbered.old.items
-        ++ map an_orphan (filter (λ r. not (is_some (found_in blocks.now r.label))) (map resource_of resources.now))) }
+        ++ map an_orphan (filter (λ r. not (is_some (found_in blocks.now (label_pair r.label)))) (map resource_of resources.now))) }
 {
     for resource in resources {
         let label = resource.label();
