@@ -18,6 +18,10 @@ pub data Demand : Type 0 where
   -- what is demanded of a part of an expression
   of_expression : expr.Demand → Demand
 
+-- what there is to check, in walk order
+abbrev pub Checks : Type 0
+Checks = List (Check Demand)
+
 -- the text is a name
 abbrev pub a_name : List ℕ → Demand
 a_name text = holds (is_name text)
@@ -30,10 +34,6 @@ abbrev pub IsMet : Demand → Type 0
 IsMet nothing_fits = ⊥
 IsMet (holds condition) = IsTrue condition
 IsMet (of_expression demand) = expr.IsMet demand
-
--- what there is to check, in walk order
-abbrev pub Checks : Type 0
-Checks = List (Check Demand)
 
 -- nothing is wrong
 abbrev pub AreMet : Checks → Type 0

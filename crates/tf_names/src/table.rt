@@ -97,11 +97,7 @@ impl<'a> Names<'a> {
     }
 
     /// Adds the places of what a name refers to.
-    fn add_meant(
-        &self,
-        named: Named<'_>,
-        found: &mut Vec<usize>,
-    ) -> Result<(), AllocError>
+    fn add_meant(&self, named: Named<'_>, found: &mut Vec<usize>) -> Result<(), AllocError>
         ensures { OnOk result (found.new.items
             ≡ found.old.items ++ places (names_in self.now) (refers (named_view named.entry).meant)) }
     {
@@ -115,11 +111,7 @@ impl<'a> Names<'a> {
     }
 
     /// Adds the places of what a block refers to.
-    fn add_block(
-        &self,
-        block: &Block,
-        found: &mut Vec<usize>,
-    ) -> Result<(), AllocError>
+    fn add_block(&self, block: &Block, found: &mut Vec<usize>) -> Result<(), AllocError>
         ensures { OnOk result ((label : LabelView) → found.new.items
             ≡ found.old.items ++ places (names_in self.now) (block_refers (block_at label block.now))) }
     {
@@ -140,9 +132,7 @@ impl<'a> Names<'a> {
     {
         match repetition {
             Repetition::Single => Ok(()),
-            Repetition::Count(expr) | Repetition::ForEach(expr) => {
-                self.add_named(expr, found)
-            }
+            Repetition::Count(expr) | Repetition::ForEach(expr) => { self.add_named(expr, found) }
         }
     }
 
@@ -173,11 +163,7 @@ impl<'a> Names<'a> {
     }
 
     /// Adds the places of what an expression names.
-    fn add_named(
-        &self,
-        expr: &Expr,
-        found: &mut Vec<usize>,
-    ) -> Result<(), AllocError>
+    fn add_named(&self, expr: &Expr, found: &mut Vec<usize>) -> Result<(), AllocError>
         ensures { OnOk result (found.new.items ≡ found.old.items ++ places (names_in self.now) (named_by (tree_of expr.now))) }
     {
         let references = expr.references(*found.allocator())?;

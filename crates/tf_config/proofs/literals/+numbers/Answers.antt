@@ -13,21 +13,19 @@ use Rattle.tf_config.proofs.literals.+numbers.Goals as goal
 pub demand_each_number-loop-position-preserved : goal.demand_each_number-loop-position-preserved
 demand_each_number-loop-position-preserved t c =
     let place = place_of c.args.path.now in
-    let all = c.deref-item-items.result.now in
     let i = c.loop-position.position in
-    let left = rw (drop_next all i c.item-item.result c.loop-position-test.true c.item-item.is) at c.loop-position.invariant in
-    left_more IsMet (item_number_checks place 0 (items_view all)) (number_checks (decimal i ∷ place) (view c.item-item.result)) (item_number_checks place (i + 1) (items_view (drop (i + 1) all))) left
+    let left = rw (drop_next c.deref-item-items.result.now i c.item-item.result c.loop-position-test.true c.item-item.is) at c.loop-position.invariant in
+    left_more IsMet (item_number_checks place 0 (items_view c.deref-item-items.result.now)) (number_checks (decimal i ∷ place) (view c.item-item.result)) (item_number_checks place (i + 1) (items_view (drop (i + 1) c.deref-item-items.result.now))) left
     (rw place_of-Item at c.in_ok-demand_numbers.ensures)
 
 pub demand_each_number-returns-in_err-demand_numbers : goal.demand_each_number-returns-in_err-demand_numbers
 demand_each_number-returns-in_err-demand_numbers t c =
     let place = place_of c.args.path.now in
-    let all = c.deref-item-items.result.now in
     let i = c.loop-position.position in
     let p = err_from_is_err_and c.from_residual.result c.from_residual.ensures.1 in
     rw (p.1, p.2, ← c.deref-item-items.ensures.value)
-    (left_refused IsMet Fails (item_number_checks place 0 (items_view all)) (number_checks (decimal i ∷ place) (view c.item-item.result)) (item_number_checks place (i + 1) (items_view (drop (i + 1) all))) _
-    (rw (drop_next all i c.item-item.result c.loop-position-test.true c.item-item.is) at c.loop-position.invariant)
+    (left_refused IsMet Fails (item_number_checks place 0 (items_view c.deref-item-items.result.now)) (number_checks (decimal i ∷ place) (view c.item-item.result)) (item_number_checks place (i + 1) (items_view (drop (i + 1) c.deref-item-items.result.now))) _
+    (rw (drop_next c.deref-item-items.result.now i c.item-item.result c.loop-position-test.true c.item-item.is) at c.loop-position.invariant)
     (rw place_of-Item at c.in_err-demand_numbers.ensures))
 
 pub demand_member_numbers-loop-key-preserved : goal.demand_member_numbers-loop-key-preserved
