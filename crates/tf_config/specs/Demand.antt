@@ -59,9 +59,13 @@ RefusesBy IsMet Fails checks (fault code place detail) = IsFirst IsMet Fails pla
 abbrev pub Refuses : Checks → Told → Type 0
 Refuses = RefusesBy IsMet Fails
 
+-- An answer that is fine where something holds: that does, or the first fault of some checks is told.
+abbrev pub FineOrRefuses : {T : Type 0} → Type 0 → Checks → Result T Refusal → Type 0
+FineOrRefuses Holds checks answer = MatchResult answer (λ _. Holds) (λ refusal. Refuses checks (told refusal))
+
 -- An answer that only judges: all checks are met, or the first fault is told.
 abbrev pub Judges : {T : Type 0} → Checks → Result T Refusal → Type 0
-Judges checks answer = MatchResult answer (λ _. AreMet checks) (λ refusal. Refuses checks (told refusal))
+Judges checks = FineOrRefuses (AreMet checks) checks
 
 -- a fault at the place, or there was no memory to say so
 abbrev pub TellsAt : List ℕ → Way → Told → Type 0

@@ -1,15 +1,14 @@
 //! Bodies and expressions, as they are read.
 
 ghost use Rattle.serde_json.specs.View.{view};
-ghost use Rattle.std.specs.Prelude.{◌≡◌, IfErr, OnOk};
+ghost use Rattle.std.specs.Prelude.{◌≡◌};
 ghost use Rattle.tf_config.specs.Config.{block_body, plain_lifecycle, variable_body};
 ghost use Rattle.tf_config.specs.Configuration.{block_body_checks, lifecycle_property_checks, named_checks, object_checks, output_body_checks, variable_property_checks, AddsNamed, IsBlockBody, IsLifecycle, IsOutputBody, IsVariableBody};
-ghost use Rattle.tf_config.specs.Demand.{Refuses};
+ghost use Rattle.tf_config.specs.Demand.{FineOrRefuses};
 ghost use Rattle.tf_config.specs.Parts.{expression_checks, Reads};
 ghost use Rattle.tf_config_data.specs.Config.{lifecycle_of};
 ghost use Rattle.tf_expr.specs.Reading.{IsExpr};
 ghost use Rattle.tf_json_path.specs.Place.{place_of};
-ghost use Rattle.tf_refusal.specs.Refusal.{told};
 ghost use Rattle.tf_syntax.specs.ExprTree.{entries_view, put, tree_of};
 
 use crate::demand::{bad_shape, demand_name, demand_one_repetition, demand_value};
@@ -41,10 +40,8 @@ pub(crate) fn add_expression(
     part: &Part<'_>,
     entries: &mut BTreeMap<String, Expr>,
 ) -> Result<(), Refusal>
-    ensures ok { OnOk result
-        (AddsNamed IsExpr name.now (view part.now.value.now) (λ e. put name.now e (entries_view entries.old.entries)) (entries_view entries.new.entries)) }
-    ensures fault { IfErr result (λ refusal.
-        Refuses (named_checks expression_checks (place_of part.now.path.now) name.now (view part.now.value.now)) (told refusal)) }
+    ensures { FineOrRefuses (AddsNamed IsExpr name.now (view part.now.value.now) (λ e. put name.now e (entries_view entries.old.entries)) (entries_view entries.new.entries))
+        (named_checks expression_checks (place_of part.now.path.now) name.now (view part.now.value.now)) result }
 {
     demand_name(part.alloc, part.path, name)?;
     let expr = read_expression(part)?;

@@ -2,12 +2,11 @@
 
 ghost use Rattle.serde_json.specs.Data.{Data};
 ghost use Rattle.serde_json.specs.View.{members_view, view};
-ghost use Rattle.std.specs.Prelude.{IfErr, List, OnOk, ℕ};
+ghost use Rattle.std.specs.Prelude.{List, ℕ};
 ghost use Rattle.tf_config.specs.Configuration.{below, object_checks, BuildsFrom, IsSound, PropertyChecks};
-ghost use Rattle.tf_config.specs.Demand.{Refuses};
+ghost use Rattle.tf_config.specs.Demand.{FineOrRefuses};
 ghost use Rattle.tf_json_path.specs.Place.{place_of};
 ghost use Rattle.tf_json_path.specs.Walk.{each, Builds};
-ghost use Rattle.tf_refusal.specs.Refusal.{told};
 
 use crate::demand::bad_shape;
 use serde_json::{Map, Value};
@@ -45,9 +44,8 @@ pub(crate) trait Members {
     ///
     /// The first fault in it, in walk order, or `OutOfMemory`.
     fn add(&self, name: &str, part: &Part<'_>, said: &mut Self::Said) -> Result<(), Refusal>
-        ensures ok { OnOk result (adds self.now name.now (view part.now.value.now) (told_by said.old) (told_by said.new)) }
-        ensures fault { IfErr result (λ refusal.
-            Refuses (checks self.now (place_of part.now.path.now) name.now (view part.now.value.now)) (told refusal)) };
+        ensures { FineOrRefuses (adds self.now name.now (view part.now.value.now) (told_by said.old) (told_by said.new))
+            (checks self.now (place_of part.now.path.now) name.now (view part.now.value.now)) result };
 }
 
 /// Adds what the members of an object say, in byte order of their names. Anything but an object is refused with 2.
@@ -57,10 +55,8 @@ pub(crate) fn add_members<M: Members>(
     said: &mut M::Said,
 ) -> Result<(), Refusal>
     requires sound { IsSound (M.adds members.now) (M.checks members.now) }
-    ensures ok { OnOk result
-        (BuildsFrom (M.adds members.now) (view part.now.value.now) (M.told_by said.old) (M.told_by said.new)) }
-    ensures fault { IfErr result (λ refusal.
-        Refuses (object_checks (M.checks members.now) (place_of part.now.path.now) (view part.now.value.now)) (told refusal)) }
+    ensures { FineOrRefuses (BuildsFrom (M.adds members.now) (view part.now.value.now) (M.told_by said.old) (M.told_by said.new))
+        (object_checks (M.checks members.now) (place_of part.now.path.now) (view part.now.value.now)) result }
 {
     match part.value {
         Value::Object(object) => add_each_member(members, part.alloc, part.path, object, said),
@@ -77,11 +73,8 @@ pub(crate) fn add_each_member<'a, M: Members>(
     said: &mut M::Said,
 ) -> Result<(), Refusal>
     requires sound { IsSound (M.adds members.now) (M.checks members.now) }
-    ensures ok { OnOk result
-        (Builds (M.adds members.now) (members_view object.now.entries) (M.told_by said.old) (M.told_by said.new)) }
-    ensures fault { IfErr result (λ refusal.
-        Refuses (each (below (M.checks members.now) (place_of path.now)) (members_view object.now.entries))
-        (told refusal)) }
+    ensures { FineOrRefuses (Builds (M.adds members.now) (members_view object.now.entries) (M.told_by said.old) (M.told_by said.new))
+        (each (below (M.checks members.now) (place_of path.now)) (members_view object.now.entries)) result }
 {
     for (key, value) in object.iter() {
         let name = key.as_str();
