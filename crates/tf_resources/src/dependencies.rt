@@ -14,6 +14,9 @@ use tf_graph::MAX_NODES;
 use tf_precedence::Stored;
 use tf_state_data::{Record, Resource};
 
+/// Pairs of a place and one that it depends on.
+type Pairs = Vec<(usize, usize)>;
+
 impl Numbering<'_> {
     /// What needed what when it was made, by the dependencies that the state has stored.
     ///
@@ -47,11 +50,7 @@ impl Numbering<'_> {
     }
 
     /// Adds what the objects of a resource depend on.
-    fn add_resource(
-        &self,
-        pairs: &mut Vec<(usize, usize)>,
-        resource: &Resource,
-    ) -> Result<(), AllocError>
+    fn add_resource(&self, pairs: &mut Pairs, resource: &Resource) -> Result<(), AllocError>
         ensures { OnOk result (pairs.new.items
             ≡ pairs.old.items ++ resource_pairs (numbered_in self.now) (resource_of resource.now)) }
     {
@@ -64,7 +63,7 @@ impl Numbering<'_> {
     /// Adds what the objects of the resource at a place depend on, by their records.
     fn add_records(
         &self,
-        pairs: &mut Vec<(usize, usize)>,
+        pairs: &mut Pairs,
         place: usize,
         records: &[Record],
     ) -> Result<(), AllocError>
@@ -78,12 +77,7 @@ impl Numbering<'_> {
     }
 
     /// Adds what an object of the resource at a place depends on, by its record.
-    fn add_record(
-        &self,
-        pairs: &mut Vec<(usize, usize)>,
-        place: usize,
-        kept: &Record,
-    ) -> Result<(), AllocError>
+    fn add_record(&self, pairs: &mut Pairs, place: usize, kept: &Record) -> Result<(), AllocError>
         ensures { OnOk result (pairs.new.items
             ≡ pairs.old.items ++ record_pairs (numbered_in self.now) place (record_of kept.now)) }
     {
@@ -94,12 +88,7 @@ impl Numbering<'_> {
     }
 
     /// Adds a place with that of the resource that a text names, where there is one.
-    fn add_named(
-        &self,
-        pairs: &mut Vec<(usize, usize)>,
-        place: usize,
-        text: &str,
-    ) -> Result<(), AllocError>
+    fn add_named(&self, pairs: &mut Pairs, place: usize, text: &str) -> Result<(), AllocError>
         ensures { OnOk result (pairs.new.items
             ≡ pairs.old.items ++ text_pairs (numbered_in self.now) place (text.now ∷ [])) }
     {
