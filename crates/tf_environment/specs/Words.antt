@@ -3,7 +3,7 @@ pub use Rattle.tf_config_data.specs.Words.{block_at, directly_before, instance_k
 pub use Rattle.tf_config_data.specs.Config.{lifecycle_of}
 pub use Rattle.tf_environment.specs.Kept.{HaveStandings, OnlyWanted}
 pub use Rattle.tf_environment.specs.Stages.{applying, expansion}
-pub use Rattle.tf_environment.specs.Standing.{AreStandings, environment, StandingView, stands_at}
+pub use Rattle.tf_environment.specs.Standing.{AreStandings, environment, or_missing, StandingView, stands_at}
 pub use Rattle.tf_environment.specs.Views.{shape_of, shapes_of, standing_of, standings_of, worked_out}
 pub use Rattle.tf_eval.specs.ExprMeaning.{meaning}
 pub use Rattle.tf_graph.specs.NodeSet.{has}

@@ -3,9 +3,7 @@
 ghost use Rattle.std.specs.Prelude.{◌≡◌, IfOk, Some, is_some};
 ghost use Rattle.tf_operators.specs.Answer.{Gives};
 ghost use Rattle.tf_syntax.specs.ExprTree.{tree_of as expr_of};
-ghost use Rattle.tf_eval.specs.ExprMeaning.{meaning};
-ghost use Rattle.tf_environment.specs.Standing.{or_missing};
-ghost use Rattle.tf_environment.specs.Views.{standing_of};
+ghost use Rattle.tf_environment.specs.Words.{meaning, or_missing, standing_of};
 
 use crate::evaluation::valued;
 use std::alloc::{AllocError, Global};
