@@ -48,7 +48,7 @@ named_first a (Ok t) rest others h same = rw (same_name a.name) same
 named_first a (Err why) rest others h same = absurd (cc)
 
 -- where no attribute has a fault, each has a value
-all_named : (attributes : List AttributeView) (env : Environment) (arguments : expr.Entries) → attribute_faults attributes env arguments ≡ []
+pub all_named : (attributes : List AttributeView) (env : Environment) (arguments : expr.Entries) → attribute_faults attributes env arguments ≡ []
     → same_names (keys_of (planned_entries attributes env arguments)) (each (λ a. a.name) attributes) ≡ true
 all_named [] env arguments h = refl
 all_named (a ∷ others) env arguments h =

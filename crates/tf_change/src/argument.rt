@@ -125,8 +125,16 @@ fn converted(alloc: Global, kind: Kind, value: Value) -> Result<Value, ValueFaul
     match kind {
         Kind::Any => Ok(with_lists(alloc, value)?),
         Kind::String => as_text(alloc, value),
-        Kind::Number => as_number(value),
-        Kind::Bool => as_truth_value(value),
+        Kind::Number => match value {
+            Value::Unknown => Ok(Value::Unknown),
+            Value::Int(number) => Ok(Value::Int(number)),
+            _ => Err(BAD_ARGUMENT),
+        },
+        Kind::Bool => match value {
+            Value::Unknown => Ok(Value::Unknown),
+            Value::Bool(truth) => Ok(Value::Bool(truth)),
+            _ => Err(BAD_ARGUMENT),
+        },
     }
 }
 
@@ -154,28 +162,6 @@ fn decimal(alloc: Global, number: i64) -> Result<String, AllocError>
 {
     let text = number.to_string(alloc)?;
     Ok(text)
-}
-
-fn as_number(value: Value) -> Result<Value, ValueFault>
-    ensures gives { Gives tree_of result (or_bad_argument (converted kinds.Number (tree_of value))) }
-    ensures within { is_within (tree_of value) ≡ true → IfOk result (λ v. may_be_planned (tree_of v) ≡ true) }
-{
-    match value {
-        Value::Unknown => Ok(Value::Unknown),
-        Value::Int(number) => Ok(Value::Int(number)),
-        _ => Err(BAD_ARGUMENT),
-    }
-}
-
-fn as_truth_value(value: Value) -> Result<Value, ValueFault>
-    ensures gives { Gives tree_of result (or_bad_argument (converted kinds.Bool (tree_of value))) }
-    ensures within { is_within (tree_of value) ≡ true → IfOk result (λ v. may_be_planned (tree_of v) ≡ true) }
-{
-    match value {
-        Value::Unknown => Ok(Value::Unknown),
-        Value::Bool(truth) => Ok(Value::Bool(truth)),
-        _ => Err(BAD_ARGUMENT),
-    }
 }
 
 const BAD_ARGUMENT: ValueFault = ValueFault::Argument(ArgumentFault::BadArgument);

@@ -12,9 +12,7 @@ mod argument;
 mod instance;
 pub mod laws;
 mod object;
-mod objects;
 
 pub use argument::{ArgumentFault, ValueFault, attribute_value};
 pub use instance::{InstanceFault, plan_instance};
 pub use object::{NamedFault, plan_object};
-pub use objects::PlannedObjects;
