@@ -96,22 +96,35 @@ not_false false h = absurd (cc)
 same_value : (u t : Tree) → differs (Some u) t ≡ false → u ≡ t
 same_value u t h = (same_Decides u t).0 (not_false (same u t) (or_left (not (same u t)) _ h))
 
+-- What holds of no entries, and with one name more of two entries where it holds of the others, holds of all under the
+-- names of the same attributes.
+module _ (P : Entries → Entries → List AttributeView → Type 0) (none : (attributes : List AttributeView) → P no_entries no_entries attributes)
+    (more : (k : List ℕ) (t u : Tree) (es fs : Entries) (a : AttributeView) (others : List AttributeView) → k ≡ a.name → same_names (keys_of es) (each (λ b. b.name) others) ≡ true
+        → list_all (λ b. is_below k b.name) others ≡ true → P es fs others → P (entry k t es) (entry k u fs) (a ∷ others)) where
+  pub aligned : (es fs : Entries) (attributes : List AttributeView) → same_names (keys_of es) (each (λ a. a.name) attributes) ≡ true → same_names (keys_of fs) (each (λ a. a.name) attributes) ≡ true
+      → ascends attributes ≡ true → P es fs attributes
+  aligned no_entries no_entries attributes h g up = none attributes
+  aligned no_entries (entry l u fs) [] h g up = absurd (cc)
+  aligned no_entries (entry l u fs) (a ∷ others) h g up = absurd (cc)
+  aligned (entry k t es) fs [] h g up = absurd (cc)
+  aligned (entry k t es) no_entries (a ∷ others) h g up = absurd (cc)
+  aligned (entry k t es) (entry l u fs) (a ∷ others) h g up =
+      let is : k ≡ a.name = (bytes_eq-Decides k a.name).0 (and-first (bytes_eq k a.name) _ h) in
+      let too : l ≡ a.name = (bytes_eq-Decides l a.name).0 (and-first (bytes_eq l a.name) _ g) in
+      let same : same_names (keys_of es) (each (λ b. b.name) others) ≡ true = and-second (bytes_eq k a.name) _ h in
+      let below : list_all (λ b. is_below k b.name) others ≡ true = subst (λ (n : List ℕ). list_all (λ b. is_below n b.name) others ≡ true) (sym is) (and-first (list_all (λ b. is_below a.name b.name) others) _ up) in
+      let rest : P es fs others = aligned es fs others same (and-second (bytes_eq l a.name) _ g) (and-second (list_all (λ b. is_below a.name b.name) others) _ up) in
+      subst (λ (n : List ℕ). P (entry k t es) (entry n u fs) (a ∷ others)) (is ∙ sym too) (more k t u es fs a others is same below rest)
+
+one_more : (k : List ℕ) (t u : Tree) (es prior : Entries) (a : AttributeView) (others : List AttributeView) → k ≡ a.name → same_names (keys_of es) (each (λ b. b.name) others) ≡ true
+    → list_all (λ b. is_below k b.name) others ≡ true → (differing_entries (map prior) es ≡ [] → es ≡ prior) → differing_entries (map (entry k u prior)) (entry k t es) ≡ [] → entry k t es ≡ entry k u prior
+one_more k t u es prior a others is same below rest h =
+    let found = none_step (differs (cond (bytes_eq k k) (Some u) (get k prior)) t) k (differing_entries (map (entry k u prior)) es) h in
+    let value : u ≡ t = same_value u t (subst (λ (b : Bool). differs (cond b (Some u) (get k prior)) t ≡ false) (same_name k) found.0) in
+    let left : differing_entries (map prior) es ≡ [] = sym (differs_later k u prior es others same below) ∙ found.1 in
+    ap (λ (v : Tree). entry k v es) (sym value) ∙ ap (entry k u) (rest left)
+
 -- entries that differ in nothing, under the names of the same attributes, are the same
 pub same_entries_where_none_differs : (es prior : Entries) (attributes : List AttributeView) → same_names (keys_of es) (each (λ a. a.name) attributes) ≡ true → same_names (keys_of prior) (each (λ a. a.name) attributes) ≡ true
     → ascends attributes ≡ true → differing_entries (map prior) es ≡ [] → es ≡ prior
-same_entries_where_none_differs no_entries no_entries attributes same also up h = refl
-same_entries_where_none_differs no_entries (entry l u prior) [] same also up h = absurd (cc)
-same_entries_where_none_differs no_entries (entry l u prior) (a ∷ others) same also up h = absurd (cc)
-same_entries_where_none_differs (entry k t es) prior [] same also up h = absurd (cc)
-same_entries_where_none_differs (entry k t es) no_entries (a ∷ others) same also up h = absurd (cc)
-same_entries_where_none_differs (entry k t es) (entry l u prior) (a ∷ others) same also up h =
-    let is : k ≡ a.name = (bytes_eq-Decides k a.name).0 (and-first (bytes_eq k a.name) _ same) in
-    let as_well : l ≡ a.name = (bytes_eq-Decides l a.name).0 (and-first (bytes_eq l a.name) _ also) in
-    let one : k ≡ l = is ∙ sym as_well in
-    let found = none_step (differs (cond (bytes_eq k l) (Some u) (get k prior)) t) k (differing_entries (map (entry l u prior)) es) h in
-    let equal : bytes_eq k l ≡ true = (bytes_eq-Decides k l).1 one in
-    let value : u ≡ t = same_value u t (subst (λ (b : Bool). differs (cond b (Some u) (get k prior)) t ≡ false) equal found.0) in
-    let below : list_all (λ b. is_below l b.name) others ≡ true = subst (λ (n : List ℕ). list_all (λ b. is_below n b.name) others ≡ true) (sym as_well) (and-first (list_all (λ b. is_below a.name b.name) others) _ up) in
-    let left : differing_entries (map prior) es ≡ [] = sym (differs_later l u prior es others (and-second (bytes_eq k a.name) _ same) below) ∙ found.1 in
-    let rest : es ≡ prior = same_entries_where_none_differs es prior others (and-second (bytes_eq k a.name) _ same) (and-second (bytes_eq l a.name) _ also) (and-second (list_all (λ b. is_below a.name b.name) others) _ up) left in
-    ap (λ (n : List ℕ). entry n t es) one ∙ (ap (λ (v : Tree). entry l v es) (sym value) ∙ ap (entry l u) rest)
+same_entries_where_none_differs es prior attributes same also up = aligned (λ es prior attributes. differing_entries (map prior) es ≡ [] → es ≡ prior) (λ attributes h. refl) one_more es prior attributes same also up

@@ -20,7 +20,8 @@ forced_no_nothing : (planned kept : Tree) (names forces : List (List ℕ)) → u
 forced_no_nothing planned kept names [] e = cc
 forced_no_nothing planned kept names (f ∷ fs) e = cc
 
-none_names : (schema : SchemaView) (planned kept : Tree) (names : List (List ℕ)) → by_differing schema planned kept names ≡ nothing → names ≡ []
+-- where nothing is done, nothing differs by name
+pub none_names : (schema : SchemaView) (planned kept : Tree) (names : List (List ℕ)) → by_differing schema planned kept names ≡ nothing → names ≡ []
 none_names schema planned kept [] e = refl
 none_names schema planned kept (n ∷ ns) e = absurd (forced_no_nothing planned kept (n ∷ ns) (forcing schema (n ∷ ns)) e)
 
@@ -30,17 +31,23 @@ untainted schema ignored true prior planned e = absurd (cc)
 untainted schema ignored false prior planned e =
     let kept = kept_object schema ignored prior planned in (refl, none_names schema planned kept (differing prior kept) e)
 
+-- what holds of entries with the attributes of a schema holds of objects with them
+pub by_entries : (schema : SchemaView) (R : Tree → Tree → Type 0) → ((es fs : Entries) → has_attributes schema (map es) ≡ true → has_attributes schema (map fs) ≡ true → R (map es) (map fs))
+    → (t u : Tree) → has_attributes schema t ≡ true → has_attributes schema u ≡ true → R t u
+by_entries schema R entries (map es) (map fs) h g = entries es fs h g
+by_entries schema R entries (map es) null h g = absurd (cc)
+by_entries schema R entries (map es) (boolean b) h g = absurd (cc)
+by_entries schema R entries (map es) (whole z) h g = absurd (cc)
+by_entries schema R entries (map es) (text s) h g = absurd (cc)
+by_entries schema R entries (map es) (list ts) h g = absurd (cc)
+by_entries schema R entries (map es) (set ss) h g = absurd (cc)
+by_entries schema R entries (map es) unknown h g = absurd (cc)
+by_entries schema R entries _ u h g = absurd (cc)
+
 -- objects with the same attributes, in which nothing differs, are the same
 same_objects : (schema : SchemaView) (kept prior : Tree) → IsSchema schema → has_attributes schema kept ≡ true → has_attributes schema prior ≡ true → differing prior kept ≡ [] → kept ≡ prior
-same_objects schema (map es) (map ps) good h g e = ap map (same_entries_where_none_differs es ps schema.attributes h g good.ascending e)
-same_objects schema (map es) null good h g e = absurd (cc)
-same_objects schema (map es) (boolean b) good h g e = absurd (cc)
-same_objects schema (map es) (whole z) good h g e = absurd (cc)
-same_objects schema (map es) (text s) good h g e = absurd (cc)
-same_objects schema (map es) (list ts) good h g e = absurd (cc)
-same_objects schema (map es) (set ss) good h g e = absurd (cc)
-same_objects schema (map es) unknown good h g e = absurd (cc)
-same_objects schema _ prior good h g e = absurd (cc)
+same_objects schema kept prior good h g =
+    by_entries schema (λ t u. differing u t ≡ [] → t ≡ u) (λ es ps h g e. ap map (same_entries_where_none_differs es ps schema.attributes h g good.ascending e)) kept prior h g
 
 pub nothing_beside_equal : NothingIsDoneBesideEqual
 nothing_beside_equal schema ignored r planned good h g e =

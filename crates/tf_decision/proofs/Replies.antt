@@ -56,11 +56,11 @@ good_is true None h = (refl, refl)
 good_is true (Some n) h = absurd (cc)
 good_is false c h = absurd (cc)
 
-no_place : (b : Bool) (i : ℕ) (rest : Option ℕ) → cond b (Some i) rest ≡ None → (b ≡ false) × (rest ≡ None)
+pub no_place : (b : Bool) (i : ℕ) (rest : Option ℕ) → cond b (Some i) rest ≡ None → (b ≡ false) × (rest ≡ None)
 no_place true i rest h = absurd (cc)
 no_place false i rest h = (refl, h)
 
-nowhere : (p : AttributeView → Bool) (i : ℕ) (xs : List AttributeView) → position_from p i xs ≡ None → list_all (λ x. not (p x)) xs ≡ true
+pub nowhere : (p : AttributeView → Bool) (i : ℕ) (xs : List AttributeView) → position_from p i xs ≡ None → list_all (λ x. not (p x)) xs ≡ true
 nowhere p i [] h = refl
 nowhere p i (x ∷ xs) h =
     let both = no_place (p x) i (position_from p (i + 1) xs) h in and-both (not (p x)) (list_all (λ y. not (p y)) xs) (ap not both.0) (nowhere p (i + 1) xs both.1)

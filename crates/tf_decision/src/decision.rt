@@ -113,7 +113,7 @@ fn is_protected(lifecycle: Option<&Lifecycle>, records: &[Record]) -> bool
 }
 
 /// The record of the current object.
-fn current(records: &[Record]) -> Option<&Record>
+pub fn current(records: &[Record]) -> Option<&Record>
     ensures { option_map (λ r. record_of r.now) result ≡ current (map record_of records.now) }
 {
     for record in records {
