@@ -1,5 +1,5 @@
 -- What was added is what the definition adds.
-use Rattle.std.proofs.Common.{◌≡◌, ℕ, List, [], Option, Result, Ok, Err, OnOk, refl, ap, ap₂, ◌∙◌}
+use Rattle.std.proofs.Common.{◌≡◌, ℕ, List, Option, Result, Ok, Err, OnOk, ap, ap₂, ◌∙◌}
 use Rattle.tf_address.specs.Label.{LabelView}
 use Rattle.tf_deciding.specs.Deciding.{DecidedView, OfView, version_of, with_members}
 use Rattle.tf_deciding.specs.Outcome.{orphan_outcome}

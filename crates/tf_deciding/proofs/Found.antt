@@ -1,5 +1,5 @@
 -- What a call answers, by what it was handed.
-use Rattle.std.proofs.Common.{◌≡◌, Bool, List, Option, Some, None, option_map, Result, Ok, Err, IfOk, refl, ap, ap₂, ◌∙◌}
+use Rattle.std.proofs.Common.{◌≡◌, Bool, List, Option, Some, None, option_map, Result, Ok, Err, IfOk, ap, ap₂, ◌∙◌}
 use Rattle.std.specs.Prelude.{option_and_then}
 use Rattle.std.specs.List.{list_all}
 use Rattle.tf_change.specs.Instance.{InstanceFaultView}

@@ -1,5 +1,5 @@
 -- The members that were listed are those of the definition.
-use Rattle.std.proofs.Common.{◌≡◌, List, map, Result, Ok, Err, IfOk, Vec, Global, refl, ap₂, ◌∙◌}
+use Rattle.std.proofs.Common.{◌≡◌, List, map, Result, Ok, Err, IfOk, Vec, Global, ap₂, ◌∙◌}
 use Rattle.tf_address.specs.ObjectId.{InstanceKeyView}
 use Rattle.tf_members.proofs.Listing.{those_members}
 use Rattle.tf_members.specs.Members.{AreMembers, members}

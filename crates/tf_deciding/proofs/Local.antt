@@ -1,5 +1,5 @@
 -- What a block refers to decides what it stands for.
-use Rattle.std.proofs.Common.{◌≡◌, ℕ, List, Option, Some, None, if◌then◌else◌, refl, ap}
+use Rattle.std.proofs.Common.{◌≡◌, List, Option, Some, None, if◌then◌else◌, refl, ap}
 use Rattle.std.specs.Prelude.{option_and_then}
 use Rattle.tf_address.specs.ObjectId.{InstanceKeyView}
 use Rattle.tf_change.proofs.Locals.{instances_local}
@@ -13,10 +13,9 @@ use Rattle.tf_eval.proofs.Locality.{expressions_local}
 use Rattle.tf_eval.specs.Environment.{Environment}
 use Rattle.tf_eval.specs.Locality.{AgreeOn}
 use Rattle.tf_members.specs.Members.{records_of}
-use Rattle.tf_protocol.specs.Meaning.{Meaning, schema_in}
+use Rattle.tf_protocol.specs.Meaning.{schema_in}
 use Rattle.tf_protocol.specs.Schema.{SchemaView}
 use Rattle.tf_state_data.specs.Record.{RecordView}
-use Rattle.tf_state_data.specs.Resource.{ResourceView}
 
 object_local : (schema : SchemaView) (block : BlockView) (records : List RecordView) (e f : Environment) (key : InstanceKeyView) → AgreeOn e f (block_refers block)
     → object_of schema block records e key ≡ object_of schema block records f key

@@ -7,8 +7,7 @@ ghost use Rattle.tf_deciding.specs.Deciding.{action, decided_of, of_view, versio
 ghost use Rattle.tf_deciding.specs.Outcome.{member_outcome, orphan_outcome};
 ghost use Rattle.tf_deciding.specs.Views.{outcome_of, steps_of};
 ghost use Rattle.tf_members.specs.Views.{member_of};
-ghost use Rattle.tf_state_data.specs.Resource.{resource_of};
-ghost use Rattle.tf_state_data.specs.State.{state_of};
+ghost use Rattle.tf_resources.specs.Words.{resource_of, state_of};
 
 use crate::outcome::{Why, member_outcome, orphan_outcome};
 use crate::stage::block_members;

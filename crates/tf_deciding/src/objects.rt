@@ -8,12 +8,11 @@ ghost use Rattle.tf_state_data.specs.Ids.{AreById};
 ghost use Rattle.tf_state_data.specs.Record.{record_of};
 ghost use Rattle.tf_state_data.specs.State.{state_of};
 
-use crate::steps::current;
 use std::alloc::{AllocError, Global};
 use tf_address::{InstanceKey, Label};
 use tf_change::plan_instance;
 use tf_config_data::Block;
-use tf_decision::{Decision, decide};
+use tf_decision::{Decision, current, decide};
 use tf_environment::{Objects, Resource};
 use tf_eval::Scope;
 use tf_members::records_of;

@@ -11,7 +11,7 @@ ghost use Rattle.tf_state_data.specs.Record.{record_of};
 
 use std::alloc::{AllocError, Global};
 use tf_action_data::Step;
-use tf_decision::Decision;
+use tf_decision::{Decision, current};
 use tf_state_data::Record;
 
 /// What a decision about an instance does to its objects: to the current one what is decided, and each deposed one is
@@ -38,18 +38,6 @@ pub(crate) fn removal_steps(alloc: Global, records: &[Record]) -> Result<Vec<Ste
         steps.push(step)?;
     }
     Ok(steps)
-}
-
-/// The record of the current object.
-pub(crate) fn current(records: &[Record]) -> Option<&Record>
-    ensures { option_map (λ r. record_of r.now) result ≡ current (map record_of records.now) }
-{
-    for record in records {
-        if record.id.deposed.is_none() {
-            return Some(record);
-        }
-    }
-    None
 }
 
 /// What a decision does beside the current object.

@@ -100,7 +100,7 @@ same_value u t h = (same_Decides u t).0 (not_false (same u t) (or_left (not (sam
 -- names of the same attributes.
 module _ (P : Entries → Entries → List AttributeView → Type 0) (none : (attributes : List AttributeView) → P no_entries no_entries attributes)
     (more : (k : List ℕ) (t u : Tree) (es fs : Entries) (a : AttributeView) (others : List AttributeView) → k ≡ a.name → same_names (keys_of es) (each (λ b. b.name) others) ≡ true
-        → list_all (λ b. is_below k b.name) others ≡ true → P es fs others → P (entry k t es) (entry k u fs) (a ∷ others)) where
+    → list_all (λ b. is_below k b.name) others ≡ true → P es fs others → P (entry k t es) (entry k u fs) (a ∷ others)) where
   pub aligned : (es fs : Entries) (attributes : List AttributeView) → same_names (keys_of es) (each (λ a. a.name) attributes) ≡ true → same_names (keys_of fs) (each (λ a. a.name) attributes) ≡ true
       → ascends attributes ≡ true → P es fs attributes
   aligned no_entries no_entries attributes h g up = none attributes

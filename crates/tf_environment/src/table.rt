@@ -127,7 +127,7 @@ fn stand_at<T: Stage>(
     standing_at(alloc, stage, declared, kept, place)
 }
 
-/// What the name at a place stands for, by what names stand for so far, whatever is before it.
+/// What the name at a place stands for, by what names stand for so far.
 ///
 /// # Errors
 ///

@@ -4,3 +4,4 @@ pub mod Marks
 pub mod Numbered
 pub mod Table
 pub mod Laws
+pub mod Words

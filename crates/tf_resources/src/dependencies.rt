@@ -5,8 +5,7 @@ ghost use Rattle.std.specs.List.{flat_map};
 ghost use Rattle.tf_precedence.specs.Stored.{IsStored};
 ghost use Rattle.tf_resources.specs.Dependencies.{dependencies, record_pairs, resource_pairs, text_pairs};
 ghost use Rattle.tf_resources.specs.Table.{numbered_in, resources_in};
-ghost use Rattle.tf_state_data.specs.Record.{record_of};
-ghost use Rattle.tf_state_data.specs.Resource.{resource_of};
+ghost use Rattle.tf_resources.specs.Words.{record_of, resource_of};
 
 use crate::numbering::Numbering;
 use std::alloc::{AllocError, Global};

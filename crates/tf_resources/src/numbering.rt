@@ -1,14 +1,11 @@
 //! The numbers of resources.
 
 ghost use Rattle.std.specs.Prelude.{◌≡◌, ◌<◌, ◌++◌, ◌∷◌, [], Some, is_some, not, filter, IfOk, OnOk, length, map, slice_get, if◌then◌else◌};
-ghost use Rattle.tf_config_data.specs.Words.{label_of, label_pair, LabelView};
-ghost use Rattle.tf_names.specs.Places.{found_in};
 ghost use Rattle.tf_names.specs.Table.{names_in};
 ghost use Rattle.tf_resources.specs.Dependencies.{named_place};
 ghost use Rattle.tf_resources.specs.Numbered.{numbered_view};
 ghost use Rattle.tf_resources.specs.Numbering.{a_name, an_orphan, numbered, place_in};
-ghost use Rattle.tf_state_data.specs.Resource.{resource_of};
-ghost use Rattle.tf_state_data.specs.State.{state_of};
+ghost use Rattle.tf_resources.specs.Words.{found_in, label_of, label_pair, LabelView, resource_of, state_of};
 
 use crate::numbered::Numbered;
 use crate::places::places_of;

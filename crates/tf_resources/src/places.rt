@@ -1,11 +1,9 @@
 //! The places of resources.
 
 ghost use Rattle.std.specs.Prelude.{◌≡◌, Some, IfOk, OnOk, if◌then◌else◌, map};
-ghost use Rattle.tf_address.specs.Label.{LabelView};
-ghost use Rattle.tf_config_data.specs.Names.{label_pair};
-ghost use Rattle.tf_names.specs.Places.{found_in};
 ghost use Rattle.tf_resources.specs.Numbered.{numbered_view};
 ghost use Rattle.tf_resources.specs.Numbering.{is_at, place_in};
+ghost use Rattle.tf_resources.specs.Words.{found_in, label_pair, LabelView};
 
 use crate::numbered::Numbered;
 use std::alloc::{AllocError, Global};

@@ -1,4 +1,4 @@
-use Rattle.std.proofs.Common.{◌≡◌, fold, map, slice_get, take}
+use Rattle.std.proofs.Common.{◌≡◌, map, take}
 use Rattle.tf_deciding.proofs.whole.decide_all.Given as goal
 use Rattle.tf_deciding.specs.Deciding.{decided_of}
 use Rattle.tf_deciding.specs.Whole.{decided}

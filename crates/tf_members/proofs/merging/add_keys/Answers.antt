@@ -9,11 +9,10 @@ use Rattle.tf_members.proofs.merging.add_keys.Goals as goal
 
 pub loop-key-preserved : goal.loop-key-preserved
 loop-key-preserved c =
-    let known = c.loop-key.known in
     let keys = c.args.keys.now in
     let key = c.key-item.result in
     let i = c.loop-key.key-index in
     let rest = map instance_key_of (drop (i + 1) keys) in
-    let here = at_drop_more (λ ks. with_keys (keys_in known) (map instance_key_of ks)) keys i key c.loop-key-test.true in
-    put_more known.keys c.insert.new.self.keys key c.in_ok-clone.field-0 c.in_ok-insert.ensures.keys (key_copied key c.in_ok-clone.field-0 c.in_ok-clone.ensures.cases) rest
-    ∙ (ap (λ k. with_keys (keys_in known) (instance_key_of k ∷ rest)) c.key-item.is ∙ (sym here ∙ c.loop-key.invariant))
+    let here = at_drop_more (λ ks. with_keys (keys_in c.loop-key.known) (map instance_key_of ks)) keys i key c.loop-key-test.true in
+    put_more c.loop-key.known.keys c.insert.new.self.keys key c.in_ok-clone.field-0 c.in_ok-insert.ensures.keys (key_copied key c.in_ok-clone.field-0 c.in_ok-clone.ensures.cases) rest
+    ∙ (ap (λ k. with_keys (keys_in c.loop-key.known) (instance_key_of k ∷ rest)) c.key-item.is ∙ (sym here ∙ c.loop-key.invariant))
