@@ -155,8 +155,9 @@ module _ (variables : Entries) (names : List NameView) (shapes : ℕ → ShapeVi
       (dones : List OutputDone) → AreOutputsDone variables names shapes objects settled left dones
       → AreOutputsEnded variables names shapes objects settled kept all (ends ++ map end_of dones) (with_outputs left dones saved)
 
-  pub ends_start : (settled : ℕ → Bool) (kept : Entries) (all : expr.Entries) (ends : List OutputEnd) → ends ≡ [] → EndsWith settled kept all all ends kept
-  ends_start settled kept all ends none dones each = rw none (record { dones = dones; each = each; told = refl; saves = refl })
+  pub ends_start : (settled : ℕ → Bool) (kept : Entries) (all left : expr.Entries) (ends : List OutputEnd) → left ≡ all → ends ≡ [] → EndsWith settled kept all left ends kept
+  ends_start settled kept all left ends given none =
+      subst (λ es. EndsWith settled kept all es ends kept) (sym given) (λ dones each. rw none (record { dones = dones; each = each; told = refl; saves = refl }))
 
   -- one output more
   pub ends_more : (settled : ℕ → Bool) (kept : Entries) (all : expr.Entries) (name : List ℕ) (e : expr.Tree) (left : expr.Entries) (ends now : List OutputEnd) (saved after : Entries) (d : OutputDone) (end : OutputEnd)

@@ -34,6 +34,11 @@ declared_found [] name = refl
 declared_found (e ∷ es) name =
     rw (is_eq-slice_cmp name (string_bytes e.0)) (found_at (bytes_eq name (string_bytes e.0)) e.1 _ (is_declared (entries_view es) name) (declared_found es name))
 
+-- the same, of a name as the code reads it
+pub key_found : (es : List (String Global × Expr)) (key name : List ℕ) (found : Bool) → found ≡ is_some (lookup (is_at (λ k. slice_cmp nat_cmp key (string_bytes k))) es) → key ≡ name
+    → found ≡ is_declared (entries_view es) name
+key_found es key name found is same = is ∙ declared_found es key ∙ ap (is_declared (entries_view es)) same
+
 -- one entry more behind a first one, which is kept or not, as the one more is
 more_at : (b d : Bool) (f k : List ℕ) (u t : Tree) (rest now : Entries) → slice_cmp nat_cmp k f ≡ Greater → now ≡ (if d then put k t rest else rest)
     → (if b then entry f u now else now) ≡ (if d then put k t (if b then entry f u rest else rest) else (if b then entry f u rest else rest))

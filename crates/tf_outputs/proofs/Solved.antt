@@ -5,6 +5,7 @@ use Rattle.std.proofs.lemmas.List.{get_or-set_same, get_or-set_other, length-set
 use Rattle.std.specs.Prelude.{Contains, slice_index}
 use Rattle.std.specs.List.{AllByRecursion}
 use Rattle.tf_config_data.specs.Names.{NameView, directly_before}
+use Rattle.tf_environment.proofs.Keeping.{earlier}
 use Rattle.tf_environment.proofs.Places.{names_stay}
 use Rattle.tf_graph.specs.NodeSet.{has}
 use Rattle.tf_graph.specs.Order.{IsInOrder}
@@ -29,23 +30,6 @@ marked_start names good order settled long = record {
   long = long;
   right = λ solution solves n held. let inside : held.0 < length {A = ℕ} [] = held.1 in absurd (omega arith);
 }
-
--- a member of a longer front is one of the shorter one, or the last
-earlier : (order : List ℕ) (i p n : ℕ) → i < length order → p ≡ slice_index order i → n ≢ p → Contains (take (i + 1) order) n → Contains (take i order) n
-earlier order i p n h is other held =
-    let k : ℕ = held.0 in
-    let short = length-take (i + 1) order in
-    let shorter = length-take i order in
-    let bounds : k < i + 1 = omega (arith, held.1, short) in
-    elim (cases_eq k i) [
-      | inl last ↦
-          let read : get_or (take (i + 1) order) k n ≡ n = held.2 in
-          let there : n ≡ p = sym read ∙ get_or-take (i + 1) order k n (omega arith) ∙ get_or_default order k n 0 (omega arith) ∙ ap (λ j. slice_index order j) last ∙ sym is in
-          absurd (other there)
-      | inr before ↦
-          let below : k < i = omega arith in
-          (k, omega (arith, shorter), get_or-take i order k n below ∙ sym (get_or-take (i + 1) order k n (omega arith)) ∙ held.2)
-    ]
 
 -- where the names directly before one are right, so is what the rule says of it
 rule_is : (names : List NameView) (good marked solution : ℕ → Bool) (p : ℕ) → AreSettled names good solution → p < length names

@@ -1,7 +1,7 @@
 //! Outputs are worked out after an apply.
 
 ghost use Rattle.std.specs.Prelude.{◌≡◌, ◌≤◌, [], IfOk, Ok, length, true, vec_capacity};
-ghost use Rattle.tf_environment.specs.Words.{entries_view, has, has_no_set, IsAcyclic, IsDependence, IsTable, named_by, names_in, no_entries, shapes_of, tree_of, with_nulls};
+ghost use Rattle.tf_environment.specs.Words.{entries_view, has, has_no_set, IsAcyclic, IsDependence, IsTable, named_by, names_in, shapes_of, tree_of, with_nulls};
 ghost use Rattle.tf_config_data.specs.Names.{places as places_of};
 ghost use Rattle.tf_outputs.specs.Keeping.{IsSameOrExcused, MayBeSaved, done_of};
 ghost use Rattle.tf_outputs.specs.Outputs.{AreOutputsEnded, IsOutputDone, done_with};
@@ -52,29 +52,6 @@ pub fn renew_outputs<R: Results>(
         ends.push(keep(&mut outputs, name, ended)).unwrap();
     }
     outputs
-}
-
-/// What comes of all outputs where none was there before.
-pub fn end_outputs<R: Results>(
-    alloc: Global,
-    declared: &Declarations,
-    shapes: &[Shape],
-    rooms: Vec<OutputRoom<'_>>,
-    settled: &[bool],
-    results: &R,
-    ends: &mut Vec<OutputEnd>,
-) -> BTreeMap<String, Object>
-    requires dependence { IsDependence (names_in declared.now.names.now) declared.now.dependence.now }
-    requires acyclic { IsAcyclic declared.now.dependence.now }
-    requires places { HavePlaces (names_in declared.now.names.now) rooms.items }
-    requires none { ends.old.items ≡ [] }
-    requires room { length rooms.items ≤ vec_capacity ends.old }
-    ensures ended { AreOutputsEnded (entries_view declared.now.variables.now.entries) (names_in declared.now.names.now)
-        (shapes_of shapes.now) (R.objects results.now) (has settled.now) no_entries (outputs_in rooms.entry.items) ends.new.items (outputs_of result.entries) }
-    ensures stored { IsTable (outputs_of result.entries) }
-{
-    let kept = BTreeMap::new(alloc);
-    renew_outputs(alloc, declared, shapes, rooms, settled, results, kept, ends)
 }
 
 /// What comes of one output, by the places of what it names.

@@ -47,7 +47,7 @@ fn is_null(value: &Value) -> bool
     matches!(value, Value::Null)
 }
 
-/// The entries of a prior state's outputs that are still declared, for `end_outputs`. They have to be had before the first
+/// The entries of a prior state's outputs that are still declared, for `renew_outputs`. They have to be had before the first
 /// call of a provider.
 ///
 /// # Errors

@@ -13,7 +13,7 @@ pub mod laws;
 mod rooms;
 mod settling;
 
-pub use ending::{end_outputs, renew_outputs};
+pub use ending::renew_outputs;
 pub use ends::OutputEnd;
 pub use keeping::kept_outputs;
 pub use rooms::{OutputRoom, rooms_for_outputs};

@@ -53,12 +53,7 @@ fn is_settled(declared: &Declarations, good: &[bool], settled: &[bool], place: u
 pub(crate) fn all_settled(settled: &[bool], places: &[usize]) -> bool
     ensures { result ≡ all_that_are (seen_by (has settled.now) places.now) }
 {
-    for place in places {
-        if !contains(settled, *place) {
-            return false;
-        }
-    }
-    true
+    places.iter().all(|place| contains(settled, *place))
 }
 
 /// Whether a place is marked.

@@ -15,20 +15,11 @@ use Rattle.tf_outputs.proofs.ending.renew_outputs.Goals as goal
 
 pub loop-room-init : goal.loop-room-init
 loop-room-init g c =
-    let variables = entries_view c.args.declared.now.variables.now.entries in
-    let names = names_in c.args.declared.now.names.now in
-    let shapes = shapes_of c.args.shapes.now in
-    let objects = g.R.Results.objects c.args.results.now in
-    let settled = has c.args.settled.now in
-    let all = outputs_in c.args.rooms.items in
     let given = c.into_iter-room-iterator.ensures.into_iter_gives.0 in
-    let kept = outputs_of c.args.kept.entries in
     record {
-      ended =
-          subst (λ (rs : List OutputRoom). EndsWith variables names shapes objects settled kept all (outputs_in rs) c.args.ends.now.items kept) (sym given)
-          (ends_start variables names shapes objects settled kept all c.args.ends.now.items c.requires.none);
+      ended = ends_start _ _ _ _ _ _ _ _ _ (ap outputs_in given) c.requires.none;
       stored = λ table. table;
-      places = subst (HavePlaces names) (sym given) c.requires.places;
+      places = subst (HavePlaces (names_in c.args.declared.now.names.now)) (sym given) c.requires.places;
       room = omega (arith, ap length given, ap length c.requires.none, c.requires.room);
     }
 
