@@ -67,12 +67,12 @@ next_is stage variables names kept standings p local solves h same =
     ∙ ap (where_all (all_stand (seen_by standings (directly_before names p)))) stood
     ∙ sym (all_seen expressions_local stage variables names standings local solves p h)
 
-stand_same : (kept : List Standing) (p : ℕ) (s : Standing) → p < length kept → standings_of (set kept p s) p ≡ standing_of s
+pub stand_same : (kept : List Standing) (p : ℕ) (s : Standing) → p < length kept → standings_of (set kept p s) p ≡ standing_of s
 stand_same kept p s h =
     let inside : p < length (map standing_of kept) = rw (length-map kept standing_of) h in
     ap (λ xs. get_or xs p None) (map-set standing_of kept p s) ∙ get_or-set_same (map standing_of kept) p (standing_of s) None inside
 
-stand_other : (kept : List Standing) (p n : ℕ) (s : Standing) → n ≢ p → standings_of (set kept p s) n ≡ standings_of kept n
+pub stand_other : (kept : List Standing) (p n : ℕ) (s : Standing) → n ≢ p → standings_of (set kept p s) n ≡ standings_of kept n
 stand_other kept p n s h = ap (λ xs. get_or xs n None) (map-set standing_of kept p s) ∙ get_or-set_other (map standing_of kept) p n (standing_of s) None h
 
 pub chosen : (b : Bool) (x y : StandingView) → b ≡ true → ◌≡◌ {A = StandingView} (if b then x else y) x
