@@ -9,7 +9,7 @@ use Rattle.std.specs.Prelude.{option_and_then}
 use Rattle.std.specs.Ordering.{match_ordering, ordering_reverse}
 use Rattle.serde_json.specs.Data.{Data, null, boolean, number, string, array, object}
 use Rattle.tf_address.specs.Label.{label_cmp}
-use Rattle.tf_config.proofs.BlockLaws.{blocks_in_order, object_keeps}
+use Rattle.tf_config.proofs.BlockLaws.{blocks_in_order, object_keeps, put_all}
 use Rattle.tf_config.specs.Config.{Blocks, VariableBody, address_cmp, block_with, names_in, plain_config, plain_variable, put_block, put_variable, variable_with}
 use Rattle.tf_config.specs.Configuration.{AddsInVariable, AddsOfSection, AddsOutput, AddsResource, AddsSection, AddsType, AddsVariable, AddsVariableProperty, BuildsFrom, IsConfiguration}
 use Rattle.tf_config.specs.Words.{is_comment, is_type_name, section_of, variable_property_of}
@@ -38,19 +38,9 @@ IsNoLocal b = ¬ (b.label.type_name ≡ codes "local")
 no_type : (type_name : List ℕ) → is_type_name type_name ≡ true → ¬ (type_name ≡ codes "local")
 no_type type_name h same = let yes : is_type_name (codes "local") ≡ true = sym (ap is_type_name same) ∙ h in let no : is_type_name (codes "local") ≡ false = refl in absurd (cc)
 
-put_at : (o : Ordering) (block c : BlockView) (cs : Blocks) → IsNoLocal block → AllByRecursion IsNoLocal (c ∷ cs) → AllByRecursion IsNoLocal (put_block block cs)
-    → AllByRecursion IsNoLocal (match_ordering o (block ∷ c ∷ cs) (record block { label = c.label } ∷ cs) (c ∷ put_block block cs))
-put_at Less block c cs h all more = (h, all)
-put_at Equal block c cs h all more = all
-put_at Greater block c cs h all more = (all.0, more)
-
-put_no_local : (block : BlockView) (cs : Blocks) → IsNoLocal block → AllByRecursion IsNoLocal cs → AllByRecursion IsNoLocal (put_block block cs)
-put_no_local block [] h all = (h, tt)
-put_no_local block (c ∷ cs) h all = put_at (address_cmp block c) block c cs h all (put_no_local block cs h all.1)
-
 resource_keeps : (type_name : List ℕ) → is_type_name type_name ≡ true → (k : List ℕ) (d : Data) (a b : Blocks) → AddsResource type_name k d a b → AllByRecursion IsNoLocal a → AllByRecursion IsNoLocal b
 resource_keeps type_name named k d a b h all =
-    subst (AllByRecursion IsNoLocal) h.1.2 (put_no_local (block_with (record { type_name = type_name; name = k }) h.1.0) a (no_type type_name named) all)
+    subst (AllByRecursion IsNoLocal) h.1.2 (put_all (λ l. ¬ (l.type_name ≡ codes "local")) (block_with (record { type_name = type_name; name = k }) h.1.0) a (no_type type_name named) all)
 
 type_keeps : (k : List ℕ) (d : Data) (a b : Blocks) → AddsType k d a b → AllByRecursion IsNoLocal a → AllByRecursion IsNoLocal b
 type_keeps k d a b h all = object_keeps (AddsResource k) (AllByRecursion IsNoLocal) (resource_keeps k h.0) d a b h.1 all
