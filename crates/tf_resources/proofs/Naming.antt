@@ -66,7 +66,7 @@ named-within all text n e = by_address all (named_address text) n e
 
 -- ---- what lists made of lists have
 
-in_map : {A B : Type 0} (f : A → B) (xs : List A) (y : B) → Contains (map f xs) y → (x : A) × Contains xs x × (f x ≡ y)
+pub in_map : {A B : Type 0} (f : A → B) (xs : List A) (y : B) → Contains (map f xs) y → (x : A) × Contains xs x × (f x ≡ y)
 in_map f [] y c = absurd (omega (arith, c.1))
 in_map f (x ∷ xs) y c = elim (contains_cases y (f x) (map f xs) c) [
   | inl here ↦ (x, contains_head x x xs refl, here)
