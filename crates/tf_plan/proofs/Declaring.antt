@@ -1,5 +1,5 @@
 -- What is refused of names, outputs and resources, by the stage that refuses it.
-use Rattle.std.proofs.Common.{◌≤◌, inl, inr, ℕ, List, length, subst}
+use Rattle.std.proofs.Common.{◌≡◌, ◌≤◌, inl, inr, ℕ, List, [], length, subst}
 use Rattle.tf_action_data.specs.Action.{ActionView}
 use Rattle.tf_config_data.specs.Names.{NameView}
 use Rattle.tf_environment.specs.Shape.{ShapeView}
@@ -15,6 +15,10 @@ use Rattle.tf_syntax.specs.ExprTree as expr
 use Rattle.tf_value.specs.Tree.{Entries}
 
 module _ (ms : List Meaning) (resources : List ResourceView) (variables : Entries) (names : List NameView) (outputs : expr.Entries) (shapes : ℕ → ShapeView) (instances : AreInstances variables names shapes) where
+  still : (planned : PlannedView) (tolds : List Told) → planned.refusals ≡ tolds → IsPlanned ms resources variables names outputs shapes planned
+      → IsPlanned ms resources variables names outputs shapes (record { actions = planned.actions; refusals = tolds })
+  still planned tolds e is = subst (IsPlanned ms resources variables names outputs shapes) (λ i. record { actions = planned.actions; refusals = e i }) is
+
   refused-in : (tolds : List Told) (planned : PlannedView) → IsPlanned ms resources variables names outputs shapes planned → AreRefusedIn planned tolds → AreUnplanned ms resources variables names outputs tolds
   refused-in tolds planned is (inl h) =
       inl
@@ -22,7 +26,7 @@ module _ (ms : List Meaning) (resources : List ResourceView) (variables : Entrie
         shapes = shapes;
         actions = planned.actions;
         instances = instances;
-        planned = subst (IsPlanned ms resources variables names outputs shapes) (λ i. record { actions = planned.actions; refusals = h.1 i }) is;
+        planned = still planned tolds h.1 is;
         some = h.0;
       })
   refused-in tolds planned is (inr h) =
@@ -32,7 +36,7 @@ module _ (ms : List Meaning) (resources : List ResourceView) (variables : Entrie
         shapes = shapes;
         actions = planned.actions;
         instances = instances;
-        planned = subst (IsPlanned ms resources variables names outputs shapes) (λ i. record { actions = planned.actions; refusals = h.0 i }) is;
+        planned = still planned [] h.0 is;
         many = h.1;
         refused = h.2;
       }))

@@ -7,6 +7,7 @@ use Rattle.std.specs.Prelude.{Contains, slice_get}
 use Rattle.std.proofs.lemmas.List.Elements.{Contains-append_cases}
 use Rattle.std.proofs.lemmas.Option.{same_Some}
 use Rattle.tf_graph.proofs.Edges.{contains_cases, contains_head, contains_tail}
+pub use Rattle.tf_resources.proofs.Naming.{in_map, to_map}
 
 -- no element is one of those behind it
 abbrev pub AreDistinct : {A : Type 0} → List A → Type 0
@@ -19,20 +20,6 @@ pub at-contained : {A : Type 0} (xs : List A) (i : ℕ) (x : A) → slice_get xs
 at-contained [] i x e = absurd (cc)
 at-contained (y ∷ xs) zero x e = contains_head x y xs (same_Some y x e)
 at-contained (y ∷ xs) (suc i) x e = contains_tail x y xs (at-contained xs i x e)
-
-pub in_map : {A B : Type 0} (f : A → B) (xs : List A) (y : B) → Contains (map f xs) y → (x : A) × Contains xs x × (f x ≡ y)
-in_map f [] y c = absurd (omega (arith, c.1))
-in_map f (x ∷ xs) y c = elim (contains_cases y (f x) (map f xs) c) [
-  | inl here ↦ (x, contains_head x x xs refl, here)
-  | inr rest ↦ let later = in_map f xs y rest in (later.0, contains_tail later.0 x xs later.1, later.2)
-]
-
-pub to_map : {A B : Type 0} (f : A → B) (xs : List A) (x : A) → Contains xs x → Contains (map f xs) (f x)
-to_map f [] x c = absurd (omega (arith, c.1))
-to_map f (y ∷ xs) x c = elim (contains_cases x y xs c) [
-  | inl here ↦ contains_head (f x) (f y) (map f xs) (ap f here)
-  | inr rest ↦ contains_tail (f x) (f y) (map f xs) (to_map f xs x rest)
-]
 
 pub in_flat_map : {A B : Type 0} (f : A → List B) (xs : List A) (y : B) → Contains (flat_map f xs) y → (x : A) × Contains xs x × Contains (f x) y
 in_flat_map f [] y c = absurd (omega (arith, c.1))

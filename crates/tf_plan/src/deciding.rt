@@ -1,10 +1,8 @@
 //! What is planned of the instances of a configuration and a prior state together.
 
 ghost use Rattle.std.specs.Prelude.{◌≡◌, ◌<◌, ℕ, IfOk, length, map};
-ghost use Rattle.tf_deciding.specs.Deciding.{decided_of};
 ghost use Rattle.tf_deciding.specs.Stage.{deciding};
-ghost use Rattle.tf_deciding.specs.Whole.{decided};
-ghost use Rattle.tf_plan_data.specs.Words.{AreStandings, numbered, shapes_of, standings_of, StandingView};
+ghost use Rattle.tf_plan_data.specs.Words.{AreStandings, shapes_of, standings_of, StandingView};
 ghost use Rattle.tf_plan.specs.Given.{IsGiven, names_given, outputs_given, resources_given, variables_given};
 ghost use Rattle.tf_plan.specs.Planned.{IsPlanned, planned_in, planned_of};
 
@@ -103,26 +101,6 @@ fn plan_places(
     ensures { IfOk result (λ planned. planned_of planned ≡ planned_in (map (λ b. meaning b) providers.now) (resources_given given.now) (variables_given given.now) (names_given given.now) (outputs_given given.now)
         (shapes_of shapes.now) places.now (standings_of kept.now)) }
 {
-    let decided = decide_places(alloc, given, shapes, providers, kept, places)?;
-    let Decided { actions, refusals } = decided;
-    let mut refusals = refusals_of(alloc, refusals)?;
-    add_outputs(alloc, &mut refusals, given.declared, kept, given.outputs)?;
-    Ok(Planned { actions, refusals })
-}
-
-/// Decides the instances of what stands at these places, in their order.
-fn decide_places(
-    alloc: Global,
-    given: &Given,
-    shapes: &[Shape],
-    providers: &[Box<dyn Provider + Sync>],
-    kept: &[Standing],
-    places: &[usize],
-) -> Result<Decided, AllocError>
-    requires { IsGiven given.now }
-    ensures { IfOk result (λ d. decided_of d ≡ decided (map (λ b. meaning b) providers.now) (resources_given given.now) (variables_given given.now) (names_given given.now)
-        (shapes_of shapes.now) (standings_of kept.now) (numbered (names_given given.now) (resources_given given.now)) places.now) }
-{
     let stage = Deciding {
         shapes,
         objects: DecidedObjects {
@@ -130,5 +108,9 @@ fn decide_places(
             providers,
         },
     };
-    decide_all(alloc, &stage, given.declared, kept, given.numbering, places)
+    let decided = decide_all(alloc, &stage, given.declared, kept, given.numbering, places)?;
+    let Decided { actions, refusals } = decided;
+    let mut refusals = refusals_of(alloc, refusals)?;
+    add_outputs(alloc, &mut refusals, given.declared, kept, given.outputs)?;
+    Ok(Planned { actions, refusals })
 }
