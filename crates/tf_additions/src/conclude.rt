@@ -1,6 +1,6 @@
 //! What came of an action becomes a part of the report, without taking memory.
 
-ghost use Rattle.std.specs.Prelude.{◌≡◌, true, None, Option, Some, codes, map, option_map, string_bytes, IfSome, IsSome};
+ghost use Rattle.std.specs.Prelude.{◌≡◌, ◌≤◌, true, None, Option, Some, length, map, option_map, string_bytes, IfSome, IsSome};
 ghost use Rattle.tf_outcome.specs.Words.{Answer, answered, Asked, asked, done_or_skipped, fault_message, has_stored_attributes, instance_fault_of, label_of, SchemaView, tree_of, verdict_on, with_nulls};
 ghost use Rattle.tf_protocol.specs.declared.request.Op.TheVariants.{Create};
 ghost use Rattle.tf_state.specs.Valid.{IsAttributes};
@@ -36,9 +36,9 @@ pub fn conclude<'p>(
     match ended {
         None => nothing(room),
         Some(Ended::Skipped) => nothing(room),
-        Some(Ended::NotAsked) => want_of_memory(room),
-        Some(Ended::NotServed) => want_of_memory(room),
-        Some(Ended::Left) => left(room),
+        Some(Ended::NotAsked) => not_called(room, 26, "no memory"),
+        Some(Ended::NotServed) => not_called(room, 26, "no memory"),
+        Some(Ended::Left) => not_called(room, 27, "left"),
         Some(Ended::Faulted(faulted)) => fault(room, faulted),
         Some(Ended::Called(judged)) => {
             match schema_for(providers, judged.asking.request.type_name.as_str()) {
@@ -61,11 +61,12 @@ fn nothing<'p>(room: Room<'p>) -> Addition<'p>
     }
 }
 
-/// What is told where there was no memory.
-fn want_of_memory<'p>(room: Room<'p>) -> Addition<'p>
+/// What is told of an action that wasn't called, and why.
+fn not_called<'p>(room: Room<'p>, code: u8, reason: &str) -> Addition<'p>
+    requires { length reason.now ≤ 15 }
     ensures change { change_of result.change ≡ change_by (room_head room.entry).label (room_head room.entry).target nothing unchanged }
     ensures diagnostic { option_map diagnostic_of result.diagnostic
-        ≡ Some (record { code = 26; place = (room_head room.entry).place; verb = Some room.entry.op; message = codes "no memory" }) }
+        ≡ Some (record { code = code; place = (room_head room.entry).place; verb = Some room.entry.op; message = reason.now }) }
 {
     let Room {
         place,
@@ -74,30 +75,10 @@ fn want_of_memory<'p>(room: Room<'p>) -> Addition<'p>
         target,
         mut message,
     } = room;
-    message.push_str("no memory").unwrap();
+    message.push_str(reason).unwrap();
     Addition {
         change: unchanged(label, target),
-        diagnostic: told(place, op, Some((26, message))),
-    }
-}
-
-/// What is told of an action that was left because of a stop.
-fn left<'p>(room: Room<'p>) -> Addition<'p>
-    ensures change { change_of result.change ≡ change_by (room_head room.entry).label (room_head room.entry).target nothing unchanged }
-    ensures diagnostic { option_map diagnostic_of result.diagnostic
-        ≡ Some (record { code = 27; place = (room_head room.entry).place; verb = Some room.entry.op; message = codes "left" }) }
-{
-    let Room {
-        place,
-        op,
-        label,
-        target,
-        mut message,
-    } = room;
-    message.push_str("left").unwrap();
-    Addition {
-        change: unchanged(label, target),
-        diagnostic: told(place, op, Some((27, message))),
+        diagnostic: told(place, op, Some((code, message))),
     }
 }
 
@@ -108,16 +89,9 @@ fn fault<'p>(room: Room<'p>, faulted: Faulted) -> Addition<'p>
         ≡ Some (record { code = 24; place = (room_head room.entry).place; verb = Some room.entry.op; message = fault_message (instance_fault_of faulted.fault) }) }
 {
     let Faulted { message, .. } = faulted;
-    let Room {
-        place,
-        op,
-        label,
-        target,
-        ..
-    } = room;
     Addition {
-        change: unchanged(label, target),
-        diagnostic: told(place, op, Some((24, message))),
+        change: unchanged(room.label, room.target),
+        diagnostic: told(room.place, room.op, Some((24, message))),
     }
 }
 

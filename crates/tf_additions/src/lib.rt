@@ -19,5 +19,5 @@ mod telling;
 pub use dependencies::dependencies_of;
 pub use diagnostic::Diagnostic;
 pub use gather::{Changes, add, conclude_all};
-pub use rooming::{is_late, rooms_for};
+pub use rooming::{is_late, op_of, rooms_for};
 pub use rooms::{Room, Target};

@@ -83,7 +83,7 @@ fn with_key(alloc: Global, address: &str, key: &str) -> Result<String, AllocErro
 }
 
 /// What the provider of an action is asked to do.
-fn op_of(step: &Step) -> Op
+pub fn op_of(step: &Step) -> Op
     ensures { result ≡ op_of (step_of step.now) }
 {
     match step {
