@@ -1,5 +1,5 @@
 -- How many numbers stand in a list of different numbers.
-use Rattle.std.proofs.Common.{◌≡◌, ◌≢◌, ◌<◌, ◌≤◌, ℕ, zero, suc, Bool, true, false, List, [], ◌∷◌, length, refl, arith, inl, inr, cond}
+use Rattle.std.proofs.Common.{◌≡◌, ◌≢◌, ◌<◌, ◌≤◌, ℕ, zero, suc, Bool, true, false, List, [], ◌∷◌, length, refl, subst, arith, inl, inr, cond}
 use Rattle.std.specs.Prelude.{nat_eq, slice_index}
 use Rattle.std.specs.List.{list_any}
 use Rattle.std.proofs.lemmas.Bool.{cases_eq}
@@ -25,10 +25,8 @@ how_many-lt q p zero e less lt on off = absurd (omega arith)
 how_many-lt q p (suc n) e less lt on off =
     elim (cases_eq e n) [
       | inl is ↦
-          let on' : p n ≡ true = rw (← is) on in
-          let off' : q n ≡ false = rw (← is) off in
           let r = how_many-le q p n less in
-          rw (on', off') (omega arith)
+          rw (subst (λ i. p i ≡ true) is on, subst (λ i. q i ≡ false) is off) (omega arith)
       | inr ne ↦
           let r = how_many-lt q p n e less (omega arith) on off in
           let here = at_most (q n) (p n) (less n) in omega arith

@@ -2,11 +2,11 @@
 
 ghost use Rattle.std.specs.List.{AllByRecursion};
 ghost use Rattle.std.specs.Prelude.{◌≡◌, ◌↔◌, IsTrue, false, map};
-ghost use Rattle.tf_outcome.specs.Words.{action_of, IsOfAction, op_at, step_of};
-ghost use Rattle.tf_outcome.specs.Asked.{op_of};
+ghost use Rattle.tf_outcome.specs.Words.{action_of, IsOfAction, op_at};
 
+use tf_additions::op_of;
 use tf_journal::Entry;
-use tf_plan_data::{Action, Step};
+use tf_plan_data::Action;
 use tf_protocol::Op;
 
 /// Whether each entry says what its action has its provider do.
@@ -37,16 +37,5 @@ fn op_at(actions: &[Action], place: usize) -> Option<Op>
     match actions.get(place) {
         Some(action) => Some(op_of(&action.step)),
         None => None,
-    }
-}
-
-/// What a provider is to do for a step.
-fn op_of(step: &Step) -> Op
-    ensures { result ≡ op_of (step_of step.now) }
-{
-    match step {
-        Step::Create(_) | Step::Replacement(_, _) => Op::Create,
-        Step::Update(_, _, _) => Op::Update,
-        Step::Replaced(_) | Step::Destroy(_) | Step::DestroyDeposed(_, _) => Op::Destroy,
     }
 }
