@@ -120,7 +120,7 @@ applies_all ms plan P (a ∷ actions) (k ∷ heads) (d ∷ done) are h =
     one_apply P k.label a.label k.target (applied_of_done ms k.op d) (left_of_done ms d) (changes_in ms heads done) (is_apply a.step) (given_with plan a (key_in k.target)) (object_at a.key (deposed_key a.step))
     are.0.target.same are.0.label h.0 (applies_all ms plan P actions heads done are.1 h.1)
 
-apply_is_current : (s : StepView) → is_apply s ≡ true → deposed_key s ≡ None
+pub apply_is_current : (s : StepView) → is_apply s ≡ true → deposed_key s ≡ None
 apply_is_current (create t) h = refl
 apply_is_current (update p t ns) h = refl
 apply_is_current (replacement t ns) h = refl
