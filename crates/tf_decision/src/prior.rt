@@ -2,9 +2,8 @@
 
 ghost use Rattle.std.specs.Prelude.{◌≡◌, fold, map, IfOk, option_map};
 ghost use Rattle.tf_protocol.specs.Schema.{attribute_of};
-ghost use Rattle.tf_protocol.specs.Verdict.{is_allowed};
 ghost use Rattle.tf_state_data.specs.Record.{record_of};
-ghost use Rattle.tf_value.specs.Tree.{tree_of, entries_view};
+ghost use Rattle.tf_value.specs.Tree.{entries_view};
 ghost use Rattle.tf_decision.specs.Answer.{prior_fault_of};
 ghost use Rattle.tf_decision.specs.Names.{first_name, sooner_name};
 ghost use Rattle.tf_decision.specs.Prior.{all_misfits, first_unfit, has_allowed, misfits, record_fault, strays};
@@ -12,7 +11,7 @@ ghost use Rattle.tf_decision.specs.Prior.{all_misfits, first_unfit, has_allowed,
 use crate::names::sooner;
 use std::alloc::{AllocError, Global};
 use std::collections::BTreeMap;
-use tf_protocol::{Attribute, Kind, Mode, Schema};
+use tf_protocol::{Attribute, Schema, is_allowed};
 use tf_state_data::Record;
 use tf_value::{Value, find};
 
@@ -118,20 +117,5 @@ fn has_allowed(entries: &BTreeMap<String, Value>, attribute: &Attribute) -> bool
     match find(entries, attribute.name.as_str()) {
         Some(value) => is_allowed(value, attribute),
         None => false,
-    }
-}
-
-/// Whether a value is null where it may be, or of the attribute's kind.
-fn is_allowed(value: &Value, attribute: &Attribute) -> bool
-    ensures { result ≡ is_allowed (attribute_of attribute.now) (tree_of value.now) }
-{
-    match value {
-        Value::Null => attribute.mode != Mode::Required,
-        Value::Text(_) => attribute.kind == Kind::String || attribute.kind == Kind::Any,
-        Value::Int(_) => attribute.kind == Kind::Number || attribute.kind == Kind::Any,
-        Value::Bool(_) => attribute.kind == Kind::Bool || attribute.kind == Kind::Any,
-        Value::List(_) | Value::Map(_) | Value::Set(_) | Value::Unknown => {
-            attribute.kind == Kind::Any
-        }
     }
 }

@@ -10,7 +10,7 @@ ghost use Rattle.tf_names.specs.Table.{names_in};
 
 use crate::table::Names;
 use std::alloc::{AllocError, Global};
-use tf_graph::{Closure, Graph, GraphFault};
+use tf_graph::{Closure, Graph};
 
 /// Which name of a configuration needs which, worked out once. Names stand as their places.
 #[derive(Drop)]
@@ -31,7 +31,7 @@ impl Dependence {
         ensures { IfOk result (λ d. IsDependence (names_in names.now) d) }
     {
         let edges = edges_of(alloc, names)?;
-        let graph = graph_of(alloc, names.len(), edges.as_slice())?;
+        let graph = Graph::of(alloc, names.len(), edges.as_slice())?;
         let order = graph.order(alloc)?;
         let table = graph.closure(alloc)?;
         Ok(Dependence {
@@ -149,17 +149,4 @@ fn add_edges(
         edges.push((*source, target))?;
     }
     Ok(())
-}
-
-/// The graph of as many names.
-fn graph_of(alloc: Global, count: usize, edges: &[(usize, usize)]) -> Result<Graph, AllocError>
-    requires few { count ≤ 8000 }
-    requires within { AllByRecursion (λ e. (e.0 < count) × (e.1 < count)) edges.now }
-    ensures { IfOk result (λ g. (g.nodes ≡ count) × (g.edges ≡ edges.now)) }
-{
-    match Graph::new(alloc, count, edges) {
-        Ok(graph) => Ok(graph),
-        Err(GraphFault::OutOfMemory) => Err(AllocError),
-        Err(GraphFault::TooMany | GraphFault::OutOfRange) => unreachable!(),
-    }
 }
