@@ -25,22 +25,25 @@ pub struct Applied {
 pub fn state_to_write(answer: Result<Applied, Refused>) -> Option<String>
     ensures { option_map string_bytes result ≡ to_write answer }
 {
-    let Ok(applied) = answer else {
-        return None;
-    };
-    let Applied {
-        plan: _,
-        walked,
-        state,
-        changed,
-    } = applied;
-    let Report {
-        state: _,
-        outcomes: _,
-        diagnostics: _,
-        journal: _,
-        excused: _,
-        good: _,
-    } = walked.into_report();
-    if changed { state.ok() } else { None }
+    match answer {
+        Ok(
+            Applied {
+                plan: _,
+                walked,
+                state,
+                changed,
+            },
+        ) => {
+            let Report {
+                state: _,
+                outcomes: _,
+                diagnostics: _,
+                journal: _,
+                excused: _,
+                good: _,
+            } = walked.into_report();
+            if changed { state.ok() } else { None }
+        }
+        Err(_) => None,
+    }
 }

@@ -11,7 +11,7 @@ ghost use Rattle.tf_state_data.specs.State.{state_of};
 ghost use Rattle.tf_state.specs.Text.{state_text};
 
 use crate::applied::Applied;
-use crate::planning::{one_refusal, plan_of_texts};
+use crate::planning::{Given, one_refusal, plan_of_texts};
 use std::alloc::Global;
 use std::sync::Wait;
 use std::thread::Threads;
@@ -46,7 +46,13 @@ pub fn apply_text<R: Threads + Wait + Sync>(
 {
     blocks_have_names();
     requests_exist();
-    let plan = plan_of_texts(alloc, config, vars, state, lineage, providers)?;
+    let given = Given {
+        config,
+        vars,
+        state,
+        lineage,
+    };
+    let plan = plan_of_texts(alloc, &given, providers)?;
     let text = plan_text(alloc, plan.actions.as_slice(), plan.late.as_slice())?;
     match run(rt, alloc, &plan, providers, workers, stop) {
         Ok(walked) => Ok(answer_of(alloc, text, plan.prior.serial(), walked)),

@@ -16,6 +16,15 @@ use tf_plan_text::plan_text as text_of_plan;
 use tf_provider::Provider;
 use tf_refusal::Refusal;
 
+/// The texts that the user gives: a configuration, the variables file and the prior state; and the lineage of a new state.
+#[derive(Clone, Copy)]
+pub struct Given<'a> {
+    pub config: &'a [u8],
+    pub vars: Option<&'a [u8]>,
+    pub state: Option<&'a [u8]>,
+    pub lineage: &'a str,
+}
+
 /// The text that `plan` prints for a configuration and a prior state. The variables have the values that the variables
 /// file and their defaults give; where no state is given, nothing exists yet.
 pub fn plan_text(
@@ -28,7 +37,13 @@ pub fn plan_text(
     ensures planned { IfOk result (λ text. IsPlanText (map (λ b. meaning b) providers.now) (the_texts config.now (option_map (λ s. s.now) vars.entry) (option_map (λ s. s.now) state.entry)) (string_bytes text)) }
     ensures refused { IfErr result (Tells (AreRefusals (map (λ b. meaning b) providers.now) (the_texts config.now (option_map (λ s. s.now) vars.entry) (option_map (λ s. s.now) state.entry)))) }
 {
-    let plan = plan_of_texts(alloc, config, vars, state, "", providers)?;
+    let given = Given {
+        config,
+        vars,
+        state,
+        lineage: "",
+    };
+    let plan = plan_of_texts(alloc, &given, providers)?;
     let text = text_of_plan(alloc, plan.actions.as_slice(), plan.late.as_slice())?;
     Ok(text)
 }
@@ -36,28 +51,24 @@ pub fn plan_text(
 /// The plan of a configuration beside a prior state, or beside the empty one of a lineage.
 pub fn plan_of_texts(
     alloc: Global,
-    config: &[u8],
-    vars: Option<&[u8]>,
-    state: Option<&[u8]>,
-    lineage: &str,
+    given: &Given<'_>,
     providers: &[Box<dyn Provider + Sync>],
 ) -> Result<Plan, Refused>
-    ensures planned { IfOk result (λ plan. IsPlanOf (map (λ b. meaning b) providers.now) (the_texts config.now (option_map (λ s. s.now) vars.entry) (option_map (λ s. s.now) state.entry)) lineage.now (plan_of plan)) }
+    ensures planned { IfOk result (λ plan. IsPlanOf (map (λ b. meaning b) providers.now) (the_texts given.now.config.now (option_map (λ s. s.now) given.now.vars) (option_map (λ s. s.now) given.now.state)) given.now.lineage.now (plan_of plan)) }
     ensures fits { IfOk result FitsTogether }
     ensures served { IfOk result (λ plan. AreServed (map (λ b. meaning b) providers.now) (map action_of plan.actions.items)) }
     ensures valid { IfOk result (λ plan. IsValid (state_of plan.prior)) }
-    ensures refused { IfErr result (Tells (AreRefusals (map (λ b. meaning b) providers.now) (the_texts config.now (option_map (λ s. s.now) vars.entry) (option_map (λ s. s.now) state.entry)))) }
+    ensures refused { IfErr result (Tells (AreRefusals (map (λ b. meaning b) providers.now) (the_texts given.now.config.now (option_map (λ s. s.now) given.now.vars) (option_map (λ s. s.now) given.now.state)))) }
 {
-    match read_texts(alloc, config, vars, state, lineage) {
-        Ok(inputs) => {
-            let Inputs {
+    match read_texts(alloc, given.config, given.vars, given.state, given.lineage) {
+        Ok(
+            Inputs {
                 config,
                 values,
                 dependence,
                 prior,
-            } = inputs;
-            plan(alloc, prior, config, values, dependence, providers)
-        }
+            },
+        ) => plan(alloc, prior, config, values, dependence, providers),
         Err(refusal) => Err(one_refusal(alloc, refusal)),
     }
 }

@@ -19,6 +19,9 @@ use tf_provider::Verdict;
 use tf_refusal::Refusal;
 use tf_report::{Diagnostic, Report, Walked};
 
+/// Whether something was printed.
+type Printed = Result<(), SaveFault>;
+
 /// Prints all that `apply` prints before it writes the state file, and answers the status so far: 1 where
 /// something is refused, 3 where the state has changed and there is no text of it, 2 where some action or output
 /// isn't good or the report is torn, else 0. Where a write to a writer fails, nothing more is written to it, and no
@@ -39,7 +42,7 @@ pub fn print<O: Write, E: Write>(
     answer: &Result<Applied, Refused>,
     out: &mut O,
     err: &mut E,
-) -> Result<(), SaveFault>
+) -> Printed
     ensures output { OnOk result (Appends (O.contents out.old) (O.contents out.new) (output_of answer.now)) }
     ensures errors { OnOk result (Appends (E.contents err.old) (E.contents err.new) (errors_of answer.now)) }
     ensures output_part { AppendsStart (O.contents out.old) (O.contents out.new) (output_of answer.now) }
@@ -72,11 +75,7 @@ fn status_of_applied(applied: &Applied) -> u8
     }
 }
 
-fn print_applied<O: Write, E: Write>(
-    applied: &Applied,
-    out: &mut O,
-    err: &mut E,
-) -> Result<(), SaveFault>
+fn print_applied<O: Write, E: Write>(applied: &Applied, out: &mut O, err: &mut E) -> Printed
     ensures output { OnOk result (Appends (O.contents out.old) (O.contents out.new) (applied_output applied.now)) }
     ensures errors { OnOk result (Appends (E.contents err.old) (E.contents err.new) (applied_errors applied.now)) }
     ensures output_part { AppendsStart (O.contents out.old) (O.contents out.new) (applied_output applied.now) }
@@ -92,11 +91,7 @@ fn print_applied<O: Write, E: Write>(
 }
 
 /// Prints the summary, where all that comes before it was printed.
-fn print_summary<O: Write>(
-    before: Result<(), SaveFault>,
-    report: &Report,
-    out: &mut O,
-) -> Result<(), SaveFault>
+fn print_summary<O: Write>(before: Printed, report: &Report, out: &mut O) -> Printed
     ensures whole { MatchResult before (λ _. OnOk result (Appends (O.contents out.old) (O.contents out.new) (report_summary report.now))) (λ _. IsErr result) }
     ensures part { MatchResult before (λ _. AppendsStart (O.contents out.old) (O.contents out.new) (report_summary report.now)) (λ _. O.contents out.new ≡ O.contents out.old) }
 {
@@ -106,11 +101,7 @@ fn print_summary<O: Write>(
 }
 
 /// Prints what is told behind the diagnostics, where these were printed.
-fn print_warnings<E: Write>(
-    before: Result<(), SaveFault>,
-    applied: &Applied,
-    err: &mut E,
-) -> Result<(), SaveFault>
+fn print_warnings<E: Write>(before: Printed, applied: &Applied, err: &mut E) -> Printed
     ensures whole { MatchResult before (λ _. OnOk result (Appends (E.contents err.old) (E.contents err.new) (warnings applied.now))) (λ _. IsErr result) }
     ensures part { MatchResult before (λ _. AppendsStart (E.contents err.old) (E.contents err.new) (warnings applied.now)) (λ _. E.contents err.new ≡ E.contents err.old) }
 {
@@ -127,7 +118,7 @@ fn print_counts<O: Write>(
     changed: u32,
     destroyed: u32,
     out: &mut O,
-) -> Result<(), SaveFault>
+) -> Printed
     ensures whole { OnOk result (Appends (O.contents out.old) (O.contents out.new) (counts opening.now added changed destroyed)) }
     ensures part { AppendsStart (O.contents out.old) (O.contents out.new) (counts opening.now added changed destroyed) }
 {
@@ -146,7 +137,7 @@ fn print_counts<O: Write>(
     save_all(out, &texts)
 }
 
-fn print_diagnostics<E: Write>(diagnostics: &[Diagnostic], err: &mut E) -> Result<(), SaveFault>
+fn print_diagnostics<E: Write>(diagnostics: &[Diagnostic], err: &mut E) -> Printed
     ensures whole { OnOk result (Appends (E.contents err.old) (E.contents err.new) (diagnostic_lines diagnostics.now)) }
     ensures part { AppendsStart (E.contents err.old) (E.contents err.new) (diagnostic_lines diagnostics.now) }
 {
@@ -156,7 +147,7 @@ fn print_diagnostics<E: Write>(diagnostics: &[Diagnostic], err: &mut E) -> Resul
     Ok(())
 }
 
-fn print_diagnostic<E: Write>(diagnostic: &Diagnostic, err: &mut E) -> Result<(), SaveFault>
+fn print_diagnostic<E: Write>(diagnostic: &Diagnostic, err: &mut E) -> Printed
     ensures whole { OnOk result (Appends (E.contents err.old) (E.contents err.new) (diagnostic_line (diagnostic_of diagnostic.now))) }
     ensures part { AppendsStart (E.contents err.old) (E.contents err.new) (diagnostic_line (diagnostic_of diagnostic.now)) }
 {
@@ -172,7 +163,7 @@ fn print_error<'a, E: Write>(
     verb: &'a str,
     message: &'a str,
     err: &mut E,
-) -> Result<(), SaveFault>
+) -> Printed
     ensures whole { OnOk result (Appends (E.contents err.old) (E.contents err.new) (error_line code place.now verb.now message.now)) }
     ensures part { AppendsStart (E.contents err.old) (E.contents err.new) (error_line code place.now verb.now message.now) }
 {
@@ -191,7 +182,7 @@ fn print_error<'a, E: Write>(
 }
 
 /// Prints each refusal in a line.
-pub fn print_refused<E: Write>(refused: &Refused, err: &mut E) -> Result<(), SaveFault>
+pub fn print_refused<E: Write>(refused: &Refused, err: &mut E) -> Printed
     ensures whole { OnOk result (Appends (E.contents err.old) (E.contents err.new) (refused_errors refused.now)) }
     ensures part { RefusesStart (E.contents err.old) (E.contents err.new) refused.now }
 {
@@ -201,7 +192,7 @@ pub fn print_refused<E: Write>(refused: &Refused, err: &mut E) -> Result<(), Sav
     }
 }
 
-fn print_refusals<E: Write>(refusals: &[Refusal], err: &mut E) -> Result<(), SaveFault>
+fn print_refusals<E: Write>(refusals: &[Refusal], err: &mut E) -> Printed
     ensures { OnOk result (Appends (E.contents err.old) (E.contents err.new) (flat_map (λ r. refusal_line (told r)) refusals.now)) }
 {
     for refusal in refusals {

@@ -19,12 +19,12 @@ written-back : {A : Type 0} (new ys : List A) (n : ℕ) → length new ≡ n →
 written-back new ys n e = subst (λ (k : ℕ). take k (new ++ ys) ≡ new) e (first-part new ys)
 
 -- a list for so many actions that was lent to be filled is then what was written
-pub taken-back : (new items : List (Option Ended)) (len nodes : ℕ) → length new ≡ nodes → items ≡ replicate nodes None → length items ≡ len → take len (new ++ drop (length new) items) ≡ new
+taken-back : (new items : List (Option Ended)) (len nodes : ℕ) → length new ≡ nodes → items ≡ replicate nodes None → length items ≡ len → take len (new ++ drop (length new) items) ≡ new
 taken-back new items len nodes sized start long =
     written-back new (drop (length new) items) len (sized ∙ (sym (ap length start ∙ length-replicate nodes None) ∙ long))
 
 -- ends that are true and that were found to fit do so
-pub fit-taken : (named ms : List Meaning) (other plan : PlanView) (order : Digraph) (new final seen : List (Option Ended)) → named ≡ ms → other ≡ plan → order ≡ plan.order
+fit-taken : (named ms : List Meaning) (other plan : PlanView) (order : Digraph) (new final seen : List (Option Ended)) → named ≡ ms → other ≡ plan → order ≡ plan.order
     → plan.order.nodes ≡ length plan.actions → length new ≡ plan.order.nodes → final ≡ new → seen ≡ final
     → ((n : ℕ) → IsTrueTo named other n (done_at (dones_of new) n)) → AreSkippedRightly order (dones_of seen) → FitTogether ms plan (dones_of final)
 fit-taken named ms other plan order new final seen is-ms is-plan is-order counted sized back same fits skips =
@@ -38,3 +38,10 @@ fit-taken named ms other plan order new final seen is-ms is-plan is-order counte
           let here = subst (λ (rs : List (Option Ended)). IsSkippedRightly order (dones_of rs) n) same (skips n (omega (arith, nodes, counted, below))) in
           subst (λ (d : Digraph). IsSkippedRightly d (dones_of final) n) is-order here;
     }
+
+-- so do those in a list for so many actions that was lent to be filled
+pub fit-lent : (named ms : List Meaning) (other plan : PlanView) (order : Digraph) (new items : List (Option Ended)) (len : ℕ) (seen : List (Option Ended)) → named ≡ ms → other ≡ plan → order ≡ plan.order
+    → plan.order.nodes ≡ length plan.actions → length new ≡ plan.order.nodes → items ≡ replicate plan.order.nodes None → length items ≡ len → seen ≡ take len (new ++ drop (length new) items)
+    → ((n : ℕ) → IsTrueTo named other n (done_at (dones_of new) n)) → AreSkippedRightly order (dones_of seen) → FitTogether ms plan (dones_of (take len (new ++ drop (length new) items)))
+fit-lent named ms other plan order new items len seen is-ms is-plan is-order counted sized start long same fits skips =
+    fit-taken named ms other plan order new (take len (new ++ drop (length new) items)) seen is-ms is-plan is-order counted sized (taken-back new items len plan.order.nodes sized start long) same fits skips

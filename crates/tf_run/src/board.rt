@@ -1,10 +1,10 @@
 //! Where what comes of actions is kept.
 
-ghost use Rattle.std.specs.Prelude.{◌≡◌, ◌≤◌, [], None, IfOk, replicate, vec_capacity};
+ghost use Rattle.std.specs.Prelude.{◌≡◌, None, IfOk, replicate};
 
 use std::alloc::{AllocError, Global};
 use tf_cells::{Cells, Naming};
-use tf_outcome::{Ended, Judged};
+use tf_outcome::{Ended, Judged, not_ended};
 
 /// The cells of some actions, and the list into which they are taken out. What came of an action may not be let go, so
 /// neither may this.
@@ -52,28 +52,16 @@ impl<N: Naming> Board<N> {
     }
 }
 
-/// A list of so many actions, none of which has ended, in an empty one with room for them.
-fn not_ended(mut results: Vec<Option<Ended>>, count: usize) -> Vec<Option<Ended>>
-    requires empty { results.items ≡ [] }
-    requires room { count ≤ vec_capacity results }
-    ensures { result.items ≡ replicate count None }
-{
-    for _ in 0..count {
-        results.push_reserved(None);
-    }
-    results
-}
-
 /// Forgets what came of an action.
 fn forget(ended: Ended) {
     match ended {
-        Ended::Called(judged) => {
-            let Judged {
+        Ended::Called(
+            Judged {
                 asking: _,
                 reply: _,
                 verdict: _,
-            } = judged;
-        }
+            },
+        ) => {}
         Ended::Faulted(_) => {}
         Ended::Skipped | Ended::NotAsked | Ended::NotServed | Ended::Left => {}
     }

@@ -134,17 +134,15 @@ fn carry_out<N: Naming + Send + Sync, R: Threads + Wait + Sync>(
         names,
         claims,
         countdown,
-        team,
+        team: Team {
+            desk,
+            others,
+            thieves,
+        },
         journal,
-        board,
+        board: Board { cells, results },
         furnished,
     } = prepared;
-    let Team {
-        desk,
-        others,
-        thieves,
-    } = team;
-    let Board { cells, results } = board;
     let journal = Mutex::new(Log::new(journal));
     let progress = Progress::new();
     let ground = Grounds {

@@ -10,7 +10,7 @@ use tf_cells::Naming;
 use tf_claim::Seat;
 use tf_hints::{Hints, Thief};
 use tf_provider::Provider;
-use tf_workers::end_action;
+use tf_workers::Workshop;
 
 /// Ends actions, one after another, until all actions have ended. Where there is nothing to do it waits for news.
 pub(crate) fn work<N: Naming, B: Ground<N>, R: Wait>(
@@ -24,6 +24,7 @@ pub(crate) fn work<N: Naming, B: Ground<N>, R: Wait>(
     requires seat { desk.seat.table ≡ walk.now.claims.now.table }
     ensures { result.table ≡ walk.now.claims.now.table }
 {
+    let worker = Worker { rt, walk, ground };
     let all = walk.claims.graph().nodes() as u64;
     // What may be claimed is found, though no contract says so. No worker waits before every action was given to one to look
     // at, which claims it if nothing stands before it. At any other action a worker has a hint that ended the last one before
@@ -35,7 +36,7 @@ pub(crate) fn work<N: Naming, B: Ground<N>, R: Wait>(
         if walk.progress.ended() >= all {
             break;
         }
-        if !go_on(rt, walk, ground, providers, &mut desk) {
+        if !worker.go_on(providers, &mut desk) {
             walk.progress.wait_for_news(rt, news);
         }
     }
@@ -48,149 +49,130 @@ pub(crate) fn work<N: Naming, B: Ground<N>, R: Wait>(
     seat
 }
 
-/// Ends an action that may be claimed, if there is one: by a hint of its own, or else the first in the list that no worker
-/// has looked at, or else by a hint of another worker.
-fn go_on<N: Naming, B: Ground<N>, R: Wait>(
-    rt: &R,
-    walk: &Walk<'_, N>,
-    ground: &B,
-    providers: &[Box<dyn Provider + Sync>],
-    desk: &mut Desk<N>,
-) -> bool
-    requires walk { IsOneWalk N.plan N.meanings (B.planned ground.now) (B.named ground.now) (B.count ground.now) walk.now.claims.now.graph (map (λ b. meaning b) providers.now) }
-    requires seat { desk.old.seat.table ≡ walk.now.claims.now.table }
-    ensures { desk.new.seat.table ≡ desk.old.seat.table }
-{
-    follow_own(rt, walk, ground, providers, desk)
-        || look_on(rt, walk, ground, providers, desk)
-        || follow_others(rt, walk, ground, providers, desk)
+/// What a worker works with, beside the providers and its desk.
+#[derive(Drop)]
+struct Worker<'a, 'w, N: Naming, B, R> {
+    rt: &'a R,
+    walk: &'a Walk<'w, N>,
+    ground: &'a B,
 }
 
-/// Ends an action by a hint of the worker's own. Hints at actions that can't be claimed are forgotten.
-fn follow_own<N: Naming, B: Ground<N>, R: Wait>(
-    rt: &R,
-    walk: &Walk<'_, N>,
-    ground: &B,
-    providers: &[Box<dyn Provider + Sync>],
-    desk: &mut Desk<N>,
-) -> bool
-    requires walk { IsOneWalk N.plan N.meanings (B.planned ground.now) (B.named ground.now) (B.count ground.now) walk.now.claims.now.graph (map (λ b. meaning b) providers.now) }
-    requires seat { desk.old.seat.table ≡ walk.now.claims.now.table }
-    ensures { desk.new.seat.table ≡ desk.old.seat.table }
-{
-    for _ in rt.forever() {
-        let Some(hint) = desk.hints.pop() else {
-            return false;
-        };
-        if end_if_free(rt, walk, ground, providers, desk, hint) {
-            return true;
-        }
+impl<N: Naming, B: Ground<N>, R: Wait> Worker<'_, '_, N, B, R> {
+    /// Ends an action that may be claimed, if there is one: by a hint of its own, or else the first in the list that no
+    /// worker has looked at, or else by a hint of another worker.
+    fn go_on(&self, providers: &[Box<dyn Provider + Sync>], desk: &mut Desk<N>) -> bool
+        requires walk { IsOneWalk N.plan N.meanings (B.planned self.now.ground.now) (B.named self.now.ground.now) (B.count self.now.ground.now) self.now.walk.now.claims.now.graph (map (λ b. meaning b) providers.now) }
+        requires seat { desk.old.seat.table ≡ self.now.walk.now.claims.now.table }
+        ensures { desk.new.seat.table ≡ desk.old.seat.table }
+    {
+        self.follow_own(providers, desk)
+            || self.look_on(providers, desk)
+            || self.follow_others(providers, desk)
     }
-    unreachable!()
-}
 
-/// Ends an action that can be claimed, of those that no worker has looked at. None is looked at twice, unless a hint is lost.
-/// So a worker that looks at one whose turn hasn't come passes it by: whoever ends the last action before it gives a hint
-/// at it.
-fn look_on<N: Naming, B: Ground<N>, R: Wait>(
-    rt: &R,
-    walk: &Walk<'_, N>,
-    ground: &B,
-    providers: &[Box<dyn Provider + Sync>],
-    desk: &mut Desk<N>,
-) -> bool
-    requires walk { IsOneWalk N.plan N.meanings (B.planned ground.now) (B.named ground.now) (B.count ground.now) walk.now.claims.now.graph (map (λ b. meaning b) providers.now) }
-    requires seat { desk.old.seat.table ≡ walk.now.claims.now.table }
-    ensures { desk.new.seat.table ≡ desk.old.seat.table }
-{
-    let all = walk.claims.graph().nodes();
-    for _ in rt.forever() {
-        let Some(action) = walk.progress.next(all) else {
-            return false;
-        };
-        if end_if_free(rt, walk, ground, providers, desk, action) {
-            return true;
-        }
-    }
-    unreachable!()
-}
-
-/// Ends an action by a hint that it steals, of the worker behind it first.
-fn follow_others<N: Naming, B: Ground<N>, R: Wait>(
-    rt: &R,
-    walk: &Walk<'_, N>,
-    ground: &B,
-    providers: &[Box<dyn Provider + Sync>],
-    desk: &mut Desk<N>,
-) -> bool
-    requires walk { IsOneWalk N.plan N.meanings (B.planned ground.now) (B.named ground.now) (B.count ground.now) walk.now.claims.now.graph (map (λ b. meaning b) providers.now) }
-    requires seat { desk.old.seat.table ≡ walk.now.claims.now.table }
-    ensures { desk.new.seat.table ≡ desk.old.seat.table }
-{
-    let own = desk.place.min(walk.thieves.len());
-    let (before, behind) = walk.thieves.split_at(own);
-    follow_some(rt, walk, ground, providers, desk, behind)
-        || follow_some(rt, walk, ground, providers, desk, before)
-}
-
-/// Ends an action by a hint that it steals of some workers.
-fn follow_some<N: Naming, B: Ground<N>, R: Wait>(
-    rt: &R,
-    walk: &Walk<'_, N>,
-    ground: &B,
-    providers: &[Box<dyn Provider + Sync>],
-    desk: &mut Desk<N>,
-    thieves: &[Thief<InPlan<N>>],
-) -> bool
-    requires walk { IsOneWalk N.plan N.meanings (B.planned ground.now) (B.named ground.now) (B.count ground.now) walk.now.claims.now.graph (map (λ b. meaning b) providers.now) }
-    requires seat { desk.old.seat.table ≡ walk.now.claims.now.table }
-    ensures { desk.new.seat.table ≡ desk.old.seat.table }
-{
-    for thief in thieves {
-        if let Some(hint) = thief.steal(rt) {
-            if end_if_free(rt, walk, ground, providers, desk, hint) {
+    /// Ends an action by a hint of the worker's own. Hints at actions that can't be claimed are forgotten.
+    fn follow_own(&self, providers: &[Box<dyn Provider + Sync>], desk: &mut Desk<N>) -> bool
+        requires walk { IsOneWalk N.plan N.meanings (B.planned self.now.ground.now) (B.named self.now.ground.now) (B.count self.now.ground.now) self.now.walk.now.claims.now.graph (map (λ b. meaning b) providers.now) }
+        requires seat { desk.old.seat.table ≡ self.now.walk.now.claims.now.table }
+        ensures { desk.new.seat.table ≡ desk.old.seat.table }
+    {
+        for _ in self.rt.forever() {
+            let Some(hint) = desk.hints.pop() else {
+                return false;
+            };
+            if self.end_if_free(providers, desk, hint) {
                 return true;
             }
         }
+        unreachable!()
     }
-    false
-}
 
-/// Claims an action, takes it to its end, lets go of what waits for it, and gives hints at what is free then; false where it
-/// can't be claimed. Others are woken for what is more than one worker does.
-fn end_if_free<N: Naming, B: Ground<N>, R: Wait>(
-    rt: &R,
-    walk: &Walk<'_, N>,
-    ground: &B,
-    providers: &[Box<dyn Provider + Sync>],
-    desk: &mut Desk<N>,
-    action: usize,
-) -> bool
-    requires walk { IsOneWalk N.plan N.meanings (B.planned ground.now) (B.named ground.now) (B.count ground.now) walk.now.claims.now.graph (map (λ b. meaning b) providers.now) }
-    requires seat { desk.old.seat.table ≡ walk.now.claims.now.table }
-    requires action { action < N.plan.order.nodes }
-    ensures { desk.new.seat.table ≡ desk.old.seat.table }
-{
-    let Some(permit) = walk.claims.claim(&mut desk.seat, action) else {
-        return false;
-    };
-    let finished = end_action(
-        rt,
-        walk.alloc,
-        ground.plan(),
-        ground.names(),
-        providers,
-        ground.cells(),
-        walk.journal,
-        walk.stop,
-        permit,
-    );
-    walk.claims.finish(&mut desk.seat, finished);
-    walk.claims.let_go_from(&mut desk.seat, action);
-    let next = walk.claims.graph().successors(action);
-    let free = give_hints(walk, &mut desk.hints, next);
-    walk.progress.tell_end(free);
-    true
+    /// Ends an action by a hint that it steals, of the worker behind it first.
+    fn follow_others(&self, providers: &[Box<dyn Provider + Sync>], desk: &mut Desk<N>) -> bool
+        requires walk { IsOneWalk N.plan N.meanings (B.planned self.now.ground.now) (B.named self.now.ground.now) (B.count self.now.ground.now) self.now.walk.now.claims.now.graph (map (λ b. meaning b) providers.now) }
+        requires seat { desk.old.seat.table ≡ self.now.walk.now.claims.now.table }
+        ensures { desk.new.seat.table ≡ desk.old.seat.table }
+    {
+        let own = desk.place.min(self.walk.thieves.len());
+        let (before, behind) = self.walk.thieves.split_at(own);
+        self.follow_some(providers, desk, behind) || self.follow_some(providers, desk, before)
+    }
+
+    /// Ends an action by a hint that it steals of some workers.
+    fn follow_some(
+        &self,
+        providers: &[Box<dyn Provider + Sync>],
+        desk: &mut Desk<N>,
+        thieves: &[Thief<InPlan<N>>],
+    ) -> bool
+        requires walk { IsOneWalk N.plan N.meanings (B.planned self.now.ground.now) (B.named self.now.ground.now) (B.count self.now.ground.now) self.now.walk.now.claims.now.graph (map (λ b. meaning b) providers.now) }
+        requires seat { desk.old.seat.table ≡ self.now.walk.now.claims.now.table }
+        ensures { desk.new.seat.table ≡ desk.old.seat.table }
+    {
+        for thief in thieves {
+            if let Some(hint) = thief.steal(self.rt) {
+                if self.end_if_free(providers, desk, hint) {
+                    return true;
+                }
+            }
+        }
+        false
+    }
+
+    /// Ends an action that can be claimed, of those that no worker has looked at. None is looked at twice, unless a hint is
+    /// lost. So a worker that looks at one whose turn hasn't come passes it by: whoever ends the last action before it gives
+    /// a hint at it.
+    fn look_on(&self, providers: &[Box<dyn Provider + Sync>], desk: &mut Desk<N>) -> bool
+        requires walk { IsOneWalk N.plan N.meanings (B.planned self.now.ground.now) (B.named self.now.ground.now) (B.count self.now.ground.now) self.now.walk.now.claims.now.graph (map (λ b. meaning b) providers.now) }
+        requires seat { desk.old.seat.table ≡ self.now.walk.now.claims.now.table }
+        ensures { desk.new.seat.table ≡ desk.old.seat.table }
+    {
+        let all = self.walk.claims.graph().nodes();
+        for _ in self.rt.forever() {
+            let Some(action) = self.walk.progress.next(all) else {
+                return false;
+            };
+            if self.end_if_free(providers, desk, action) {
+                return true;
+            }
+        }
+        unreachable!()
+    }
+
+    /// Claims an action, takes it to its end, lets go of what waits for it, and gives hints at what is free then; false where
+    /// it can't be claimed. Others are woken for what is more than one worker does.
+    fn end_if_free(
+        &self,
+        providers: &[Box<dyn Provider + Sync>],
+        desk: &mut Desk<N>,
+        action: usize,
+    ) -> bool
+        requires walk { IsOneWalk N.plan N.meanings (B.planned self.now.ground.now) (B.named self.now.ground.now) (B.count self.now.ground.now) self.now.walk.now.claims.now.graph (map (λ b. meaning b) providers.now) }
+        requires seat { desk.old.seat.table ≡ self.now.walk.now.claims.now.table }
+        requires action { action < N.plan.order.nodes }
+        ensures { desk.new.seat.table ≡ desk.old.seat.table }
+    {
+        let walk = self.walk;
+        let Some(permit) = walk.claims.claim(&mut desk.seat, action) else {
+            return false;
+        };
+        let workshop = Workshop {
+            rt: self.rt,
+            alloc: walk.alloc,
+            plan: self.ground.plan(),
+            names: self.ground.names(),
+            cells: self.ground.cells(),
+            journal: walk.journal,
+            stop: walk.stop,
+        };
+        let finished = workshop.end_action(providers, permit);
+        walk.claims.finish(&mut desk.seat, finished);
+        walk.claims.let_go_from(&mut desk.seat, action);
+        let next = walk.claims.graph().successors(action);
+        let free = give_hints(walk, &mut desk.hints, next);
+        walk.progress.tell_end(free);
+        true
+    }
 }
 
 /// Gives a hint at each of some actions that wait for nothing more, now that one directly before them has ended. Returns how

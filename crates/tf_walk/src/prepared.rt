@@ -1,6 +1,6 @@
 //! What carrying out a plan begins with.
 
-ghost use Rattle.std.specs.Prelude.{◌≡◌, ◌≤◌, [], None, replicate, IfOk, vec_capacity};
+ghost use Rattle.std.specs.Prelude.{IfOk};
 ghost use Rattle.tf_plan_data.specs.Fits.{FitsTogether};
 ghost use Rattle.tf_walk.specs.Prepared.{IsPrepared};
 
@@ -8,7 +8,7 @@ use std::alloc::{AllocError, Global};
 use tf_claim::Book;
 use tf_journal::Journal;
 use tf_names::Names;
-use tf_outcome::Ended;
+use tf_outcome::{Ended, not_ended};
 use tf_plan_data::Plan;
 use tf_report::{Furnished, furnish};
 
@@ -36,29 +36,15 @@ pub fn prepare(alloc: Global, plan: &Plan) -> Result<Prepared<'_>, AllocError>
     let book = Book::new(alloc, order)?;
     let journal = Journal::with_room(alloc, order)?;
     let results = Vec::with_capacity(alloc, order.nodes())?;
-    match furnish(alloc, plan, &names) {
-        Ok(furnished) => Ok(Prepared {
-            names,
-            book,
-            journal,
-            furnished,
-            results: not_ended(results, order.nodes()),
-        }),
-        Err(AllocError) => {
-            results.destroy_empty();
-            Err(AllocError)
-        }
-    }
-}
-
-/// A list of so many actions, none of which has ended, in an empty one with room for them.
-fn not_ended(mut results: Vec<Option<Ended>>, count: usize) -> Vec<Option<Ended>>
-    requires empty { results.items ≡ [] }
-    requires room { count ≤ vec_capacity results }
-    ensures { result.items ≡ replicate count None }
-{
-    for _ in 0..count {
-        results.push_reserved(None);
-    }
-    results
+    let Ok(furnished) = furnish(alloc, plan, &names) else {
+        results.destroy_empty();
+        return Err(AllocError);
+    };
+    Ok(Prepared {
+        names,
+        book,
+        journal,
+        furnished,
+        results: not_ended(results, order.nodes()),
+    })
 }

@@ -25,8 +25,8 @@ pub fn end_action(
     plan: &Plan,
     names: &Names<'_>,
     providers: &[Box<dyn Provider + Sync>],
-    journal: &mut Journal,
     results: &[Option<Ended>],
+    journal: &mut Journal,
     stop: &Stop,
     permit: Permit,
 ) -> (Ended, Finished)

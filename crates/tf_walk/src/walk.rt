@@ -42,7 +42,7 @@ pub fn walk(
     while let Some(permit) = next_permit(book) {
         let action = permit.action();
         let (ended, finished) = end_action(
-            alloc, plan, names, providers, journal, results, stop, permit,
+            alloc, plan, names, providers, results, journal, stop, permit,
         );
         keep(results, action, ended);
         close(book, finished);

@@ -10,36 +10,24 @@ use Rattle.tf_plan_data.specs.Plan.{plan_of}
 use Rattle.tf_report.proofs.Excused.{excuses-with_outputs}
 use Rattle.tf_run.proofs.Judging.{fit-asked, fit-judged}
 use Rattle.tf_run.proofs.Settling.{settled-run}
-use Rattle.tf_run.proofs.Taking.{fit-taken, taken-back}
+use Rattle.tf_run.proofs.Taking.{fit-lent}
 use Rattle.tf_run.proofs.ending.conclude.Goals as goal
 
 pub report_of-report-requires-clause-judged : goal.report_of-report-requires-clause-judged
 report_of-report-requires-clause-judged g c =
     let ms = map (λ b. (goal.Provider-dyn g (b.vtable, b.value)).meaning b.value) c.args.providers.now in
     let plan = plan_of c.args.plan.now in
-    let new = c.take_out.new.results in
-    let final = take c.args.results.len (new ++ drop (length new) c.args.results.items) in
-    let sized : length new ≡ c.args.plan.now.order.nodes = c.take_out.ensures.length ∙ c.requires.cells in
-    let back : final ≡ new = taken-back new c.args.results.items c.args.results.len c.args.plan.now.order.nodes sized c.requires.results (omega (arith, c.args.results.ok.0)) in
-    let counted : c.args.plan.now.order.nodes ≡ length (map action_of c.args.plan.now.actions.items) =
-    omega (arith, length-map c.args.plan.now.actions.items action_of, c.args.plan.now.counted, c.args.plan.now.actions.ok.0) in
-    let fit = fit-taken g.N.Naming.meanings ms g.N.Naming.plan plan c.graph.result.now new final c.deref.result.now c.requires.meanings c.requires.plan c.graph.ensures.graph counted sized back c.deref.ensures.value c.take_out.ensures.fits c.demand_fit.ensures in
+    let fit = fit-lent g.N.Naming.meanings ms g.N.Naming.plan plan c.graph.result.now c.take_out.new.results c.args.results.items c.args.results.len c.deref.result.now c.requires.meanings c.requires.plan c.graph.ensures.graph (omega (arith, length-map c.args.plan.now.actions.items action_of, c.args.plan.now.counted, c.args.plan.now.actions.ok.0)) (c.take_out.ensures.length ∙ c.requires.cells) c.requires.results (omega (arith, c.args.results.ok.0)) c.deref.ensures.value c.take_out.ensures.fits c.demand_fit.ensures in
     let asked = some_requests plan (c.requires.fits.dependence.ranked c.requires.fits.acyclic) in
-    fit-judged ms plan (dones_of final) c.graph.ensures.order.ranked fit asked.0 asked.1
+    fit-judged ms plan _ c.graph.ensures.order.ranked fit asked.0 asked.1
 
 pub returns : goal.returns
 returns g c =
     let ms = map (λ b. (goal.Provider-dyn g (b.vtable, b.value)).meaning b.value) c.args.providers.now in
     let plan = plan_of c.args.plan.now in
-    let new = c.take_out.new.results in
-    let final = take c.args.results.len (new ++ drop (length new) c.args.results.items) in
-    let sized : length new ≡ c.args.plan.now.order.nodes = c.take_out.ensures.length ∙ c.requires.cells in
-    let back : final ≡ new = taken-back new c.args.results.items c.args.results.len c.args.plan.now.order.nodes sized c.requires.results (omega (arith, c.args.results.ok.0)) in
-    let counted : c.args.plan.now.order.nodes ≡ length (map action_of c.args.plan.now.actions.items) =
-    omega (arith, length-map c.args.plan.now.actions.items action_of, c.args.plan.now.counted, c.args.plan.now.actions.ok.0) in
-    let fit = fit-taken g.N.Naming.meanings ms g.N.Naming.plan plan c.graph.result.now new final c.deref.result.now c.requires.meanings c.requires.plan c.graph.ensures.graph counted sized back c.deref.ensures.value c.take_out.ensures.fits c.demand_fit.ensures in
+    let fit = fit-lent g.N.Naming.meanings ms g.N.Naming.plan plan c.graph.result.now c.take_out.new.results c.args.results.items c.args.results.len c.deref.result.now c.requires.meanings c.requires.plan c.graph.ensures.graph (omega (arith, length-map c.args.plan.now.actions.items action_of, c.args.plan.now.counted, c.args.plan.now.actions.ok.0)) (c.take_out.ensures.length ∙ c.requires.cells) c.requires.results (omega (arith, c.args.results.ok.0)) c.deref.ensures.value c.take_out.ensures.fits c.demand_fit.ensures in
     let ranked = c.graph.ensures.order.ranked in
-    let done = dones_of final in
+    let done = dones_of (take c.args.results.len (c.take_out.new.results ++ drop (length c.take_out.new.results) c.args.results.items)) in
     let report = c.report_of-report.result in
     let told = c.report_of-report.ensures.told in
     settled-run ms plan report c.settle.result

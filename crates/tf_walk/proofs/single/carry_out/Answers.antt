@@ -47,21 +47,17 @@ report_of-requires-clause-judged g c =
     let ms = map (λ b. (goal.Provider-dyn g (b.vtable, b.value)).meaning b.value) c.args.providers.now in
     let plan = plan_of c.args.plan.now in
     let new = c.walk.new.results in
-    let actions = map action_of c.args.plan.now.actions.items in
-    let counted : length actions ≡ c.args.plan.now.order.nodes = omega (arith, length-map c.args.plan.now.actions.items action_of, c.args.plan.now.counted, c.args.plan.now.actions.ok.0) in
-    let left = left_by_walk new c.args.prepared.results.items c.args.prepared.results.len c.args.plan.now.order.nodes actions c.walk.ensures.so_far.sized counted c.requires.prepared.results (omega (arith, c.args.prepared.results.ok.0)) in
+    let left = left_by_walk new c.args.prepared.results.items c.args.prepared.results.len c.args.plan.now.order.nodes (map action_of c.args.plan.now.actions.items) c.walk.ensures.so_far.sized (omega (arith, length-map c.args.plan.now.actions.items action_of, c.args.plan.now.counted, c.args.plan.now.actions.ok.0)) c.requires.prepared.results (omega (arith, c.args.prepared.results.ok.0)) in
     let asked = some_requests plan (c.requires.fits.dependence.ranked c.requires.fits.acyclic) in
     let judged = so_far-judged ms asked.0 plan (map (option_map done_of) new) c.walk.new.journal.entries (dones_of new) c.walk.ensures.so_far asked.1 (dones-are new) in
-    subst (λ rs. AreJudged ms (map (λ a. op_of a.step) actions) (dones_of rs)) (sym left.0) judged
+    subst (λ rs. AreJudged ms (map (λ a. op_of a.step) (map action_of c.args.plan.now.actions.items)) (dones_of rs)) (sym left.0) judged
 
 pub returns : goal.returns
 returns g c = λ requests are.
     let ms = map (λ b. (goal.Provider-dyn g (b.vtable, b.value)).meaning b.value) c.args.providers.now in
     let plan = plan_of c.args.plan.now in
     let new = c.walk.new.results in
-    let actions = map action_of c.args.plan.now.actions.items in
-    let counted : length actions ≡ c.args.plan.now.order.nodes = omega (arith, length-map c.args.plan.now.actions.items action_of, c.args.plan.now.counted, c.args.plan.now.actions.ok.0) in
-    let left = left_by_walk new c.args.prepared.results.items c.args.prepared.results.len c.args.plan.now.order.nodes actions c.walk.ensures.so_far.sized counted c.requires.prepared.results (omega (arith, c.args.prepared.results.ok.0)) in
+    let left = left_by_walk new c.args.prepared.results.items c.args.prepared.results.len c.args.plan.now.order.nodes (map action_of c.args.plan.now.actions.items) c.walk.ensures.so_far.sized (omega (arith, length-map c.args.plan.now.actions.items action_of, c.args.plan.now.counted, c.args.plan.now.actions.ok.0)) c.requires.prepared.results (omega (arith, c.args.prepared.results.ok.0)) in
     let back : take c.args.prepared.results.len (new ++ drop (length new) c.args.prepared.results.items) ≡ new = left.0 in
     let ends = map (option_map done_of) new in
     let entries = c.walk.new.journal.entries in

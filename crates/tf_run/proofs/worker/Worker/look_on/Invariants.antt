@@ -1,6 +1,6 @@
 -- the desk stays at the claims
 use Rattle.std.proofs.Common.{◌≡◌}
-use Rattle.tf_run.proofs.worker.follow_own.Given as goal
+use Rattle.tf_run.proofs.worker.Worker.look_on.Given as goal
 
 abbrev pub invariant-loop : goal.invariant-loop
 invariant-loop g l =
