@@ -43,14 +43,9 @@ fn make_call<N: Naming, R: Wait>(
     ensures finished { result.1 ≡ permit }
     ensures ended { IsRun (call_of_provider (asked asking.request) (meaning provider.now)) (done_of result.0) }
 {
-    let Asking {
-        request,
-        message,
-        fallback,
-    } = asking;
-    let called = call(provider, permit, request);
+    let called = call(provider, permit, asking.request);
     let recorded = record(rt, log, called);
-    ended_by(recorded, message, fallback)
+    ended_by(recorded, asking.message, asking.fallback)
 }
 
 /// Records a call. Where the journal refuses it, which it doesn't where all actions directly before its own are recorded,

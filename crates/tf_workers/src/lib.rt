@@ -9,4 +9,4 @@ mod seeing;
 mod steps;
 
 pub use log::{Log, logs_are_shared};
-pub use steps::end_action;
+pub use steps::Workshop;

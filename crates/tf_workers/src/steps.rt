@@ -1,10 +1,10 @@
 //! The end of one action, by a worker.
 
 ghost use Rattle.std.specs.Prelude.{◌≡◌, ◌<◌, map};
-ghost use Rattle.tf_outcome.specs.Words.{action_of, AreServed, config_of, done_of, FitsTogether, names_in, names_of, plan_of};
+ghost use Rattle.tf_outcome.specs.Words.{done_of, names_in};
 ghost use Rattle.tf_cells.specs.Ideal.{IsTrueTo};
+ghost use Rattle.tf_workers.specs.Shared.{IsOfWalk};
 
-use crate::asking::ask;
 use crate::calls::serve;
 use crate::log::Log;
 use crate::seeing::are_good;
@@ -19,71 +19,66 @@ use tf_plan_data::Plan;
 use tf_provider::Provider;
 use tf_stop::Stop;
 
-/// Ends a claimed action, and publishes what came of it: it is skipped where an action directly before it isn't good; left
-/// where the walk is to stop; excused where memory for its request is refused; it has a fault where its request has one;
-/// and else its provider is called, outside the lock, and the call is recorded under it. All actions directly before it
-/// have ended, and nothing was published for it: where that doesn't hold yet, it waits.
-pub fn end_action<N: Naming, R: Wait>(
-    rt: &R,
-    alloc: Global,
-    plan: &Plan,
-    names: &Names<'_>,
-    providers: &[Box<dyn Provider + Sync>],
-    cells: &Cells<N>,
-    journal: &Mutex<Log<N>>,
-    stop: &Stop,
-    permit: Permit,
-) -> Finished
-    requires fits { FitsTogether plan.now }
-    requires names { names_in names.now ≡ names_of (config_of plan.now.config) }
-    requires served { AreServed (map (λ b. meaning b) providers.now) (map action_of plan.now.actions.items) }
-    requires meanings { N.meanings ≡ map (λ b. meaning b) providers.now }
-    requires plan { N.plan ≡ plan_of plan.now }
-    requires cells { cells.now ≡ plan.now.order.nodes }
-    requires within { permit < plan.now.order.nodes }
-    ensures { result ≡ permit }
-{
-    let action = permit.action();
-    let (ended, finished) = come_to_end(
-        rt, alloc, plan, names, providers, cells, journal, stop, permit,
-    );
-    publish(rt, cells, action, ended);
-    finished
+/// What a worker works with, beside the providers: the plan of a walk, the names of its configuration, the cells of the plan's
+/// actions, the journal that workers share, and whether the walk is to stop.
+#[derive(Drop)]
+pub struct Workshop<'a, N: Naming, R> {
+    /// What it waits by.
+    pub rt: &'a R,
+    /// What requests are made in.
+    pub alloc: Global,
+    /// The plan.
+    pub plan: &'a Plan,
+    /// The names of its configuration.
+    pub names: &'a Names<'a>,
+    /// The cells of the plan's actions.
+    pub cells: &'a Cells<N>,
+    /// The journal.
+    pub journal: &'a Mutex<Log<N>>,
+    /// Whether the walk is to stop.
+    pub stop: &'a Stop,
 }
 
-/// What comes of a claimed action, once all actions directly before it can be read.
-fn come_to_end<N: Naming, R: Wait>(
-    rt: &R,
-    alloc: Global,
-    plan: &Plan,
-    names: &Names<'_>,
-    providers: &[Box<dyn Provider + Sync>],
-    cells: &Cells<N>,
-    journal: &Mutex<Log<N>>,
-    stop: &Stop,
-    permit: Permit,
-) -> (Ended, Finished)
-    requires fits { FitsTogether plan.now }
-    requires names { names_in names.now ≡ names_of (config_of plan.now.config) }
-    requires served { AreServed (map (λ b. meaning b) providers.now) (map action_of plan.now.actions.items) }
-    requires meanings { N.meanings ≡ map (λ b. meaning b) providers.now }
-    requires plan { N.plan ≡ plan_of plan.now }
-    requires cells { cells.now ≡ plan.now.order.nodes }
-    requires within { permit < plan.now.order.nodes }
-    ensures finished { result.1 ≡ permit }
-    ensures ended { IsTrueTo N.meanings N.plan permit (done_of result.0) }
-{
-    let action = permit.action();
-    if !are_good(rt, cells, plan.order.graph().predecessors(action)) {
-        return (Ended::Skipped, waive(permit));
+impl<N: Naming, R: Wait> Workshop<'_, N, R> {
+    /// Ends a claimed action, and publishes what came of it: it is skipped where an action directly before it isn't good;
+    /// left where the walk is to stop; excused where memory for its request is refused; it has a fault where its request has
+    /// one; and else its provider is called, outside the lock, and the call is recorded under it. All actions directly
+    /// before it have ended, and nothing was published for it: where that doesn't hold yet, it waits.
+    pub fn end_action(&self, providers: &[Box<dyn Provider + Sync>], permit: Permit) -> Finished
+        requires walk { IsOfWalk N.plan N.meanings self.now.plan.now (names_in self.now.names.now) self.now.cells.now (map (λ b. meaning b) providers.now) }
+        requires within { permit < self.now.plan.now.order.nodes }
+        ensures { result ≡ permit }
+    {
+        let action = permit.action();
+        let (ended, finished) = self.come_to_end(providers, permit);
+        publish(self.rt, self.cells, action, ended);
+        finished
     }
-    if stop.is_set() {
-        return (Ended::Left, waive(permit));
-    }
-    match ask(rt, alloc, plan, names, providers, cells, action) {
-        Err(AllocError) => (Ended::NotAsked, waive(permit)),
-        Ok(Err(faulted)) => (Ended::Faulted(faulted), waive(permit)),
-        Ok(Ok(asking)) => serve(rt, providers, journal, permit, asking),
+
+    /// What comes of a claimed action, once all actions directly before it can be read.
+    fn come_to_end(
+        &self,
+        providers: &[Box<dyn Provider + Sync>],
+        permit: Permit,
+    ) -> (Ended, Finished)
+        requires walk { IsOfWalk N.plan N.meanings self.now.plan.now (names_in self.now.names.now) self.now.cells.now (map (λ b. meaning b) providers.now) }
+        requires within { permit < self.now.plan.now.order.nodes }
+        ensures finished { result.1 ≡ permit }
+        ensures ended { IsTrueTo N.meanings N.plan permit (done_of result.0) }
+    {
+        let action = permit.action();
+        let before = self.plan.order.graph().predecessors(action);
+        if !are_good(self.rt, self.cells, before) {
+            return (Ended::Skipped, waive(permit));
+        }
+        if self.stop.is_set() {
+            return (Ended::Left, waive(permit));
+        }
+        match self.ask(providers, action) {
+            Err(AllocError) => (Ended::NotAsked, waive(permit)),
+            Ok(Err(faulted)) => (Ended::Faulted(faulted), waive(permit)),
+            Ok(Ok(asking)) => serve(self.rt, providers, self.journal, permit, asking),
+        }
     }
 }
 

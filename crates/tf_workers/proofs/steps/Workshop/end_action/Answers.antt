@@ -1,7 +1,7 @@
 use Rattle.std.proofs.Common.{ℕ, sym, subst}
 use Rattle.tf_cells.specs.Ideal.{IsTrueTo}
 use Rattle.tf_outcome.specs.Ended.{done_of}
-use Rattle.tf_workers.proofs.steps.end_action.Goals as goal
+use Rattle.tf_workers.proofs.steps.Workshop.end_action.Goals as goal
 
 pub publish-requires-clause-ended : goal.publish-requires-clause-ended
 publish-requires-clause-ended g c =

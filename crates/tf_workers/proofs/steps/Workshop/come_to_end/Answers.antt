@@ -7,7 +7,7 @@ use Rattle.tf_outcome.specs.Outcome.{faulted, comes_of}
 use Rattle.tf_outcome.specs.Run.{IsRun}
 use Rattle.tf_outcome.specs.declared.asking.Asking.{Asking}
 use Rattle.tf_outcome.specs.declared.ended.Faulted.{Faulted}
-use Rattle.tf_workers.proofs.steps.come_to_end.Goals as goal
+use Rattle.tf_workers.proofs.steps.Workshop.come_to_end.Goals as goal
 
 pub returns-in-Ok-Err-clause-ended : goal.returns-in-Ok-Err-clause-ended
 returns-in-Ok-Err-clause-ended g c =
