@@ -25,7 +25,7 @@ pub struct Told {
 ///
 /// Only where memory runs out.
 pub fn tell_of(alloc: Global, walked: Walked) -> Result<Told, AllocError> {
-    let whole = matches!(walked, Walked::Whole(_));
+    let whole = matches!(&walked, Walked::Whole(_));
     let Report {
         state,
         outcomes,
