@@ -28,6 +28,10 @@ later k t u es fs (b ∷ others) h =
 entries_refine : (es fs : Entries) (attributes : List AttributeView) → same_names (keys_of es) (each (λ a. a.name) attributes) ≡ true → same_names (keys_of fs) (each (λ a. a.name) attributes) ≡ true
     → ascends attributes ≡ true → list_all (λ a. not (contradicts (get a.name es) (get a.name fs))) attributes ≡ true → RefinesEntries es fs
 entries_refine no_entries no_entries attributes h g up all = tt
+entries_refine no_entries (entry l u fs) [] h g up all = absurd (cc)
+entries_refine no_entries (entry l u fs) (a ∷ others) h g up all = absurd (cc)
+entries_refine (entry k t es) fs [] h g up all = absurd (cc)
+entries_refine (entry k t es) no_entries (a ∷ others) h g up all = absurd (cc)
 entries_refine (entry k t es) (entry l u fs) (a ∷ others) h g up all =
     let is : k ≡ a.name = (bytes_eq-Decides k a.name).0 (and-first (bytes_eq k a.name) _ h) in
     let too : l ≡ a.name = (bytes_eq-Decides l a.name).0 (and-first (bytes_eq l a.name) _ g) in
@@ -43,7 +47,6 @@ entries_refine (entry k t es) (entry l u fs) (a ∷ others) h g up all =
       (refined_Decides t u).0 (double (refined t u) values),
       entries_refine es fs others (and-second (bytes_eq k a.name) _ h) (and-second (bytes_eq l a.name) _ g) (and-second (list_all (λ b. is_below a.name b.name) others) _ up) rest,
     )
-entries_refine _ _ _ h g up all = absurd (cc)
 
 objects_refine : (schema : SchemaView) (t u : Tree) → IsSchema schema → has_attributes schema t ≡ true → has_attributes schema u ≡ true → list_all (λ a. not (contradicts_at t u a)) schema.attributes ≡ true → Refines t u
 objects_refine schema (map es) (map fs) good h g all = entries_refine es fs schema.attributes h g good.ascending all
