@@ -77,12 +77,12 @@ fn work_at_all<N: Naming + Send + Sync, B: Ground<N> + Sync, R: Threads + Wait +
 }
 
 /// What some seats have seen and done, in one.
-fn joined(claims: &Claims, mut seat: Seat, others: Vec<Seat>) -> Seat
+fn joined(claims: &Claims, mut seat: Seat, mut others: Vec<Seat>) -> Seat
     requires seat { seat.table ≡ claims.now.table }
     requires others { All (λ seat. seat.table ≡ claims.now.table) others.items }
     ensures { result.table ≡ claims.now.table }
 {
-    for other in others {
+    while let Some(other) = others.pop() {
         claims.join_seat(&mut seat, other);
     }
     seat
