@@ -61,14 +61,15 @@ pub fn plan_of_texts(
     ensures refused { IfErr result (Tells (AreRefusals (map (λ b. meaning b) providers.now) (the_texts given.now.config.now (option_map (λ s. s.now) given.now.vars) (option_map (λ s. s.now) given.now.state)))) }
 {
     match read_texts(alloc, given.config, given.vars, given.state, given.lineage) {
-        Ok(
-            Inputs {
+        Ok(inputs) => {
+            let Inputs {
                 config,
                 values,
                 dependence,
                 prior,
-            },
-        ) => plan(alloc, prior, config, values, dependence, providers),
+            } = inputs;
+            plan(alloc, prior, config, values, dependence, providers)
+        }
         Err(refusal) => Err(one_refusal(alloc, refusal)),
     }
 }
