@@ -65,12 +65,15 @@ pub(crate) fn plan_texts(
     ensures served { IfOk result (λ p. AreServed (map (λ b. meaning b) providers.now) (map action_of p.actions.items)) }
 {
     let state = state.map(|text| text.as_bytes());
-    let Ok(Inputs {
-        config,
-        values,
-        dependence,
-        prior,
-    }) = read_texts(alloc, config.as_bytes(), None, state, "L") else {
+    let Ok(
+        Inputs {
+            config,
+            values,
+            dependence,
+            prior,
+        },
+    ) = read_texts(alloc, config.as_bytes(), None, state, "L")
+    else {
         return Err("the texts are refused".into());
     };
     match plan(alloc, prior, config, values, dependence, providers) {

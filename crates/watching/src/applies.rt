@@ -164,12 +164,15 @@ pub struct After {
 
 /// What an answer says of the walk, and of the state after it. All else goes.
 pub fn state_after(alloc: Global, answer: Result<Applied, Refused>) -> Result<After, AllocError> {
-    let Ok(Applied {
-        plan: _,
-        walked,
-        state,
-        changed,
-    }) = answer else {
+    let Ok(
+        Applied {
+            plan: _,
+            walked,
+            state,
+            changed,
+        },
+    ) = answer
+    else {
         return Ok(After {
             state: String::new(alloc),
             changed: false,
