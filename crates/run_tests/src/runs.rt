@@ -1,7 +1,7 @@
 //! Plans that are walked many times, by different numbers of workers.
 
 ghost use Rattle.std.specs.Prelude.{IfOk, map};
-ghost use Rattle.tf_outcome.specs.Words.{action_of, AreServed, FitsTogether};
+ghost use Rattle.tf_plan_data.specs.Words.{action_of, AreServed, FitsTogether};
 
 use std::alloc::Global;
 use std::process::Abort;
