@@ -30,7 +30,7 @@ LITERALS = ["1", "0", "7", "9223372036854775807", "true", "false", "null", '"a"'
 NAMED = ["sim_net.one", "sim_net.one.id", "sim_net.one.id", "sim_net.one.cidr", "sim_net.one.tag", "sim_net.counted", "sim_net.counted[0].id"]
 NAMED += ["sim_net.counted[1].cidr", "sim_net.keyed", 'sim_net.keyed["k"].id', "sim_net.keyed.k.cidr", "local.set", "local.empty", "local.mixed"]
 PIECES = ["${", "}", '"', "%{", "%%{", "$${", "$", "%", "\\", "\\n", "\n", "\t", " ", "a", "a.b", "var.map", "true", "null", "1", "9223372036854775808"]
-PIECES += [*"=!&|<>?:()[],.+-*/#'~_", "==", "!=", "&&", "||", "<=", ">=", "length(", "1.5", "\x00", "é", "true.x", "null("]
+PIECES += ['"\\', *"=!&|<>?:()[],.+-*/#'~_", "==", "!=", "&&", "||", "<=", ">=", "length(", "1.5", "\x00", "é", "true.x", "null("]
 LABELS = [("sim_net", name) for name in "abcd"] + [("sim_host", name) for name in "hijk"]
 
 
@@ -54,6 +54,7 @@ def term(chance, depth):
         lambda: f"({part()}).{chance.choice(['a', 'k', 'id', 'tag', 'nope'])}",
         lambda: f"{part()} {chance.choice(['+', '-', '*', '<', '>', '<=', '>='])} {part()}",
         lambda: f"{part()} {chance.choice(['==', '!=', '&&', '||'])} {part()}",
+        lambda: f"{chance.choice(['true', 'false'])} {chance.choice(['&&', '||'])} {part()}",
         lambda: f"{chance.choice('!-')}{part()}",
         lambda: f"{part()} ? {part()} : {part()}",
         lambda: f'"{chance.choice(["", "a", "é", "$${", "%%{"])}${{{part()}}}{chance.choice(["", "z"])}"',
@@ -145,7 +146,7 @@ class Site:
             block["depends_on"] = [".".join(it) for it in chance.sample(before, 1)]
         if chance.random() < 0.45:
             lifecycle = {"create_before_destroy": chance.random() < 0.7, "prevent_destroy": chance.random() < 0.06}
-            block["lifecycle"] = lifecycle | {"ignore_changes": chance.sample([*SCHEMAS[label[0]]], chance.choice([0, 0, 1, 2]))}
+            block["lifecycle"] = lifecycle | {"ignore_changes": chance.sample([*SCHEMAS[label[0]]], chance.choice([0, 1, 1, 2]))}
         return block
 
     def change(self):
