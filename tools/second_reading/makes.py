@@ -72,7 +72,7 @@ def template(chance):
 def near_template(chance):
     """Returns a template with a few changes, or pieces of templates in any order."""
     if chance.random() < 0.5:
-        return chance.choice(["${", "${", ""]) + "".join(chance.choices(PIECES, k=chance.randint(1, 8))) + chance.choice(["}", ""])
+        return chance.choice(["${", "${", ""]) + "".join(chance.choices(PIECES, k=chance.randint(0, 8))) + chance.choice(["}", "", '"\\'])
     text = template(chance)
     for _ in range(chance.randint(1, 3)):
         at = chance.randint(0, len(text))
