@@ -13,18 +13,21 @@ use tf_sim::Sim;
 use tf_value::Value;
 use watching::{Aside, Sided, Texts, apply_by};
 
+// How often a call looks for another one: for seconds, since a thread may start late on a machine with other work. Where
+// all is well the other is seen at once.
+const TURNS: usize = 4_000_000_000;
+
 /// Checks that so many calls, of a provider each, are seen by one another where as many workers make them.
 fn check_meeting<R: Abort + Threads + Wait + Sync>(
     rt: &R,
     alloc: Global,
     config: &str,
     count: usize,
-    turns: usize,
 ) -> Result<(), Fail> {
     let Meeting {
         providers: all,
         misses,
-    } = meet(alloc, count, turns)?;
+    } = meet(alloc, count, TURNS)?;
     let mut providers: Vec<Box<dyn Provider + Sync>> = Vec::new(alloc);
     for provider in all {
         providers.push(Box::new(alloc, provider)?)?;
@@ -47,14 +50,14 @@ fn check_meeting<R: Abort + Threads + Wait + Sync>(
 #[test]
 fn two_calls_meet(rt: HostRuntime) -> Result<(), Fail> {
     let config = r#"{"resource": {"t0": {"a": {}}, "t1": {"a": {}}}}"#;
-    check_meeting(&rt, rt.alloc(), config, 2, 10_000_000)
+    check_meeting(&rt, rt.alloc(), config, 2)
 }
 
 #[test]
 fn four_calls_meet(rt: HostRuntime) -> Result<(), Fail> {
     let config =
         r#"{"resource": {"t0": {"a": {}}, "t1": {"a": {}}, "t2": {"a": {}}, "t3": {"a": {}}}}"#;
-    check_meeting(&rt, rt.alloc(), config, 4, 100_000_000)
+    check_meeting(&rt, rt.alloc(), config, 4)
 }
 
 /// The create of the net with cidr `a` waits, but not for ever, until that with cidr `net-b` has begun.
@@ -67,7 +70,7 @@ struct Waiting {
 impl Aside for Waiting {
     fn reply(&self, sim: &Sim, request: &Request) -> Reply {
         match cidr_of(request) {
-            Some("a") if !is_set_within(&self.begun, 10_000_000) => {
+            Some("a") if !is_set_within(&self.begun, TURNS) => {
                 self.misses.fetch_add(1, Ordering::SeqCst);
             }
             Some("net-b") => self.begun.store(true, Ordering::SeqCst),
