@@ -2,7 +2,7 @@
 use Rattle.std.specs.Prelude.{ℕ, ◌==◌, if◌then◌else◌, List, [], ◌∷◌, ◌++◌, codes}
 use Rattle.std.specs.Fmt.{decimal}
 use Rattle.std.specs.List.{flat_map}
-use Rattle.tf_expr.specs.EvalFault.{eval_fault_name}
+use Rattle.tf_operators.specs.EvalFault.{eval_fault_name}
 use Rattle.tf_refusal.specs.Refusal.{DetailView, bare, at, names, kind, Told, no_memory, workers, fault}
 
 -- names with a comma and a space between them

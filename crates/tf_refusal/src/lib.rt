@@ -6,4 +6,4 @@ mod names;
 pub mod refusal;
 
 pub use refusal::{Detail, Refusal};
-pub use tf_expr::EvalFault;
+pub use tf_operators::EvalFault;

@@ -8,7 +8,8 @@ use crate::code::{BAD_SHAPE, BAD_TEMPLATE, LIMIT};
 use crate::names::NameList;
 use std::alloc::{AllocError, AllocFailed};
 use std::fmt;
-use tf_expr::{Cause as ExprCause, EvalFault, ExprFault};
+use tf_expr::{Cause as ExprCause, ExprFault};
+use tf_operators::EvalFault;
 
 /// Why nothing was called: what was wrong with what the user gave, or with the machine.
 #[derive(Debug, Drop)]

@@ -5,10 +5,9 @@ use serde_json::Value;
 use std::alloc::Global;
 use std::process::Abort;
 use std::test::Fail;
-use tf_expr::{
-    Constant, Constants, EvalFault, Expr, ExprFault, ReadFault, Reference, eval, eval_expr,
-    read_expr, read_template,
-};
+use tf_eval::{Constant, Constants, eval, eval_expr};
+use tf_expr::{Expr, ExprFault, ReadFault, Reference, read_expr, read_template};
+use tf_operators::EvalFault;
 
 /// What is asked of a text.
 #[derive(Clone, Copy)]
