@@ -1,13 +1,18 @@
 //! Ends that are published, read and taken out.
 
-ghost use Rattle.std.specs.Prelude.{◌≡◌, ◌<◌};
+ghost use Rattle.std.specs.Prelude.{◌≡◌, ◌<◌, IfOk};
+ghost use Rattle.tf_cells.specs.Ideal.{IsEndOf};
 
+use std::alloc::Global;
 use std::marker::Brand;
 use std::test::Fail;
 use std::thread;
 use std::thread::Threads;
 use tf_cells::{Cells, Naming};
-use tf_outcome::{Ended, Judged};
+use tf_claim::Book;
+use tf_graph::Graph;
+use tf_outcome::{Ended, Served};
+use tf_provider::{Waived, waive_for};
 
 /// How an end is called here.
 #[derive(Clone, Copy, Debug, PartialEq, Eq)]
@@ -23,32 +28,55 @@ enum Kind {
 /// The kind of an end, of which nothing else is kept.
 fn kind_of(ended: Ended) -> Kind {
     match ended {
-        Ended::Skipped => Kind::Skipped,
-        Ended::NotAsked => Kind::NotAsked,
-        Ended::NotServed => Kind::NotServed,
-        Ended::Faulted(_) => Kind::Faulted,
-        Ended::Left => Kind::Left,
-        Ended::Called(judged) => {
-            let Judged {
-                asking: _,
-                reply: _,
-                verdict: _,
-            } = judged;
+        Ended::Skipped(_) => Kind::Skipped,
+        Ended::NotAsked(_) => Kind::NotAsked,
+        Ended::NotServed(_) => Kind::NotServed,
+        Ended::Faulted(_, _) => Kind::Faulted,
+        Ended::Left(_, _) => Kind::Left,
+        Ended::Called(served) => {
+            let Served {
+                call,
+                message: _,
+                fallback: _,
+            } = served;
+            let (_request, _reply) = call.into_report();
             Kind::Called
         }
     }
 }
 
-/// Publishes that an action was skipped, or that nothing was asked for it: what didn't go into the cell.
-fn publish<N: Naming>(cells: &Cells<N>, action: usize, skips: bool) -> Option<Kind>
-    requires { action < cells.now }
+/// The evidence that nobody called the second of two actions.
+fn second_waived(alloc: Global) -> Result<Waived, Fail>
+    ensures { IfOk result (λ waived. waived ≡ 1) }
 {
-    let ended = if skips {
-        Ended::Skipped
-    } else {
-        Ended::NotAsked
+    let graph = Graph::new(alloc, 2, &[])?;
+    let mut book = Book::new(alloc, &graph)?;
+    let Some(permit) = book.claim(1) else {
+        return Err("not claimed")?;
     };
-    match cells.publish(action, ended) {
+    let (finished, waived) = waive_for(permit);
+    match book.finish(finished) {
+        Ok(()) => Ok(waived),
+        Err(_) => unreachable!(),
+    }
+}
+
+/// That the second action was skipped, or that nothing was asked for it.
+fn end_of<N: Naming>(waived: Waived, skips: bool) -> Ended
+    requires { waived ≡ 1 }
+    ensures { IsEndOf N.meanings N.plan 1 result }
+{
+    match skips {
+        true => Ended::Skipped(waived),
+        false => Ended::NotAsked(waived),
+    }
+}
+
+/// Publishes that the second action was skipped, or that nothing was asked for it: what didn't go into the cell.
+fn publish<N: Naming>(cells: &Cells<N>, waived: Waived, skips: bool) -> Option<Kind>
+    requires { (1 < cells.now) × (waived ≡ 1) }
+{
+    match cells.publish(1, end_of::<N>(waived, skips)) {
         Ok(()) => None,
         Err(ended) => Some(kind_of(ended)),
     }
@@ -71,26 +99,29 @@ fn taken(cells: Cells<Brand>) -> (Option<Kind>, Option<Kind>)
 fn publish_twice<N: Naming + Send + Sync, R: Threads + Sync>(
     rt: &R,
     cells: &Cells<N>,
+    one: Waived,
+    other: Waived,
 ) -> (Option<Kind>, Option<Kind>)
-    requires { cells.now ≡ 2 }
+    requires { (cells.now ≡ 2) × (one ≡ 1) × (other ≡ 1) }
 {
     thread::join(
         rt,
-        || -> Option<Kind>
-            requires { cells.now ≡ 2 }
-        { publish(cells, 1, true) },
-        || -> Option<Kind>
-            requires { cells.now ≡ 2 }
-        { publish(cells, 1, false) },
+        move || -> Option<Kind>
+            requires { (cells.now ≡ 2) × (one ≡ 1) }
+        { publish(cells, one, true) },
+        move || -> Option<Kind>
+            requires { (cells.now ≡ 2) × (other ≡ 1) }
+        { publish(cells, other, false) },
     )
 }
 
 #[test]
 fn an_end_is_published_once(rt: HostRuntime) -> Result<(), Fail> {
+    let (one, other) = (second_waived(rt.alloc())?, second_waived(rt.alloc())?);
     let cells = Cells::<Brand>::new(rt.alloc(), 2)?;
     let empty = cells.read(1).is_none();
-    let first = publish(&cells, 1, true);
-    let second = publish(&cells, 1, false);
+    let first = publish(&cells, one, true);
+    let second = publish(&cells, other, false);
     let good = cells.read(1).map(|reading| reading.is_good());
     let other = cells.read(0).is_none();
     let taken = taken(cells);
@@ -103,8 +134,9 @@ fn an_end_is_published_once(rt: HostRuntime) -> Result<(), Fail> {
 
 #[test]
 fn of_two_threads_one_publishes(rt: HostRuntime) -> Result<(), Fail> {
+    let (one, other) = (second_waived(rt.alloc())?, second_waived(rt.alloc())?);
     let cells = Cells::<Brand>::new(rt.alloc(), 2)?;
-    let (first, second) = publish_twice(&rt, &cells);
+    let (first, second) = publish_twice(&rt, &cells, one, other);
     let (none, there) = taken(cells);
     assert_eq!(rt; none, None);
     if first.is_none() {

@@ -75,6 +75,7 @@ impl<'a> Case<'a> {
             Some("without memory") => Some(Manner::Forgetful),
             Some("stops before the first call") => Some(Manner::Stops(0)),
             Some("stops in the first call") => Some(Manner::Stops(1)),
+            Some("stops in the third call") => Some(Manner::Stops(3)),
             Some(_) => None,
         }
     }

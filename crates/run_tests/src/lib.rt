@@ -2,6 +2,10 @@
 #![tactic(auto)]
 
 #[cfg(test)]
+mod excuses;
+#[cfg(test)]
+mod meetings;
+#[cfg(test)]
 mod runs;
 #[cfg(test)]
 mod torn;

@@ -19,7 +19,7 @@ use tf_walk::run_one;
 use watching::{Told, tell_of};
 
 /// Two nets, and a host on each.
-const NETS: &str =
+pub(crate) const NETS: &str =
     r#"{"resource": {"sim_net": {"a": {"cidr": "x"}, "b": {"cidr": "y"}}, "sim_host": {"g": {"name": "g", "net": "${sim_net.a.id}"}, "h": {"name": "h", "net": "${sim_net.b.id}"}}}}"#;
 
 /// The same, of which one host fails.
@@ -31,11 +31,11 @@ const FAULTED: &str =
     r#"{"resource": {"sim_net": {"a": {"cidr": "x"}, "b": {"cidr": "${sim_net.a.id + 1}"}}, "sim_host": {"g": {"name": "g", "net": "${sim_net.a.id}"}, "h": {"name": "h", "net": "${sim_net.b.id}"}}}}"#;
 
 /// Hosts of which one comes first, one last, and two between them in either order.
-const DIAMOND: &str =
+pub(crate) const DIAMOND: &str =
     r#"{"resource": {"sim_host": {"a": {"name": "a"}, "b": {"name": "b", "net": "${sim_host.a.id}"}, "c": {"name": "c", "net": "${sim_host.a.id}"}, "d": {"name": "d", "net": "${sim_host.b.id}-${sim_host.c.id}"}}}}"#;
 
 /// The same, of which one of the two fails.
-const BROKEN: &str =
+pub(crate) const BROKEN: &str =
     r#"{"resource": {"sim_host": {"a": {"name": "a"}, "b": {"name": "b", "net": "${sim_host.a.id}", "size": 101}, "c": {"name": "c", "net": "${sim_host.a.id}"}, "d": {"name": "d", "net": "${sim_host.b.id}-${sim_host.c.id}"}}}}"#;
 
 /// The state of a net, and of a host on it.
@@ -53,6 +53,10 @@ const BOTH_LATE: &str =
 /// Hosts that all wait for all nets.
 const WIDE: &str =
     r#"{"resource": {"sim_net": {"a": {"count": 447, "cidr": "${count.index}"}}, "sim_host": {"h": {"count": 447, "name": "h", "depends_on": ["sim_net.a"]}}}}"#;
+
+/// As many nets as a plan may have actions.
+const LARGEST: &str =
+    r#"{"resource": {"sim_net": {"a": {"count": 2000, "cidr": "${count.index}"}}}}"#;
 
 /// The plan of a configuration and a state.
 pub(crate) fn plan_texts(
@@ -101,7 +105,7 @@ fn check_runs<R: Abort + Threads + Wait + Sync>(
     if let Some(outcomes) = outcomes {
         assert_eq!(rt; one.outcomes.as_str(), outcomes);
     }
-    for workers in [2, 4, 64] {
+    for workers in [1, 2, 4, 64] {
         for _ in 0..times {
             check_run(rt, alloc, &plan, &providers, workers, &one)?;
         }
@@ -160,6 +164,11 @@ fn two_late_destroys_come_to_the_same(rt: HostRuntime) -> Result<(), Fail> {
 #[test]
 fn a_wide_plan_comes_to_the_same(rt: HostRuntime) -> Result<(), Fail> {
     check_runs(&rt, rt.alloc(), WIDE, None, None, 10)
+}
+
+#[test]
+fn the_largest_plan_comes_to_the_same(rt: HostRuntime) -> Result<(), Fail> {
+    check_runs(&rt, rt.alloc(), LARGEST, None, None, 1)
 }
 
 #[test]

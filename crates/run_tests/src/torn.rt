@@ -1,11 +1,10 @@
 //! Reports with a journal that isn't the one of their walk.
 
-use crate::runs::plan_texts;
+use crate::runs::{BROKEN, DIAMOND, plan_texts};
 use std::alloc::Global;
 use std::process::Abort;
 use std::test::Fail;
-use tf_journal::Journal;
-use tf_provider::Provider;
+use tf_provider::{Journal, Provider};
 use tf_report::Report;
 use tf_settle::settle;
 use tf_sim::Sim;
@@ -13,7 +12,8 @@ use tf_stop::Stop;
 use tf_walk::run_one;
 use watching::tell_of;
 
-/// Checks whether the report on a configuration that is carried out is whole with a journal in which nothing is.
+/// Checks whether the report on a configuration that is carried out is whole with a journal in which nothing is, and that all
+/// else in it is as it was.
 fn check_without_calls<R: Abort>(
     rt: &R,
     alloc: Global,
@@ -24,6 +24,10 @@ fn check_without_calls<R: Abort>(
     providers.push(Box::new(alloc, Sim::new(alloc)?)?)?;
     let plan = plan_texts(alloc, config, None, &providers)?;
     let empty = Journal::with_room(alloc, plan.order.graph())?;
+    let Ok(walked) = run_one(alloc, &plan, &providers, &Stop::new()) else {
+        return Err("no memory".into());
+    };
+    let before = tell_of(alloc, walked)?;
     let Ok(walked) = run_one(alloc, &plan, &providers, &Stop::new()) else {
         return Err("no memory".into());
     };
@@ -46,6 +50,9 @@ fn check_without_calls<R: Abort>(
     let told = tell_of(alloc, settle(&plan, report))?;
     assert_eq!(rt; told.whole, whole);
     assert!(rt; told.journal.is_empty());
+    assert!(rt; told.state == before.state);
+    assert_eq!(rt; told.outcomes.as_str(), before.outcomes.as_str());
+    assert_eq!(rt; told.diagnostics.as_str(), before.diagnostics.as_str());
     Ok(())
 }
 
@@ -53,6 +60,12 @@ fn check_without_calls<R: Abort>(
 fn a_call_that_is_in_no_journal_tears_the_report(rt: HostRuntime) -> Result<(), Fail> {
     let config = r#"{"resource": {"sim_net": {"a": {"cidr": "x"}}}}"#;
     check_without_calls(&rt, rt.alloc(), config, false)
+}
+
+#[test]
+fn all_calls_of_a_diamond_tear_it(rt: HostRuntime) -> Result<(), Fail> {
+    check_without_calls(&rt, rt.alloc(), DIAMOND, false)?;
+    check_without_calls(&rt, rt.alloc(), BROKEN, false)
 }
 
 #[test]

@@ -3,4 +3,4 @@
 
 mod meeting;
 
-pub use meeting::{Meeting, Meets, is_set_within, meet};
+pub use meeting::{Meeting, Meets, is_reached_within, meet};

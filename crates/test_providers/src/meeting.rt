@@ -3,19 +3,20 @@
 use std::alloc::{AllocError, Global};
 use std::collections::BTreeMap;
 use std::sync::Arc;
-use std::sync::atomic::{AtomicBool, AtomicUsize, Ordering};
+use std::sync::atomic::{AtomicUsize, Ordering};
+use std::thread;
 use tf_provider::{Provider, Reply, Request, Schema};
 use tf_value::Value;
 
-/// The provider of one type without attributes. Its call sets its own flag and looks for those of the others, at most so
+/// The provider of one type without attributes. Its call sets its own flag to 1 and looks for those of the others, at most so
 /// many times, and counts a miss for each that it doesn't see.
 #[derive(Drop)]
 pub struct Meets {
     alloc: Global,
     type_name: String,
     schema: Schema,
-    own: Arc<AtomicBool>,
-    others: Vec<Arc<AtomicBool>>,
+    own: Arc<AtomicUsize>,
+    others: Vec<Arc<AtomicUsize>>,
     misses: Arc<AtomicUsize>,
     turns: usize,
 }
@@ -37,9 +38,9 @@ impl Provider for Meets {
     }
 
     fn apply(&self, _request: &Request) -> Reply {
-        self.own.store(true, Ordering::SeqCst);
+        self.own.store(1, Ordering::SeqCst);
         for other in &self.others {
-            if !is_set_within(other, self.turns) {
+            if !is_reached_within(other, 1, self.turns) {
                 self.misses.fetch_add(1, Ordering::SeqCst);
             }
         }
@@ -47,12 +48,13 @@ impl Provider for Meets {
     }
 }
 
-/// Whether a flag is seen to be set, which is looked at so many times at most.
-pub fn is_set_within(flag: &AtomicBool, turns: usize) -> bool {
+/// Whether a number is seen to be reached, which is looked at so many times at most; others may run in between.
+pub fn is_reached_within(count: &AtomicUsize, wanted: usize, turns: usize) -> bool {
     for _ in 0..turns {
-        if flag.load(Ordering::SeqCst) {
+        if count.load(Ordering::SeqCst) >= wanted {
             return true;
         }
+        thread::yield_now();
     }
     false
 }
@@ -76,7 +78,7 @@ pub fn meet(alloc: Global, count: usize, turns: usize) -> Result<Meeting, AllocE
     let misses = Arc::new(alloc, AtomicUsize::new(0))?;
     let mut flags = Vec::new(alloc);
     for _ in 0..count {
-        flags.push(Arc::new(alloc, AtomicBool::new(false))?)?;
+        flags.push(Arc::new(alloc, AtomicUsize::new(0))?)?;
     }
     let mut providers = Vec::new(alloc);
     for (place, own) in flags.iter().enumerate() {
@@ -100,9 +102,9 @@ pub fn meet(alloc: Global, count: usize, turns: usize) -> Result<Meeting, AllocE
 /// All flags but one.
 fn others(
     alloc: Global,
-    flags: &[Arc<AtomicBool>],
+    flags: &[Arc<AtomicUsize>],
     place: usize,
-) -> Result<Vec<Arc<AtomicBool>>, AllocError> {
+) -> Result<Vec<Arc<AtomicUsize>>, AllocError> {
     let mut others = Vec::new(alloc);
     for (other, flag) in flags.iter().enumerate() {
         if other != place {

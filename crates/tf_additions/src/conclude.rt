@@ -19,7 +19,7 @@ use crate::rooms::{Room, Target};
 use crate::telling::telling;
 use tf_address::Label;
 use tf_next_state::{Apply, Destroy};
-use tf_outcome::{Asking, Ended, Faulted, Judged};
+use tf_outcome::{Ended, Faulted, Served};
 use tf_provider::{Op, Provider, Schema, Verdict, schema_for};
 use tf_state_after::{Applied, Left, Saved, left_by_destroy, saved_by_create, saved_by_update};
 use tf_state_data::Object;
@@ -35,14 +35,14 @@ pub fn conclude<'p>(
 {
     match ended {
         None => nothing(room),
-        Some(Ended::Skipped) => nothing(room),
-        Some(Ended::NotAsked) => not_called(room, 26, "no memory"),
-        Some(Ended::NotServed) => not_called(room, 26, "no memory"),
-        Some(Ended::Left) => not_called(room, 27, "left"),
-        Some(Ended::Faulted(faulted)) => fault(room, faulted),
-        Some(Ended::Called(judged)) => {
-            match schema_for(providers, judged.asking.request.type_name.as_str()) {
-                Some(schema) => conclude_call(room, judged, schema),
+        Some(Ended::Skipped(_)) => nothing(room),
+        Some(Ended::NotAsked(_)) => not_called(room, 26, "no memory"),
+        Some(Ended::NotServed(_)) => not_called(room, 26, "no memory"),
+        Some(Ended::Left(_, _)) => not_called(room, 27, "left"),
+        Some(Ended::Faulted(faulted, _)) => fault(room, faulted),
+        Some(Ended::Called(served)) => {
+            match schema_for(providers, served.call.request().type_name.as_str()) {
+                Some(schema) => conclude_call(room, served, schema),
                 None => unreachable!(),
             }
         }
@@ -130,27 +130,24 @@ fn told(place: String, op: Op, telling: Option<(u8, String)>) -> Option<Diagnost
 }
 
 /// What a call adds to the report.
-fn conclude_call<'p>(room: Room<'p>, judged: Judged, schema: &Schema) -> Addition<'p>
-    requires verdict { judged.verdict ≡ verdict_on (asked judged.asking.request) (answered judged.reply) schema.now }
-    requires op { judged.asking.request.op ≡ room.op }
+fn conclude_call<'p>(room: Room<'p>, served: Served, schema: &Schema) -> Addition<'p>
+    requires verdict { served.call.verdict ≡ verdict_on (asked served.call.request) (answered served.call.reply) schema.now }
+    requires op { served.call.request.op ≡ room.op }
     ensures changes { change_of result.change
         ≡ change_by (room_head room.entry).label (room_head room.entry).target
-        (as_applied (saved_by room.entry.op schema.now (asked judged.asking.request) (answered judged.reply) judged.verdict))
-        (left_by_destroy schema.now (answered judged.reply) judged.verdict) }
+        (as_applied (saved_by room.entry.op schema.now (asked served.call.request) (answered served.call.reply) served.call.verdict))
+        (left_by_destroy schema.now (answered served.call.reply) served.call.verdict) }
     ensures stored { MayBeStored (change_of result.change) }
     ensures tells { listed (option_map diagnostic_of result.diagnostic)
-        ≡ diagnostics_of_verdict (room_head room.entry).place room.entry.op (asked judged.asking.request) (answered judged.reply) judged.verdict }
+        ≡ diagnostics_of_verdict (room_head room.entry).place room.entry.op (asked served.call.request) (answered served.call.reply) served.call.verdict }
 {
-    let Judged {
-        asking,
-        reply,
-        verdict,
-    } = judged;
-    let Asking {
-        request,
+    let Served {
+        call,
         message,
         fallback,
-    } = asking;
+    } = served;
+    let verdict = call.verdict();
+    let (request, reply) = call.into_report();
     let Room {
         place,
         op,

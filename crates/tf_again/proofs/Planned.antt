@@ -12,7 +12,7 @@ use Rattle.tf_converges.proofs.Read.{read_values_known}
 use Rattle.tf_converges.specs.Converges.{IsSound, ReportsConverge}
 use Rattle.tf_graph.specs.Solutions.{Ranked}
 use Rattle.tf_inputs.specs.Texts.{AreTheValues, IsRead, StandFor, Texts}
-use Rattle.tf_journal.specs.declared.journal.Entry.{Entry}
+use Rattle.tf_provider.specs.declared.journal.Entry.{Entry}
 use Rattle.tf_names.proofs.Rings.{places-acyclic}
 use Rattle.tf_names.specs.Needs.{IsAcyclic}
 use Rattle.tf_outcome.specs.Journal.{IsOfAction}

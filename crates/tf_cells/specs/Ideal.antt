@@ -4,6 +4,8 @@ use Rattle.tf_graph.specs.Digraph.{predecessors_of}
 use Rattle.tf_graph.specs.Solutions.{Solves, seen_by}
 use Rattle.tf_plan_data.specs.Plan.{PlanView}
 use Rattle.tf_protocol.specs.Meaning.{Meaning}
+use Rattle.tf_outcome.specs.Ended.{done_of, ended_action}
+use Rattle.tf_outcome.specs.declared.ended.Ended.{Ended}
 use Rattle.tf_outcome.specs.Excuse.{before_call, during_call, by_stop}
 use Rattle.tf_outcome.specs.Outcome.{Done, skipped, excused, Requests, AreRequests, all_good, is_faulted, rule}
 
@@ -28,6 +30,10 @@ AgreesWith before ideal n d = d ≡ ideal n
 -- an end of an action of a plan is true: it agrees with all ideal outcomes
 abbrev pub IsTrueTo : List Meaning → PlanView → ℕ → Done → Type 0
 IsTrueTo ms plan n d = InEachIdeal ms plan (λ ideal. AgreesWith (predecessors_of plan.order) ideal n d)
+
+-- what came of an action is of this one, and true of it
+abbrev pub IsEndOf : List Meaning → PlanView → ℕ → Ended → Type 0
+IsEndOf ms plan n ended = (ended_action ended ≡ n) × IsTrueTo ms plan n (done_of ended)
 
 -- each of some cells is that of the action at its place
 abbrev pub IsNumbered : List ℕ → Type 0

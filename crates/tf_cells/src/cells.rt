@@ -2,9 +2,9 @@
 
 ghost use Rattle.std.specs.Prelude.{◌≡◌, ◌+◌, ◌<◌, ℕ, None, IfOk, IfErr, IfSome, IsTrue, length, replicate, slice_index_or, slice_set, vec_len, Some};
 ghost use Rattle.counted_slot.specs.Counting.{IsTurn};
-ghost use Rattle.tf_outcome.specs.Ended.{done_of, dones_of};
+ghost use Rattle.tf_outcome.specs.Ended.{dones_of};
 ghost use Rattle.tf_outcome.specs.Outcome.{done_at};
-ghost use Rattle.tf_cells.specs.Ideal.{IsTrueTo, IsNumbered};
+ghost use Rattle.tf_cells.specs.Ideal.{IsEndOf, IsTrueTo, IsNumbered};
 
 use crate::kept::Kept;
 use crate::naming::Naming;
@@ -53,7 +53,7 @@ impl<N: Naming> Cells<N> {
         &self.cells[action]
     }
 
-    /// Publishes what came of an action.
+    /// Publishes what came of an action: of it, as the evidence in it says.
     ///
     /// # Errors
     ///
@@ -61,8 +61,8 @@ impl<N: Naming> Cells<N> {
     /// back.
     pub fn publish(&self, action: usize, ended: Ended) -> Result<(), Ended>
         requires action { action < self.now }
-        requires fits { IsTrueTo N.meanings N.plan action (done_of ended) }
-        ensures { IfErr result (λ back. IsTrueTo N.meanings N.plan action (done_of back)) }
+        requires own { IsEndOf N.meanings N.plan action ended }
+        ensures { IfErr result (IsEndOf N.meanings N.plan action) }
     {
         let (found, claim) = self.cell(action).turn(FREE, TAKEN);
         if found != FREE {

@@ -1,7 +1,6 @@
 //! What a cell holds.
 
-ghost use Rattle.tf_cells.specs.Ideal.{IsTrueTo};
-ghost use Rattle.tf_outcome.specs.Ended.{done_of};
+ghost use Rattle.tf_cells.specs.Ideal.{IsEndOf};
 
 use crate::naming::Naming;
 use counted_slot::Fits;
@@ -17,5 +16,5 @@ pub(crate) struct Kept<N: Naming> {
 impl<N: Naming> Fits for Kept<N> {
     type Tag = usize;
 
-    ghost fits = { λ n kept. IsTrueTo N.meanings N.plan n (done_of kept.ended) };
+    ghost fits = { λ n kept. IsEndOf N.meanings N.plan n kept.ended };
 }

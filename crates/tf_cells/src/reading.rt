@@ -92,7 +92,7 @@ fn is_good(ended: &Ended) -> bool
     ensures { result ≡ is_good (done_of ended.now) }
 {
     match ended {
-        Ended::Called(judged) => judged.verdict == Verdict::Good,
+        Ended::Called(served) => served.call.verdict() == Verdict::Good,
         _ => false,
     }
 }
@@ -102,7 +102,7 @@ fn object_of(alloc: Global, ended: &Ended) -> Result<Value, AllocError>
     ensures { IfOk result (λ value. tree_of value ≡ object_of (done_of ended.now)) }
 {
     match ended {
-        Ended::Called(judged) => match &judged.reply {
+        Ended::Called(served) => match served.call.reply() {
             Reply::Object(object) => copy(object),
             _ => Ok(Value::Null),
         },

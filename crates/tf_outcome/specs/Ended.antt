@@ -1,5 +1,5 @@
 -- What came of an action, as the walk keeps it.
-use Rattle.std.specs.Prelude.{List, map, Option, Some, None}
+use Rattle.std.specs.Prelude.{ℕ, List, map, Option, Some, None}
 use Rattle.tf_change.specs.Instance.{instance_fault_of}
 use Rattle.tf_protocol.specs.Meaning.{Asked, Answer, asked, answered}
 use Rattle.tf_protocol.specs.declared.verdict.Verdict.{Verdict}
@@ -10,12 +10,21 @@ use Rattle.tf_outcome.specs.declared.ended.Ended.{Ended}
 use Rattle.tf_outcome.specs.declared.ended.Ended.TheVariants as ended
 
 abbrev pub done_of : Ended → Done
-done_of ended.Skipped = skipped
-done_of ended.NotAsked = excused before_call
-done_of ended.NotServed = excused during_call
-done_of ended.Left = excused by_stop
-done_of (ended.Faulted f) = faulted (instance_fault_of f.fault)
-done_of (ended.Called j) = called (asked j.asking.request) (answered j.reply) j.verdict
+done_of (ended.Skipped w) = skipped
+done_of (ended.NotAsked w) = excused before_call
+done_of (ended.NotServed u) = excused during_call
+done_of (ended.Left w s) = excused by_stop
+done_of (ended.Faulted f w) = faulted (instance_fault_of f.fault)
+done_of (ended.Called s) = called (asked s.call.request) (answered s.call.reply) s.call.verdict
+
+-- the action of which something came, as the evidence in it says
+abbrev pub ended_action : Ended → ℕ
+ended_action (ended.Skipped w) = w
+ended_action (ended.NotAsked w) = w
+ended_action (ended.NotServed u) = u
+ended_action (ended.Left w s) = w
+ended_action (ended.Faulted f w) = w
+ended_action (ended.Called s) = s.call.action
 
 -- what came of an action, where that is known; else it counts as skipped
 abbrev pub done_or_skipped : Option Ended → Done

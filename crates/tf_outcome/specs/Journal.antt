@@ -4,8 +4,8 @@ use Rattle.std.specs.List.{AllByRecursion}
 use Rattle.tf_action_data.specs.Action.{ActionView}
 use Rattle.tf_graph.specs.Digraph.{predecessors_of}
 use Rattle.tf_graph.specs.Order.{IsInOrder}
-use Rattle.tf_journal.specs.declared.journal.Entry.{Entry}
-use Rattle.tf_journal.specs.Entries.{actions_of}
+use Rattle.tf_provider.specs.declared.journal.Entry.{Entry}
+use Rattle.tf_provider.specs.Entries.{actions_of}
 use Rattle.tf_plan_data.specs.Plan.{PlanView}
 use Rattle.tf_protocol.specs.declared.request.Op.{Op}
 use Rattle.tf_protocol.specs.declared.verdict.Verdict.{Verdict}

@@ -8,10 +8,10 @@ pub use Rattle.tf_change.specs.Bounded.{has_planned_attributes}
 pub use Rattle.tf_change.specs.Instance.{instance_fault_of, instance_of}
 pub use Rattle.tf_decision.specs.Kept.{kept_object}
 pub use Rattle.tf_graph.specs.Digraph.{predecessors_of}
-pub use Rattle.tf_journal.specs.Entries.{fault_of}
+pub use Rattle.tf_provider.specs.Entries.{fault_of}
 pub use Rattle.tf_names.specs.Texts.{put_text}
 pub use Rattle.tf_outcome.specs.Asked.{AreRequests, asked_for, create_of, destroy_of, ignored_by, Requests, unless_faulty, update_of}
-pub use Rattle.tf_outcome.specs.Ended.{done_of, done_or_skipped, dones_of}
+pub use Rattle.tf_outcome.specs.Ended.{done_of, done_or_skipped, dones_of, ended_action}
 pub use Rattle.tf_outcome.specs.Fallback.{has_stored_attributes}
 pub use Rattle.tf_outcome.specs.Journal.{entered_verdict, IsJournal, IsOfAction, op_at}
 pub use Rattle.tf_outcome.specs.Message.{fault_message}

@@ -143,7 +143,7 @@ fn answered_object(alloc: Global, ended: &Option<Ended>) -> Result<Value, AllocE
     ensures { IfOk result (λ value. tree_of value ≡ object_of (done_or_skipped ended.now)) }
 {
     match ended {
-        Some(Ended::Called(judged)) => match &judged.reply {
+        Some(Ended::Called(served)) => match served.call.reply() {
             Reply::Object(object) => copy(object),
             _ => Ok(Value::Null),
         },

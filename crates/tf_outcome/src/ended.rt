@@ -1,18 +1,26 @@
 //! What came of an action.
 
-ghost use Rattle.std.specs.Prelude.{◌≡◌, ◌≤◌, [], None, replicate, string_bytes, vec_capacity};
+ghost use Rattle.std.specs.Prelude.{◌≡◌, ◌≤◌, [], true, None, option_map, replicate, string_bytes, string_capacity, vec_capacity};
 ghost use Rattle.tf_change.specs.Instance.{instance_fault_of};
+ghost use Rattle.tf_outcome.specs.Fallback.{is_fallback};
 ghost use Rattle.tf_outcome.specs.Message.{fault_message};
+ghost use Rattle.tf_outcome.specs.Room.{message_fits};
+ghost use Rattle.tf_value.specs.Tree.{tree_of};
 
-use crate::asking::Asking;
 use tf_change::InstanceFault;
-use tf_protocol::{Reply, Verdict};
+use tf_provider::{Judged, Unserved, Waived};
+use tf_state_data::Object;
+use tf_stop::Stopped;
 
-/// A call that was judged: what was asked, with what was had for its reply. It can't be copied or let go.
-pub struct Judged {
-    pub asking: Asking,
-    pub reply: Reply,
-    pub verdict: Verdict,
+/// A call whose provider had memory, with what was had for its reply: an empty text with room for each message about it, and
+/// what a create saves where it can't be used. It can't be copied or let go.
+pub struct Served {
+    pub call: Judged,
+    pub message: String,
+    pub fallback: Option<Object>,
+    pub ghost blank: { string_bytes message ≡ [] },
+    pub ghost fits: { message_fits (string_capacity message) (option_map tree_of call.request.object) ≡ true },
+    pub ghost stands_in: { is_fallback call.request.op (option_map tree_of call.request.object) (option_map (λ o. tree_of o.value) fallback) ≡ true },
 }
 
 /// An action for which nothing can be asked: what is wrong with its request, and the message that tells it.
@@ -23,21 +31,21 @@ pub struct Faulted {
     pub ghost told: { string_bytes message ≡ fault_message (instance_fault_of fault) },
 }
 
-/// What came of an action. As it may hold a reply it can't be copied or let go: it has to become a part of the
-/// report.
+/// What came of an action, with the evidence of whether its provider was called: so an action that was called can't be told
+/// as one that wasn't. As it may hold a reply it can't be copied or let go: it has to become a part of the report.
 pub enum Ended {
     /// An action before it isn't good.
-    Skipped,
+    Skipped(Waived),
     /// Memory was refused before the call.
-    NotAsked,
+    NotAsked(Waived),
     /// The provider had no memory.
-    NotServed,
+    NotServed(Unserved),
     /// The walk was to stop, so nothing was asked.
-    Left,
+    Left(Waived, Stopped),
     /// Its `for_each` or an argument has a fault, so nothing could be asked.
-    Faulted(Faulted),
+    Faulted(Faulted, Waived),
     /// The provider was called, and its reply was judged.
-    Called(Judged),
+    Called(Served),
 }
 
 /// A list of so many actions, none of which has ended, in an empty one with room for them.

@@ -11,6 +11,6 @@ mod recorded;
 
 pub use answered::{Answered, applies_to, prior_object};
 pub use asking::Asking;
-pub use ended::{Ended, Faulted, Judged, not_ended};
+pub use ended::{Ended, Faulted, Served, not_ended};
 pub use excuse::{Excuse, Outcome};
 pub use recorded::ended_by;

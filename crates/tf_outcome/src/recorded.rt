@@ -3,14 +3,13 @@
 ghost use Rattle.std.specs.Prelude.{◌≡◌, [], true, option_map, string_bytes, string_capacity};
 ghost use Rattle.tf_protocol.specs.Meaning.{asked, answered};
 ghost use Rattle.tf_value.specs.Tree.{tree_of};
-ghost use Rattle.tf_outcome.specs.Ended.{done_by, done_of};
+ghost use Rattle.tf_outcome.specs.Ended.{done_by, done_of, ended_action};
 ghost use Rattle.tf_outcome.specs.Fallback.{is_fallback};
 ghost use Rattle.tf_outcome.specs.Room.{message_fits};
 
-use crate::asking::Asking;
-use crate::ended::{Ended, Judged};
+use crate::ended::{Ended, Served};
 use tf_claim::Finished;
-use tf_provider::{Parts, Recorded, Verdict};
+use tf_provider::Recorded;
 use tf_state_data::Object;
 
 /// What came of a recorded call, and the right to report its action as done. It takes what was had before the call beside
@@ -21,28 +20,19 @@ pub fn ended_by(recorded: Recorded, message: String, fallback: Option<Object>) -
     requires fits { message_fits (string_capacity message) (option_map tree_of recorded.request.object) ≡ true }
     requires stands_in { is_fallback recorded.request.op (option_map tree_of recorded.request.object) (option_map (λ o. tree_of o.value) fallback) ≡ true }
     ensures finished { result.1 ≡ recorded.action }
+    ensures action { ended_action result.0 ≡ recorded.action }
     ensures ended { done_of result.0 ≡ done_by (asked recorded.request) (answered recorded.reply) recorded.verdict }
 {
-    let Parts {
-        finished,
-        request,
-        reply,
-        verdict,
-    } = recorded.into_parts();
-    match verdict {
-        Verdict::Excused => (Ended::NotServed, finished),
-        verdict => {
-            let asking = Asking {
-                request,
+    let (finished, judged) = recorded.split();
+    match judged {
+        Err(unserved) => (Ended::NotServed(unserved), finished),
+        Ok(call) => {
+            let served = Served {
+                call,
                 message,
                 fallback,
             };
-            let judged = Judged {
-                asking,
-                reply,
-                verdict,
-            };
-            (Ended::Called(judged), finished)
+            (Ended::Called(served), finished)
         }
     }
 }

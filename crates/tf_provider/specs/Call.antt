@@ -1,10 +1,11 @@
 -- A call of a provider.
-use Rattle.std.specs.Prelude.{◌≡◌, ℕ, IsTrue, IsSomeAnd}
+use Rattle.std.specs.Prelude.{◌≡◌, ℕ, Bool, true, false, IsTrue, IsSomeAnd}
 use Rattle.tf_protocol.specs.Meaning.{Asked, Meaning}
 use Rattle.tf_protocol.specs.Verdict.{asks_fully}
 use Rattle.tf_protocol.specs.declared.request.Request.{Request}
 use Rattle.tf_protocol.specs.declared.request.Reply.{Reply}
 use Rattle.tf_protocol.specs.declared.verdict.Verdict.{Verdict}
+use Rattle.tf_protocol.specs.declared.verdict.Verdict.TheVariants.{Excused}
 
 -- the action that a call was made for, what was asked and replied, and the verdict on the reply
 pub record Call : Type 0 where
@@ -17,3 +18,8 @@ pub record Call : Type 0 where
 -- update has exactly the schema's attributes.
 abbrev pub IsServed : Meaning → Asked → Type 0
 IsServed m r = IsSomeAnd (m.schema_of r.type_name) (λ s. IsTrue (asks_fully r s))
+
+-- a provider had no memory
+abbrev pub is_excused : Verdict → Bool
+is_excused Excused = true
+is_excused _ = false

@@ -1,8 +1,8 @@
 //! One call of a provider, and what is known of it.
 
 ghost use Rattle.std.specs.Coded.{codes};
-ghost use Rattle.std.specs.Prelude.{◌≡◌, IfSome};
-ghost use Rattle.tf_provider.specs.Call.{Call, IsServed};
+ghost use Rattle.std.specs.Prelude.{◌≡◌, ℕ, false, true, IfSome, MatchResult};
+ghost use Rattle.tf_provider.specs.Call.{Call, IsServed, is_excused};
 ghost use Rattle.tf_protocol.specs.Meaning.{asked, answered};
 ghost use Rattle.tf_protocol.specs.Verdict.{verdict_on};
 ghost use Rattle.tf_value.specs.contracts.value.Value as value;
@@ -28,8 +28,7 @@ impl Model for Called {
     ghost view = { λ c. record { action = c.finished; request = c.request; reply = c.reply; verdict = c.verdict } };
 }
 
-/// A call that was recorded, with all that the call held. It has to be taken apart, so that its action is
-/// reported as done. Contracts see a `Call`.
+/// A call that a journal has recorded. It has to be split, so that its action is reported as done. Contracts see a `Call`.
 pub struct Recorded {
     call: Called,
 }
@@ -40,18 +39,6 @@ impl Model for Recorded {
     ghost coded = { Prim.hlevel (codes, value.the_row.coded) };
 
     ghost view = { λ r. r.call };
-}
-
-/// What a recorded call held.
-pub struct Parts {
-    /// The right to report the action as done.
-    pub finished: Finished,
-    /// What was asked.
-    pub request: Request,
-    /// What the provider replied.
-    pub reply: Reply,
-    /// The verdict on the reply.
-    pub verdict: Verdict,
 }
 
 /// Calls a provider once with a request, and judges its reply by the provider's schema of the request's
@@ -100,7 +87,7 @@ impl Called {
     }
 
     /// The same call, as recorded. A journal does this once it has the call's entry.
-    pub fn into_recorded(self) -> Recorded
+    pub(crate) fn into_recorded(self) -> Recorded
         ensures { result ≡ self }
     {
         Recorded { call: self }
@@ -108,12 +95,13 @@ impl Called {
 }
 
 impl Recorded {
-    /// All that the call held, unchanged.
-    pub fn into_parts(self) -> Parts
-        ensures finished { result.finished ≡ self.action }
-        ensures request { result.request ≡ self.request }
-        ensures reply { result.reply ≡ self.reply }
-        ensures verdict { result.verdict ≡ self.verdict }
+    /// The right to report the action as done, and the call; where the provider had no memory, the evidence of that in the
+    /// call's place.
+    pub fn split(self) -> (Finished, Result<Judged, Unserved>)
+        ensures finished { result.0 ≡ self.action }
+        ensures judged { MatchResult result.1
+            (λ judged. (judged ≡ self) × (is_excused self.verdict ≡ false))
+            (λ unserved. (unserved ≡ self.action) × (is_excused self.verdict ≡ true)) }
     {
         let Recorded { call } = self;
         let Called {
@@ -122,11 +110,83 @@ impl Recorded {
             reply,
             verdict,
         } = call;
-        Parts {
-            finished,
+        let action = finished.action();
+        if verdict == Verdict::Excused {
+            return (finished, Err(Unserved { action }));
+        }
+        let judged = Judged {
+            action,
             request,
             reply,
             verdict,
-        }
+        };
+        (finished, Ok(judged))
+    }
+}
+
+/// The evidence that the provider of an action was called and had no memory, so that nothing was done. Only the split of a
+/// recorded call makes one. Contracts see the action's number.
+#[derive(Debug, Drop)]
+pub struct Unserved {
+    action: usize,
+}
+
+impl Model for Unserved {
+    ghost Value = { ℕ };
+
+    ghost view = { λ unserved. unserved.action };
+}
+
+/// A recorded call whose provider had memory: the action, the request, the reply and the verdict on it. Only the split of a
+/// recorded call makes one, and it can't be copied or let go. Contracts see a `Call`.
+pub struct Judged {
+    action: usize,
+    request: Request,
+    reply: Reply,
+    verdict: Verdict,
+}
+
+impl Model for Judged {
+    ghost Value = { Call };
+
+    ghost coded = { Prim.hlevel (codes, value.the_row.coded) };
+
+    ghost view = { λ j. record { action = j.action; request = j.request; reply = j.reply; verdict = j.verdict } };
+}
+
+impl Judged {
+    /// What was asked.
+    pub fn request(&self) -> &Request
+        ensures { result.now ≡ self.now.request }
+    {
+        &self.request
+    }
+
+    /// What the provider replied.
+    pub fn reply(&self) -> &Reply
+        ensures { result.now ≡ self.now.reply }
+    {
+        &self.reply
+    }
+
+    /// The verdict on the reply.
+    pub fn verdict(&self) -> Verdict
+        ensures { result ≡ self.now.verdict }
+    {
+        self.verdict
+    }
+
+    /// What was asked and what was replied, for a report: the call is at its end.
+    pub fn into_report(self) -> (Request, Reply)
+        ensures request { result.0 ≡ self.request }
+        ensures reply { result.1 ≡ self.reply }
+    {
+        let Judged {
+            action: _,
+            request,
+            reply,
+            verdict: _,
+        } = self;
+        (request, reply)
     }
 }

@@ -24,10 +24,10 @@ fn outcome(ended: &Option<Ended>) -> Outcome
     ensures { result ≡ outcome_of (done_or_skipped ended.now) }
 {
     match ended {
-        None | Some(Ended::Skipped) => Outcome::Skipped,
-        Some(Ended::NotAsked | Ended::NotServed | Ended::Left) => Outcome::Excused,
-        Some(Ended::Faulted(_)) => Outcome::ArgumentFault,
-        Some(Ended::Called(judged)) => Outcome::Judged(judged.verdict),
+        None | Some(Ended::Skipped(_)) => Outcome::Skipped,
+        Some(Ended::NotAsked(_) | Ended::NotServed(_) | Ended::Left(_, _)) => Outcome::Excused,
+        Some(Ended::Faulted(_, _)) => Outcome::ArgumentFault,
+        Some(Ended::Called(served)) => Outcome::Judged(served.call.verdict()),
     }
 }
 
@@ -50,9 +50,9 @@ fn excuse(place: usize, ended: &Option<Ended>) -> Option<Excuse>
     ensures { listed result ≡ excuses_at place (done_or_skipped ended.now) }
 {
     match ended {
-        Some(Ended::NotAsked) => Some(Excuse::Before(place)),
-        Some(Ended::NotServed) => Some(Excuse::During(place)),
-        Some(Ended::Left) => Some(Excuse::Left(place)),
+        Some(Ended::NotAsked(_)) => Some(Excuse::Before(place)),
+        Some(Ended::NotServed(_)) => Some(Excuse::During(place)),
+        Some(Ended::Left(_, _)) => Some(Excuse::Left(place)),
         _ => None,
     }
 }
@@ -91,7 +91,7 @@ pub fn is_good(ended: &Option<Ended>) -> bool
     ensures { result ≡ is_good (done_or_skipped ended.now) }
 {
     match ended {
-        Some(Ended::Called(judged)) => judged.verdict == Verdict::Good,
+        Some(Ended::Called(served)) => served.call.verdict() == Verdict::Good,
         _ => false,
     }
 }

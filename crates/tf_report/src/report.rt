@@ -1,8 +1,8 @@
 //! What an apply reports.
 
 use tf_additions::Diagnostic;
-use tf_journal::Journal;
 use tf_outcome::{Excuse, Outcome};
+use tf_provider::Journal;
 use tf_state_data::State;
 
 /// What came of carrying out a plan. What was created may be known from here alone, so a report can be neither

@@ -21,11 +21,10 @@ use std::alloc::Global;
 use std::collections::BTreeMap;
 use tf_additions::{Changes, conclude_all};
 use tf_environment::Declarations;
-use tf_journal::Journal;
 use tf_next_state::{Events, Homes, Renewal, state_after};
 use tf_outcome::Ended;
 use tf_plan_data::Plan;
-use tf_provider::Provider;
+use tf_provider::{Journal, Provider};
 use tf_state_data::{Object, State};
 
 /// The report on a plan, by what came of each of its actions, in action order. It has no answer that says that there was

@@ -4,7 +4,7 @@ ghost use Rattle.std.specs.Prelude.{◌≡◌, None, IfOk, replicate};
 
 use std::alloc::{AllocError, Global};
 use tf_cells::{Cells, Naming};
-use tf_outcome::{Ended, Judged, not_ended};
+use tf_outcome::{Ended, Served, not_ended};
 
 /// The cells of some actions, and the list into which they are taken out. What came of an action may not be let go, so
 /// neither may this.
@@ -56,13 +56,15 @@ impl<N: Naming> Board<N> {
 fn forget(ended: Ended) {
     match ended {
         Ended::Called(
-            Judged {
-                asking: _,
-                reply: _,
-                verdict: _,
+            Served {
+                call,
+                message: _,
+                fallback: _,
             },
-        ) => {}
-        Ended::Faulted(_) => {}
-        Ended::Skipped | Ended::NotAsked | Ended::NotServed | Ended::Left => {}
+        ) => {
+            let (_request, _reply) = call.into_report();
+        }
+        Ended::Faulted(_, _) | Ended::Left(_, _) => {}
+        Ended::Skipped(_) | Ended::NotAsked(_) | Ended::NotServed(_) => {}
     }
 }

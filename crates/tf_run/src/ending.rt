@@ -10,11 +10,10 @@ use std::alloc::Global;
 use std::sync::Wait;
 use tf_cells::{Cells, Naming};
 use tf_environment::Declarations;
-use tf_journal::Journal;
 use tf_names::Names;
 use tf_outcome::Ended;
 use tf_plan_data::Plan;
-use tf_provider::Provider;
+use tf_provider::{Journal, Provider};
 use tf_report::{Furnished, Walked, report_of};
 use tf_settle::settle;
 

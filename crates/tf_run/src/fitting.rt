@@ -8,12 +8,13 @@ ghost use Rattle.tf_outcome.specs.Outcome.{done_at, is_good};
 ghost use Rattle.tf_run.specs.Fitting.{IsSkippedRightly, AreSkippedRightly};
 
 use std::sync::Wait;
+use std::sync::atomic::AtomicU64;
 use tf_graph::Graph;
 use tf_outcome::Ended;
 use tf_protocol::Verdict;
 
 /// Returns where each action is skipped exactly where one directly before it isn't good. Of ends that don't fit together
-/// nothing can be reported, so it waits for ever there.
+/// nothing can be reported, so it sleeps for ever there.
 pub(crate) fn demand_fit<R: Wait>(rt: &R, order: &Graph, results: &[Option<Ended>])
     requires { length results.now ≡ order.now.nodes }
     ensures { AreSkippedRightly order.now (dones_of results.now) }
@@ -21,7 +22,10 @@ pub(crate) fn demand_fit<R: Wait>(rt: &R, order: &Graph, results: &[Option<Ended
     if all_fit(order, results) {
         return;
     }
-    for _ in rt.forever() {}
+    let never = AtomicU64::new(0);
+    for _ in rt.forever() {
+        never.park(rt, 0);
+    }
     unreachable!()
 }
 
@@ -74,7 +78,7 @@ fn is_good(ended: &Option<Ended>) -> bool
     ensures { result ≡ is_good (done_or_skipped ended.now) }
 {
     match ended {
-        Some(Ended::Called(judged)) => judged.verdict == Verdict::Good,
+        Some(Ended::Called(served)) => served.call.verdict() == Verdict::Good,
         _ => false,
     }
 }
@@ -83,5 +87,5 @@ fn is_good(ended: &Option<Ended>) -> bool
 fn is_skipped(ended: &Option<Ended>) -> bool
     ensures { result ≡ is_skipped (done_or_skipped ended.now) }
 {
-    matches!(ended, None | Some(Ended::Skipped))
+    matches!(ended, None | Some(Ended::Skipped(_)))
 }

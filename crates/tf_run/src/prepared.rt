@@ -13,9 +13,9 @@ use std::alloc::{AllocError, Global};
 use tf_cells::Naming;
 use tf_claim::{Claims, Seat};
 use tf_hints::{Hints, Thief};
-use tf_journal::Journal;
 use tf_names::Names;
 use tf_plan_data::Plan;
+use tf_provider::Journal;
 use tf_report::{Furnished, furnish};
 
 /// All that a walk needs memory for: the names of the plan's configuration, the claims on its actions, how many actions each
@@ -38,7 +38,8 @@ pub(crate) struct Team<N: Naming> {
     pub thieves: Vec<Thief<InPlan<N>>>,
 }
 
-/// Takes the memory for a walk by so many workers. No provider is handed in, so none is called.
+/// Takes the memory for a walk by so many workers, but by no more than there are actions. No provider is handed in, so none is
+/// called.
 ///
 /// # Errors
 ///
@@ -56,7 +57,7 @@ pub(crate) fn prepare<'p, N: Naming>(
     let names = Names::new(alloc, &plan.config)?;
     let (claims, seat) = Claims::new(alloc, order)?;
     let countdown = Countdown::new(alloc, order)?;
-    let team = team_of(alloc, &claims, seat, workers)?;
+    let team = team_of(alloc, &claims, seat, workers.min(order.nodes()))?;
     let journal = Journal::with_room(alloc, order)?;
     let board = Board::new(alloc, order.nodes())?;
     match furnish(alloc, plan, &names) {

@@ -30,7 +30,8 @@ pub(crate) fn work<N: Naming, B: Ground<N>, R: Wait>(
     // at, which claims it if nothing stands before it. At any other action a worker has a hint that ended the last one before
     // it, or, where the hint is lost, all actions are given anew; and that worker looks at its own hints, and on, before it
     // waits. So others are woken only to be quicker, but for the end, when all are. None waits that hasn't looked since the
-    // last news: the news is read before it looks, and told after there is something to find.
+    // last news: the news is read before it looks, and told after there is something to find. `tools/model` goes through all
+    // interleavings of this loop, for small orders.
     for _ in rt.forever() {
         let news = walk.progress.news();
         if walk.progress.ended() >= all {
@@ -98,7 +99,7 @@ impl<N: Naming, B: Ground<N>, R: Wait> Worker<'_, '_, N, B, R> {
         self.follow_some(providers, desk, behind) || self.follow_some(providers, desk, before)
     }
 
-    /// Ends an action by a hint that it steals of some workers.
+    /// Ends an action by a hint that it steals of some workers, of the first that has one.
     fn follow_some(
         &self,
         providers: &[Box<dyn Provider + Sync>],
@@ -110,13 +111,34 @@ impl<N: Naming, B: Ground<N>, R: Wait> Worker<'_, '_, N, B, R> {
         ensures { desk.new.seat.table ≡ desk.old.seat.table }
     {
         for thief in thieves {
-            if let Some(hint) = thief.steal(self.rt) {
-                if self.end_if_free(providers, desk, hint) {
-                    return true;
-                }
+            if self.follow_one(providers, desk, thief) {
+                return true;
             }
         }
         false
+    }
+
+    /// Ends an action by a hint that it steals of one worker. Hints at actions that can't be claimed are forgotten, until that
+    /// worker has none: behind one of them may lie the only hint at an action that can be claimed.
+    fn follow_one(
+        &self,
+        providers: &[Box<dyn Provider + Sync>],
+        desk: &mut Desk<N>,
+        thief: &Thief<InPlan<N>>,
+    ) -> bool
+        requires walk { IsOneWalk N.plan N.meanings (B.planned self.now.ground.now) (B.named self.now.ground.now) (B.count self.now.ground.now) self.now.walk.now.claims.now.graph (map (λ b. meaning b) providers.now) }
+        requires seat { desk.old.seat.table ≡ self.now.walk.now.claims.now.table }
+        ensures { desk.new.seat.table ≡ desk.old.seat.table }
+    {
+        for _ in self.rt.forever() {
+            let Some(hint) = thief.steal(self.rt) else {
+                return false;
+            };
+            if self.end_if_free(providers, desk, hint) {
+                return true;
+            }
+        }
+        unreachable!()
     }
 
     /// Ends an action that can be claimed, of those that no worker has looked at. None is looked at twice, unless a hint is

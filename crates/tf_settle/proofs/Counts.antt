@@ -3,7 +3,7 @@ use Rattle.std.proofs.Common.{◌≡◌, ◌<◌, ℕ, zero, suc, Bool, true, Al
 use Rattle.std.specs.Prelude.{is_some, nat_eq, slice_get}
 use Rattle.std.proofs.lemmas.Bool.Decides.{nat_tests}
 use Rattle.tf_claim.specs.Claims.{how_many}
-use Rattle.tf_journal.specs.declared.journal.Entry.{Entry}
+use Rattle.tf_provider.specs.declared.journal.Entry.{Entry}
 use Rattle.tf_outcome.specs.Excuse.{excuse_of}
 use Rattle.tf_outcome.specs.declared.excuse.Excuse.{Excuse}
 use Rattle.tf_outcome.specs.declared.excuse.Outcome.{Outcome}

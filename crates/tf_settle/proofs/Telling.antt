@@ -5,8 +5,8 @@ use Rattle.std.proofs.lemmas.Bool.{cases_eq, true≢false}
 use Rattle.std.proofs.lemmas.List.{length-map}
 use Rattle.tf_claim.specs.Claims.{how_many}
 use Rattle.tf_claim.proofs.Counting.{how_many-same}
-use Rattle.tf_journal.specs.Entries.{actions_of}
-use Rattle.tf_journal.specs.declared.journal.Entry.{Entry}
+use Rattle.tf_provider.specs.Entries.{actions_of}
+use Rattle.tf_provider.specs.declared.journal.Entry.{Entry}
 use Rattle.tf_outcome.specs.Journal.{verdict_in}
 use Rattle.tf_protocol.specs.declared.verdict.Verdict.{Verdict}
 use Rattle.tf_settle.proofs.Matching.{how_many-lt, how_many-stand, stands, nat_eq-same, nat_eq-other}

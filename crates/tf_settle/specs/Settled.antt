@@ -4,7 +4,7 @@ use Rattle.std.specs.List.{AllByRecursion}
 use Rattle.tf_action_data.specs.Action.{ActionView}
 use Rattle.tf_graph.specs.Digraph.{Digraph, predecessors_of}
 use Rattle.tf_graph.specs.Order.{IsInOrder}
-use Rattle.tf_journal.specs.Entries.{actions_of}
+use Rattle.tf_provider.specs.Entries.{actions_of}
 use Rattle.tf_outcome.specs.Journal.{IsOfAction, verdict_in}
 use Rattle.tf_report.specs.declared.report.Report.{Report}
 use Rattle.tf_report.specs.declared.report.Walked.{Walked}

@@ -5,9 +5,8 @@ ghost use Rattle.tf_claim.specs.Claims.{how_many};
 ghost use Rattle.tf_outcome.specs.Excuse.{excuse_of};
 ghost use Rattle.tf_settle.specs.Told.{is_during, verdict_told};
 
-use tf_journal::Entry;
 use tf_outcome::{Excuse, Outcome};
-use tf_provider::Verdict;
+use tf_provider::{Entry, Verdict};
 
 /// Whether each entry has the verdict that is told of its action.
 pub fn are_told(entries: &[Entry], outcomes: &[Outcome], excused: &[Excuse]) -> bool

@@ -5,9 +5,9 @@ ghost use Rattle.std.specs.Prelude.{◌≡◌, ◌↔◌, IsTrue, false, map};
 ghost use Rattle.tf_outcome.specs.Words.{action_of, IsOfAction, op_at};
 
 use tf_additions::op_of;
-use tf_journal::Entry;
 use tf_plan_data::Action;
 use tf_protocol::Op;
+use tf_provider::Entry;
 
 /// Whether each entry says what its action has its provider do.
 pub fn are_of_actions(entries: &[Entry], actions: &[Action]) -> bool

@@ -10,6 +10,13 @@ pub struct Stop {
     flag: AtomicBool,
 }
 
+/// The evidence that a flag was seen set. Only a look at one makes it, and it can't be copied: so each action that is left
+/// because of a stop was left after a look of its own.
+#[derive(Debug, Drop)]
+pub struct Stopped {
+    seen: (),
+}
+
 impl Stop {
     /// A flag that isn't set.
     pub const fn new() -> Stop {
@@ -23,15 +30,20 @@ impl Stop {
         self.flag.store(true, Ordering::SeqCst);
     }
 
-    /// Whether the flag is set.
-    pub fn is_set(&self) -> bool {
-        self.flag.load(Ordering::SeqCst)
+    /// Looks whether the flag is set: where it is, here is the evidence.
+    pub fn look(&self) -> Option<Stopped> {
+        if self.flag.load(Ordering::SeqCst) {
+            Some(Stopped { seen: () })
+        } else {
+            None
+        }
     }
 }
 
-/// A flag may be shared by threads.
-pub fn stops_are_shared(stop: &Stop) {
+/// A flag may be shared by threads, and so may the evidence that one was seen set.
+pub fn stops_are_shared(stop: &Stop, stopped: &Stopped) {
     share(stop);
+    share(stopped);
 }
 
 /// Takes what threads may share.

@@ -3,8 +3,8 @@ use Rattle.std.proofs.Common.{◌≡◌, ℕ, Bool, true, false, ◌||◌, cond,
 use Rattle.std.specs.Prelude.{is_some, unwrap_or, find, option_and_then}
 use Rattle.std.specs.List.{list_all}
 use Rattle.tf_graph.specs.Digraph.{predecessors_of}
-use Rattle.tf_journal.specs.declared.journal.Entry.{Entry}
-use Rattle.tf_journal.specs.Entries.{Log, is_entered, fault_of}
+use Rattle.tf_provider.specs.declared.journal.Entry.{Entry}
+use Rattle.tf_provider.specs.Entries.{Log, is_entered, fault_of}
 use Rattle.tf_walk.specs.Ends.{end_at, done_in}
 use Rattle.tf_outcome.specs.Outcome.{Done, skipped, excused, faulted, called, is_good}
 use Rattle.tf_outcome.specs.Journal.{verdict_in, entered_verdict}

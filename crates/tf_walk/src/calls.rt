@@ -2,14 +2,13 @@
 
 ghost use Rattle.std.specs.List.{list_all};
 ghost use Rattle.std.specs.Prelude.{◌≡◌, ◌<◌, ◌++◌, ◌∷◌, [], None, Some, All, length, map, option_map};
-ghost use Rattle.tf_outcome.specs.Words.{asked, call_of_provider, done_of, done_or_skipped, entered_verdict, fault_of, is_good, IsRun, IsServed};
-ghost use Rattle.tf_journal.specs.declared.journal.Entry.{Entry};
+ghost use Rattle.tf_outcome.specs.Words.{asked, call_of_provider, done_of, done_or_skipped, ended_action, entered_verdict, fault_of, is_good, IsRun, IsServed};
+ghost use Rattle.tf_provider.specs.declared.journal.Entry.{Entry};
 ghost use Rattle.tf_walk.specs.Ends.{done_in};
 
 use tf_claim::{Finished, Permit};
-use tf_journal::Journal;
 use tf_outcome::{Asking, Ended, ended_by};
-use tf_provider::{Provider, Verdict, call};
+use tf_provider::{Journal, Provider, Verdict, call};
 
 /// Calls a provider with a request, and records the call.
 pub fn make_call(
@@ -22,6 +21,7 @@ pub fn make_call(
     requires within { permit < journal.old.graph.nodes }
     requires fits { fault_of journal.old permit ≡ None }
     ensures finished { result.1 ≡ permit }
+    ensures action { ended_action result.0 ≡ permit }
     ensures ended { IsRun (call_of_provider (asked asking.request) (meaning provider.now)) (done_of result.0) }
     ensures entered { (e : Entry) × (e.action ≡ permit) × (e.op ≡ (asked asking.request).op) × (Some e.verdict ≡ entered_verdict (done_of result.0))
         × (journal.new.entries ≡ journal.old.entries ++ e ∷ []) }
@@ -57,7 +57,7 @@ pub fn is_good(ended: &Option<Ended>) -> bool
     ensures { result ≡ is_good (done_or_skipped ended.now) }
 {
     match ended {
-        Some(Ended::Called(judged)) => judged.verdict == Verdict::Good,
+        Some(Ended::Called(served)) => served.call.verdict() == Verdict::Good,
         _ => false,
     }
 }

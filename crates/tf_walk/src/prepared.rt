@@ -6,10 +6,10 @@ ghost use Rattle.tf_walk.specs.Prepared.{IsPrepared};
 
 use std::alloc::{AllocError, Global};
 use tf_claim::Book;
-use tf_journal::Journal;
 use tf_names::Names;
 use tf_outcome::{Ended, not_ended};
 use tf_plan_data::Plan;
+use tf_provider::Journal;
 use tf_report::{Furnished, furnish};
 
 /// All that the report on a plan needs memory for, the names of its configuration, and the claims on its actions. The

@@ -2,19 +2,18 @@
 
 ghost use Rattle.std.specs.List.{list_all};
 ghost use Rattle.std.specs.Prelude.{◌≡◌, ◌<◌, None, Some, length, map, option_map, slice_get, IsSomeAnd, IsTrue};
-ghost use Rattle.tf_outcome.specs.Words.{action_of, AreServed, asked, asks_fully, call_of, config_of, done_of, fault_of, FitsTogether, is_good, IsRun, names_in, names_of, op_at, plan_of, predecessors_of, schema_in, seen_by};
+ghost use Rattle.tf_outcome.specs.Words.{action_of, AreServed, asked, asks_fully, call_of, config_of, done_of, ended_action, fault_of, FitsTogether, is_good, IsRun, names_in, names_of, op_at, plan_of, predecessors_of, schema_in, seen_by};
 ghost use Rattle.tf_outcome.specs.Outcome.{Requests, AreRequests};
 ghost use Rattle.tf_walk.specs.Ends.{Enters, IsEnd, IsSoFar, done_in, end_at};
 
 use crate::calls::{are_good, make_call};
 use std::alloc::{AllocError, Global};
 use tf_asks::ask_provider;
-use tf_claim::{Finished, Permit, waive};
-use tf_journal::Journal;
+use tf_claim::{Finished, Permit};
 use tf_names::Names;
 use tf_outcome::{Answered, Asking, Ended};
 use tf_plan_data::Plan;
-use tf_provider::{Provider, first_provider};
+use tf_provider::{Journal, Provider, first_provider, waive_for};
 use tf_stop::Stop;
 
 /// Ends a claimed action: skips it where an action directly before it isn't good; leaves it where the walk is to stop by
@@ -38,6 +37,7 @@ pub fn end_action(
     requires within { permit < length plan.now.actions.items }
     requires graph { journal.old.graph ≡ plan.now.order }
     ensures finished { result.1 ≡ permit }
+    ensures action { ended_action result.0 ≡ permit }
     ensures ended { (requests : Requests) → AreRequests (plan_of plan.now) requests → IsEnd (map (λ b. meaning b) providers.now) requests (plan_of plan.now) permit
         (seen_by (done_in (map (option_map done_of) results.now)) (predecessors_of plan.now.order permit)) (done_of result.0) }
     ensures entered { Enters permit (op_at (map action_of plan.now.actions.items) permit) (done_of result.0) journal.old.entries journal.new.entries }
@@ -45,10 +45,12 @@ pub fn end_action(
 {
     let action = permit.action();
     if !is_due(plan, results, action) {
-        return (Ended::Skipped, waive(permit));
+        let (finished, waived) = waive_for(permit);
+        return (Ended::Skipped(waived), finished);
     }
-    if stop.is_set() {
-        return (Ended::Left, waive(permit));
+    if let Some(stopped) = stop.look() {
+        let (finished, waived) = waive_for(permit);
+        return (Ended::Left(waived, stopped), finished);
     }
     let actions = plan.actions.as_slice();
     let seen = Answered {
@@ -59,8 +61,14 @@ pub fn end_action(
         results,
     };
     match ask_provider(alloc, plan, names, providers, &actions[action], &seen) {
-        Err(AllocError) => (Ended::NotAsked, waive(permit)),
-        Ok(Err(faulted)) => (Ended::Faulted(faulted), waive(permit)),
+        Err(AllocError) => {
+            let (finished, waived) = waive_for(permit);
+            (Ended::NotAsked(waived), finished)
+        }
+        Ok(Err(faulted)) => {
+            let (finished, waived) = waive_for(permit);
+            (Ended::Faulted(faulted, waived), finished)
+        }
         Ok(Ok(asking)) => serve(providers, journal, permit, asking),
     }
 }
@@ -85,12 +93,16 @@ fn serve(
     requires within { permit < journal.old.graph.nodes }
     requires fits { fault_of journal.old permit ≡ None }
     ensures finished { result.1 ≡ permit }
+    ensures action { ended_action result.0 ≡ permit }
     ensures ended { IsRun (call_of (map (λ b. meaning b) providers.now) (asked asking.request)) (done_of result.0) }
     ensures entered { Enters permit (Some (asked asking.request).op) (done_of result.0) journal.old.entries journal.new.entries }
     ensures same_graph { journal.new.graph ≡ journal.old.graph }
 {
     match first_provider(providers, asking.request.type_name.as_str()) {
-        None => (Ended::Skipped, waive(permit)),
+        None => {
+            let (finished, waived) = waive_for(permit);
+            (Ended::Skipped(waived), finished)
+        }
         Some(provider) => make_call(provider, journal, permit, asking),
     }
 }

@@ -1,7 +1,7 @@
 //! The walk of one thread.
 
 ghost use Rattle.std.specs.Prelude.{◌≡◌, ◌<◌, None, Some, map, option_map, length, slice_set};
-ghost use Rattle.tf_outcome.specs.Words.{action_of, AreServed, config_of, done_of, FitsTogether, names_in, names_of, plan_of};
+ghost use Rattle.tf_outcome.specs.Words.{action_of, AreServed, config_of, done_of, ended_action, FitsTogether, names_in, names_of, plan_of};
 ghost use Rattle.tf_walk.specs.Ends.{AllHaveEnded, IsSoFar, IsStaged, end_at};
 
 use crate::claims::{close, next_permit};
@@ -9,11 +9,10 @@ use crate::steps::end_action;
 use std::alloc::Global;
 use std::mem;
 use tf_claim::Book;
-use tf_journal::Journal;
 use tf_names::Names;
 use tf_outcome::Ended;
 use tf_plan_data::Plan;
-use tf_provider::Provider;
+use tf_provider::{Journal, Provider};
 use tf_stop::Stop;
 
 /// Takes every action of a plan to its end; once the walk is to stop, no further provider is called.
@@ -53,6 +52,7 @@ pub fn walk(
 fn keep(results: &mut [Option<Ended>], action: usize, ended: Ended)
     requires within { action < length results.old }
     requires free { end_at (map (option_map done_of) results.old) action ≡ None }
+    requires own { ended_action ended ≡ action }
     ensures { results.new ≡ slice_set results.old action (Some ended) }
 {
     match mem::replace(&mut results[action], Some(ended)) {

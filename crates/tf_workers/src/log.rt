@@ -5,8 +5,7 @@ ghost use Rattle.std.specs.Prelude.{◌≡◌, ◌<◌, MatchResult};
 use std::marker::PhantomData;
 use std::sync::Mutex;
 use tf_cells::Naming;
-use tf_journal::Journal;
-use tf_provider::{Called, Recorded};
+use tf_provider::{Called, Journal, Recorded};
 
 /// The journal of a walk, which workers share under a lock. It is over the order of the walk's plan.
 #[derive(Drop)]

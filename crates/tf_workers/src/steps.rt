@@ -1,8 +1,8 @@
 //! The end of one action, by a worker.
 
 ghost use Rattle.std.specs.Prelude.{◌≡◌, ◌<◌, map};
-ghost use Rattle.tf_outcome.specs.Words.{done_of, names_in};
-ghost use Rattle.tf_cells.specs.Ideal.{IsTrueTo};
+ghost use Rattle.tf_outcome.specs.Words.{done_of, ended_action, names_in};
+ghost use Rattle.tf_cells.specs.Ideal.{IsEndOf, IsTrueTo};
 ghost use Rattle.tf_workers.specs.Shared.{IsOfWalk};
 
 use crate::calls::serve;
@@ -12,11 +12,11 @@ use std::alloc::{AllocError, Global};
 use std::sync::{Mutex, Wait};
 use std::thread;
 use tf_cells::{Cells, Naming};
-use tf_claim::{Finished, Permit, waive};
+use tf_claim::{Finished, Permit};
 use tf_names::Names;
 use tf_outcome::Ended;
 use tf_plan_data::Plan;
-use tf_provider::Provider;
+use tf_provider::{Provider, waive_for};
 use tf_stop::Stop;
 
 /// What a worker works with, beside the providers: the plan of a walk, the names of its configuration, the cells of the plan's
@@ -64,19 +64,28 @@ impl<N: Naming, R: Wait> Workshop<'_, N, R> {
         requires walk { IsOfWalk N.plan N.meanings self.now.plan.now (names_in self.now.names.now) self.now.cells.now (map (λ b. meaning b) providers.now) }
         requires within { permit < self.now.plan.now.order.nodes }
         ensures finished { result.1 ≡ permit }
+        ensures action { ended_action result.0 ≡ permit }
         ensures ended { IsTrueTo N.meanings N.plan permit (done_of result.0) }
     {
         let action = permit.action();
         let before = self.plan.order.graph().predecessors(action);
         if !are_good(self.rt, self.cells, before) {
-            return (Ended::Skipped, waive(permit));
+            let (finished, waived) = waive_for(permit);
+            return (Ended::Skipped(waived), finished);
         }
-        if self.stop.is_set() {
-            return (Ended::Left, waive(permit));
+        if let Some(stopped) = self.stop.look() {
+            let (finished, waived) = waive_for(permit);
+            return (Ended::Left(waived, stopped), finished);
         }
         match self.ask(providers, action) {
-            Err(AllocError) => (Ended::NotAsked, waive(permit)),
-            Ok(Err(faulted)) => (Ended::Faulted(faulted), waive(permit)),
+            Err(AllocError) => {
+                let (finished, waived) = waive_for(permit);
+                (Ended::NotAsked(waived), finished)
+            }
+            Ok(Err(faulted)) => {
+                let (finished, waived) = waive_for(permit);
+                (Ended::Faulted(faulted, waived), finished)
+            }
             Ok(Ok(asking)) => serve(self.rt, providers, self.journal, permit, asking),
         }
     }
@@ -85,7 +94,7 @@ impl<N: Naming, R: Wait> Workshop<'_, N, R> {
 /// Publishes what came of an action. Where something was published for it already, it waits.
 fn publish<N: Naming, R: Wait>(rt: &R, cells: &Cells<N>, action: usize, ended: Ended)
     requires action { action < cells.now }
-    requires ended { IsTrueTo N.meanings N.plan action (done_of ended) }
+    requires own { IsEndOf N.meanings N.plan action ended }
 {
     let mut left = ended;
     for _ in rt.forever() {

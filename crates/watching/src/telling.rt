@@ -13,6 +13,7 @@ pub struct Told {
     pub state: State,
     /// How each action ended, in action order.
     pub outcomes: String,
+    pub diagnostics: String,
     /// What is excused.
     pub excused: String,
     /// The actions in the journal.
@@ -29,7 +30,7 @@ pub fn tell_of(alloc: Global, walked: Walked) -> Result<Told, AllocError> {
     let Report {
         state,
         outcomes,
-        diagnostics: _,
+        diagnostics,
         journal,
         excused,
         good: _,
@@ -42,6 +43,7 @@ pub fn tell_of(alloc: Global, walked: Walked) -> Result<Told, AllocError> {
         whole,
         state,
         outcomes: listed(alloc, outcomes.as_slice())?,
+        diagnostics: listed(alloc, diagnostics.as_slice())?,
         excused: listed(alloc, excused.as_slice())?,
         journal: called,
     })

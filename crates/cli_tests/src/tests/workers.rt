@@ -2,20 +2,21 @@
 
 use std::alloc::Global;
 use std::process::Abort;
-use std::sync::atomic::{AtomicBool, AtomicUsize, Ordering};
+use std::sync::atomic::{AtomicUsize, Ordering};
 use std::sync::{Arc, Wait};
 use std::test::Fail;
 use std::thread::Threads;
-use test_providers::{Meeting, is_set_within, meet};
+use test_providers::{Meeting, is_reached_within, meet};
 use tf_cli::Stop;
 use tf_provider::{Provider, Reply, Request};
 use tf_sim::Sim;
 use tf_value::Value;
 use watching::{Aside, Sided, Texts, apply_by};
 
-// How often a call looks for another one: for seconds, since a thread may start late on a machine with other work. Where
-// all is well the other is seen at once.
-const TURNS: usize = 4_000_000_000;
+/// How often the call of one of two looks for the other, and how often that of one of more; others may run in between.
+const TURNS_OF_TWO: usize = 10_000_000;
+
+const TURNS_OF_MANY: usize = 100_000_000;
 
 /// Checks that so many calls, of a provider each, are seen by one another where as many workers make them.
 fn check_meeting<R: Abort + Threads + Wait + Sync>(
@@ -23,11 +24,12 @@ fn check_meeting<R: Abort + Threads + Wait + Sync>(
     alloc: Global,
     config: &str,
     count: usize,
+    turns: usize,
 ) -> Result<(), Fail> {
     let Meeting {
         providers: all,
         misses,
-    } = meet(alloc, count, TURNS)?;
+    } = meet(alloc, count, turns)?;
     let mut providers: Vec<Box<dyn Provider + Sync>> = Vec::new(alloc);
     for provider in all {
         providers.push(Box::new(alloc, provider)?)?;
@@ -50,30 +52,30 @@ fn check_meeting<R: Abort + Threads + Wait + Sync>(
 #[test]
 fn two_calls_meet(rt: HostRuntime) -> Result<(), Fail> {
     let config = r#"{"resource": {"t0": {"a": {}}, "t1": {"a": {}}}}"#;
-    check_meeting(&rt, rt.alloc(), config, 2)
+    check_meeting(&rt, rt.alloc(), config, 2, TURNS_OF_TWO)
 }
 
 #[test]
 fn four_calls_meet(rt: HostRuntime) -> Result<(), Fail> {
     let config =
         r#"{"resource": {"t0": {"a": {}}, "t1": {"a": {}}, "t2": {"a": {}}, "t3": {"a": {}}}}"#;
-    check_meeting(&rt, rt.alloc(), config, 4)
+    check_meeting(&rt, rt.alloc(), config, 4, TURNS_OF_MANY)
 }
 
 /// The create of the net with cidr `a` waits, but not for ever, until that with cidr `net-b` has begun.
 #[derive(Drop)]
 struct Waiting {
-    begun: AtomicBool,
+    begun: AtomicUsize,
     misses: Arc<AtomicUsize>,
 }
 
 impl Aside for Waiting {
     fn reply(&self, sim: &Sim, request: &Request) -> Reply {
         match cidr_of(request) {
-            Some("a") if !is_set_within(&self.begun, TURNS) => {
+            Some("a") if !is_reached_within(&self.begun, 1, TURNS_OF_TWO) => {
                 self.misses.fetch_add(1, Ordering::SeqCst);
             }
-            Some("net-b") => self.begun.store(true, Ordering::SeqCst),
+            Some("net-b") => self.begun.store(1, Ordering::SeqCst),
             _ => {}
         }
         sim.apply(request)
@@ -95,7 +97,7 @@ fn second_ends_first(rt: HostRuntime) -> Result<(), Fail> {
     let alloc = rt.alloc();
     let misses = Arc::new(alloc, AtomicUsize::new(0))?;
     let aside = Waiting {
-        begun: AtomicBool::new(false),
+        begun: AtomicUsize::new(0),
         misses: Arc::try_clone(&misses)?,
     };
     let sim = Sim::new(alloc)?;

@@ -1,14 +1,14 @@
 //! Calls recorded in an order that is allowed, too early, and twice.
 
-ghost use Rattle.std.specs.Prelude.{◌≡◌, ◌<◌};
+ghost use Rattle.std.specs.Prelude.{◌≡◌, ◌<◌, None};
+ghost use Rattle.tf_provider.specs.Entries.{fault_of};
 
 use crate::tests::provider::{Mute, finish, settle, try_call};
 use std::alloc::{AllocError, Global};
 use std::test::Fail;
 use tf_claim::{Book, waive};
 use tf_graph::Graph;
-use tf_journal::{Entry, Journal, RecordFault};
-use tf_provider::{Op, Provider, Request, Schema, Verdict};
+use tf_provider::{Entry, Journal, Op, Provider, RecordFault, Request, Schema, Verdict};
 
 fn destroy(alloc: Global) -> Result<Request, AllocError> {
     Ok(Request {
@@ -21,14 +21,16 @@ fn destroy(alloc: Global) -> Result<Request, AllocError> {
     })
 }
 
-/// Claims action 0, calls a provider for it and records the call; gives why it isn't recorded.
+/// Claims action 0, calls a provider for it and records the call; gives why it isn't recorded. Then it is in the spare journal.
 fn record_first(
     provider: &Box<dyn Provider + Sync>,
     book: &mut Book,
     journal: &mut Journal,
+    mut spare: Journal,
     request: Request,
 ) -> Result<(), Option<RecordFault>>
     requires acts { 0 < book.old.graph.nodes }
+    requires spares { (0 < spare.graph.nodes) × (fault_of spare 0 ≡ None) }
     requires logs { 0 < journal.old.graph.nodes }
     ensures { journal.new.graph ≡ journal.old.graph }
 {
@@ -41,10 +43,13 @@ fn record_first(
                 settle(book, recorded);
                 Ok(())
             }
-            Err((called, fault)) => {
-                settle(book, called.into_recorded());
-                Err(Some(fault))
-            }
+            Err((called, fault)) => match spare.record(called) {
+                Ok(recorded) => {
+                    settle(book, recorded);
+                    Err(Some(fault))
+                }
+                Err(_) => unreachable!(),
+            },
         },
         Err(permit) => {
             finish(book, waive(permit));
@@ -62,7 +67,8 @@ fn calls_are_recorded_once(rt: HostRuntime) -> Result<(), Fail> {
     let mut journal = Journal::with_room(alloc, &graph)?;
     assert!(rt; journal.entries().is_empty());
     let mut book = Book::new(alloc, &graph)?;
-    assert!(rt; record_first(&provider, &mut book, &mut journal, destroy(alloc)?).is_ok());
+    let spare = Journal::with_room(alloc, &graph)?;
+    assert!(rt; record_first(&provider, &mut book, &mut journal, spare, destroy(alloc)?).is_ok());
     let entry = Entry {
         action: 0,
         op: Op::Destroy,
@@ -70,7 +76,14 @@ fn calls_are_recorded_once(rt: HostRuntime) -> Result<(), Fail> {
     };
     assert!(rt; journal.entries() == [entry].as_slice() && journal.totals() == (0, 0, 1));
     let mut another = Book::new(alloc, &graph)?;
-    let again = record_first(&provider, &mut another, &mut journal, destroy(alloc)?);
+    let spare = Journal::with_room(alloc, &graph)?;
+    let again = record_first(
+        &provider,
+        &mut another,
+        &mut journal,
+        spare,
+        destroy(alloc)?,
+    );
     assert!(rt; again == Err(Some(RecordFault::Twice)) && journal.totals() == (0, 0, 1));
     Ok(())
 }

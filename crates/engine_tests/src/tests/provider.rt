@@ -9,7 +9,7 @@ use std::test::Fail;
 use tf_claim::{Book, Finished, Permit, waive};
 use tf_graph::Graph;
 use tf_provider::{
-    Attribute, Called, Kind, Mode, Op, Parts, Provider, Recorded, Reply, Request, Schema,
+    Attribute, Called, Journal, Kind, Mode, Op, Provider, Recorded, Reply, Request, Schema,
     SchemaFault, Verdict, asks_fully, call, first_provider, judge, well_formed,
 };
 use tf_value::Value;
@@ -299,19 +299,20 @@ pub(crate) fn try_call(
     }
 }
 
-/// Takes a recorded call apart, reports its action as done, and gives what was judged.
+/// Splits a recorded call, reports its action as done, and gives what was judged.
 pub(crate) fn settle(book: &mut Book, recorded: Recorded) -> Verdict
     requires { IsTrue (is_taken (stage_in book.old.stages recorded.action)) }
-    ensures { result ≡ recorded.verdict }
 {
-    let Parts {
-        finished,
-        request: _,
-        reply: _,
-        verdict,
-    } = recorded.into_parts();
+    let (finished, judged) = recorded.split();
     finish(book, finished);
-    verdict
+    match judged {
+        Ok(judged) => {
+            let verdict = judged.verdict();
+            let (_request, _reply) = judged.into_report();
+            verdict
+        }
+        Err(_) => Verdict::Excused,
+    }
 }
 
 #[test]
@@ -322,17 +323,22 @@ fn a_call_spends_its_permit(rt: HostRuntime) -> Result<(), Fail> {
     providers.push(Box::new(alloc, Mute { schema })?)?;
     assert!(rt; first_provider(&providers, "net").is_some());
     assert!(rt; first_provider(&providers[..0], "net").is_none());
-    let mut book = Book::new(alloc, &Graph::new(alloc, 1, &[])?)?;
+    let graph = Graph::new(alloc, 1, &[])?;
+    let mut journal = Journal::with_room(alloc, &graph)?;
+    let mut book = Book::new(alloc, &graph)?;
     let request = request(alloc, Op::Destroy)?;
     let Some(permit) = book.claim(0) else {
         return Err("not claimed")?;
     };
     match try_call(&providers[0], permit, request) {
-        Ok(called) => {
-            let verdict = settle(&mut book, called.into_recorded());
-            assert!(rt; verdict == Verdict::Good);
-            Ok(())
-        }
+        Ok(called) => match journal.record(called) {
+            Ok(recorded) => {
+                let verdict = settle(&mut book, recorded);
+                assert!(rt; verdict == Verdict::Good);
+                Ok(())
+            }
+            Err(_) => unreachable!(),
+        },
         Err(permit) => {
             finish(&mut book, waive(permit));
             Err("the provider hasn't the type")?

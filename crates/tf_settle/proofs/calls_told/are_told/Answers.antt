@@ -1,7 +1,7 @@
 use Rattle.std.proofs.Common.{◌≡◌, All, Some, subst}
 use Rattle.std.proofs.lemmas.List.{take_all}
 use Rattle.std.proofs.lemmas.List.Elements.{All-more}
-use Rattle.tf_journal.specs.declared.journal.Entry.{Entry}
+use Rattle.tf_provider.specs.declared.journal.Entry.{Entry}
 use Rattle.tf_settle.specs.Told.{verdict_told}
 use Rattle.tf_settle.proofs.calls_told.are_told.Goals as goal
 

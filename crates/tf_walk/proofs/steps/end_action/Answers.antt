@@ -1,8 +1,8 @@
-use Rattle.std.proofs.Common.{Ok, Err, map, option_map, refl, sym, ap}
+use Rattle.std.proofs.Common.{◌≡◌, ◌∙◌, Option, Some, Result, Ok, Err, IfOk, map, option_map, refl, sym, ap, subst}
 use Rattle.tf_config_data.specs.Config.{config_of}
 use Rattle.tf_config_data.specs.Names.{names_of}
 use Rattle.tf_graph.specs.Digraph.{predecessors_of}
-use Rattle.tf_action_data.specs.Action.{action_of}
+use Rattle.tf_action_data.specs.Action.{ActionView, action_of}
 use Rattle.tf_plan_data.specs.Fits.{IsDeclared}
 use Rattle.tf_plan_data.specs.Plan.{plan_of}
 use Rattle.tf_plan_data.specs.Served.{IsServedBy}
@@ -10,7 +10,13 @@ use Rattle.tf_change.specs.Instance.{instance_fault_of}
 use Rattle.tf_outcome.specs.Ended.{done_of}
 use Rattle.tf_outcome.specs.Excuse.{before_call, by_stop}
 use Rattle.tf_outcome.specs.Outcome.{excused, faulted}
-use Rattle.tf_walk.specs.Ends.{done_in}
+use Rattle.tf_outcome.specs.Asked.{op_of}
+use Rattle.tf_outcome.specs.declared.asking.Asking.{Asking}
+use Rattle.tf_outcome.specs.declared.ended.Faulted.{Faulted}
+use Rattle.tf_outcome.specs.Journal.{op_at}
+use Rattle.tf_protocol.specs.Meaning.{asked}
+use Rattle.tf_protocol.specs.declared.request.Op.{Op}
+use Rattle.tf_walk.specs.Ends.{Enters, done_in}
 use Rattle.tf_names.specs.Table.{names_in}
 use Rattle.tf_outcome.proofs.Calling.{read_at, slice_get-map}
 use Rattle.tf_walk.proofs.Ending.{ends_asked, ends_run, ends_skipped}
@@ -25,8 +31,8 @@ returns-then-not-is_due-clause-ended g c = λ requests are.
     let good = rw c.action-action.ensures at c.if-not-is_due.ensures in
     ends_skipped ms requests (plan_of c.args.plan.now) c.args.permit (done_in ends) (predecessors_of order c.args.permit) (sym good)
 
-pub returns-then-is_set-clause-ended : goal.returns-then-is_set-clause-ended
-returns-then-is_set-clause-ended g c = λ requests are.
+pub returns-in-Some-clause-ended : goal.returns-in-Some-clause-ended
+returns-in-Some-clause-ended g c = λ requests are.
     let ms = map (λ b. (goal.Provider-dyn g (b.vtable, b.value)).meaning b.value) c.args.providers.now in
     ends_run ms requests (plan_of c.args.plan.now) c.args.permit (done_in (map (option_map done_of) c.args.results.now)) (predecessors_of c.args.plan.now.order c.args.permit) (excused by_stop) (sym (rw c.action-action.ensures at c.if-not-is_due.ensures)) tt
 
@@ -69,3 +75,13 @@ returns-in-Ok-Ok-clause-ended g c = λ requests are.
     ends_asked ms requests (plan_of c.args.plan.now) c.args.permit (names_in c.args.names.now) (map action_of c.as_slice-actions.result.now) c.args.results.now c.predecessors.result.now (action_of c.index-actions-action.result) c.in-Ok-Ok.field-0 (Ok c.in-Ok-Ok.asking) (done_of c.serve.result.0) c.in-Ok-Ok.field-0-is c.serve.ensures.ended
     c.requires.names (ap (map action_of) c.as_slice-actions.ensures.value) (rw (c.graph.ensures.graph, c.action-action.ensures) at c.predecessors.ensures.nodes) (slice_get-map action_of c.args.plan.now.actions.items c.args.permit c.index-actions-action.result c.requires.within read)
     (sym (rw c.action-action.ensures at c.if-not-is_due.ensures)) (c.in-Ok-Ok.ensures.asked requests are)
+
+pub returns-in-Ok-Ok-clause-entered : goal.returns-in-Ok-Ok-clause-entered
+returns-in-Ok-Ok-clause-entered g c =
+    let actions = c.args.plan.now.actions.items in
+    let read = rw (c.action-action.ensures, c.as_slice-actions.ensures.value) at c.index-actions-action.is in
+    let there = slice_get-map action_of actions c.args.permit c.index-actions-action.result c.requires.within read in
+    let asks = subst (λ (made : Result Asking Faulted). IfOk made (λ asking. (asked asking.request).op ≡ op_of (action_of c.index-actions-action.result).step)) c.in-Ok-Ok.field-0-is c.in-Ok-Ok.ensures.op in
+    let op : op_at (map action_of actions) c.args.permit ≡ Some (asked c.in-Ok-Ok.asking.request).op =
+    ap (option_map (λ (a : ActionView). op_of a.step)) there ∙ ap Some (sym asks) in
+    subst (λ (o : Option Op). Enters c.args.permit o (done_of c.serve.result.0) c.args.journal.now.entries c.serve.new.journal.entries) (sym op) c.serve.ensures.entered

@@ -1,6 +1,5 @@
 use Rattle.std.proofs.Common.{ℕ, refl, arith, sym, ◌∙◌, subst}
-use Rattle.tf_outcome.specs.Ended.{done_of}
-use Rattle.tf_cells.specs.Ideal.{IsTrueTo}
+use Rattle.tf_cells.specs.Ideal.{IsEndOf}
 use Rattle.tf_cells.proofs.cells.Cells.publish.Goals as goal
 
 pub put-requires : goal.put-requires
@@ -10,10 +9,10 @@ put-requires g c =
       won.0 refl,
       omega arith,
       refl,
-      subst (λ (n : ℕ). IsTrueTo g.N.Naming.meanings g.N.Naming.plan n (done_of c.args.ended)) (sym own) c.requires.fits,
+      subst (λ (n : ℕ). IsEndOf g.N.Naming.meanings g.N.Naming.plan n c.args.ended) (sym own) c.requires.own,
     )
 
 pub returns-in-Some : goal.returns-in-Some
 returns-in-Some g c =
     let own = c.turn-found.ensures.2 ∙ c.cell.ensures in
-    subst (λ (n : ℕ). IsTrueTo g.N.Naming.meanings g.N.Naming.plan n (done_of c.in-Some.field-0.ended)) own c.in-Some.ensures
+    subst (λ (n : ℕ). IsEndOf g.N.Naming.meanings g.N.Naming.plan n c.in-Some.field-0.ended) own c.in-Some.ensures

@@ -7,9 +7,9 @@ use Rattle.tf_provider.specs.Call.{Call}
 use Rattle.tf_protocol.specs.declared.request.Op.{Op}
 use Rattle.tf_protocol.specs.declared.request.Op.TheVariants.{Create, Update, Destroy}
 use Rattle.tf_protocol.specs.Verdict.{is_good_verdict}
-use Rattle.tf_journal.specs.declared.journal.Entry.{Entry}
-use Rattle.tf_journal.specs.declared.journal.RecordFault.{RecordFault}
-use Rattle.tf_journal.specs.declared.journal.RecordFault.TheVariants.{Early, Twice}
+use Rattle.tf_provider.specs.declared.journal.Entry.{Entry}
+use Rattle.tf_provider.specs.declared.journal.RecordFault.{RecordFault}
+use Rattle.tf_provider.specs.declared.journal.RecordFault.TheVariants.{Early, Twice}
 
 -- a graph of actions, and the entries in the order in which they were recorded
 pub record Log : Type 0 where

@@ -1,7 +1,7 @@
 use Rattle.std.proofs.Common.{◌≡◌, drop}
 use Rattle.std.specs.List.{list_all}
-use Rattle.tf_journal.specs.Entries.{is_marked}
-use Rattle.tf_journal.proofs.journal.all_marked.Given as goal
+use Rattle.tf_provider.specs.Entries.{is_marked}
+use Rattle.tf_provider.proofs.journal.all_marked.Given as goal
 
 abbrev pub invariant-loop-action : goal.invariant-loop-action
 invariant-loop-action l =

@@ -11,8 +11,8 @@ use Rattle.std.proofs.lemmas.List.Folds.{list_any-append}
 use Rattle.std.proofs.lemmas.Map.Views.{list_any-from_Contains, Contains-from_any}
 use Rattle.tf_graph.specs.Digraph.{Digraph, predecessors_of}
 use Rattle.tf_graph.proofs.Solving.{order-grows}
-use Rattle.tf_journal.specs.declared.journal.Entry.{Entry}
-use Rattle.tf_journal.specs.Entries.{actions_of, is_entered, is_marked, mark_count, IsKept}
+use Rattle.tf_provider.specs.declared.journal.Entry.{Entry}
+use Rattle.tf_provider.specs.Entries.{actions_of, is_entered, is_marked, mark_count, IsKept}
 
 -- how many marks are set, by recursion
 abbrev set_count : List Bool → ℕ

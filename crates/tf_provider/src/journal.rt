@@ -2,12 +2,13 @@
 
 ghost use Rattle.std.specs.Prelude.{◌≡◌, ◌<◌, ◌^◌, ◌∷◌, ◌++◌, [], false, length, replicate, All, MatchResult, IfOk, vec_capacity};
 ghost use Rattle.std.specs.List.{list_all};
-ghost use Rattle.tf_journal.specs.Entries.{IsAllowed, IsKept, Log, entry_of, fault_of, good_count, is_good, is_marked};
+ghost use Rattle.tf_provider.specs.Entries.{IsAllowed, IsKept, Log, entry_of, fault_of, good_count, is_good, is_marked};
 
+use crate::called::{Called, Recorded};
 use std::alloc::{AllocError, Global};
 use std::marker::Model;
 use tf_graph::Graph;
-use tf_provider::{Called, Op, Recorded, Verdict};
+use tf_protocol::{Op, Verdict};
 
 /// One call: the action, what the provider was asked to do, and the verdict on its reply.
 #[derive(Clone, Copy, Debug, PartialEq, Eq)]
@@ -63,7 +64,7 @@ impl Journal {
         })
     }
 
-    /// Adds a call's entry at the end, and gives back all that the call held. Takes no memory. A call is
+    /// Adds a call's entry at the end, and gives back the call as recorded. Takes no memory. A call is
     /// refused, and then nothing changes and the call comes back, as `Early` where an action directly before
     /// its own isn't recorded, and else as `Twice` where its own is.
     pub fn record(&mut self, called: Called) -> Result<Recorded, (Called, RecordFault)>

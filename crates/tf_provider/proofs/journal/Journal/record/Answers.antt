@@ -1,11 +1,11 @@
 use Rattle.std.proofs.Common.{◌≡◌, ◌<◌, true, false, arith, length, vec_capacity, ◌++◌, ◌∷◌, []}
-use Rattle.tf_journal.specs.declared.journal.Entry.{Entry}
+use Rattle.tf_provider.specs.declared.journal.Entry.{Entry}
 use Rattle.std.specs.List.{list_all}
 use Rattle.std.proofs.lemmas.Grind.{common_steps}
 use Rattle.tf_graph.specs.Digraph.{predecessors_of}
-use Rattle.tf_journal.specs.Entries.{is_marked}
-use Rattle.tf_journal.proofs.Marks.{kept-more, room-for}
-use Rattle.tf_journal.proofs.journal.Journal.record.Goals as goal
+use Rattle.tf_provider.specs.Entries.{is_marked}
+use Rattle.tf_provider.proofs.Marks.{kept-more, room-for}
+use Rattle.tf_provider.proofs.journal.Journal.record.Goals as goal
 
 pub unwrap-requires : goal.unwrap-requires
 unwrap-requires c =

@@ -1,0 +1,27 @@
+//! What an action is ended with whose provider isn't called.
+
+ghost use Rattle.std.specs.Prelude.{◌≡◌, ℕ};
+
+use std::marker::Model;
+use tf_claim::{Finished, Permit, waive};
+
+/// The evidence that the permit of an action was spent without a call. Contracts see the action's number.
+#[derive(Debug, Drop)]
+pub struct Waived {
+    action: usize,
+}
+
+impl Model for Waived {
+    ghost Value = { ℕ };
+
+    ghost view = { λ waived. waived.action };
+}
+
+/// Spends a permit without a call: the right to report its action as done, and the evidence that nobody called it.
+pub fn waive_for(permit: Permit) -> (Finished, Waived)
+    ensures finished { result.0 ≡ permit }
+    ensures waived { result.1 ≡ permit }
+{
+    let action = permit.action();
+    (waive(permit), Waived { action })
+}
