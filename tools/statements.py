@@ -223,8 +223,9 @@ class Statements:
         except (Unreadable, IndexError):
             return self.resolved(text)
         words, is_door = {*reader.seen}, path.endswith("/src/lib.rt")
-        kept = [f"{place} as {name}" for keeps, (place, name) in imports if keeps or not WORD.match(name) or name in words]
-        kept = [it for it in kept if not (is_door and it.partition("::")[0] in self.crates)]
+        passed_on = {name for keeps, (place, name) in imports if is_door and keeps and place.partition("::")[0] in self.crates}
+        kept = [(place, name) for keeps, (place, name) in imports if keeps or not WORD.match(name) or name in words]
+        kept = [f"{place} as {name}" for place, name in kept if name not in passed_on]
         imports = sorted(self.resolved(it) for it in kept)
         return "\n".join([*imports, self.resolved(re.sub(" :: ", "::", " ".join(reader.seen)))])
 
