@@ -13,6 +13,7 @@ use tf_claim::Book;
 use tf_graph::Graph;
 use tf_outcome::{Ended, Served};
 use tf_provider::{Waived, waive_for};
+use tf_stop::Stop;
 
 /// How an end is called here.
 #[derive(Clone, Copy, Debug, PartialEq, Eq)]
@@ -28,7 +29,7 @@ enum Kind {
 /// The kind of an end, of which nothing else is kept.
 fn kind_of(ended: Ended) -> Kind {
     match ended {
-        Ended::Skipped(_) => Kind::Skipped,
+        Ended::Skipped(_, _) => Kind::Skipped,
         Ended::NotAsked(_) => Kind::NotAsked,
         Ended::NotServed(_) => Kind::NotServed,
         Ended::Faulted(_, _) => Kind::Faulted,
@@ -61,25 +62,32 @@ fn second_waived(alloc: Global) -> Result<Waived, Fail>
     }
 }
 
-/// That the second action was skipped, or that nothing was asked for it.
-fn end_of<N: Naming>(waived: Waived, skips: bool) -> Ended
+/// That the second action was left where a flag is set, and else that nothing was asked for it.
+fn end_of<N: Naming>(waived: Waived, stop: &Stop) -> Ended
     requires { waived ≡ 1 }
     ensures { IsEndOf N.meanings N.plan 1 result }
 {
-    match skips {
-        true => Ended::Skipped(waived),
-        false => Ended::NotAsked(waived),
+    match stop.look() {
+        Some(stopped) => Ended::Left(waived, stopped),
+        None => Ended::NotAsked(waived),
     }
 }
 
-/// Publishes that the second action was skipped, or that nothing was asked for it: what didn't go into the cell.
-fn publish<N: Naming>(cells: &Cells<N>, waived: Waived, skips: bool) -> Option<Kind>
+/// Publishes that the second action was left, or that nothing was asked for it: what didn't go into the cell.
+fn publish<N: Naming>(cells: &Cells<N>, waived: Waived, stop: &Stop) -> Option<Kind>
     requires { (1 < cells.now) × (waived ≡ 1) }
 {
-    match cells.publish(1, end_of::<N>(waived, skips)) {
+    match cells.publish(1, end_of::<N>(waived, stop)) {
         Ok(()) => None,
         Err(ended) => Some(kind_of(ended)),
     }
+}
+
+/// A flag that is set.
+fn set_stop() -> Stop {
+    let stop = Stop::new();
+    stop.set();
+    stop
 }
 
 /// What is taken out of two cells.
@@ -101,6 +109,8 @@ fn publish_twice<N: Naming + Send + Sync, R: Threads + Sync>(
     cells: &Cells<N>,
     one: Waived,
     other: Waived,
+    set: &Stop,
+    unset: &Stop,
 ) -> (Option<Kind>, Option<Kind>)
     requires { (cells.now ≡ 2) × (one ≡ 1) × (other ≡ 1) }
 {
@@ -108,10 +118,10 @@ fn publish_twice<N: Naming + Send + Sync, R: Threads + Sync>(
         rt,
         move || -> Option<Kind>
             requires { (cells.now ≡ 2) × (one ≡ 1) }
-        { publish(cells, one, true) },
+        { publish(cells, one, set) },
         move || -> Option<Kind>
             requires { (cells.now ≡ 2) × (other ≡ 1) }
-        { publish(cells, other, false) },
+        { publish(cells, other, unset) },
     )
 }
 
@@ -120,15 +130,16 @@ fn an_end_is_published_once(rt: HostRuntime) -> Result<(), Fail> {
     let (one, other) = (second_waived(rt.alloc())?, second_waived(rt.alloc())?);
     let cells = Cells::<Brand>::new(rt.alloc(), 2)?;
     let empty = cells.read(1).is_none();
-    let first = publish(&cells, one, true);
-    let second = publish(&cells, other, false);
+    let (set, unset) = (set_stop(), Stop::new());
+    let first = publish(&cells, one, &set);
+    let second = publish(&cells, other, &unset);
     let good = cells.read(1).map(|reading| reading.is_good());
     let other = cells.read(0).is_none();
     let taken = taken(cells);
     assert!(rt; empty && other);
     assert_eq!(rt; (first, second), (None, Some(Kind::NotAsked)));
     assert_eq!(rt; good, Some(false));
-    assert_eq!(rt; taken, (None, Some(Kind::Skipped)));
+    assert_eq!(rt; taken, (None, Some(Kind::Left)));
     Ok(())
 }
 
@@ -136,18 +147,16 @@ fn an_end_is_published_once(rt: HostRuntime) -> Result<(), Fail> {
 fn of_two_threads_one_publishes(rt: HostRuntime) -> Result<(), Fail> {
     let (one, other) = (second_waived(rt.alloc())?, second_waived(rt.alloc())?);
     let cells = Cells::<Brand>::new(rt.alloc(), 2)?;
-    let (first, second) = publish_twice(&rt, &cells, one, other);
+    let (set, unset) = (set_stop(), Stop::new());
+    let (first, second) = publish_twice(&rt, &cells, one, other, &set, &unset);
     let (none, there) = taken(cells);
     assert_eq!(rt; none, None);
     if first.is_none() {
-        assert_eq!(rt;
-            (second, there),
-            (Some(Kind::NotAsked), Some(Kind::Skipped))
-        );
+        assert_eq!(rt; (second, there), (Some(Kind::NotAsked), Some(Kind::Left)));
     } else {
         assert_eq!(rt;
             (first, second, there),
-            (Some(Kind::Skipped), None, Some(Kind::NotAsked))
+            (Some(Kind::Left), None, Some(Kind::NotAsked))
         );
     }
     Ok(())

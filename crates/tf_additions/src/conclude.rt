@@ -35,7 +35,7 @@ pub fn conclude<'p>(
 {
     match ended {
         None => nothing(room),
-        Some(Ended::Skipped(_)) => nothing(room),
+        Some(Ended::Skipped(_, _)) => nothing(room),
         Some(Ended::NotAsked(_)) => not_called(room, 26, "no memory"),
         Some(Ended::NotServed(_)) => not_called(room, 26, "no memory"),
         Some(Ended::Left(_, _)) => not_called(room, 27, "left"),

@@ -32,7 +32,7 @@ use Rattle.tf_again.specs.Again.{HaveSchemas, NothingIsDoneAgain, NothingIsPlann
 
 -- ---- the state that was written reads back
 
-saved_text : (a : Applied) (saved : String Global) → a.state ≡ Ok saved → IfOk a.state (λ text. string_bytes text ≡ state_text (state_in a)) → string_bytes saved ≡ state_text (state_in a)
+pub saved_text : (a : Applied) (saved : String Global) → a.state ≡ Ok saved → IfOk a.state (λ text. string_bytes text ≡ state_text (state_in a)) → string_bytes saved ≡ state_text (state_in a)
 saved_text a saved h text = subst (λ (r : Result (String Global) AllocError). IfOk r (λ text. string_bytes text ≡ state_text (state_in a))) h text
 
 module _ (back : TextReadsAsState) (one : TextIsOfOne) (ms : List Meaning) (texts : Texts) (lineage : List ℕ) (a : Applied) (applied : IsApplied ms texts lineage a) (saved : String Global) (h : a.state ≡ Ok saved) where
@@ -70,21 +70,20 @@ nothing_is_done_again laws back one quiet ms texts lineage other a saved again s
     let plan = second.plan in
     let planned = second.planned in
     let none = none_over laws back one ms texts lineage a schemas applied well saved h other plan planned in
-    let requests = laws.requests plan (plan_ranked ms (over texts (string_bytes saved)) other plan planned) in
-    let told = reported ms plan again.walked requests.0 requests.1 second.carried_out.walked in
+    let told = reported ms plan again.walked second.carried_out.walked in
     let before : plan.prior ≡ state_in a = planned.planned.prior ∙ prior_again back one ms texts lineage a applied saved h other plan planned in
     record {
       shown = second.carried_out.shown ∙ shown_none plan.late plan.actions none;
-      no_calls = no_entries ms plan again.walked requests.0 requests.1 second.carried_out.walked none;
-      no_outcomes = told.2.told.outcomes ∙ none_of told.0 (length plan.actions) told.2.solved.all (ap length none);
+      no_calls = no_entries ms plan again.walked second.carried_out.walked none;
+      no_outcomes = told.is_report.told.outcomes ∙ none_of told.done (length plan.actions) told.is_report.solved.all (ap length none);
       kept = λ label id.
           subst (λ (s : StateView). IsRenewed (record_in label id s) (record_in label id (state_in again))) before
-          (quiet ms plan told.0 (outputs_after plan.prior.outputs plan.config.outputs told.1) (state_in again) none told.2.told.state label id);
+          (quiet ms plan told.done (outputs_after plan.prior.outputs plan.config.outputs told.outputs) (state_in again) none told.is_report.told.state label id);
     }
 
 -- ---- by the status
 
-success : (b c : Bool) → ◌≡◌ {A = ℕ} (if b then 3 else (if c then 0 else 2)) 0 → (b ≡ false) × (c ≡ true)
+pub success : (b c : Bool) → ◌≡◌ {A = ℕ} (if b then 3 else (if c then 0 else 2)) 0 → (b ≡ false) × (c ≡ true)
 success true c h = absurd (omega (arith, h))
 success false true h = (refl, refl)
 success false false h = absurd (omega (arith, h))
@@ -102,7 +101,7 @@ good_outcome outcome.Skipped h = absurd (cc)
 good_outcome outcome.Excused h = absurd (cc)
 good_outcome outcome.ArgumentFault h = absurd (cc)
 
-good_outcomes : (os : List Outcome) → list_all is_good_outcome os ≡ true → AllByRecursion (λ o. o ≡ outcome.Judged verdict.Good) os
+pub good_outcomes : (os : List Outcome) → list_all is_good_outcome os ≡ true → AllByRecursion (λ o. o ≡ outcome.Judged verdict.Good) os
 good_outcomes [] h = tt
 good_outcomes (o ∷ os) h = (
   good_outcome o (and-first (is_good_outcome o) (list_all is_good_outcome os) h),

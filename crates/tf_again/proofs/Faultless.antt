@@ -37,7 +37,7 @@ config_read law bytes config (fault code place detail) some read h = law bytes c
 
 -- ---- names
 
-names_known : (config : ConfigView) (refusal : Told) → (refusal ≡ no_memory → ⊥) → AreKnown (declared_in config) (config_checks config) → RefusesNames (declared_in config) (config_checks config) refusal → ⊥
+pub names_known : (config : ConfigView) (refusal : Told) → (refusal ≡ no_memory → ⊥) → AreKnown (declared_in config) (config_checks config) → RefusesNames (declared_in config) (config_checks config) refusal → ⊥
 names_known config no_memory some known h = some refl
 names_known config workers some known h = h
 names_known config (fault code place detail) some known h =
@@ -57,13 +57,13 @@ names_good config refusal some good h = elim h [ inl unknown ↦ names_known con
 
 -- ---- variables
 
-not_faulty : (file : Option Data) (vs : List VariableView) (code : ℕ) (place : List ℕ) (detail : _) → AreMet (file_checks file vs) → AllMet IsTrue (value_checks file vs) → IsFaulty file vs (fault code place detail) → ⊥
+pub not_faulty : (file : Option Data) (vs : List VariableView) (code : ℕ) (place : List ℕ) (detail : _) → AreMet (file_checks file vs) → AllMet IsTrue (value_checks file vs) → IsFaulty file vs (fault code place detail) → ⊥
 not_faulty file vs code place detail literal valued h = elim h [
   | inl wrong ↦ IsFirst-unmet IsMet Fails apart (file_checks file vs) place (code, detail) literal wrong
   | inr none ↦ IsFirst-unmet IsTrue HasNone (λ has way met fails. absurd (cc (met, fails.0))) (value_checks file vs) place (code, detail) valued none.1
 ]
 
-is_file : (bytes : List ℕ) (tree : Data) (refusal : Told) → IsFile bytes tree → IsNoFile bytes refusal → ⊥
+pub is_file : (bytes : List ℕ) (tree : Data) (refusal : Told) → IsFile bytes tree → IsNoFile bytes refusal → ⊥
 is_file bytes tree refusal file h = elim h [
   | inl long ↦ absurd (omega (arith, long.0, file.0))
   | inr small ↦ elim small.1 [

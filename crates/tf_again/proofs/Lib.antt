@@ -1,8 +1,8 @@
-mod Again
+pub mod Again
 mod Counted
-mod Faultless
-mod Planned
-mod Reading
+pub mod Faultless
+pub mod Planned
+pub mod Reading
 mod Refused
-mod Schemas
+pub mod Schemas
 mod Unplanned

@@ -16,15 +16,12 @@ use Rattle.tf_provider.specs.declared.journal.Entry.{Entry}
 use Rattle.tf_names.proofs.Rings.{places-acyclic}
 use Rattle.tf_names.specs.Needs.{IsAcyclic}
 use Rattle.tf_outcome.specs.Journal.{IsOfAction}
-use Rattle.tf_outcome.specs.Laws.{RequestsExist}
-use Rattle.tf_outcome.specs.Outcome.{AreRequests, Done, Requests}
-use Rattle.tf_outputs.specs.Outputs.{OutputDone}
 use Rattle.tf_plan.specs.Plan.{IsPlan, IsPlannedFrom}
 use Rattle.tf_plan_data.specs.Plan.{PlanView, plan_names}
 use Rattle.tf_plan_text.specs.Text.{plan_text}
 use Rattle.tf_protocol.specs.Meaning.{Meaning}
 use Rattle.tf_protocol.specs.declared.request.Op.{Op}
-use Rattle.tf_report.specs.Report.{IsReport, report_of}
+use Rattle.tf_report.specs.Report.{IsReported, report_of}
 use Rattle.tf_report.specs.declared.report.Walked.{Walked}
 use Rattle.tf_report.specs.declared.report.Walked.TheVariants.{Whole, Torn}
 use Rattle.tf_run.specs.Run.{IsRun}
@@ -44,7 +41,6 @@ pub record Laws : Type 0 where
   pub values : ValuesAreOne
   pub read : ReadIsValid
   pub empty : EmptyIsValid
-  pub requests : RequestsExist
   pub reports : ReportsConverge
 
 -- ---- what a plan of texts starts from
@@ -69,13 +65,9 @@ module _ (ms : List Meaning) (texts : Texts) (lineage : List ℕ) (plan : PlanVi
 
 -- ---- what a report tells
 
-pub reported : (ms : List Meaning) (plan : PlanView) (w : Walked) (requests : Requests) → AreRequests plan requests → IsRun ms plan w → (done : List Done) × (outputs : List OutputDone) × IsReport ms requests plan done outputs (report_of w)
-reported ms plan (Torn report) requests are walked =
-    let found = walked requests are in
-    (found.0, found.1, found.2)
-reported ms plan (Whole report) requests are walked =
-    let found = walked requests are in
-    (found.0, found.1, found.2)
+pub reported : (ms : List Meaning) (plan : PlanView) (w : Walked) → IsRun ms plan w → IsReported ms plan (report_of w)
+reported ms plan (Torn report) walked = walked.reported
+reported ms plan (Whole report) walked = walked.reported
 
 -- an entry of a journal is of an action
 no_entry : (actions : List ActionView) (entries : List Entry) → actions ≡ [] → AllByRecursion (IsOfAction actions) entries → entries ≡ []
@@ -84,14 +76,14 @@ no_entry [] (e ∷ entries) none of_actions = absurd (let no : ◌≡◌ {A = Op
 no_entry (a ∷ actions) entries none of_actions = absurd (cc)
 
 -- so the journal of a plan without actions is empty, where it isn't withheld
-pub no_entries : (ms : List Meaning) (plan : PlanView) (w : Walked) (requests : Requests) → AreRequests plan requests → IsRun ms plan w → plan.actions ≡ [] → is_torn w ≡ false → (report_of w).journal.entries ≡ []
-no_entries ms plan (Torn report) requests are walked none whole = absurd (cc)
-no_entries ms plan (Whole report) requests are walked none whole = no_entry plan.actions report.journal.entries none (walked requests are).3.ops
+pub no_entries : (ms : List Meaning) (plan : PlanView) (w : Walked) → IsRun ms plan w → plan.actions ≡ [] → is_torn w ≡ false → (report_of w).journal.entries ≡ []
+no_entries ms plan (Torn report) walked none whole = absurd (cc)
+no_entries ms plan (Whole report) walked none whole = no_entry plan.actions report.journal.entries none walked.journal.ops
 
 -- ---- nothing is planned
 
 -- what is planned over a state is planned over any with its resources
-planned_over : (ms : List Meaning) (config other : ConfigView) (values others : Entries) (prior state : StateView) (again : PlanView) → config ≡ other → values ≡ others → prior.resources ≡ state.resources
+pub planned_over : (ms : List Meaning) (config other : ConfigView) (values others : Entries) (prior state : StateView) (again : PlanView) → config ≡ other → values ≡ others → prior.resources ≡ state.resources
     → IsPlan ms config values prior again → IsPlan ms other others state (record again { prior = state })
 planned_over ms config other values others prior state again same alike resources is = record {
   prior = refl;
@@ -110,12 +102,11 @@ pub none_again : Laws → (ms : List Meaning) (texts : Texts) (lineage : List �
 none_again laws ms texts lineage a schemas applied well config values prior again read valued resources is =
     let planned = applied.planned in
     let stand = planned.stand in
-    let requests = laws.requests applied.plan (plan_ranked ms texts lineage applied.plan planned) in
-    let told = reported ms applied.plan a.walked requests.0 requests.1 applied.carried_out.walked in
+    let told = reported ms applied.plan a.walked applied.carried_out.walked in
     let same : config ≡ planned.config = one_config laws.one texts.config config planned.config read stand.read in
     let alike : values ≡ planned.values = one_values laws.values texts.vars planned.config values planned.values (subst (λ (c : ConfigView). AreTheValues texts.vars c values) same valued) stand.valued in
-    laws.reports ms planned.config planned.values planned.prior applied.plan (record again { prior = state_in a }) requests.0 told.0 told.1 (report_of a.walked)
-    (sound laws ms texts lineage planned.config planned.values planned.prior schemas stand) planned.planned (plan_acyclic ms texts lineage applied.plan planned) requests.1 told.2 well
+    laws.reports ms planned.config planned.values planned.prior applied.plan (record again { prior = state_in a }) told.requests told.done told.outputs (report_of a.walked)
+    (sound laws ms texts lineage planned.config planned.values planned.prior schemas stand) planned.planned (plan_acyclic ms texts lineage applied.plan planned) told.are_requests told.is_report well
     (planned_over ms config planned.config values planned.values prior (state_in a) again same alike resources is)
 
 -- the text of a plan without actions

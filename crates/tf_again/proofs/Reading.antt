@@ -26,7 +26,7 @@ one_tree bytes s t h k = let same : ◌≡◌ {A = Option Data} (Some s) (Some t
 pub one_config : StandsForOne → (bytes : List ℕ) (config other : ConfigView) → IsRead bytes config → IsRead bytes other → config ≡ other
 one_config law bytes config other h k = law k.tree config other (subst (λ (t : Data). IsConfiguration t config) (one_tree bytes h.tree k.tree h.is_tree k.is_tree) h.stands) k.stands
 
-one_file : (vars : Option (List ℕ)) (file other : Option Data) → IsFileOf vars file → IsFileOf vars other → file ≡ other
+pub one_file : (vars : Option (List ℕ)) (file other : Option Data) → IsFileOf vars file → IsFileOf vars other → file ≡ other
 one_file None None None h k = refl
 one_file None None (Some u) h k = absurd k
 one_file None (Some t) other h k = absurd h

@@ -10,15 +10,12 @@ use Rattle.tf_converges.proofs.Whole.{carried_out, rest_same}
 use Rattle.tf_converges.specs.Converges.{IsCarriedOut, StateAfterIsAtRest}
 use Rattle.tf_converges.specs.Rest.{AreAtRest, NothingIsPlannedAtRest}
 use Rattle.tf_environment.specs.Shape.{ShapeView}
-use Rattle.tf_environment.specs.Stages.{expansion}
-use Rattle.tf_environment.specs.Standing.{rule}
-use Rattle.tf_environment.specs.declared.repetition.RepetitionFault.{RepetitionFault}
-use Rattle.tf_expand.specs.Expanding.{expanded, instance_count, instances_before}
-use Rattle.tf_graph.proofs.Solving.{solution-exists}
 use Rattle.tf_graph.specs.Solutions.{Ranked}
 use Rattle.tf_outputs.specs.Outputs.{outputs_after}
+use Rattle.tf_plan.proofs.Excluding.{none_unexpanded, not_many}
+use Rattle.tf_plan.proofs.Solved.{same_shapes}
 use Rattle.tf_plan.specs.Planned.{AreInstances}
-use Rattle.tf_plan.specs.Refused.{AreManyActions, AreManyInstances, AreManyPairs, AreManyPairsBy, AreRefusedOf, IsUnexpanded, IsUnplanned}
+use Rattle.tf_plan.specs.Refused.{AreManyActions, AreManyPairs, AreManyPairsBy, AreRefusedOf, IsUnplanned}
 use Rattle.tf_plan_data.specs.Plan.{plan_names}
 use Rattle.tf_precedence.specs.Ties.{TiesView}
 use Rattle.tf_protocol.specs.Meaning.{Meaning}
@@ -32,19 +29,6 @@ use Rattle.tf_again.proofs.Counted.{beyond_by_serial}
 use Rattle.tf_again.proofs.Planned.{Laws, plan_acyclic, plan_ranked, reported, sound}
 use Rattle.tf_again.specs.Again.{HaveSchemas, WentWell}
 
--- ---- the same instances
-
-one_shape : (s t : ShapeView) (r : Result ShapeView RepetitionFault) → r ≡ Ok s → r ≡ Ok t → s ≡ t
-one_shape s t r e f = let same : ◌≡◌ {A = Result ShapeView RepetitionFault} (Ok s) (Ok t) = sym e ∙ f in cc
-
-no_fault : (s : ShapeView) (why : RepetitionFault) (r : Result ShapeView RepetitionFault) → r ≡ Ok s → r ≡ Err why → ⊥
-no_fault s why r e f = let no : ◌≡◌ {A = Result ShapeView RepetitionFault} (Ok s) (Err why) = sym e ∙ f in absurd (cc)
-
-same_count : (names : List NameView) (shapes others : ℕ → ShapeView) (n : ℕ) → ((m : ℕ) → m < n → shapes m ≡ others m) → instances_before names shapes n ≡ instances_before names others n
-same_count names shapes others zero same = refl
-same_count names shapes others (suc n) same =
-    ap₂ (λ (a b : ℕ). a + b) (same_count names shapes others n (λ m h. same m (omega (arith, h)))) (ap (λ (s : ShapeView). instance_count (meant_at names n) s) (same n (omega arith)))
-
 -- ---- no refusal of the instances of resources at rest, but of what is planned of them
 
 no_pairs : (ties : TiesView) (actions : List ActionView) (tolds : List Told) → actions ≡ [] → AreManyPairsBy ties actions tolds → ⊥
@@ -57,38 +41,18 @@ no_many (a ∷ actions) n none many = absurd (cc)
 
 module _ (ms : List Meaning) (variables : Entries) (names : List NameView) (outputs : expr.Entries) (shapes : ℕ → ShapeView) (objects : ℕ → InstanceKeyView → Tree) (resources : List ResourceView)
     (ranked : Ranked (directly_before names)) (instances : AreInstances variables names shapes) (rests : AreAtRest ms variables names shapes objects resources) (law : NothingIsPlannedAtRest) where
-  same_shapes : (others : ℕ → ShapeView) → AreInstances variables names others → (n : ℕ) → n < length names → shapes n ≡ others n
-  same_shapes others also n h =
-      let found = solution-exists (length names) (directly_before names) (rule expansion variables names) ranked in
-      one_shape (shapes n) (others n) (expanded variables names found.0 n) ((instances found.0 found.1).each n h) ((also found.0 found.1).each n h)
-
-  all_expanded : (tolds : List Told) → IsUnexpanded variables names tolds → ⊥
-  all_expanded tolds h =
-      let found = solution-exists (length names) (directly_before names) (rule expansion variables names) ranked in
-      let first = h.first found.0 found.1 in
-      no_fault (shapes h.place) h.why (expanded variables names found.0 h.place) ((instances found.0 found.1).each h.place first.inside) first.refused
-
-  few_instances : (tolds : List Told) → AreManyInstances variables names tolds → ⊥
-  few_instances tolds h =
-      let found = solution-exists (length names) (directly_before names) (rule expansion variables names) ranked in
-      let many = h.many found.0 found.1 in
-      let own = instances found.0 found.1 in
-      let same : instances_before names shapes (length names) ≡ instances_before names many.shapes (length names) =
-      same_count names shapes many.shapes (length names) (λ m below. one_shape (shapes m) (many.shapes m) (expanded variables names found.0 m) (own.each m below) (many.each m below)) in
-      absurd (omega (arith, same, many.more, own.few))
-
   few_actions : (tolds : List Told) → AreManyActions ms resources variables names outputs tolds → ⊥
   few_actions tolds h =
-      no_many h.actions _ (law ms variables names outputs h.shapes objects resources h.actions ranked (rest_same ms variables names shapes h.shapes objects resources (same_shapes h.shapes h.instances) rests) h.planned) h.many
+      no_many h.actions _ (law ms variables names outputs h.shapes objects resources h.actions ranked (rest_same ms variables names shapes h.shapes objects resources (same_shapes variables names shapes h.shapes ranked instances h.instances) rests) h.planned) h.many
 
   few_pairs : (tolds : List Told) → AreManyPairs ms resources variables names outputs tolds → ⊥
   few_pairs tolds h =
-      no_pairs h.pairs.ties h.actions tolds (law ms variables names outputs h.shapes objects resources h.actions ranked (rest_same ms variables names shapes h.shapes objects resources (same_shapes h.shapes h.instances) rests) h.planned)
+      no_pairs h.pairs.ties h.actions tolds (law ms variables names outputs h.shapes objects resources h.actions ranked (rest_same ms variables names shapes h.shapes objects resources (same_shapes variables names shapes h.shapes ranked instances h.instances) rests) h.planned)
       h.pairs.many
 
   pub only_unplanned : (tolds : List Told) → AreRefusedOf ms resources variables names outputs tolds → IsUnplanned ms resources variables names outputs tolds
   only_unplanned tolds h = elim h [
-    | inl unexpanded ↦ elim unexpanded [ inl one ↦ absurd (all_expanded tolds one) | inr many ↦ absurd (few_instances tolds many) ]
+    | inl unexpanded ↦ elim unexpanded [ inl one ↦ absurd (none_unexpanded variables names ranked shapes instances tolds one) | inr many ↦ absurd (not_many variables names ranked shapes instances tolds many) ]
     | inr unplanned ↦ elim unplanned [
       | inl is ↦ is
       | inr many ↦ elim many [ inl actions ↦ absurd (few_actions tolds actions) | inr pairs ↦ absurd (few_pairs tolds pairs) ]
@@ -104,17 +68,16 @@ module _ (laws : Laws) (rest : StateAfterIsAtRest) (quiet : NothingIsPlannedAtRe
   rests_after texts applied well =
       let planned = applied.planned in
       let plan = applied.plan in
-      let requests = laws.requests plan (plan_ranked ms texts lineage plan planned) in
-      let told = reported ms plan a.walked requests.0 requests.1 applied.carried_out.walked in
+      let told = reported ms plan a.walked applied.carried_out.walked in
       let report = report_of a.walked in
-      let outputs : Entries = outputs_after plan.prior.outputs plan.config.outputs told.1 in
-      let carried : IsCarriedOut ms planned.config planned.values planned.prior plan told.0 outputs (state_in a) =
-      carried_out ms planned.config planned.values planned.prior plan requests.0 told.0 told.1 report planned.planned (plan_acyclic ms texts lineage plan planned) requests.1 told.2 well in
-      let own : AreAtRest ms plan.variables (plan_names plan) plan.shapes (objects_after plan told.0) (state_in a).resources =
-      rest ms planned.config planned.values planned.prior plan told.0 outputs (state_in a) (sound laws ms texts lineage planned.config planned.values planned.prior schemas planned.stand) carried in (
-        objects_after plan told.0,
-        subst (λ (v : Entries). AreAtRest ms v (names_of planned.config) plan.shapes (objects_after plan told.0) (state_in a).resources) planned.planned.variables
-            (subst (λ (c : ConfigView). AreAtRest ms plan.variables (names_of c) plan.shapes (objects_after plan told.0) (state_in a).resources) planned.planned.config own),
+      let outputs : Entries = outputs_after plan.prior.outputs plan.config.outputs told.outputs in
+      let carried : IsCarriedOut ms planned.config planned.values planned.prior plan told.done outputs (state_in a) =
+      carried_out ms planned.config planned.values planned.prior plan told.requests told.done told.outputs report planned.planned (plan_acyclic ms texts lineage plan planned) told.are_requests told.is_report well in
+      let own : AreAtRest ms plan.variables (plan_names plan) plan.shapes (objects_after plan told.done) (state_in a).resources =
+      rest ms planned.config planned.values planned.prior plan told.done outputs (state_in a) (sound laws ms texts lineage planned.config planned.values planned.prior schemas planned.stand) carried in (
+        objects_after plan told.done,
+        subst (λ (v : Entries). AreAtRest ms v (names_of planned.config) plan.shapes (objects_after plan told.done) (state_in a).resources) planned.planned.variables
+            (subst (λ (c : ConfigView). AreAtRest ms plan.variables (names_of c) plan.shapes (objects_after plan told.done) (state_in a).resources) planned.planned.config own),
       )
 
   -- what is refused of the configuration and the variables of an apply that went well over what it left

@@ -8,7 +8,6 @@ use tf_config::{blocks_are_in_order, faultless_trees_stand, refusals_are_one};
 use tf_converges::laws::{
     applies_converge, nothing_is_planned_at_rest, quiet_applies_keep_objects,
 };
-use tf_outcome::laws::requests_exist;
 use tf_state::{new_states_are_valid, read_states_are_valid, texts_are_of_one, texts_read_back};
 use tf_variables::values_are_one;
 
@@ -29,7 +28,6 @@ pub fn texts_converge()
     new_states_are_valid();
     texts_are_of_one();
     texts_read_back();
-    requests_exist();
     nothing_is_planned_at_rest();
     applies_converge();
     quiet_applies_keep_objects();

@@ -17,11 +17,11 @@ use Rattle.tf_environment.specs.Standing.{StandingView, AreStandings, environmen
 use Rattle.tf_plan_data.specs.Plan.{PlanView, plan_names}
 use Rattle.tf_protocol.specs.Meaning.{Asked, Meaning}
 use Rattle.tf_protocol.specs.Schema.{SchemaView}
-use Rattle.tf_request.proofs.Staying.{part_known}
 use Rattle.tf_value.specs.Known.{known}
 use Rattle.tf_value.specs.Laws.{KnownStays}
 use Rattle.tf_value.specs.Refinement.{Refines}
 use Rattle.tf_value.specs.Tree.{Tree, part_at}
+use Rattle.tf_asks.proofs.Parts.{part_known}
 use Rattle.tf_asks.specs.Laws.{IsAnsweredPlan, KnownAttributesStay, RefinesWhere, RequestsRefine}
 use Rattle.tf_outcome.specs.Asked.{asked_by_step, create_of, ignored_by, unless_faulty, update_of}
 

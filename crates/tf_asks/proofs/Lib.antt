@@ -1,4 +1,5 @@
 pub mod Asking
 pub mod Fallback
 pub mod Growing
+mod Parts
 pub mod Planned

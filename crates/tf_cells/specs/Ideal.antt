@@ -4,10 +4,10 @@ use Rattle.tf_graph.specs.Digraph.{predecessors_of}
 use Rattle.tf_graph.specs.Solutions.{Solves, seen_by}
 use Rattle.tf_plan_data.specs.Plan.{PlanView}
 use Rattle.tf_protocol.specs.Meaning.{Meaning}
-use Rattle.tf_outcome.specs.Ended.{done_of, ended_action}
+use Rattle.tf_outcome.specs.Ended.{HasCause, done_of, ended_action}
 use Rattle.tf_outcome.specs.declared.ended.Ended.{Ended}
 use Rattle.tf_outcome.specs.Excuse.{before_call, during_call, by_stop}
-use Rattle.tf_outcome.specs.Outcome.{Done, skipped, excused, Requests, AreRequests, all_good, is_faulted, rule}
+use Rattle.tf_outcome.specs.Outcome.{Done, skipped, excused, Requests, AreRequests, all_good, is_faulted, is_good, rule}
 
 -- Ideal outcomes are those of a plan where nothing is excused.
 abbrev pub IsIdeal : List Meaning → PlanView → Requests → (ℕ → Done) → Type 0
@@ -31,9 +31,13 @@ AgreesWith before ideal n d = d ≡ ideal n
 abbrev pub IsTrueTo : List Meaning → PlanView → ℕ → Done → Type 0
 IsTrueTo ms plan n d = InEachIdeal ms plan (λ ideal. AgreesWith (predecessors_of plan.order) ideal n d)
 
--- what came of an action is of this one, and true of it
+-- What came of an action is of this one, has its cause directly before it where it is a skip, and is true of the action.
 abbrev pub IsEndOf : List Meaning → PlanView → ℕ → Ended → Type 0
-IsEndOf ms plan n ended = (ended_action ended ≡ n) × IsTrueTo ms plan n (done_of ended)
+IsEndOf ms plan n ended = (ended_action ended ≡ n) × HasCause plan.order ended × IsTrueTo ms plan n (done_of ended)
+
+-- an action is good in every ideal
+abbrev pub IsGoodInEach : List Meaning → PlanView → ℕ → Type 0
+IsGoodInEach ms plan n = InEachIdeal ms plan (λ ideal. is_good (ideal n) ≡ true)
 
 -- each of some cells is that of the action at its place
 abbrev pub IsNumbered : List ℕ → Type 0

@@ -1,16 +1,16 @@
 //! What came of an action, as it is read from its cell.
 
 ghost use Rattle.std.specs.Option.{option_map_or};
-ghost use Rattle.std.specs.Prelude.{◌≡◌, IfOk, IfSome, IsTrue, is_some, true, false};
-ghost use Rattle.tf_outcome.specs.Words.{done_of, is_good, object_of, tree_of};
-ghost use Rattle.tf_cells.specs.Ideal.{IsTrueTo, InEachIdeal};
+ghost use Rattle.std.specs.Prelude.{◌≡◌, IfOk, IfSome, IsTrue, MatchOption, is_some, true, false};
+ghost use Rattle.tf_outcome.specs.Words.{done_of, ended_action, is_good, object_of, tree_of};
+ghost use Rattle.tf_cells.specs.Ideal.{InEachIdeal, IsGoodInEach, IsTrueTo};
 
 use crate::kept::Kept;
 use crate::naming::Naming;
 use counted_slot::Claim;
 use std::alloc::{AllocError, Global};
-use tf_outcome::Ended;
-use tf_protocol::{Reply, Verdict};
+use tf_outcome::{Ended, NotGood};
+use tf_protocol::Reply;
 use tf_value::{Value, copy};
 
 /// What came of an action, which stays in its cell while this lives.
@@ -53,8 +53,9 @@ impl<'a, N: Naming> Reading<'a, N> {
         self.action
     }
 
-    /// What came of the action, which is true of it.
+    /// What came of the action, which is of it and true of it.
     pub fn ended(&self) -> &Ended
+        ensures own { ended_action result.now ≡ self.now.action }
         ensures same { done_of result.now ≡ done_in self.now }
         ensures fits { IsTrueTo N.meanings N.plan self.now.action (done_in self.now) }
     {
@@ -69,7 +70,16 @@ impl<'a, N: Naming> Reading<'a, N> {
         ensures value { result ≡ is_good (done_in self.now) }
         ensures ideal { IsTrue result → InEachIdeal N.meanings N.plan (λ ideal. done_in self.now ≡ ideal self.now.action) }
     {
-        is_good(self.ended())
+        self.ended().is_good()
+    }
+
+    /// The evidence that the action isn't good, where it isn't. Where it is, it is good in every ideal.
+    pub fn not_good(&self) -> Option<NotGood>
+        ensures { MatchOption result
+            (IsGoodInEach N.meanings N.plan self.now.action)
+            (λ bad. bad ≡ self.now.action) }
+    {
+        self.ended().not_good()
     }
 
     /// The object that a provider answered to the action, copied; null where it answered none. Where the action is good,
@@ -84,16 +94,6 @@ impl<'a, N: Naming> Reading<'a, N> {
             → InEachIdeal N.meanings N.plan (λ ideal. tree_of value ≡ object_of (ideal self.now.action))) }
     {
         object_of(alloc, self.ended())
-    }
-}
-
-/// Whether an end is that of a good action.
-fn is_good(ended: &Ended) -> bool
-    ensures { result ≡ is_good (done_of ended.now) }
-{
-    match ended {
-        Ended::Called(served) => served.call.verdict() == Verdict::Good,
-        _ => false,
     }
 }
 

@@ -1,9 +1,7 @@
 -- What is known of planned objects only grows.
 use Rattle.std.proofs.Common.{◌≡◌, ℕ, List, [], ◌∷◌, Bool, if◌then◌else◌, codes, Option, Some, None, Result, Ok, Err, refl, ap}
 use Rattle.std.specs.Fmt.{signed_decimal}
-use Rattle.std.specs.Prelude.{option_and_then}
 use Rattle.tf_operators.specs.Answer.{Answer}
-use Rattle.tf_protocol.specs.Meaning.{schema_in}
 use Rattle.tf_protocol.specs.Schema.{AttributeView, SchemaView}
 use Rattle.tf_protocol.specs.declared.schema.Kind.{Kind}
 use Rattle.tf_protocol.specs.declared.schema.Kind.TheVariants as kinds
@@ -18,13 +16,9 @@ use Rattle.tf_eval.specs.Environment.{Environment, RefinesTo}
 use Rattle.tf_eval.specs.ExprMeaning.{meaning}
 use Rattle.tf_eval.specs.Growth.{ExprKnowledgeGrows}
 use Rattle.tf_environment.specs.Instance.{instance_environment}
-use Rattle.tf_environment.specs.Laws.{InstanceEnvironmentsGrow, PlanGrows}
-use Rattle.tf_environment.specs.Stages.{fine}
-use Rattle.tf_environment.specs.Standing.{environment}
+use Rattle.tf_environment.specs.Laws.{InstanceEnvironmentsGrow}
 use Rattle.tf_change.specs.Argument.{attribute_value, converted, evaluated, given_value, or_bad_argument, result_then, set_value, unset_value}
-use Rattle.tf_change.specs.Instance.{InstanceFaultView, instance_object}
-use Rattle.tf_change.specs.Laws.{ConversionGrows, InstancesGrow, PlansGrow, RequestsGrow}
-use Rattle.tf_change.specs.Objects.{planned_by}
+use Rattle.tf_change.specs.Laws.{ConversionGrows, InstancesGrow}
 use Rattle.tf_change.specs.Planned.{fault_at, attribute_faults, with_value, planned_entries, planned_object}
 use Rattle.tf_change.specs.declared.argument.ArgumentFault.{ArgumentFault}
 use Rattle.tf_change.proofs.Named.{both_empty, faultless, object_is, instance_is}
@@ -134,22 +128,3 @@ instances_grow known schema block key one other t u h p q =
     let before = instance_is schema block.arguments (instance_environment block.repetition key one) t p in
     let after = instance_is schema block.arguments (instance_environment block.repetition key other) u q in
     object_grows known schema before.0 after.0 (known.seen block.repetition key one other before.0 after.0 h before.1 after.1) block.arguments t u before.2 after.2
-
-fine_is : (r : Result Tree InstanceFaultView) (t : Tree) → fine r ≡ Some t → r ≡ Ok t
-fine_is (Ok u) t h = cc
-fine_is (Err why) t h = absurd (cc)
-
-fine_grows : (found : Option SchemaView) (f g : SchemaView → Result Tree InstanceFaultView) (t u : Tree) → ((schema : SchemaView) (v w : Tree) → f schema ≡ Ok v → g schema ≡ Ok w → Refines v w)
-    → option_and_then (λ schema. fine (f schema)) found ≡ Some t → option_and_then (λ schema. fine (g schema)) found ≡ Some u → Refines t u
-fine_grows None f g t u grows p q = absurd (cc)
-fine_grows (Some schema) f g t u grows p q = grows schema t u (fine_is (f schema) t p) (fine_is (g schema) u q)
-
-pub plans_grow : Known → PlansGrow
-plans_grow known ms n block key one other t u h p q =
-    fine_grows (schema_in block.label.type_name ms) (λ schema. instance_object schema block key one) (λ schema. instance_object schema block key other) t u
-    (λ schema v w a b. instances_grow known schema block key one other v w h a b) p q
-
-pub requests_grow : Known → PlanGrows → RequestsGrow
-requests_grow known plan ms variables names shapes objects standings others ranked p q answered schema block key t u a b =
-    let grown = plan variables names shapes (planned_by ms) objects standings others ranked p q answered in
-    instances_grow known schema block key (environment variables names standings) (environment variables names others) t u grown.references a b

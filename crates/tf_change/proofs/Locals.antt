@@ -1,6 +1,5 @@
 -- What planned objects depend on.
-use Rattle.std.proofs.Common.{◌≡◌, ◌++◌, ◌&&◌, ℕ, Bool, true, false, if◌then◌else◌, List, [], ◌∷◌, map as each, Option, Some, None, Result, Ok, Err, refl, ap, ◌∙◌}
-use Rattle.std.specs.Prelude.{option_and_then}
+use Rattle.std.proofs.Common.{◌≡◌, ◌++◌, ◌&&◌, ℕ, Bool, true, false, if◌then◌else◌, List, [], ◌∷◌, map as each, Option, Some, Result, Ok, Err, refl, ap, ◌∙◌}
 use Rattle.std.specs.Str.{bytes_eq}
 use Rattle.tf_address.specs.ObjectId as keys
 use Rattle.tf_address.specs.ObjectId.{InstanceKeyView}
@@ -8,7 +7,6 @@ use Rattle.tf_config_data.specs.Config.{RepetitionView, single, count, for_each}
 use Rattle.tf_config_data.specs.Names.{named_in_repetition, label_pair}
 use Rattle.tf_operators.specs.Answer.{Answer}
 use Rattle.tf_operators.specs.declared.fault.EvalFault.{EvalFault}
-use Rattle.tf_protocol.specs.Meaning.{schema_in}
 use Rattle.tf_protocol.specs.Schema.{AttributeView, SchemaView}
 use Rattle.tf_syntax.specs.ExprNames.{named_by, named_below}
 use Rattle.tf_syntax.specs.ExprTree as expr
@@ -21,10 +19,9 @@ use Rattle.tf_eval.specs.Locality.{AgreeOn, ExpressionsAreLocal}
 use Rattle.tf_eval.specs.Meaning.{and_then}
 use Rattle.tf_eval.proofs.Locality.{both_halves}
 use Rattle.tf_environment.specs.Instance.{bound, each_key, each_value, instance_constants, value_under}
-use Rattle.tf_environment.specs.Stages.{fine}
 use Rattle.tf_change.specs.Argument.{attribute_value, evaluated, given_value, result_then}
-use Rattle.tf_change.specs.Instance.{instance_object, object_in, or_argument_fault}
-use Rattle.tf_change.specs.Laws.{InstancesAreLocal, PlansAreLocal}
+use Rattle.tf_change.specs.Instance.{object_in, or_argument_fault}
+use Rattle.tf_change.specs.Laws.{InstancesAreLocal}
 use Rattle.tf_change.specs.Planned.{fault_at, attribute_faults, stray_faults, first_of_faults, first_fault, with_value, planned_entries, unless_fault, planned_object}
 
 agree_halves : (e f : Environment) (xs ys : List Pair) → AgreeOn e f (xs ++ ys) → AgreeOn e f xs × AgreeOn e f ys
@@ -93,10 +90,3 @@ instances_local law schema block key e f h =
     let inner = agree_halves e f (named_in_repetition block.repetition) (named_below block.arguments) outer.0 in
     bound_local law schema block.arguments (instance_constants block.repetition key e) e f inner.1
     ∙ ap (λ (r : Result (List ConstantView) EvalFault). object_in schema block.arguments (and_then r (λ cs. Ok (bound cs f)))) (constants_local law block.repetition key e f inner.0)
-
-pub plans_local : ExpressionsAreLocal → PlansAreLocal
-plans_local law ms n block one other key h = found (schema_in block.label.type_name ms)
-  where
-    found : (o : Option SchemaView) → option_and_then (λ schema. fine (instance_object schema block key one)) o ≡ option_and_then (λ schema. fine (instance_object schema block key other)) o
-    found None = refl
-    found (Some schema) = ap fine (instances_local law schema block key one other h)

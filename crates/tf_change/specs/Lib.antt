@@ -4,6 +4,5 @@ pub mod Gives
 pub mod Instance
 pub mod Laws
 pub mod Object
-pub mod Objects
 pub mod Planned
 pub mod Stepped

@@ -1,6 +1,6 @@
 -- Counting in lists, over all seats, and below a bound.
 use Rattle.std.proofs.Common.{◌≡◌, ◌≢◌, ◌<◌, ◌≤◌, ◌+◌, ◌==◌, ℕ, zero, suc, Bool, true, false, List, [], ◌∷◌, ◌++◌, length, set, refl, sym, ap, ◌∙◌, arith, inl, inr, eq-eqb, ne_eqb, if◌then◌else◌}
-use Rattle.std.proofs.lemmas.Bool.{cases_eq, cases_lt}
+use Rattle.std.proofs.lemmas.Bool.{cases_eq, cases_lt, true≢false}
 use mathlib.Core.Option.{some, some-injective, some-ne-none}
 use lib.ListN.{get_elem?}
 use Rattle.tf_claim.specs.declared.seat.View.{View}
@@ -85,6 +85,50 @@ fails p (suc n) i none_pass lt =
     not_one : (b : Bool) (k : ℕ) → k ≡ (if b then 1 else 0) → k ≡ 0 → b ≡ false
     not_one true k is none_there = absurd (omega arith)
     not_one false k is none_there = refl
+
+without : (b : Bool) (m : ℕ) → b ≡ false → 0 < (if b then 1 else 0) + m → 0 < m
+without true m is more = absurd (true≢false is)
+without false m is more = omega arith
+
+-- where not none passes, one does
+pub passes : (p : ℕ → Bool) (n : ℕ) → 0 < how_many p n → (i : ℕ) × (i < n) × (p i ≡ true)
+passes p zero some_pass = absurd (omega arith)
+passes p (suc n) some_pass = last (λ fewer. passes p n fewer) (p n) refl
+  where
+    last : (0 < how_many p n → (i : ℕ) × (i < n) × (p i ≡ true)) → (b : Bool) → p n ≡ b → (i : ℕ) × (i < suc n) × (p i ≡ true)
+    last below true is = (n, omega arith, is)
+    last below false is =
+        let r = below (without (p n) (how_many p n) is some_pass) in
+        (r.0, (let lt = r.1 in omega arith), r.2)
+
+-- two seats have no more than all
+pub two-le-total : (f : View → ℕ) (views : List View) (j k : ℕ) (v w : View) → j ≢ k → get_elem? views j ≡ some v → get_elem? views k ≡ some w → f v + f w ≤ total f views
+two-le-total f [] j k v w apart at there = absurd (some-ne-none v (sym at))
+two-le-total f (x ∷ xs) zero zero v w apart at there = absurd (apart refl)
+two-le-total f (x ∷ xs) zero (suc k) v w apart at there =
+    let is : f x ≡ f v = ap f (some-injective x v at) in
+    let m = member-le-total f xs k w there in omega arith
+two-le-total f (x ∷ xs) (suc j) zero v w apart at there =
+    let is : f x ≡ f w = ap f (some-injective x w there) in
+    let m = member-le-total f xs j v at in omega arith
+two-le-total f (x ∷ xs) (suc j) (suc k) v w apart at there =
+    let r = two-le-total f xs j k v w (λ e. apart (ap suc e)) at there in omega arith
+
+-- where each has none, all have none
+pub total-none : (f : View → ℕ) (views : List View) → ((k : ℕ) (v : View) → get_elem? views k ≡ some v → f v ≡ 0) → total f views ≡ 0
+total-none f [] none = refl
+total-none f (x ∷ xs) none =
+    let first = none 0 x refl in
+    let r = total-none f xs (λ k v at. none (suc k) v at) in omega arith
+
+-- where all have some, one has
+pub some-has : (f : View → ℕ) (views : List View) → 0 < total f views → (k : ℕ) × (v : View) × (get_elem? views k ≡ some v) × (0 < f v)
+some-has f [] some_there = absurd (omega arith)
+some-has f (x ∷ xs) some_there =
+    elim (cases_eq (f x) 0) [
+      | inl is ↦ (let r = some-has f xs (omega arith) in (suc r.0, r.1, r.2, r.3))
+      | inr ne ↦ (0, x, refl, omega arith)
+    ]
 
 -- what is no more for each seat, and less for one, is less for all
 pub total-lt : (f h : View → ℕ) (views : List View) (k : ℕ) (v : View) → ((j : ℕ) (u : View) → get_elem? views j ≡ some u → f u ≤ h u) → get_elem? views k ≡ some v → f v < h v → total f views < total h views

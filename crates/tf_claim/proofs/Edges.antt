@@ -41,24 +41,6 @@ leads (x ∷ xs) m n h =
           later x xs m n (leads xs m n h')
     ]
 
--- the source of an edge into the action stands in the list
-pub source-among : (edges : List (ℕ × ℕ)) (e n : ℕ) → e < length edges → (edge_at edges e).1 ≡ n → 0 < times (edge_at edges e).0 (sources_into edges n)
-source-among [] e n lt into = absurd (omega arith)
-source-among (x ∷ xs) zero n lt into =
-    rw (sources-cons_into x xs n into) (let t = times-cons_same x.0 (sources_into xs n) in omega arith)
-source-among (x ∷ xs) (suc e) n lt into =
-    let r = source-among xs e n (omega arith) into in
-    elim (cases_eq x.1 n) [
-      | inl here ↦ rw (sources-cons_into x xs n here) (more r)
-      | inr other ↦ rw (sources-cons_other x xs n other) r
-    ]
-  where
-    more : 0 < times (edge_at xs e).0 (sources_into xs n) → 0 < times (edge_at xs e).0 (x.0 ∷ sources_into xs n)
-    more h = elim (cases_eq x.0 (edge_at xs e).0) [
-      | inl is ↦ omega arith
-      | inr ne ↦ omega arith
-    ]
-
 -- counting from the first number on
 how_many-first : (p : ℕ → Bool) (n : ℕ) → how_many p (suc n) ≡ (if p 0 then 1 else 0) + how_many (λ i. p (suc i)) n
 how_many-first p zero = refl

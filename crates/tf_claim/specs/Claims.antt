@@ -7,7 +7,7 @@ use Rattle.atomic_table.specs.Table.{State}
 use Rattle.atomic_table.specs.Seated.{TableId}
 use Rattle.tf_graph.specs.Digraph.{Digraph, source, target, predecessors_of}
 use Rattle.tf_claim.specs.declared.seat.View.{View}
-use Rattle.tf_claim.specs.Views.{times}
+use Rattle.tf_claim.specs.Views.{times, nothing, part_in}
 
 -- which claims these are, and the graph of their actions
 pub record Shared : Type 0 where
@@ -44,6 +44,10 @@ abbrev pub how_many : (ℕ → Bool) → ℕ → ℕ
 how_many p zero = 0
 how_many p (suc i) = (if p i then 1 else 0) + how_many p i
 
+-- what part each view is, in 2^scale-ths of the whole
+abbrev pub parts_in : ℕ → View → ℕ
+parts_in scale v = part_in scale v.part
+
 -- an edge leads into an action, and nobody has let go of it
 abbrev pub holds_back : Digraph → ℕ → List View → ℕ → Bool
 holds_back g n views e = (total (releases_of e) views == 0) && (target g e == n)
@@ -51,6 +55,11 @@ holds_back g n views e = (total (releases_of e) views == 0) && (target g e == n)
 -- the number of edges into an action that nobody has let go of
 abbrev pub waiting : Digraph → ℕ → List View → ℕ
 waiting g n views = how_many (holds_back g n views) (length g.edges)
+
+-- each edge into an action has been let go of by some seat
+abbrev pub IsLetThrough : Digraph → ℕ → List View → Type 0
+IsLetThrough g n views =
+    (e : ℕ) → e < length g.edges → target g e ≡ n → 0 < total (releases_of e) views
 
 -- What a view says is so: the seat finished only what it claimed, whatever it has seen is done and whatever
 -- it has known is taken or done, and each edge that it let go of is one whose source it finished.
@@ -65,7 +74,9 @@ pub record IsTrueOf (g : Digraph) (stage : ℕ → ℕ) (v : View) : Type 0 wher
 -- by no seat, and any other by exactly one, once; a done action was finished once, by the seat that claimed
 -- it, and any other not at all. Whatever is taken or done has only done actions before it. The count of an
 -- action is the number of edges into it that nobody has let go of. What each view says is so; hence an edge
--- was let go of once at most, as its source was finished once.
+-- was let go of once at most, as its source was finished once. Each edge into an action that is taken or done, or that a
+-- seat has found let through, was let go of. The parts of all seats are no more than the whole,
+-- and who has no part has seen and done nothing.
 pub record IsKept (g : Digraph) (stage count : ℕ → ℕ) (views : List View) : Type 0 where
   pub stages : (n : ℕ) → stage n ≤ done
   pub outside : (n : ℕ) → g.nodes ≤ n → stage n ≡ free
@@ -74,6 +85,10 @@ pub record IsKept (g : Digraph) (stage count : ℕ → ℕ) (views : List View) 
   pub before : (e : ℕ) → e < length g.edges → free < stage (target g e) → stage (source g e) ≡ done
   pub counts : (n : ℕ) → n < g.nodes → count n ≡ waiting g n views
   pub each : (k : ℕ) (v : View) → get_elem? views k ≡ some v → IsTrueOf g stage v
+  pub released : (n : ℕ) → free < stage n → IsLetThrough g n views
+  pub let_through : (k : ℕ) (v : View) → get_elem? views k ≡ some v → (n : ℕ) → 0 < times n v.let_through → IsLetThrough g n views
+  pub parts : (scale : ℕ) → total (parts_in scale) views ≤ 2 ^ scale
+  pub spent : (k : ℕ) (v : View) → get_elem? views k ≡ some v → v.part ≡ [] → v ≡ nothing
 
 -- the rule holds, and one seat has this view in it
 pub record Stands (g : Digraph) (v : View) : Type 0 where

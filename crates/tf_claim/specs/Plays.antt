@@ -1,37 +1,42 @@
 -- What each step on the shared claims tells the seat that makes it: its view afterwards, with which the rule
--- holds.
-use Rattle.std.specs.Prelude.{◌≡◌, ◌<◌, ◌==◌, ◌⊎◌, ℕ, if◌then◌else◌}
+-- holds, and what was so in the state that the step met, in which the seat had its view before.
+use Rattle.std.specs.Prelude.{◌≡◌, ◌<◌, ◌==◌, ◌⊎◌, ℕ, MatchBool, if◌then◌else◌}
 use Rattle.atomic_table.specs.Table.{Me, Step}
-use Rattle.tf_graph.specs.Digraph.{Digraph, source, predecessors_of}
+use Rattle.tf_graph.specs.Digraph.{Digraph, source}
 use Rattle.tf_claim.specs.declared.seat.View.{View}
-use Rattle.tf_claim.specs.Views.{times, saw, saw_all, knew, took, ended, went, OwnsWayTo}
+use Rattle.tf_claim.specs.Views.{times, saw, saw_through, knew, took, ended, went, OwnsWayTo}
 use Rattle.tf_claim.specs.Claims.{Stands, free, done}
+use Rattle.tf_claim.specs.Moments.{WasDone, WasNotDone, WasFree, WasNotFree, WasHeldBack, WasLetThrough}
 
 -- a seat of the table: its view, and the slots that it holds, which are none
 abbrev pub Sat : Type 0
 Sat = Me (Unit {0}) View
 
--- the seat has this view afterwards
+-- the seat has this view afterwards, and its part is what it was
 abbrev pub Leaves : Digraph → Sat → View → Sat → Type 0
-Leaves g before w after = (after.0 ≡ w) × (after.1 ≡ before.1) × Stands g w
+Leaves g before w after =
+    (after.0 ≡ w) × (after.1 ≡ before.1) × Stands g w × (after.0.part ≡ before.0.part)
 
 -- the word of an action was read
 abbrev pub Looks : Digraph → ℕ → Step (Unit {0}) → Sat → ℕ → Sat → Type 0
 Looks g n st before found after =
     Leaves g before (if found == done then saw n before.0 else before.0) after
     × ((0 < times n before.0.seen) ⊎ (0 < times n before.0.finished) → found ≡ done)
+    × MatchBool (found == done) (WasDone g n before.0) (WasNotDone g n before.0)
 
 -- the count of an action was read
 abbrev pub Counts : Digraph → ℕ → Step (Unit {0}) → Sat → ℕ → Sat → Type 0
 Counts g n st before found after =
-    Leaves g before (if found == 0 then saw_all (predecessors_of g n) before.0 else before.0) after
+    Leaves g before (if found == 0 then saw_through g n before.0 else before.0) after
     × (OwnsWayTo g n before.0 → found ≡ 0)
+    × MatchBool (found == 0) (WasLetThrough g n before.0) (WasHeldBack g n before.0)
 
 -- one exchange was tried, from free to taken
 abbrev pub Takes : Digraph → ℕ → Step (Unit {0}) → Sat → ℕ → Sat → Type 0
 Takes g n st before found after =
     Leaves g before (if found == free then took n before.0 else knew n before.0) after
     × (found ≡ free → times n before.0.finished ≡ 0)
+    × MatchBool (found == free) (WasFree g n before.0) (WasNotFree g n before.0)
 
 -- an action was stored as done
 abbrev pub Ends : Digraph → ℕ → Step (Unit {0}) → Sat → ℕ → Sat → Type 0

@@ -1,8 +1,8 @@
 -- What a seat at the shared claims has seen and done, and how a step changes it.
-use Rattle.std.specs.Prelude.{◌≡◌, ◌<◌, ◌+◌, ◌==◌, ℕ, List, [], ◌∷◌, ◌++◌, length, map, if◌then◌else◌}
+use Rattle.std.specs.Prelude.{◌≡◌, ◌<◌, ◌+◌, ◌^◌, ◌==◌, ℕ, zero, suc, List, [], ◌∷◌, ◌++◌, length, map, if◌then◌else◌}
 use Rattle.std.specs.List.{filter, enumerate_from}
 use Rattle.atomic_table.specs.Seated.{TableId}
-use Rattle.tf_graph.specs.Digraph.{Digraph, source, target}
+use Rattle.tf_graph.specs.Digraph.{Digraph, source, target, predecessors_of}
 use Rattle.tf_claim.specs.declared.seat.View.{View}
 
 -- which claims a seat belongs to, and its view
@@ -15,21 +15,49 @@ abbrev pub times : ℕ → List ℕ → ℕ
 times n [] = 0
 times n (x ∷ xs) = (if x == n then 1 else 0) + times n xs
 
--- a seat that has seen and done nothing
+-- a view that is left where a seat was joined to another: it has seen and done nothing, and has no part
 abbrev pub nothing : View
-nothing = record { seen = []; known = []; claimed = []; finished = []; let_go = [] }
+nothing = record { seen = []; known = []; let_through = []; claimed = []; finished = []; let_go = []; part = [] }
+
+-- the first seat's view: it has seen and done nothing, and its part is the whole
+abbrev pub first_view : View
+first_view = record nothing { part = 0 ∷ [] }
+
+-- what a seat has after another was split off it: half of each piece of its part, and all that it has seen and done
+abbrev pub halved : View → View
+halved v = record v { part = map suc v.part }
+
+-- what the seat begins with that was split off: the other halves, and it has seen and done nothing
+abbrev pub split_off : View → View
+split_off v = record nothing { part = map suc v.part }
+
+-- A 2^d-th of the whole in 2^scale-ths; 0 where it is less than one of them.
+abbrev pub piece_in : ℕ → ℕ → ℕ
+piece_in scale zero = 2 ^ scale
+piece_in zero (suc d) = 0
+piece_in (suc scale) (suc d) = piece_in scale d
+
+-- a part in 2^scale-ths, its pieces added up
+abbrev pub part_in : ℕ → List ℕ → ℕ
+part_in scale [] = 0
+part_in scale (d ∷ ds) = piece_in scale d + part_in scale ds
+
+-- the seat's part is the whole
+abbrev pub IsSole : View → Type 0
+IsSole v = (scale : ℕ) × (part_in scale v.part ≡ 2 ^ scale)
 
 -- the seat has found an action done
 abbrev pub saw : ℕ → View → View
 saw n v = record v { seen = n ∷ v.seen }
 
--- the seat has found each of some actions done
-abbrev pub saw_all : List ℕ → View → View
-saw_all ns v = record v { seen = ns ++ v.seen }
-
 -- the seat has found an action taken or done
 abbrev pub knew : ℕ → View → View
 knew n v = record v { known = n ∷ v.known }
+
+-- the seat has found each edge into an action let go of, and so whatever stands directly before it done
+abbrev pub saw_through : Digraph → ℕ → View → View
+saw_through g n v =
+    record v { seen = predecessors_of g n ++ v.seen; let_through = n ∷ v.let_through }
 
 -- the seat has claimed an action
 abbrev pub took : ℕ → View → View
@@ -58,9 +86,11 @@ both v w =
     record {
       seen = v.seen ++ w.seen;
       known = v.known ++ w.known;
+      let_through = v.let_through ++ w.let_through;
       claimed = v.claimed ++ w.claimed;
       finished = v.finished ++ w.finished;
       let_go = v.let_go ++ w.let_go;
+      part = v.part ++ w.part;
     }
 
 -- the steps of a seat that changed something
@@ -74,10 +104,6 @@ Owes g n v = (n < g.nodes) × (0 < times n v.claimed) × (times n v.finished ≡
 -- the seat may let go of an edge: it finished the edge's source, and still holds the edge
 abbrev pub MayLetGo : Digraph → ℕ → View → Type 0
 MayLetGo g e v = (e < length g.edges) × (0 < times (source g e) v.finished) × (times e v.let_go ≡ 0)
-
--- the seat has seen whatever stands directly before an action done
-abbrev pub HasSeenWayTo : Digraph → ℕ → View → Type 0
-HasSeenWayTo g n v = (e : ℕ) → e < length g.edges → target g e ≡ n → 0 < times (source g e) v.seen
 
 -- the seat has let go of every edge into an action
 abbrev pub OwnsWayTo : Digraph → ℕ → View → Type 0

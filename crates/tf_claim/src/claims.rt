@@ -1,10 +1,11 @@
 //! The shared form of the book of claims: any number of workers claim and finish actions, each by single
 //! atomic steps on words, without a lock and without waiting.
 
-ghost use Rattle.std.specs.Prelude.{◌≡◌, ◌<◌, ◌+◌, ◌*◌, ◌⊎◌, ◌↔◌, ℕ, false, length, IsTrue, IfOk, IfSome, MatchBool, MatchOption, slice_index};
-ghost use Rattle.tf_graph.specs.Digraph.{Digraph, source, target, predecessors_of};
-ghost use Rattle.tf_claim.specs.Views.{nothing, times, saw, saw_all, knew, took, ended, went, went_all, edges_from, both, steps_of, Owes, MayLetGo, HasSeenWayTo, OwnsWayTo, IsWhole};
+ghost use Rattle.std.specs.Prelude.{◌≡◌, ◌<◌, ◌+◌, ◌*◌, ◌⊎◌, ◌↔◌, ℕ, false, length, IsTrue, IsOk, IfOk, IfSome, MatchBool, MatchOption, slice_index};
+ghost use Rattle.tf_graph.specs.Digraph.{Digraph, source, target};
+ghost use Rattle.tf_claim.specs.Views.{first_view, halved, split_off, times, saw, saw_through, knew, took, ended, went, went_all, edges_from, both, steps_of, Owes, MayLetGo, OwnsWayTo, IsWhole};
 ghost use Rattle.tf_claim.specs.Claims.{Begins, Stands};
+ghost use Rattle.tf_claim.specs.Moments.{IsFresh, WasDone, WasNotDone, WasFree, WasNotFree, WasHeldBack, WasLetThrough};
 ghost use Rattle.tf_claim.specs.Told.{Sees, Tries, Finishes, LetsGo};
 
 use crate::permit::{Finished, Permit};
@@ -27,7 +28,8 @@ const WORDS_EACH: usize = 8;
 
 /// The claims on a graph's actions, for any number of workers. An action can be claimed once, and only
 /// after each edge into it was let go of, by the seat that finished the edge's source. A seat is used only
-/// with the claims that it came from. Contracts see which claims these are, and the graph.
+/// with the claims that it came from. Contracts see which claims these are, and the graph. What the rule says of several
+/// seats at once stands in `laws`.
 #[derive(Drop)]
 pub struct Claims {
     graph: Graph,
@@ -49,11 +51,12 @@ impl Model for Claims {
 }
 
 impl Claims {
-    /// The claims on a graph's actions, all of them free, and their first seat. They keep their own copy
-    /// of the graph.
+    /// The claims on a graph's actions, all of them free, and their first seat, which is the only one: its part
+    /// is the whole. They keep their own copy of the graph.
     pub fn new(alloc: Global, graph: &Graph) -> Result<(Claims, Seat), AllocError>
         ensures graph { IfOk result (λ made. made.0.graph ≡ graph.now) }
-        ensures seat { IfOk result (λ made. (made.1.table ≡ made.0.table) × (made.1.view ≡ nothing)) }
+        ensures seat { IfOk result (λ made. (made.1.table ≡ made.0.table) × (made.1.view ≡ first_view)) }
+        ensures fresh { IfOk result (λ made. IsFresh made.0.graph made.1.view) }
     {
         let words = first_words(alloc, graph)?;
         let graph = graph.copy(alloc)?;
@@ -69,18 +72,21 @@ impl Claims {
         &self.graph
     }
 
-    /// Another seat, which has seen and done nothing.
+    /// Another seat, which has seen and done nothing. Each of the two then has half of the part that the one
+    /// had. It never errs.
     pub fn split_seat(&self, seat: &mut Seat) -> Result<Seat, AllocError>
         requires { seat.old.table ≡ self.now.table }
-        ensures same { seat.new ≡ seat.old }
-        ensures new { IfOk result (λ new. (new.table ≡ self.now.table) × (new.view ≡ nothing)) }
+        ensures same { (seat.new.table ≡ seat.old.table) × (seat.new.view ≡ halved seat.old.view) }
+        ensures new { IfOk result (λ new. (new.table ≡ self.now.table) × (new.view ≡ split_off seat.old.view)) }
+        ensures ok { IsOk result }
     {
         let place = self.table.shared.split_seat::<Another>(&mut seat.place);
         Ok(Seat { place, steps: 0 })
     }
 
-    /// Whether an action is done, by one load. A seat that has seen an action done or has finished it is
-    /// told so again.
+    /// Whether an action is done, by one load. There was a state that kept the rule, with the seat's view in it,
+    /// in which the action was done, or wasn't, as the answer says. A seat that has seen an action done or has
+    /// finished it is told so again.
     pub fn see(&self, seat: &mut Seat, action: usize) -> bool
         requires seat { seat.old.table ≡ self.now.table }
         requires action { action < self.now.graph.nodes }
@@ -90,6 +96,9 @@ impl Claims {
             (seat.new.view ≡ seat.old.view) }
         ensures again { (0 < times action seat.old.view.seen) ⊎ (0 < times action seat.old.view.finished)
             → IsTrue result }
+        ensures moment { MatchBool result
+            (WasDone self.now.graph action seat.old.view)
+            (WasNotDone self.now.graph action seat.old.view) }
         ensures kept { Stands self.now.graph seat.new.view }
     {
         self.see_as::<Brand>(seat, action)
@@ -108,21 +117,29 @@ impl Claims {
         found == DONE
     }
 
-    /// Claims an action, by a load of its count and one exchange. `None` where an edge into it was still
-    /// held, and then nothing is known; or where the action wasn't free, which the seat then knows. Where
-    /// the seat itself let go of each edge into the action, or there is none, only the second is left.
+    /// Claims an action, by a load of its count and one exchange. `None` where at the load an edge into it had
+    /// been let go of by nobody, and then nothing is known; or where at the exchange the action wasn't free,
+    /// which the seat then knows. Where the seat itself let go of each edge into the action, or there is none,
+    /// only the second is left. A permit comes where each edge had been let go of and the action was free.
     pub fn claim(&self, seat: &mut Seat, action: usize) -> Option<Permit>
         requires seat { seat.old.table ≡ self.now.table }
         requires action { action < self.now.graph.nodes }
         ensures table { seat.new.table ≡ seat.old.table }
         ensures claimed { MatchOption result
             ((seat.new.view ≡ seat.old.view)
-            ⊎ (seat.new.view ≡ knew action (saw_all (predecessors_of self.now.graph action) seat.old.view)))
+            ⊎ (seat.new.view ≡ knew action (saw_through self.now.graph action seat.old.view)))
             (λ permit. (permit ≡ action) × Owes self.now.graph action seat.new.view
-            × (seat.new.view ≡ took action (saw_all (predecessors_of self.now.graph action) seat.old.view))) }
+            × (seat.new.view ≡ took action (saw_through self.now.graph action seat.old.view))) }
         ensures own { OwnsWayTo self.now.graph action seat.old.view → MatchOption result
-            (seat.new.view ≡ knew action (saw_all (predecessors_of self.now.graph action) seat.old.view))
+            (seat.new.view ≡ knew action (saw_through self.now.graph action seat.old.view))
             (λ _. Unit {0}) }
+        ensures moment { MatchOption result
+            (((seat.new.view ≡ seat.old.view) × WasHeldBack self.now.graph action seat.old.view)
+            ⊎ ((seat.new.view ≡ knew action (saw_through self.now.graph action seat.old.view))
+            × WasLetThrough self.now.graph action seat.old.view
+            × WasNotFree self.now.graph action (saw_through self.now.graph action seat.old.view)))
+            (λ _. WasLetThrough self.now.graph action seat.old.view
+            × WasFree self.now.graph action (saw_through self.now.graph action seat.old.view)) }
         ensures kept { Stands self.now.graph seat.new.view }
     {
         self.claim_as::<Brand>(seat, action)
@@ -148,8 +165,11 @@ impl Claims {
         ensures table { seat.new.table ≡ seat.old.table }
         ensures seen { MatchBool result
             (seat.new.view ≡ seat.old.view)
-            (seat.new.view ≡ saw_all (predecessors_of self.now.graph action) seat.old.view) }
+            (seat.new.view ≡ saw_through self.now.graph action seat.old.view) }
         ensures own { OwnsWayTo self.now.graph action seat.old.view → result ≡ false }
+        ensures moment { MatchBool result
+            (WasHeldBack self.now.graph action seat.old.view)
+            (WasLetThrough self.now.graph action seat.old.view) }
         ensures kept { Stands self.now.graph seat.new.view }
     {
         let count = self
@@ -159,16 +179,19 @@ impl Claims {
         count != 0
     }
 
-    /// Whether one exchange made an action taken. The seat has seen whatever stands before it done.
+    /// Whether one exchange made an action taken. The seat has found each edge into it let go of.
     fn takes<B: About>(&self, seat: &mut Seat, action: usize) -> bool
         requires about { (B.graph ≡ self.now.graph) × (B.number ≡ action) }
         requires seat { seat.old.table ≡ self.now.table }
         requires action { action < self.now.graph.nodes }
-        requires ready { HasSeenWayTo self.now.graph action seat.old.view }
+        requires ready { 0 < times action seat.old.view.let_through }
         ensures table { seat.new.table ≡ seat.old.table }
         ensures taken { MatchBool result
             ((seat.new.view ≡ took action seat.old.view) × Owes self.now.graph action seat.new.view)
             (seat.new.view ≡ knew action seat.old.view) }
+        ensures moment { MatchBool result
+            (WasFree self.now.graph action seat.old.view)
+            (WasNotFree self.now.graph action seat.old.view) }
         ensures kept { Stands self.now.graph seat.new.view }
     {
         let found = self
@@ -276,7 +299,7 @@ impl Claims {
         seat.steps += 1;
     }
 
-    /// Puts what another seat has seen and done to this one's.
+    /// Puts what another seat has seen and done to this one's, and its part.
     pub fn join_seat(&self, seat: &mut Seat, other: Seat)
         requires seat { seat.old.table ≡ self.now.table }
         requires other { other.table ≡ self.now.table }

@@ -7,6 +7,7 @@
 
 pub mod book;
 pub mod claims;
+pub mod laws;
 pub mod permit;
 mod rule;
 pub mod seat;

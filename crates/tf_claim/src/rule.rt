@@ -14,11 +14,11 @@ pub struct Law;
 
 impl TableRule<(), View, Graph> for Law {
     ghost use Rattle.tf_claim.specs.Claims.{Holds};
-    ghost use Rattle.tf_claim.specs.Views.{nothing};
+    ghost use Rattle.tf_claim.specs.Views.{first_view};
 
     ghost holds = { λ g. Holds g };
 
-    ghost first = { λ _. nothing };
+    ghost first = { λ _. first_view };
 }
 
 /// What a step is about, for its proof alone: the graph, and an action or an edge of it.
@@ -76,15 +76,15 @@ impl<B: About> Play<(), View> for Rest<B> {
     ghost then = { Rests B.graph };
 }
 
-/// A new seat begins with nothing, and the old one keeps what it has.
+/// A new seat begins with half of the old one's part and nothing else, and the old one keeps the rest.
 pub struct Another;
 
 impl Split<View> for Another {
-    ghost use Rattle.tf_claim.specs.Views.{nothing};
+    ghost use Rattle.tf_claim.specs.Views.{halved, split_off};
 
-    ghost left = { λ v. v };
+    ghost left = { halved };
 
-    ghost right = { λ _. nothing };
+    ghost right = { split_off };
 }
 
 /// A seat takes over what another has seen and done.

@@ -5,18 +5,23 @@ ghost use Rattle.std.specs.Prelude.{◌≡◌};
 use std::collections::LinkedList;
 use std::marker::Model;
 
-/// What a seat has seen and done, the latest first. It is for contracts alone: no value of it is made.
+/// What a seat has seen and done, the latest first, and its part of the whole. It is for contracts alone: no value of it is made.
 pub struct View {
     /// Actions that it found done.
     pub seen: LinkedList<usize>,
     /// Actions that it tried to claim and found taken or done.
     pub known: LinkedList<usize>,
+    /// Actions of which it found each edge into them let go of.
+    pub let_through: LinkedList<usize>,
     /// Actions that it claimed.
     pub claimed: LinkedList<usize>,
     /// Actions that it finished.
     pub finished: LinkedList<usize>,
     /// Edges that it let go of, by their place in the graph's list.
     pub let_go: LinkedList<usize>,
+    /// Its part of the whole that all seats have together, in pieces: a number d stands for a 2^d-th. The first
+    /// seat begins with the whole, a split halves each piece, and a join puts two parts together.
+    pub part: LinkedList<usize>,
 }
 
 /// A worker's seat at the claims that it came from, with which it makes its steps. Contracts see which
@@ -28,12 +33,13 @@ pub struct Seat {
 }
 
 impl Model for Seat {
-    ghost use Rattle.std.specs.Prelude.{◌≡◌, []};
+    ghost use Rattle.std.specs.Prelude.{◌≡◌, ◌<◌, [], length};
     ghost use Rattle.tf_claim.specs.Views.{Seated, steps_of};
 
     ghost Value = { Seated };
 
     ghost view = { λ s. record { table = s.place.table_id; view = s.place.me.0 } };
 
-    ghost invariant = { λ s. (s.place.me.1 ≡ []) × (s.steps ≡ steps_of s.place.me.0) };
+    ghost invariant = { λ s. (s.place.me.1 ≡ []) × (s.steps ≡ steps_of s.place.me.0)
+        × (0 < length s.place.me.0.part) };
 }

@@ -2,12 +2,10 @@
 use Rattle.std.proofs.Common.{◌≡◌, ◌∙◌, ℕ, Bool, true, false, not, if◌then◌else◌, List, refl, sym, ap, subst, string_bytes, arith}
 use Rattle.std.specs.Prelude.{◌==◌, ◌+◌, ◌↔◌, IfOk}
 use Rattle.tf_next_state.specs.StateAfter.{is_same, next_serial}
-use Rattle.tf_outcome.specs.Outcome.{AreRequests, Done, Requests}
-use Rattle.tf_outputs.specs.Outputs.{OutputDone}
 use Rattle.tf_plan_data.specs.Plan.{PlanView}
 use Rattle.tf_plan_text.specs.Text.{plan_text}
 use Rattle.tf_protocol.specs.Meaning.{Meaning}
-use Rattle.tf_report.specs.Report.{IsTold, report_of}
+use Rattle.tf_report.specs.Report.{IsReported, report_of}
 use Rattle.tf_report.specs.Savable.{HasNames}
 use Rattle.tf_run.specs.Run.{IsRun}
 use Rattle.tf_report.specs.declared.report.Walked.{Walked}
@@ -39,29 +37,25 @@ changed-exactly prior after changed serial is = (
 )
 
 -- what the report of a walk tells
-told_of : (ms : List Meaning) (plan : PlanView) (w : Walked) (requests : Requests) → AreRequests plan requests → IsRun ms plan w → (done : List Done) × (outputs : List OutputDone) × IsTold ms plan done outputs (report_of w)
-told_of ms plan (Torn report) requests are walked =
-    let found = walked requests are in
-    (found.0, found.1, found.2.told)
-told_of ms plan (Whole report) requests are walked =
-    let found = walked requests are in
-    (found.0, found.1, found.2.told)
+pub reported_in : (ms : List Meaning) (plan : PlanView) (w : Walked) → IsRun ms plan w → IsReported ms plan (report_of w)
+reported_in ms plan (Torn report) walked = walked.reported
+reported_in ms plan (Whole report) walked = walked.reported
 
-pub is_carried_out : (ms : List Meaning) (plan : PlanView) (walked : Walked) (a : Applied) (requests : Requests)
-    → AreRequests plan requests → HasNames plan → IsValid plan.prior
+pub is_carried_out : (ms : List Meaning) (plan : PlanView) (walked : Walked) (a : Applied)
+    → HasNames plan → IsValid plan.prior
     → string_bytes a.plan ≡ plan_text plan.late plan.actions
     → IsRun ms plan walked
     → a.walked ≡ walked
     → IfOk a.state (λ text. string_bytes text ≡ state_text (state_of (report_of walked).state))
     → a.changed ≡ not ((state_of (report_of walked).state).serial == plan.prior.serial)
     → IsCarriedOut ms plan a
-is_carried_out ms plan walked a requests are named valid shown was_walked same text changed =
-    let told = told_of ms plan walked requests are was_walked in
-    let exactly = changed-exactly plan.prior (state_of (report_of walked).state) a.changed told.2.state.after.serial changed in
+is_carried_out ms plan walked a named valid shown was_walked same text changed =
+    let told = (reported_in ms plan walked was_walked).is_report.told in
+    let exactly = changed-exactly plan.prior (state_of (report_of walked).state) a.changed told.state.after.serial changed in
     record {
       shown = shown;
       walked = subst (λ (w : Walked). IsRun ms plan w) (sym same) was_walked;
-      valid = rw same (told.2.valid named valid);
+      valid = rw same (told.valid named valid);
       text = subst (λ (w : Walked). IfOk a.state (λ text. string_bytes text ≡ state_text (state_of (report_of w).state))) (sym same) text;
       changed = subst (λ (w : Walked). (a.changed ≡ false) ↔ (state_of (report_of w).state ≡ plan.prior)) (sym same) exactly;
     }

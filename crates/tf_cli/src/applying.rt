@@ -16,7 +16,6 @@ use std::alloc::Global;
 use std::sync::Wait;
 use std::thread::Threads;
 use tf_config::blocks_have_names;
-use tf_outcome::laws::requests_exist;
 use tf_plan::Refused;
 use tf_plan_text::plan_text;
 use tf_provider::Provider;
@@ -45,7 +44,6 @@ pub fn apply_text<R: Threads + Wait + Sync>(
     ensures refused { IfErr result (Tells (AreApplyRefusals (map (λ b. meaning b) providers.now) (the_texts config.now (option_map (λ s. s.now) vars.entry) (option_map (λ s. s.now) state.entry)) lineage.now workers)) }
 {
     blocks_have_names();
-    requests_exist();
     let given = Given {
         config,
         vars,

@@ -58,7 +58,7 @@ all_mean variables names shapes objects settled standings (expr.entry name e es)
 all_mean variables names shapes objects settled standings (expr.entry name e es) (d ∷ ds) solves h v =
     let own : IsOutputDone variables names shapes objects settled e (valued v.0.0) = subst (λ (x : OutputDone). IsOutputDone variables names shapes objects settled e x) v.0.1 h.0 in
     let evaluated = decided (names_are_settled names settled e) own (λ (no_value : valued v.0.0 ≡ not_evaluated). absurd (cc)) in
-    (has_value (meaning (environment variables names standings) e) v.0.0 (evaluated standings solves), all_mean variables names shapes objects settled standings es ds solves h.1 v.1)
+    (has_value (meaning (environment variables names standings) e) v.0.0 (evaluated.means standings solves), all_mean variables names shapes objects settled standings es ds solves h.1 v.1)
 
 pub outputs_mean : ValuedOutputsMean
 outputs_mean plan done outputs standings are all solves =

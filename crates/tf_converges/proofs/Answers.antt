@@ -1,16 +1,16 @@
 -- A good reply has what was asked for.
-use Rattle.std.proofs.Common.{◌≡◌, ◌∙◌, ◌+◌, ◌&&◌, ℕ, Bool, true, false, not, cond, List, [], ◌∷◌, map as each, Option, Some, None, refl, sym, ap, ap₂, subst}
-use Rattle.std.specs.List.{list_all, position_from}
+use Rattle.std.proofs.Common.{◌≡◌, ◌∙◌, ◌&&◌, ℕ, Bool, true, false, not, cond, List, [], ◌∷◌, map as each, Option, Some, refl, sym, ap, ap₂, subst}
+use Rattle.std.specs.List.{list_all}
 use Rattle.std.specs.Str.{bytes_eq}
 use Rattle.std.proofs.lemmas.Slice.Eq.{bytes_eq-Decides}
 use Rattle.tf_decision.proofs.Aligned.{apart}
 use Rattle.tf_decision.proofs.Replies.{good_is, nowhere}
 use Rattle.tf_protocol.specs.Schema.{AttributeView, SchemaView, IsSchema, ascends, is_below}
 use Rattle.tf_protocol.specs.Verdict.{contradiction, contradicts, contradicts_at, fits_in, has_attributes, is_good_verdict, same_names, verdict_on_object, well_formed}
-use Rattle.tf_value.proofs.Conjunction.{and-both, and-first, and-second}
+use Rattle.tf_value.proofs.Conjunction.{and-first, and-second}
 use Rattle.tf_value.proofs.Refining.{refined_Decides}
 use Rattle.tf_value.specs.Refinement.{Refines, RefinesEntries, refined}
-use Rattle.tf_value.specs.Tree.{Tree, null, boolean, whole, text, list, map, set, unknown, Entries, no_entries, entry, get, keys_of}
+use Rattle.tf_value.specs.Tree.{Tree, map, Entries, no_entries, entry, get, keys_of}
 
 double : (b : Bool) → not (not b) ≡ true → b ≡ true
 double true e = refl

@@ -1,7 +1,6 @@
 -- What a plan does about each instance: of one that the configuration has, the steps of its decision and no others; and each
 -- other object is destroyed.
-use Rattle.std.proofs.Common.{◌≡◌, ◌∙◌, ◌||◌, ◌⊎◌, inl, inr, ℕ, zero, suc, Bool, true, false, if◌then◌else◌, List, [], ◌∷◌, Option, Some, None, option_map, Ok, Err, map, refl, sym, ap, subst}
-use Rattle.std.proofs.lemmas.Option.{slice_get-map}
+use Rattle.std.proofs.Common.{◌≡◌, ◌∙◌, ◌||◌, ◌⊎◌, inl, inr, ℕ, zero, suc, Bool, true, false, if◌then◌else◌, List, [], ◌∷◌, Option, Some, None, Ok, Err, map, refl, sym, ap, subst}
 use Rattle.std.specs.List.{AllByRecursion, find}
 use Rattle.std.specs.Option.{option_map_or}
 use Rattle.std.specs.Prelude.{Contains, slice_get}
@@ -28,6 +27,7 @@ use Rattle.tf_next_state.proofs.Finding.{all_found, found_holds}
 use Rattle.tf_plan.proofs.Distinct.{to_map}
 use Rattle.tf_plan.proofs.Listing.{of_at}
 use Rattle.tf_plan.proofs.Steps.{removal-destroys}
+pub use Rattle.tf_plan.proofs.Tied.{blocks_one}
 use Rattle.tf_plan.specs.Planned.{IsPlanned, unrefused}
 use Rattle.tf_plan_data.specs.Fits.{deposed_key, is_apply}
 use Rattle.tf_protocol.specs.Meaning.{Meaning, schema_in}
@@ -43,12 +43,12 @@ use Rattle.tf_state_data.specs.Resource.{ResourceView, record_at}
 use Rattle.tf_state_data.specs.State.{resource_at}
 use Rattle.tf_syntax.specs.ExprTree as expr
 use Rattle.tf_value.specs.Tree.{Tree, Entries}
-use Rattle.tf_converges.proofs.Decided.{IsDecided, IsDecidedMember, IsFine, by_decision-is, decided_member, decision_is}
+use Rattle.tf_converges.proofs.Decided.{IsDecided, IsFine, decided_member, decision_is}
 use Rattle.tf_converges.proofs.Fine.{block_fine, orphan_fine}
 use Rattle.tf_converges.proofs.Lists.{all_contained, all_from, or_first, or_second, to_filter}
 use Rattle.tf_converges.proofs.Members.{instance_holds, member_is, member_there, record_recorded, recorded_holds, recorded_there, same_key}
 use Rattle.tf_converges.proofs.Origins.{IsOfMember, IsStepOf, block_step, orphan_step, origin}
-use Rattle.tf_converges.proofs.Places.{at_name, meant_within, name_of, orphan_of}
+use Rattle.tf_converges.proofs.Places.{at_name, meant_within, orphan_of}
 use Rattle.tf_converges.proofs.Standing.{before_stand}
 
 -- A plan without a refusal, what names stand for in it, and that no two blocks are at one address.
@@ -79,18 +79,6 @@ abbrev pub records_in : Setting → BlockView → InstanceKeyView → List Recor
 records_in p block key = records_of key (records_at block.label p.resources)
 
 -- ---- blocks and their addresses
-
-slot : (names : List NameView) (n : ℕ) (block : BlockView) → meant_at names n ≡ Some (a_block block) → (x : NumberedView) × (slice_get (map a_name names) n ≡ Some x) × (address_of x ≡ Some block.label)
-slot names n block meant =
-    let name = name_of names n (a_block block) meant in
-    (a_name name.0, slice_get-map a_name names n ∙ ap (option_map a_name) name.1, ap block_address name.2)
-
--- at most one block is at an address
-pub blocks_one : (names : List NameView) → resources_laws.AreApart (map a_name names) → (n m : ℕ) (b c : BlockView) → meant_at names n ≡ Some (a_block b) → meant_at names m ≡ Some (a_block c) → b.label ≡ c.label → n ≡ m
-blocks_one names apart n m b c e f same =
-    let x = slot names n b e in
-    let y = slot names m c f in
-    apart n m x.0 y.0 c.label x.1 y.1 (x.2 ∙ ap Some same) y.2
 
 pub block_has : (names : List NameView) (n : ℕ) (block : BlockView) → meant_at names n ≡ Some (a_block block) → has_block names block.label ≡ true
 block_has [] n block e = absurd (cc)
@@ -147,12 +135,12 @@ module _ (p : Setting) where
   member_fine : (n : ℕ) (block : BlockView) → meant_at p.names n ≡ Some (a_block block)
       → AllByRecursion (λ m. IsFine (member_outcome (schema_in block.label.type_name p.ms) block (env_of p) m)) (members (keys_at p n) (records_at block.label p.resources))
   member_fine n block meant =
-      block_fine p.ms p.variables p.names p.outputs p.shapes p.resources p.actions p.planned p.standings p.solves n block meant
+      block_fine p.ms p.variables p.names p.outputs p.shapes p.resources p.actions p.planned p.standings p.solves p.ranked n block meant
       (before_stand p.ms p.variables p.names p.outputs p.shapes p.resources p.actions p.planned p.standings p.solves p.ranked n (meant_within p.names n (a_block block) meant))
 
   of_block : (n : ℕ) (block : BlockView) (a : ActionView) → meant_at p.names n ≡ Some (a_block block) → Contains p.actions a → a.label ≡ block.label
       → IsOfMember (of_at p.ms n block.label) (member_outcome (schema_in block.label.type_name p.ms) block (env_of p)) (members (keys_at p n) (records_at block.label p.resources)) a
-  of_block n block a meant c label = elim (origin p.ms p.variables p.names p.outputs p.shapes p.resources p.actions p.planned p.standings p.solves a c) [
+  of_block n block a meant c label = elim (origin p.ms p.variables p.names p.outputs p.shapes p.resources p.actions p.planned p.standings p.solves p.ranked a c) [
     | inl b ↦
         let n_same : b.n ≡ n = blocks_one p.names p.apart b.n n b.block block b.meant meant (sym b.own.is.label ∙ label) in
         let stands : Some (a_block b.block) ≡ Some (a_block block) = sym b.meant ∙ ap (meant_at p.names) n_same ∙ meant in
@@ -181,7 +169,7 @@ module _ (p : Setting) where
         decides = m.decides;
         is = decision_is m.schema block.lifecycle (records_of key records) (instance_object m.schema block key env) m.choice m.decides;
         done = λ s c.
-            block_step p.ms p.variables p.names p.outputs p.shapes p.resources p.actions p.planned p.standings p.solves n block (member keys records key) (decided_steps (records_of key records) m.choice) s meant
+            block_step p.ms p.variables p.names p.outputs p.shapes p.resources p.actions p.planned p.standings p.solves p.ranked n block (member keys records key) (decided_steps (records_of key records) m.choice) s meant
             (before_stand p.ms p.variables p.names p.outputs p.shapes p.resources p.actions p.planned p.standings p.solves p.ranked n (meant_within p.names n (a_block block) meant))
             (member_there keys records key among) m.outcome c;
         only = λ a c label key_is.
@@ -228,7 +216,7 @@ module _ (p : Setting) where
 
   -- only instances that blocks have are made or changed
   pub apply_declared : (a : ActionView) → Contains p.actions a → is_apply a.step ≡ true → IsDeclaredAt a.label a.key
-  apply_declared a c applies = elim (origin p.ms p.variables p.names p.outputs p.shapes p.resources p.actions p.planned p.standings p.solves a c) [
+  apply_declared a c applies = elim (origin p.ms p.variables p.names p.outputs p.shapes p.resources p.actions p.planned p.standings p.solves p.ranked a c) [
     | inl b ↦
         let keys = keys_at p b.n in
         let records = records_at b.block.label p.resources in
@@ -323,7 +311,7 @@ module _ (p : Setting) where
           let step = step_there (records_of x.id.key records) x (own_there records x there) in
           inr
           (destroyed_by block.label r.label n x own
-          (block_step p.ms p.variables p.names p.outputs p.shapes p.resources p.actions p.planned p.standings p.solves n block m (removal_steps (records_of x.id.key records)) (destroy_of x.id.deposed x.attributes) meant
+          (block_step p.ms p.variables p.names p.outputs p.shapes p.resources p.actions p.planned p.standings p.solves p.ranked n block m (removal_steps (records_of x.id.key records)) (destroy_of x.id.deposed x.attributes) meant
           (before_stand p.ms p.variables p.names p.outputs p.shapes p.resources p.actions p.planned p.standings p.solves p.ranked n (meant_within p.names n (a_block block) meant))
           (recorded_there keys records x.id.key (record_recorded records x there)) outcome step))
 
@@ -333,9 +321,9 @@ module _ (p : Setting) where
           let place = orphan_place r e none in
           let m = member [] r.records x.id.key in
           let fine = recorded_holds (λ m. IsFine (orphan_outcome (schema_in r.label.type_name p.ms) m)) [] r.records x.id.key
-          (orphan_fine p.ms p.variables p.names p.outputs p.shapes p.resources p.actions p.planned p.standings p.solves place.0 r place.1) (record_recorded r.records x c) in
+          (orphan_fine p.ms p.variables p.names p.outputs p.shapes p.resources p.actions p.planned p.standings p.solves p.ranked place.0 r place.1) (record_recorded r.records x c) in
           let outcome = orphan_removed (schema_in r.label.type_name p.ms) m fine in
           inr
           (destroyed_by r.label r.label place.0 x refl
-          (orphan_step p.ms p.variables p.names p.outputs p.shapes p.resources p.actions p.planned p.standings p.solves place.0 r m (removal_steps (records_of x.id.key r.records)) (destroy_of x.id.deposed x.attributes) place.1
+          (orphan_step p.ms p.variables p.names p.outputs p.shapes p.resources p.actions p.planned p.standings p.solves p.ranked place.0 r m (removal_steps (records_of x.id.key r.records)) (destroy_of x.id.deposed x.attributes) place.1
           (recorded_there [] r.records x.id.key (record_recorded r.records x c)) outcome (step_there (records_of x.id.key r.records) x (own_there r.records x c))))

@@ -4,16 +4,18 @@ use Rattle.std.specs.List.{AllByRecursion, flat_map}
 use Rattle.std.specs.Prelude.{Contains, slice_get}
 use Rattle.tf_action_data.specs.Action.{ActionView}
 use Rattle.tf_config_data.specs.Config.{BlockView}
-use Rattle.tf_config_data.specs.Names.{NameView, a_block, meant_at}
+use Rattle.tf_config_data.specs.Names.{NameView, a_block, directly_before, meant_at}
 use Rattle.tf_deciding.specs.Outcome.{orphan_outcome}
 use Rattle.tf_deciding.specs.Stage.{deciding}
 use Rattle.tf_deciding.specs.Whole.{decided, nothing_decided}
 use Rattle.tf_environment.specs.Shape.{ShapeView}
 use Rattle.tf_environment.specs.Standing.{StandingView, AreStandings}
+use Rattle.tf_graph.specs.Solutions.{Ranked}
 use Rattle.tf_members.specs.Members.{members}
 use Rattle.tf_plan.proofs.Listing.{decided-actions, place_actions}
+use Rattle.tf_plan.proofs.Solved.{planned-by}
 use Rattle.tf_plan.specs.Outputs.{output_refusals}
-use Rattle.tf_plan.specs.Planned.{IsPlanned, PlannedView, unrefused}
+use Rattle.tf_plan.specs.Planned.{IsPlanned, PlannedView, planned_in, unrefused}
 use Rattle.tf_plan.specs.Told.{instance_told}
 use Rattle.tf_protocol.specs.Meaning.{Meaning, schema_in}
 use Rattle.tf_resources.specs.Numbering.{NumberedView, a_name, an_orphan, numbered}
@@ -26,11 +28,14 @@ use Rattle.tf_converges.proofs.Places.{block_looked_at, name_at, orphan_looked_a
 
 module _ (ms : List Meaning) (variables : Entries) (names : List NameView) (outputs : expr.Entries) (shapes : ℕ → ShapeView) (resources : List ResourceView) (actions : List ActionView)
     (planned : IsPlanned ms resources variables names outputs shapes (unrefused actions))
-    (standings : ℕ → StandingView) (solves : AreStandings (deciding ms resources shapes) variables names standings) where
+    (standings : ℕ → StandingView) (solves : AreStandings (deciding ms resources shapes) variables names standings) (ranked : Ranked (directly_before names)) where
+  is_planned : planned_in ms resources variables names outputs shapes planned.places standings ≡ unrefused actions
+  is_planned = planned-by variables names ranked ms resources outputs shapes (unrefused actions) planned standings solves
+
   fine : AllByRecursion (λ n. IsNumberedFine ms resources variables names shapes standings n (slice_get (numbered names resources) n)) planned.places
   fine =
       let told : map instance_told (decided ms resources variables names shapes standings (numbered names resources) planned.places).refusals ++ output_refusals variables names standings outputs ≡ [] =
-      ap (λ (p : PlannedView). p.refusals) (planned.decided standings solves) in
+      ap (λ (p : PlannedView). p.refusals) is_planned in
       let none = map_none instance_told (decided ms resources variables names shapes standings (numbered names resources) planned.places).refusals (output_refusals variables names standings outputs) told in
       (all_fine ms resources variables names shapes standings (numbered names resources) planned.places nothing_decided none).1
 
@@ -54,5 +59,5 @@ module _ (ms : List Meaning) (variables : Entries) (names : List NameView) (outp
   pub actions_are : actions ≡ flat_map (λ n. place_actions ms resources variables names shapes standings n (slice_get (numbered names resources) n)) planned.places
   actions_are =
       let all = numbered names resources in
-      let made : (decided ms resources variables names shapes standings all planned.places).actions ≡ actions = ap (λ (p : PlannedView). p.actions) (planned.decided standings solves) in
+      let made : (decided ms resources variables names shapes standings all planned.places).actions ≡ actions = ap (λ (p : PlannedView). p.actions) is_planned in
       sym made ∙ decided-actions ms resources variables names shapes standings all planned.places

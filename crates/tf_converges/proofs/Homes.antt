@@ -1,5 +1,5 @@
 -- States at rest, and what an apply of the same configuration gives their records anew.
-use Rattle.std.proofs.Common.{◌≡◌, ◌∙◌, ◌++◌, ℕ, zero, suc, Bool, true, List, [], ◌∷◌, Option, Some, None, codes, length, map, inl, inr, sym, ap, subst}
+use Rattle.std.proofs.Common.{◌≡◌, ◌∙◌, ℕ, Bool, true, List, [], ◌∷◌, Option, Some, None, length, map, inl, inr, sym, ap, subst}
 use Rattle.std.specs.List.{AllByRecursion}
 use Rattle.std.specs.Option.{option_map_or}
 use Rattle.std.specs.Prelude.{Contains}
@@ -8,7 +8,7 @@ use Rattle.tf_address.specs.Label.{LabelView}
 use Rattle.tf_address.specs.ObjectId.{InstanceKeyView, ObjectIdView}
 use Rattle.tf_change.specs.Laws.{InstancesGrow}
 use Rattle.tf_config_data.specs.Config.{BlockView, ConfigView}
-use Rattle.tf_config_data.specs.Names.{a_block, block_name, directly_before, label_pair, local_names, meant_at, names_of}
+use Rattle.tf_config_data.specs.Names.{a_block, directly_before, label_pair, meant_at, names_of}
 use Rattle.tf_deciding.specs.Stage.{records_at}
 use Rattle.tf_environment.proofs.Refining.{followed}
 use Rattle.tf_environment.specs.Laws.{StandingsGrow}
@@ -26,6 +26,8 @@ use Rattle.tf_outcome.specs.Outcome.{Done}
 use Rattle.tf_plan.proofs.Blocks.{names-apart}
 use Rattle.tf_plan.specs.Ordered.{AreTied}
 use Rattle.tf_plan.specs.Plan.{IsPlan}
+use Rattle.tf_plan.proofs.Solved.{same_shapes}
+use Rattle.tf_plan.proofs.Tied.{block_found}
 use Rattle.tf_plan.specs.Planned.{AreInstances}
 use Rattle.tf_plan_data.specs.Plan.{PlanView}
 use Rattle.tf_precedence.specs.Ties.{TiesView}
@@ -38,16 +40,15 @@ use Rattle.tf_state_after.specs.After.{object_at, renewed}
 use Rattle.tf_state_data.specs.Record.{RecordView}
 use Rattle.tf_state_data.specs.Resource.{ResourceView, record_at}
 use Rattle.tf_state_data.specs.State.{StateView, record_in, resource_at}
-use Rattle.tf_syntax.specs.ExprTree as expr
 use Rattle.tf_value.specs.Tree.{Tree, Entries}
 use Rattle.tf_converges.proofs.Anew.{given_anew}
-use Rattle.tf_converges.proofs.Declared.{blocks_one, found_contains, has_stands}
+use Rattle.tf_converges.proofs.Declared.{found_contains, has_stands}
 use Rattle.tf_converges.proofs.Lists.{all_contained, nothing_in, to_filter}
 use Rattle.tf_converges.proofs.Members.{same_key}
 use Rattle.tf_converges.proofs.Quiet.{quiet_keeps}
 use Rattle.tf_converges.proofs.Still.{nothing_at_rest}
-use Rattle.tf_converges.proofs.Tied.{block_named, dependencies_same}
-use Rattle.tf_converges.proofs.Whole.{own_ranked, rest_same, same_shapes, state_rests}
+use Rattle.tf_converges.proofs.Tied.{dependencies_same}
+use Rattle.tf_converges.proofs.Whole.{own_ranked, rest_same, state_rests}
 use Rattle.tf_converges.specs.Converges.{IsCarriedOut, IsSound}
 use Rattle.tf_converges.specs.Known.{ExpressionsStayKnown}
 use Rattle.tf_converges.specs.Quiet.{IsRenewed}
@@ -172,20 +173,9 @@ Depends config needs s =
     (label : LabelView) (id : ObjectIdView) (y : RecordView) (n : ℕ) (block : BlockView) → record_in label id s ≡ Some y → meant_at (names_of config) n ≡ Some (a_block block) → block.label ≡ label
     → y.dependencies ≡ dependencies needs (names_of config) n
 
-meant_holds : (P : BlockView → Type 0) (blocks : List BlockView) (n : ℕ) (block : BlockView) → AllByRecursion P blocks → meant_at (map block_name blocks) n ≡ Some (a_block block) → P block
-meant_holds P [] n block all e = absurd (cc)
-meant_holds P (b ∷ blocks) zero block all e = let same : b ≡ block = (cc) in subst P same all.0
-meant_holds P (b ∷ blocks) (suc n) block all e = meant_holds P blocks n block all.1 e
-
-block_holds : (P : BlockView → Type 0) (es : expr.Entries) (blocks : List BlockView) (n : ℕ) (block : BlockView) → AllByRecursion P blocks → meant_at (local_names es ++ map block_name blocks) n ≡ Some (a_block block) → P block
-block_holds P expr.no_entries blocks n block all e = meant_holds P blocks n block all e
-block_holds P (expr.entry name x es) blocks zero block all e = absurd (cc)
-block_holds P (expr.entry name x es) blocks (suc n) block all e = block_holds P es blocks n block all e
-
 -- plans of one configuration give the same
 pub needs_alike : (config : ConfigView) (rs qs : List ResourceView) (one two : TiesView) → HasOwnNames config → resources_laws.AreApart (map a_name (names_of config)) → AreTied (names_of config) rs one → AreTied (names_of config) qs two
     → (n : ℕ) (block : BlockView) → meant_at (names_of config) n ≡ Some (a_block block) → dependencies one.needs (names_of config) n ≡ dependencies two.needs (names_of config) n
 needs_alike config rs qs one two named apart tied also n block meant =
-    let no_local = block_holds (λ b. ¬ (b.label.type_name ≡ codes "local")) config.locals config.blocks n block named meant in
     dependencies_same (names_of config) tied.dependence also.dependence one.needs two.needs tied.is_dependence also.is_dependence tied.needs also.needs (label_pair block.label) n
-    (block_named config n block meant no_local (λ k c at same. blocks_one (names_of config) apart k n c block at meant same))
+    (block_found config named apart n block meant)

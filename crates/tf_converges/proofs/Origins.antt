@@ -12,7 +12,7 @@ use Rattle.tf_deciding.specs.Stage.{block_members, deciding}
 use Rattle.tf_environment.specs.Shape.{ShapeView}
 use Rattle.tf_environment.specs.Standing.{StandingView, AreStandings, all_stand, environment}
 use Rattle.tf_graph.proofs.Edges.{contains_cases, contains_head, contains_tail}
-use Rattle.tf_graph.specs.Solutions.{seen_by}
+use Rattle.tf_graph.specs.Solutions.{Ranked, seen_by}
 use Rattle.tf_members.specs.Members.{MemberView, members}
 use Rattle.tf_plan.proofs.Distinct.{in_flat_map, in_map, to_map}
 use Rattle.tf_plan.proofs.Listing.{block_actions, member_actions, meant_actions, of_at, outcome_actions, place_actions}
@@ -108,7 +108,7 @@ pub record IsOfOrphan (ms : List Meaning) (resources : List ResourceView) (names
 
 module _ (ms : List Meaning) (variables : Entries) (names : List NameView) (outputs : expr.Entries) (shapes : ℕ → ShapeView) (resources : List ResourceView) (actions : List ActionView)
     (planned : IsPlanned ms resources variables names outputs shapes (unrefused actions))
-    (standings : ℕ → StandingView) (solves : AreStandings (deciding ms resources shapes) variables names standings) where
+    (standings : ℕ → StandingView) (solves : AreStandings (deciding ms resources shapes) variables names standings) (ranked : Ranked (directly_before names)) where
   from_meant : (n : ℕ) (m : Meant) (a : ActionView) → meant_at names n ≡ Some m → Contains (meant_actions ms resources variables names shapes standings n m) a → IsOfBlock ms resources variables names shapes standings a
   from_meant n (a_local e) a meant c = absurd (nothing_in a c)
   from_meant n (a_block block) a meant c = by_test (all_stand (seen_by standings (directly_before names n))) c
@@ -133,13 +133,13 @@ module _ (ms : List Meaning) (variables : Entries) (names : List NameView) (outp
   pub origin : (a : ActionView) → Contains actions a → IsOfBlock ms resources variables names shapes standings a ⊎ IsOfOrphan ms resources names a
   origin a c =
       let at = λ (n : ℕ). place_actions ms resources variables names shapes standings n (slice_get (numbered names resources) n) in
-      let there = in_flat_map at planned.places a (subst (λ (xs : List ActionView). Contains xs a) (actions_are ms variables names outputs shapes resources actions planned standings solves) c) in
+      let there = in_flat_map at planned.places a (subst (λ (xs : List ActionView). Contains xs a) (actions_are ms variables names outputs shapes resources actions planned standings solves ranked) c) in
       from_place there.0 (slice_get (numbered names resources) there.0) a refl there.2
 
   placed : (n : ℕ) (o : Option NumberedView) (a : ActionView) → slice_get (numbered names resources) n ≡ o → Contains planned.places n → Contains (place_actions ms resources variables names shapes standings n o) a → Contains actions a
   placed n o a e there c =
       let at = λ (k : ℕ). place_actions ms resources variables names shapes standings k (slice_get (numbered names resources) k) in
-      subst (λ (xs : List ActionView). Contains xs a) (sym (actions_are ms variables names outputs shapes resources actions planned standings solves))
+      subst (λ (xs : List ActionView). Contains xs a) (sym (actions_are ms variables names outputs shapes resources actions planned standings solves ranked))
       (to_flat_map at planned.places n a there (subst (λ (x : Option NumberedView). Contains (place_actions ms resources variables names shapes standings n x) a) (sym e) c))
 
   -- each step of a member of a block that is looked at is an action

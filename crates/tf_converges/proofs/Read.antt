@@ -7,11 +7,11 @@ use Rattle.std.specs.List.Sorted.{IsStrictlySortedBy}
 use Rattle.std.specs.Option.{option_map_or}
 use Rattle.std.specs.Prelude.{option_and_then}
 use Rattle.std.specs.Ordering.{match_ordering, ordering_reverse}
-use Rattle.serde_json.specs.Data.{Data, null, boolean, number, string, array, object}
+use Rattle.serde_json.specs.Data.{Data}
 use Rattle.tf_address.specs.Label.{label_cmp}
 use Rattle.tf_config.proofs.BlockLaws.{blocks_in_order, object_keeps, put_all}
-use Rattle.tf_config.specs.Config.{Blocks, VariableBody, address_cmp, block_with, names_in, plain_config, plain_variable, put_block, put_variable, variable_with}
-use Rattle.tf_config.specs.Configuration.{AddsInVariable, AddsOfSection, AddsOutput, AddsResource, AddsSection, AddsType, AddsVariable, AddsVariableProperty, BuildsFrom, IsConfiguration}
+use Rattle.tf_config.specs.Config.{Blocks, VariableBody, address_cmp, block_with, names_in, plain_config, plain_variable, put_variable, variable_with}
+use Rattle.tf_config.specs.Configuration.{AddsInVariable, AddsOfSection, AddsOutput, AddsResource, AddsSection, AddsType, AddsVariable, AddsVariableProperty, IsConfiguration}
 use Rattle.tf_config.specs.Words.{is_comment, is_type_name, section_of, variable_property_of}
 use Rattle.tf_config_data.specs.Config.{BlockView, ConfigView, VariableView}
 use Rattle.tf_config_data.specs.declared.variable.Element.{Element}

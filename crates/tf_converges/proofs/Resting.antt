@@ -12,8 +12,8 @@ use Rattle.tf_decision.proofs.Equal.{beside_equal_nothing, none_names, nothing_b
 use Rattle.tf_decision.proofs.Growing.{updates_grow}
 use Rattle.tf_decision.proofs.Keeping.{updates_argue, updates_named}
 use Rattle.tf_decision.proofs.Replies.{good_is, replies_stay}
-use Rattle.tf_decision.specs.Decision.{beside, by_differing, change, nothing, update_or_replace, replace}
-use Rattle.tf_decision.specs.Differing.{differing, forcing}
+use Rattle.tf_decision.specs.Decision.{beside, change, nothing, replace}
+use Rattle.tf_decision.specs.Differing.{differing}
 use Rattle.tf_decision.specs.Kept.{is_kept, kept_entries, kept_object}
 use Rattle.tf_decision.specs.Laws.{is_settled}
 use Rattle.tf_outcome.specs.Asked.{asked_by_step, create_of, update_of}

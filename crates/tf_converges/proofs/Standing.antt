@@ -1,5 +1,5 @@
 -- In a plan without a refusal each name stands for something.
-use Rattle.std.proofs.Common.{◌≡◌, ◌∙◌, ◌<◌, ◌||◌, ℕ, Bool, true, false, if◌then◌else◌, List, [], ◌∷◌, Option, Some, None, is_some, option_map, Result, Ok, Err, length, refl, sym, ap}
+use Rattle.std.proofs.Common.{◌≡◌, ◌∙◌, ◌<◌, ◌||◌, ℕ, Bool, true, false, if◌then◌else◌, List, [], ◌∷◌, Option, Some, None, is_some, option_map, Result, Ok, Err, length, refl, ap}
 use Rattle.std.specs.List.{AllByRecursion, list_all}
 use Rattle.std.specs.Option.{option_and_then}
 use Rattle.std.specs.Prelude.{is_none}
@@ -110,7 +110,7 @@ module _ (ms : List Meaning) (variables : Entries) (names : List NameView) (outp
       let env = environment variables names standings in
       let records = records_at block.label resources in
       let ks = instance_keys (shapes n) in
-      let fine = block_fine ms variables names outputs shapes resources actions planned standings solves n block meant seen in
+      let fine = block_fine ms variables names outputs shapes resources actions planned standings solves ranked n block meant seen in
       let go : all_can_go ms resources (shapes n) block ≡ true = all_fine-go (schema_in block.label.type_name ms) block env (members ks records) fine in
       ap (λ (b : Bool). is_some (together (if b then Some (shapes n) else None) (decided_object ms resources n block env))) go
       ∙ some_mapped (laid_out (shapes n) (decided_object ms resources n block env)) limited

@@ -266,9 +266,9 @@ pub nothing_at_rest : NothingIsPlannedAtRest
 nothing_at_rest ms variables names outputs shapes objects resources actions ranked still planned =
     let standings = solution-exists (length names) (directly_before names) (rule (deciding ms resources shapes) variables names) ranked in
     let others = solution-exists (length names) (directly_before names) (rule (applying shapes objects) variables names) ranked in
-    actions_are ms variables names outputs shapes resources actions planned standings.0 standings.1
+    actions_are ms variables names outputs shapes resources actions planned standings.0 standings.1 ranked
     ∙ flat_none (λ n. place_actions ms resources variables names shapes standings.0 n (slice_get (numbered names resources) n)) planned.places
     (λ n. place_none ms variables names shapes objects resources ranked still standings.0 others.0 standings.1 others.1
-    (λ n block meant before. block_fine ms variables names outputs shapes resources actions planned standings.0 standings.1 n block meant
+    (λ n block meant before. block_fine ms variables names outputs shapes resources actions planned standings.0 standings.1 ranked n block meant
     (all_there standings.0 (directly_before names n) (all_by_weaker (λ a. (standings.0 a ≡ others.0 a) × (is_some (standings.0 a) ≡ true)) (λ a. is_some (standings.0 a) ≡ true) (directly_before names n) (λ a h. h.1) before)))
     n (slice_get (numbered names resources) n) refl)

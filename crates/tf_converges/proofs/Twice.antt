@@ -31,7 +31,7 @@ use Rattle.tf_converges.proofs.Declared.{blocks_one}
 use Rattle.tf_converges.proofs.Flagless.{AreLike, resources_like, same_stored}
 use Rattle.tf_converges.proofs.Homes.{Depends, IsAtRest, first_rests, given_again, home, in_place, needs_alike, none_again}
 use Rattle.tf_converges.proofs.Stays.{rest_still}
-use Rattle.tf_converges.proofs.Tied.{late_same}
+use Rattle.tf_plan.proofs.Tied.{late_same}
 use Rattle.tf_converges.proofs.Whole.{own_depends}
 use Rattle.tf_converges.specs.Converges.{IsCarriedOut, IsSound}
 use Rattle.tf_converges.specs.Known.{ExpressionsStayKnown}

@@ -164,9 +164,11 @@ module _ (ms : List Meaning) (variables : Entries) (names : List NameView) (shap
 pub nothing_refused : NothingIsRefusedAtRest
 nothing_refused ms variables names outputs shapes objects resources order ranked still free in_order =
     let others = solution-exists (length names) (directly_before names) (rule (applying shapes objects) variables names) ranked in
+    let standings = solution-exists (length names) (directly_before names) (rule (deciding ms resources shapes) variables names) ranked in
     record {
       places = order;
       in_order = in_order;
-      decided = λ standings solves.
-          plans_nothing ms variables names shapes objects resources ranked still standings others.0 solves others.1 (free.instances others.0 others.1) outputs order (free.outputs_mean others.0 others.1);
+      standings = standings.0;
+      stand = standings.1;
+      decided = plans_nothing ms variables names shapes objects resources ranked still standings.0 others.0 standings.1 others.1 (free.instances others.0 others.1) outputs order (free.outputs_mean others.0 others.1);
     }

@@ -18,6 +18,7 @@ use Rattle.tf_outcome.specs.Objects.{objects_seen, prior_object}
 use Rattle.tf_outcome.specs.Outcome.{Done, done_at}
 use Rattle.tf_outputs.specs.Outputs.{AreOutputsDone, IsOutputDone, OutputDone, excused, faulted, not_evaluated, valued}
 use Rattle.tf_outputs.specs.Settled.{names_are_settled}
+use Rattle.tf_plan.proofs.Solved.{same_shapes}
 use Rattle.tf_plan.specs.Planned.{AreInstances}
 use Rattle.tf_plan_data.specs.Plan.{PlanView}
 use Rattle.tf_protocol.specs.Meaning.{Meaning}
@@ -32,7 +33,6 @@ use Rattle.tf_converges.proofs.Homes.{IsAtRest, home}
 use Rattle.tf_converges.proofs.OneRecord.{current_known}
 use Rattle.tf_converges.proofs.Outputs.{AreRepeated, IsRepeated}
 use Rattle.tf_converges.proofs.Still.{current_is, together_same}
-use Rattle.tf_converges.proofs.Whole.{same_shapes}
 use Rattle.tf_converges.specs.Converges.{IsValued}
 
 module _ (ms : List Meaning) (config : ConfigView) (variables : Entries) (s : StateView) (at : IsAtRest ms config variables s)
@@ -85,7 +85,7 @@ module _ (ms : List Meaning) (config : ConfigView) (variables : Entries) (s : St
         let first : IsOutputDone variables names at.shapes at.objects settled e (valued v.0) = subst (λ (x : OutputDone). IsOutputDone variables names at.shapes at.objects settled e x) v.1 own in
         let evaluated = decided (names_are_settled names settled e) first (λ (no_value : valued v.0 ≡ not_evaluated). absurd (cc)) in
         let evaluated_too = decided (names_are_settled names others e) also (λ (no_value : valued u ≡ not_evaluated). absurd (cc)) in
-        v.1 ∙ evaluated standings solves ∙ sym (evaluated_too standings (standings_again standings solves))
+        v.1 ∙ evaluated.means standings solves ∙ sym (evaluated_too.means standings (standings_again standings solves))
 
     repeated_all : (es : expr.Entries) (ds fs : List OutputDone) → AllByRecursion IsValued ds → AreOutputsDone variables (names_of config) at.shapes at.objects settled es ds
         → AreOutputsDone variables (names_of config) again.shapes (objects_after (home config variables s again) done) others es fs → AreRepeated es ds fs

@@ -1,5 +1,5 @@
 -- An apply that went well has nothing left to do.
-use Rattle.std.proofs.Common.{◌≡◌, ◌∙◌, ◌<◌, ℕ, Bool, true, false, List, Option, Some, None, Result, Ok, length, map, refl, sym, ap, subst, ◌∷◌, []}
+use Rattle.std.proofs.Common.{◌≡◌, ◌∙◌, ◌<◌, ℕ, Bool, true, false, List, Option, Some, None, length, map, refl, sym, ap, subst, ◌∷◌, []}
 use Rattle.std.specs.List.{AllByRecursion}
 use Rattle.std.specs.List.Sorted.{IsStrictlySortedBy}
 use Rattle.tf_action_data.specs.Action.{ActionView}
@@ -12,11 +12,9 @@ use Rattle.tf_config_data.specs.Names.{NameView, Meant, a_local, a_block, direct
 use Rattle.tf_deciding.specs.Stage.{deciding, records_at}
 use Rattle.tf_environment.specs.Laws.{StandingsGrow}
 use Rattle.tf_environment.specs.Shape.{ShapeView, instance_keys}
-use Rattle.tf_environment.specs.Stages.{applying, expansion}
+use Rattle.tf_environment.specs.Stages.{applying}
 use Rattle.tf_environment.specs.Standing.{all_stand, environment, result_in, rule, stands_at, together, where_all}
-use Rattle.tf_environment.specs.declared.repetition.RepetitionFault.{RepetitionFault}
 use Rattle.tf_eval.specs.Environment.{Environment}
-use Rattle.tf_expand.specs.Expanding.{expanded}
 use Rattle.tf_graph.proofs.Solving.{solution-exists}
 use Rattle.tf_graph.specs.Digraph.{Digraph}
 use Rattle.tf_graph.specs.Solutions.{Ranked, seen_by}
@@ -27,8 +25,8 @@ use Rattle.tf_outcome.specs.declared.excuse.Outcome.TheVariants.{Judged}
 use Rattle.tf_outputs.specs.Outputs.{OutputDone, outputs_after}
 use Rattle.tf_plan.proofs.Blocks.{names-apart}
 use Rattle.tf_plan.proofs.Fitting.{all-by_id, plan-fits}
+use Rattle.tf_plan.proofs.Solved.{same_shapes}
 use Rattle.tf_plan.specs.Plan.{IsPlan, IsPlannedFrom}
-use Rattle.tf_plan.specs.Planned.{AreInstances}
 use Rattle.tf_plan_data.specs.Plan.{PlanView, plan_names}
 use Rattle.tf_protocol.specs.Meaning.{Meaning}
 use Rattle.tf_protocol.specs.declared.verdict.Verdict.TheVariants as verdict
@@ -114,8 +112,7 @@ module _ (ms : List Meaning) (config : ConfigView) (variables : Entries) (prior 
         by_id = by_id plan.prior own_valid;
         ordered = own_planned.ordered;
         fit =
-            plan-fits ms plan.prior.resources plan.variables (plan_names plan) plan.config.outputs plan.shapes own_planned.ordered.tied.dependence plan.actions own_planned.ordered.tied.is_dependence own_acyclic
-            own_planned.instances own_planned.planned apart own_valid.resources.1 (by_id plan.prior own_valid);
+            plan-fits ms plan.prior.resources plan.variables (plan_names plan) plan.config.outputs plan.shapes plan.actions own_planned.instances own_planned.planned apart own_valid.resources.1 (by_id plan.prior own_valid);
         schemas = sound.schemas;
         variables_known = subst (λ (v : Entries). known_entries v ≡ true) (sym carried.planned.variables) sound.variables_known;
         valid = own_valid;
@@ -152,16 +149,6 @@ refuses_nothing law grows grow ms config variables prior plan done outputs after
     (none_refused (applied ms config variables prior plan done outputs after sound carried) law grows grow made) in_order
 
 -- ---- the same instances
-
-one_shape : (s t : ShapeView) (r : Result ShapeView RepetitionFault) → r ≡ Ok s → r ≡ Ok t → s ≡ t
-one_shape s t r e f = let same : ◌≡◌ {A = Result ShapeView RepetitionFault} (Ok s) (Ok t) = sym e ∙ f in cc
-
--- two expansions of one configuration give each resource the same instances
-pub same_shapes : (variables : Entries) (names : List NameView) (shapes others : ℕ → ShapeView) → Ranked (directly_before names) → AreInstances variables names shapes → AreInstances variables names others
-    → (n : ℕ) → n < length names → shapes n ≡ others n
-same_shapes variables names shapes others ranked are also n h =
-    let found = solution-exists (length names) (directly_before names) (rule expansion variables names) ranked in
-    one_shape (shapes n) (others n) (expanded variables names found.0 n) ((are found.0 found.1).each n h) ((also found.0 found.1).each n h)
 
 stands_same : (shapes others : ℕ → ShapeView) (objects : ℕ → InstanceKeyView → Tree) (n : ℕ) (m : Option Meant) (env : Environment) → shapes n ≡ others n → stands_at (applying others objects) n m env ≡ stands_at (applying shapes objects) n m env
 stands_same shapes others objects n None env e = refl

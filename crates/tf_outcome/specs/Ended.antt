@@ -1,6 +1,7 @@
 -- What came of an action, as the walk keeps it.
-use Rattle.std.specs.Prelude.{ℕ, List, map, Option, Some, None}
+use Rattle.std.specs.Prelude.{ℕ, List, map, Option, Some, None, Contains, ⊤}
 use Rattle.tf_change.specs.Instance.{instance_fault_of}
+use Rattle.tf_graph.specs.Digraph.{Digraph, predecessors_of}
 use Rattle.tf_protocol.specs.Meaning.{Asked, Answer, asked, answered}
 use Rattle.tf_protocol.specs.declared.verdict.Verdict.{Verdict}
 use Rattle.tf_protocol.specs.declared.verdict.Verdict.TheVariants as verdict
@@ -10,7 +11,7 @@ use Rattle.tf_outcome.specs.declared.ended.Ended.{Ended}
 use Rattle.tf_outcome.specs.declared.ended.Ended.TheVariants as ended
 
 abbrev pub done_of : Ended → Done
-done_of (ended.Skipped w) = skipped
+done_of (ended.Skipped w b) = skipped
 done_of (ended.NotAsked w) = excused before_call
 done_of (ended.NotServed u) = excused during_call
 done_of (ended.Left w s) = excused by_stop
@@ -19,12 +20,17 @@ done_of (ended.Called s) = called (asked s.call.request) (answered s.call.reply)
 
 -- the action of which something came, as the evidence in it says
 abbrev pub ended_action : Ended → ℕ
-ended_action (ended.Skipped w) = w
+ended_action (ended.Skipped w b) = w
 ended_action (ended.NotAsked w) = w
 ended_action (ended.NotServed u) = u
 ended_action (ended.Left w s) = w
 ended_action (ended.Faulted f w) = w
 ended_action (ended.Called s) = s.call.action
+
+-- Where an action was skipped, one directly before it isn't good, as the evidence in it says.
+abbrev pub HasCause : Digraph → Ended → Type 0
+HasCause order (ended.Skipped w b) = Contains (predecessors_of order w) b
+HasCause order _ = ⊤
 
 -- what came of an action, where that is known; else it counts as skipped
 abbrev pub done_or_skipped : Option Ended → Done

@@ -11,7 +11,7 @@ pub use Rattle.tf_graph.specs.Digraph.{predecessors_of}
 pub use Rattle.tf_provider.specs.Entries.{fault_of}
 pub use Rattle.tf_names.specs.Texts.{put_text}
 pub use Rattle.tf_outcome.specs.Asked.{AreRequests, asked_for, create_of, destroy_of, ignored_by, Requests, unless_faulty, update_of}
-pub use Rattle.tf_outcome.specs.Ended.{done_of, done_or_skipped, dones_of, ended_action}
+pub use Rattle.tf_outcome.specs.Ended.{HasCause, done_of, done_or_skipped, dones_of, ended_action}
 pub use Rattle.tf_outcome.specs.Fallback.{has_stored_attributes}
 pub use Rattle.tf_outcome.specs.Journal.{entered_verdict, IsJournal, IsOfAction, op_at}
 pub use Rattle.tf_outcome.specs.Message.{fault_message}

@@ -7,6 +7,7 @@ ghost use Rattle.tf_outcome.specs.Message.{fault_message};
 ghost use Rattle.tf_outcome.specs.Room.{message_fits};
 ghost use Rattle.tf_value.specs.Tree.{tree_of};
 
+use crate::not_good::NotGood;
 use tf_change::InstanceFault;
 use tf_provider::{Judged, Unserved, Waived};
 use tf_state_data::Object;
@@ -34,8 +35,8 @@ pub struct Faulted {
 /// What came of an action, with the evidence of whether its provider was called: so an action that was called can't be told
 /// as one that wasn't. As it may hold a reply it can't be copied or let go: it has to become a part of the report.
 pub enum Ended {
-    /// An action before it isn't good.
-    Skipped(Waived),
+    /// An action before it isn't good, as the evidence of that one says.
+    Skipped(Waived, NotGood),
     /// Memory was refused before the call.
     NotAsked(Waived),
     /// The provider had no memory.

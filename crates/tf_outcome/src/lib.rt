@@ -5,12 +5,15 @@
 mod answered;
 mod asking;
 mod ended;
+mod ends;
 mod excuse;
 pub mod laws;
+mod not_good;
 mod recorded;
 
 pub use answered::{Answered, applies_to, prior_object};
 pub use asking::Asking;
 pub use ended::{Ended, Faulted, Served, not_ended};
 pub use excuse::{Excuse, Outcome};
+pub use not_good::NotGood;
 pub use recorded::ended_by;

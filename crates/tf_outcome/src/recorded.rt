@@ -3,7 +3,8 @@
 ghost use Rattle.std.specs.Prelude.{◌≡◌, [], true, option_map, string_bytes, string_capacity};
 ghost use Rattle.tf_protocol.specs.Meaning.{asked, answered};
 ghost use Rattle.tf_value.specs.Tree.{tree_of};
-ghost use Rattle.tf_outcome.specs.Ended.{done_by, done_of, ended_action};
+ghost use Rattle.tf_graph.specs.Digraph.{Digraph};
+ghost use Rattle.tf_outcome.specs.Ended.{HasCause, done_by, done_of, ended_action};
 ghost use Rattle.tf_outcome.specs.Fallback.{is_fallback};
 ghost use Rattle.tf_outcome.specs.Room.{message_fits};
 
@@ -21,6 +22,7 @@ pub fn ended_by(recorded: Recorded, message: String, fallback: Option<Object>) -
     requires stands_in { is_fallback recorded.request.op (option_map tree_of recorded.request.object) (option_map (λ o. tree_of o.value) fallback) ≡ true }
     ensures finished { result.1 ≡ recorded.action }
     ensures action { ended_action result.0 ≡ recorded.action }
+    ensures cause { (order : Digraph) → HasCause order result.0 }
     ensures ended { done_of result.0 ≡ done_by (asked recorded.request) (answered recorded.reply) recorded.verdict }
 {
     let (finished, judged) = recorded.split();

@@ -22,7 +22,7 @@ use Rattle.tf_operators.specs.Answer.{Answer}
 use Rattle.tf_operators.specs.declared.fault.EvalFault.{EvalFault}
 use Rattle.tf_operators.specs.declared.fault.EvalFault.TheVariants.{TooLarge}
 use Rattle.tf_outputs.specs.Keeping.{IsKept, IsSameOrExcused, MayBeSaved}
-use Rattle.tf_outputs.specs.Outputs.{OutputDone, not_evaluated, excused, valued, faulted, done_with, IsEvaluated, IsOutputDone, AreOutputsDone, AreOutputsEnded, end_of, is_null, with_output, with_outputs, without}
+use Rattle.tf_outputs.specs.Outputs.{OutputDone, not_evaluated, excused, valued, faulted, done_with, IsEvaluated, IsMeant, IsOutputDone, AreOutputsDone, AreOutputsEnded, end_of, is_null, with_output, with_outputs, without}
 use Rattle.tf_outputs.specs.Settled.{all_settled, names_are_settled}
 use Rattle.tf_outputs.specs.declared.ends.OutputEnd.{OutputEnd}
 use Rattle.tf_request.specs.Requests.{IsOutput, without_sets}
@@ -103,13 +103,21 @@ module _ (variables : Entries) (names : List NameView) (shapes : ℕ → ShapeVi
       let there = solution-exists (length names) (directly_before names) (rule (applying shapes objects) variables names) ranked in
       listed_no_set (meaning (environment variables names there.0) e) (tree_of v) (output there.0 there.1)
 
-  evaluated_value : (e : expr.Tree) (t : Tree) (b : Bool) (d : OutputDone) → is_within t ≡ b → OutputMeans e (Ok t)
+  -- where no name needs itself, names stand for something
+  meant_by : Ranked (directly_before names) → (e : expr.Tree) (d : OutputDone)
+      → ((standings : ℕ → StandingView) → AreStandings (applying shapes objects) variables names standings → d ≡ done_with (without_sets (meaning (environment variables names standings) e)))
+      → IsMeant variables names shapes objects e d
+  meant_by ranked e d means =
+      let there = solution-exists (length names) (directly_before names) (rule (applying shapes objects) variables names) ranked in
+      record { standings = there.0; are_standings = there.1; means = means }
+
+  evaluated_value : Ranked (directly_before names) → (e : expr.Tree) (t : Tree) (b : Bool) (d : OutputDone) → is_within t ≡ b → OutputMeans e (Ok t)
       → IsSameOrExcused (if b then valued (with_nulls t) else faulted TooLarge) d → IsEvaluated variables names shapes objects e d
-  evaluated_value e t true d within means (inl is) =
-      subst (IsEvaluated variables names shapes objects e) (sym is) (λ standings stand. rw (means standings stand, within) refl)
-  evaluated_value e t true d within means (inr is) = subst (IsEvaluated variables names shapes objects e) (sym is) tt
-  evaluated_value e t false d within means is =
-      subst (IsEvaluated variables names shapes objects e) (sym is) (λ standings stand. rw (means standings stand, within) refl)
+  evaluated_value ranked e t true d within means (inl is) =
+      subst (IsEvaluated variables names shapes objects e) (sym is) (meant_by ranked e (valued (with_nulls t)) (λ standings stand. rw (means standings stand, within) refl))
+  evaluated_value ranked e t true d within means (inr is) = subst (IsEvaluated variables names shapes objects e) (sym is) tt
+  evaluated_value ranked e t false d within means is =
+      subst (IsEvaluated variables names shapes objects e) (sym is) (meant_by ranked e (faulted TooLarge) (λ standings stand. rw (means standings stand, within) refl))
 
   module _ (settled : ℕ → Bool) (e : expr.Tree) where
     pub done_unsettled : (ps : List ℕ) (b : Bool) → ps ≡ places names (named_by e) → b ≡ all_settled (seen_by settled ps) → b ≡ false → IsOutputDone variables names shapes objects settled e not_evaluated
@@ -126,14 +134,14 @@ module _ (variables : Entries) (names : List NameView) (shapes : ℕ → ShapeVi
     done_refused ps b are is so = done_settled ps b excused are is so tt
 
     -- a fault
-    pub done_faulted : (ps : List ℕ) (b : Bool) (why : EvalFault) → ps ≡ places names (named_by e) → b ≡ all_settled (seen_by settled ps) → b ≡ true
+    pub done_faulted : Ranked (directly_before names) → (ps : List ℕ) (b : Bool) (why : EvalFault) → ps ≡ places names (named_by e) → b ≡ all_settled (seen_by settled ps) → b ≡ true
         → IsOutput variables names shapes objects e (Err why) → IsOutputDone variables names shapes objects settled e (faulted why)
-    done_faulted ps b why are is so output = done_settled ps b (faulted why) are is so (λ standings stand. rw (output standings stand) refl)
+    done_faulted ranked ps b why are is so output = done_settled ps b (faulted why) are is so (meant_by ranked e (faulted why) (λ standings stand. rw (output standings stand) refl))
 
     -- a value
-    pub done_valued : (ps : List ℕ) (b : Bool) (v : Value) (d : OutputDone) → ps ≡ places names (named_by e) → b ≡ all_settled (seen_by settled ps) → b ≡ true
+    pub done_valued : Ranked (directly_before names) → (ps : List ℕ) (b : Bool) (v : Value) (d : OutputDone) → ps ≡ places names (named_by e) → b ≡ all_settled (seen_by settled ps) → b ≡ true
         → IsOutput variables names shapes objects e (Ok v) → IsSameOrExcused (done_with (Ok (tree_of v))) d → IsOutputDone variables names shapes objects settled e d
-    done_valued ps b v d are is so output same = done_settled ps b d are is so (evaluated_value e (tree_of v) (is_within (tree_of v)) d refl output same)
+    done_valued ranked ps b v d are is so output same = done_settled ps b d are is so (evaluated_value ranked e (tree_of v) (is_within (tree_of v)) d refl output same)
 
     -- an output whose entry found no memory is excused
     done_kept : (d kept : OutputDone) → IsSameOrExcused d kept → IsOutputDone variables names shapes objects settled e d → IsOutputDone variables names shapes objects settled e kept

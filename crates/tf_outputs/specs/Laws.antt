@@ -27,7 +27,7 @@ pub data StandsFor (names : List NameView) : ℕ → ℕ → Type 0 where
   through : (n a b : ℕ) (e : expr.Tree) → meant_at names n ≡ Some (a_local e) → Contains (directly_before names n) a → StandsFor names a b → StandsFor names n b
 
 -- An output's resources are those that it names itself or through locals; what such a resource needs isn't one. The
--- output is evaluated anew exactly where all actions of each of its resources are good.
+-- output is evaluated anew exactly where all creates and updates of each of its resources are good.
 abbrev pub EvaluatedWhereGood : Type 0
 EvaluatedWhereGood =
     (names : List NameView) (good settled : ℕ → Bool) (e : expr.Tree) → Ranked (directly_before names) → AreSettled names good settled

@@ -31,14 +31,18 @@ abbrev pub done_with : Answer → OutputDone
 done_with (Ok t) = if is_within t then valued (with_nulls t) else faulted TooLarge
 done_with (Err why) = faulted why
 
--- What comes of an output that is evaluated anew: what its expression means where each name stands for what it does in
--- the apply, with lists in place of sets; or memory is refused.
+-- What comes of an output's expression: names stand for something in the apply, and by whatever they may stand for there, this is
+-- what the expression means, with lists in place of sets.
+pub record IsMeant (variables : Entries) (names : List NameView) (shapes : ℕ → ShapeView) (objects : ℕ → InstanceKeyView → Tree) (e : expr.Tree) (done : OutputDone) : Type 0 where
+  pub standings : ℕ → StandingView
+  pub are_standings : AreStandings (applying shapes objects) variables names standings
+  pub means : (others : ℕ → StandingView) → AreStandings (applying shapes objects) variables names others → done ≡ done_with (without_sets (meaning (environment variables names others) e))
+
+-- What comes of an output that is evaluated anew: what its expression means; or memory is refused.
 abbrev pub IsEvaluated : Entries → List NameView → (ℕ → ShapeView) → (ℕ → InstanceKeyView → Tree) → expr.Tree → OutputDone → Type 0
 IsEvaluated variables names shapes objects e not_evaluated = ⊥
 IsEvaluated variables names shapes objects e excused = ⊤
-IsEvaluated variables names shapes objects e done =
-    (standings : ℕ → StandingView) → AreStandings (applying shapes objects) variables names standings
-    → done ≡ done_with (without_sets (meaning (environment variables names standings) e))
+IsEvaluated variables names shapes objects e done = IsMeant variables names shapes objects e done
 
 -- An output is evaluated anew exactly where each name that it names is settled.
 abbrev pub IsOutputDone : Entries → List NameView → (ℕ → ShapeView) → (ℕ → InstanceKeyView → Tree) → (ℕ → Bool) → expr.Tree → OutputDone → Type 0

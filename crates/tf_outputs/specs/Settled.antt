@@ -10,13 +10,13 @@ use Rattle.tf_syntax.specs.ExprTree.{Tree}
 abbrev pub all_settled : List (ℕ × Bool) → Bool
 all_settled seen = list_all (λ s. s.1) seen
 
--- what is settled, by whether all actions of a resource are good, and whether all that a local refers to is settled
+-- what is settled, by whether all creates and updates of a resource are good, and whether all that a local refers to is settled
 abbrev pub settled_as : Option Meant → Bool → Bool → Bool
 settled_as None good all = false
 settled_as (Some (a_local e)) good all = all
 settled_as (Some (a_block b)) good all = good
 
--- A resource is settled where all its actions are good, and a local where each name that it refers to directly is.
+-- A resource is settled where all its creates and updates are good, and a local where each name that it refers to directly is.
 abbrev pub settled_rule : List NameView → (ℕ → Bool) → ℕ → List (ℕ × Bool) → Bool
 settled_rule names good n seen = settled_as (meant_at names n) (good n) (all_settled seen)
 

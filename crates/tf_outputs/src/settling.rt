@@ -7,8 +7,8 @@ ghost use Rattle.tf_outputs.specs.Settled.{AreSettled, AreSettledAmong, all_sett
 use tf_environment::Declarations;
 use tf_names::Named;
 
-/// Works out which names are settled, by place: a resource where all its actions are good, a local where each name that
-/// it refers to directly is. `good` says of the place of each resource whether all its actions are good; one without
+/// Works out which names are settled, by place: a resource where all its creates and updates are good, a local where each name that
+/// it refers to directly is. `good` says of the place of each resource whether all its creates and updates are good; one without
 /// actions is. Takes no memory.
 pub fn settle_names(declared: &Declarations, good: &[bool], settled: &mut [bool])
     requires dependence { IsDependence (names_in declared.now.names.now) declared.now.dependence.now }

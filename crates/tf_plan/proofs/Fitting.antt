@@ -14,22 +14,18 @@ use Rattle.tf_address_order.specs.Order.{is_resource}
 use Rattle.tf_config_data.specs.Names.{NameView, Meant, a_local, a_block, meant_at, directly_before}
 use Rattle.tf_deciding.proofs.Standing.{named_within}
 use Rattle.tf_deciding.specs.Outcome.{member_outcome, orphan_outcome}
-use Rattle.tf_deciding.specs.Stage.{block_members, deciding, records_at}
+use Rattle.tf_deciding.specs.Stage.{block_members, records_at}
 use Rattle.tf_deciding.specs.Whole.{decided}
 use Rattle.tf_environment.specs.Shape.{ShapeView, instance_keys}
-use Rattle.tf_environment.specs.Stages.{expansion}
 use Rattle.tf_environment.specs.Standing.{StandingView, all_stand, environment}
 use Rattle.tf_expand.specs.Expanding.{instances_before}
 use Rattle.tf_graph.specs.Digraph.{Digraph}
 use Rattle.tf_graph.specs.Solutions.{seen_by}
 use Rattle.tf_members.specs.Members.{member, members}
-use Rattle.tf_names.specs.Needs.{IsAcyclic, IsDependence}
-use Rattle.tf_names.specs.declared.dependence.Dependence.{Dependence}
 use Rattle.tf_plan.proofs.About.{resource-about, resource-distinct}
 use Rattle.tf_plan.proofs.Blocks.{placed-at}
 use Rattle.tf_plan.proofs.Counting.{instances-numbered}
 use Rattle.tf_plan.proofs.Distinct.{AreDistinct, all-contained, at-contained, distinct-at, distinct-flat, in_filter, in_map}
-use Rattle.tf_plan.proofs.Existing.{some_standings}
 use Rattle.tf_plan.proofs.Listing.{block_actions, decided-actions, meant_actions, of_at, orphan_actions, place_actions}
 use Rattle.tf_plan.proofs.Members.{IsOfResource, all-append, member-distinct, members-fit, members-numbered, orphan-distinct, orphans-fit}
 use Rattle.tf_plan.proofs.Objects.{deposed-distinct}
@@ -223,25 +219,23 @@ apart-by : (actions : List ActionView) → AreDistinct (map about actions) → A
 apart-by actions distinct i j a b ei ej same =
     distinct-at (map about actions) i j (about a) distinct (slice_get-map about actions i ∙ ap (option_map about) ei) (slice_get-map about actions j ∙ ap (option_map about) ej ∙ ap Some (sym same))
 
-pub plan-fits : (ms : List Meaning) (resources : List ResourceView) (variables : Entries) (names : List NameView) (outputs : expr.Entries) (shapes : ℕ → ShapeView) (d : Dependence) (actions : List ActionView)
-    → IsDependence names d → IsAcyclic d → AreInstances variables names shapes → IsPlanned ms resources variables names outputs shapes (unrefused actions) → resources_laws.AreApart (map a_name names)
+pub plan-fits : (ms : List Meaning) (resources : List ResourceView) (variables : Entries) (names : List NameView) (outputs : expr.Entries) (shapes : ℕ → ShapeView) (actions : List ActionView)
+    → AreInstances variables names shapes → IsPlanned ms resources variables names outputs shapes (unrefused actions) → resources_laws.AreApart (map a_name names)
     → AreByAddress resources → AreAllById resources → AreFit ms names resources actions
-plan-fits ms resources variables names outputs shapes d actions is acyclic instances planned blocks by_address by_id =
+plan-fits ms resources variables names outputs shapes actions instances planned blocks by_address by_id =
     let all = numbered names resources in
-    let expanded = some_standings expansion variables names d is acyclic in
-    let stands = some_standings (deciding ms resources shapes) variables names d is acyclic in
-    let few = (instances expanded.0 expanded.1).few in
+    let few = instances.expanded.few in
     let apart = resources-apart names resources blocks by_address in
     let once : AreDistinct planned.places = places-distinct (is_resource all) (length all) planned.places planned.in_order.each in
-    let made : (decided ms resources variables names shapes stands.0 all planned.places).actions ≡ actions = ap (λ (p : PlannedView). p.actions) (planned.decided stands.0 stands.1) in
-    let same = sym (decided-actions ms resources variables names shapes stands.0 all planned.places) ∙ made in
+    let made : (decided ms resources variables names shapes planned.standings all planned.places).actions ≡ actions = ap (λ (p : PlannedView). p.actions) planned.decided in
+    let same = sym (decided-actions ms resources variables names shapes planned.standings all planned.places) ∙ made in
     let fit : AllByRecursion (FitsAll ms names all) actions =
-    subst (AllByRecursion (FitsAll ms names all)) same (all-fit ms resources variables names shapes stands.0 by_id apart few planned.places) in
+    subst (AllByRecursion (FitsAll ms names all)) same (all-fit ms resources variables names shapes planned.standings by_id apart few planned.places) in
     record {
       placed = all-weaker (FitsAll ms names all) (IsPlaced all) actions (λ a h. h.0) fit;
       declared = all-weaker (FitsAll ms names all) (IsDeclared names) actions (λ a h. h.1) fit;
       served = all-weaker (FitsAll ms names all) (IsServedBy ms) actions (λ a h. h.2) fit;
-      apart = apart-by actions (subst (λ xs. AreDistinct (map about xs)) same (all-distinct ms resources variables names shapes stands.0 by_id apart planned.places once));
+      apart = apart-by actions (subst (λ xs. AreDistinct (map about xs)) same (all-distinct ms resources variables names shapes planned.standings by_id apart planned.places once));
     }
 
 -- the records of each resource of a state stand by their ids
@@ -250,8 +244,8 @@ all-by_id [] = tt
 all-by_id (r ∷ resources) = (r.ordered, all-by_id resources)
 
 -- what is planned from a state fits
-pub made-fits : (ms : List Meaning) (names : List NameView) (outputs : expr.Entries) (valued : Entries) (prior : State) (d : Dependence) (needs : ℕ → ℕ → Bool) (shapes : ℕ → ShapeView) (actions : List ActionView) (late : ℕ → Bool) (order : Digraph)
-    → IsDependence names d → IsAcyclic d → resources_laws.AreApart (map a_name names) → IsPlannedFrom ms (state_of prior).resources valued names outputs needs shapes actions late order
+pub made-fits : (ms : List Meaning) (names : List NameView) (outputs : expr.Entries) (valued : Entries) (prior : State) (needs : ℕ → ℕ → Bool) (shapes : ℕ → ShapeView) (actions : List ActionView) (late : ℕ → Bool) (order : Digraph)
+    → resources_laws.AreApart (map a_name names) → IsPlannedFrom ms (state_of prior).resources valued names outputs needs shapes actions late order
     → AreFit ms names (state_of prior).resources actions
-made-fits ms names outputs valued prior d needs shapes actions late order is acyclic blocks made =
-    plan-fits ms (state_of prior).resources valued names outputs shapes d actions is acyclic made.instances made.planned blocks prior.ordered (all-by_id prior.resources.items)
+made-fits ms names outputs valued prior needs shapes actions late order blocks made =
+    plan-fits ms (state_of prior).resources valued names outputs shapes actions made.instances made.planned blocks prior.ordered (all-by_id prior.resources.items)

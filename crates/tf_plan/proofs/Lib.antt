@@ -11,6 +11,9 @@ pub mod Existing
 pub mod Refusing
 pub mod Tying
 pub mod Sameness
+pub mod Solved
+pub mod Excluding
+pub mod Tied
 pub mod Wanting
 pub mod Declaring
 pub mod Fitting

@@ -16,6 +16,9 @@ use Rattle.tf_eval.specs.ExprMeaning.{meaning}
 use Rattle.tf_graph.proofs.Solving.{seen_by-same}
 use Rattle.tf_graph.specs.Solutions.{seen_by}
 use Rattle.tf_operators.specs.Answer.{Answer, present_value}
+use Rattle.tf_names.specs.Needs.{IsAcyclic, IsDependence}
+use Rattle.tf_names.specs.declared.dependence.Dependence.{Dependence}
+use Rattle.tf_plan.proofs.Existing.{some_standings}
 use Rattle.tf_plan.specs.Outputs.{output_fault, output_refusal, output_refusals}
 use Rattle.tf_plan.specs.Planned.{IsPlanned, planned_in, planned_of}
 use Rattle.tf_plan.specs.Told.{instance_told}
@@ -38,10 +41,11 @@ module _ (variables : Entries) (names : List NameView) (kept standings : ℕ →
       (answer-same (place_of names (first, name)) (all_places (λ a. kept a ≡ standings a) names ((first, name) ∷ []) same))
 
   -- references stand for the same
-  environment-same : environment variables names kept ≡ environment variables names standings
+  pub environment-same : environment variables names kept ≡ environment variables names standings
   environment-same i = λ first name. reference-same first name i
 
-  seen-same : (n : ℕ) → seen_by kept (directly_before names n) ≡ seen_by standings (directly_before names n)
+  -- the same is seen
+  pub seen-same : (n : ℕ) → seen_by kept (directly_before names n) ≡ seen_by standings (directly_before names n)
   seen-same n = seen_by-same kept standings (directly_before names n) (all_places (λ a. kept a ≡ standings a) names (refers_at (meant_at names n)) same)
 
   module _ (ms : List Meaning) (resources : List ResourceView) (shapes : ℕ → ShapeView) where
@@ -75,10 +79,17 @@ module _ (variables : Entries) (names : List NameView) (kept standings : ℕ →
       (λ i. record { actions = (d i).actions; refusals = map instance_told (d i).refusals ++ told i })
 
 -- what is planned where names stand for the very standings
-pub planned-is : (ms : List Meaning) (resources : List ResourceView) (variables : Entries) (names : List NameView) (outputs : expr.Entries) (shapes : ℕ → ShapeView) (order : List ℕ) (kept : ℕ → StandingView)
-    (result : Result Planned AllocError) → AreInAddressOrder (numbered names resources) order
+pub planned-is : (ms : List Meaning) (resources : List ResourceView) (variables : Entries) (names : List NameView) (outputs : expr.Entries) (shapes : ℕ → ShapeView) (order : List ℕ) (kept : ℕ → StandingView) (d : Dependence)
+    (result : Result Planned AllocError) → IsDependence names d → IsAcyclic d → AreInAddressOrder (numbered names resources) order
     → ((standings : ℕ → StandingView) → AreStandings (deciding ms resources shapes) variables names standings → (n : ℕ) → n < length names → kept n ≡ standings n)
     → IfOk result (λ p. planned_of p ≡ planned_in ms resources variables names outputs shapes order kept) → IfOk result (λ p. IsPlanned ms resources variables names outputs shapes (planned_of p))
-planned-is ms resources variables names outputs shapes order kept (Ok p) sorted same is =
-    record { places = order; in_order = sorted; decided = λ standings s. sym (planned-same variables names kept standings (same standings s) ms resources outputs shapes order) ∙ sym is }
-planned-is ms resources variables names outputs shapes order kept (Err e) sorted same is = is
+planned-is ms resources variables names outputs shapes order kept d (Ok p) is acyclic sorted same made =
+    let found = some_standings (deciding ms resources shapes) variables names d is acyclic in
+    record {
+      places = order;
+      in_order = sorted;
+      standings = found.0;
+      stand = found.1;
+      decided = sym (planned-same variables names kept found.0 (same found.0 found.1) ms resources outputs shapes order) ∙ sym made;
+    }
+planned-is ms resources variables names outputs shapes order kept d (Err e) is acyclic sorted same made = made

@@ -29,10 +29,12 @@ pub record PlannedView : Type 0 where
 abbrev pub unrefused : List ActionView → PlannedView
 unrefused actions = record { actions = actions; refusals = [] }
 
--- The instances of each resource are those of the expansion, and there aren't more of them than may be.
-abbrev pub AreInstances : Entries → List NameView → (ℕ → ShapeView) → Type 0
-AreInstances variables names shapes =
-    (standings : ℕ → StandingView) → AreStandings expansion variables names standings → AreExpanded variables names standings shapes
+-- The instances of each resource are those of the expansion, by what names stand for in it, and there aren't more of them than
+-- may be.
+pub record AreInstances (variables : Entries) (names : List NameView) (shapes : ℕ → ShapeView) : Type 0 where
+  pub standings : ℕ → StandingView
+  pub stand : AreStandings expansion variables names standings
+  pub expanded : AreExpanded variables names standings shapes
 
 -- what is decided, and what is refused: of instances in the order in which they were decided, then of outputs
 abbrev pub with_outputs : Entries → List NameView → (ℕ → StandingView) → expr.Entries → DecidedView → PlannedView
@@ -44,13 +46,14 @@ abbrev pub planned_in : List Meaning → List ResourceView → Entries → List 
 planned_in ms resources variables names outputs shapes places standings =
     with_outputs variables names standings outputs (decided ms resources variables names shapes standings (numbered names resources) places)
 
--- What is planned of these instances beside the resources of a state, and what is refused, where names stand for what is
--- decided, and the resources of both are taken in address order.
+-- What is planned of these instances beside the resources of a state, and what is refused, by what names stand for where
+-- resources stand for what is decided, and with the resources of both in address order.
 pub record IsPlanned (ms : List Meaning) (resources : List ResourceView) (variables : Entries) (names : List NameView) (outputs : expr.Entries) (shapes : ℕ → ShapeView) (planned : PlannedView) : Type 0 where
   pub places : List ℕ
   pub in_order : AreInAddressOrder (numbered names resources) places
-  pub decided : (standings : ℕ → StandingView) → AreStandings (deciding ms resources shapes) variables names standings
-      → planned_in ms resources variables names outputs shapes places standings ≡ planned
+  pub standings : ℕ → StandingView
+  pub stand : AreStandings (deciding ms resources shapes) variables names standings
+  pub decided : planned_in ms resources variables names outputs shapes places standings ≡ planned
 
 -- without where it lies in memory
 abbrev pub planned_of : Planned → PlannedView

@@ -38,18 +38,23 @@ instances_refusal label (Evaluation why) = fault evaluate (label_text label) (ki
 abbrev pub beyond_limit : Told
 beyond_limit = fault limit (codes "configuration") bare
 
--- The first resource by address whose instances can't be told, of those that need none such, is refused alone.
+-- The first resource by address whose instances can't be told in the expansion, of those that need none such, is refused
+-- alone.
 pub record IsUnexpanded (variables : Entries) (names : List NameView) (tolds : List Told) : Type 0 where
   pub place : ℕ
   pub why : RepetitionFault
   pub block : BlockView
   pub is_block : meant_at names place ≡ Some (a_block block)
-  pub first : (standings : ℕ → StandingView) → AreStandings expansion variables names standings → IsFirstRefused variables names standings place why
+  pub standings : ℕ → StandingView
+  pub stand : AreStandings expansion variables names standings
+  pub first : IsFirstRefused variables names standings place why
   pub refused : tolds ≡ instances_refusal block.label why ∷ []
 
--- The instances of all resources can be told, and are too many.
+-- The instances of all resources can be told in the expansion, and are too many.
 pub record AreManyInstances (variables : Entries) (names : List NameView) (tolds : List Told) : Type 0 where
-  pub many : (standings : ℕ → StandingView) → AreStandings expansion variables names standings → AreTooMany variables names standings
+  pub standings : ℕ → StandingView
+  pub stand : AreStandings expansion variables names standings
+  pub many : AreTooMany variables names standings
   pub refused : tolds ≡ beyond_limit ∷ []
 
 -- All that is refused of the instances and of outputs, where anything is.

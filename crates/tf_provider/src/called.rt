@@ -137,6 +137,15 @@ impl Model for Unserved {
     ghost view = { λ unserved. unserved.action };
 }
 
+impl Unserved {
+    /// The action whose provider had no memory.
+    pub fn action(&self) -> usize
+        ensures { result ≡ self.now }
+    {
+        self.action
+    }
+}
+
 /// A recorded call whose provider had memory: the action, the request, the reply and the verdict on it. Only the split of a
 /// recorded call makes one, and it can't be copied or let go. Contracts see a `Call`.
 pub struct Judged {
@@ -155,6 +164,13 @@ impl Model for Judged {
 }
 
 impl Judged {
+    /// The action that was called.
+    pub fn action(&self) -> usize
+        ensures { result ≡ self.now.action }
+    {
+        self.action
+    }
+
     /// What was asked.
     pub fn request(&self) -> &Request
         ensures { result.now ≡ self.now.request }

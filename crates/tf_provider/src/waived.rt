@@ -17,6 +17,15 @@ impl Model for Waived {
     ghost view = { λ waived. waived.action };
 }
 
+impl Waived {
+    /// The action that nobody called.
+    pub fn action(&self) -> usize
+        ensures { result ≡ self.now }
+    {
+        self.action
+    }
+}
+
 /// Spends a permit without a call: the right to report its action as done, and the evidence that nobody called it.
 pub fn waive_for(permit: Permit) -> (Finished, Waived)
     ensures finished { result.0 ≡ permit }

@@ -70,9 +70,21 @@ abbrev pub report_of : Walked → Report
 report_of (Whole report) = report
 report_of (Torn report) = report
 
+-- A report tells what came of a plan: something is asked, or wrong, for each of its actions, and what came of each action and
+-- of each output is what the report tells.
+pub record IsReported (ms : List Meaning) (plan : PlanView) (report : Report) : Type 0 where
+  pub requests : Requests
+  pub are_requests : AreRequests plan requests
+  pub done : List Done
+  pub outputs : List OutputDone
+  pub is_report : IsReport ms requests plan done outputs report
+
+-- A whole report tells what came of a plan, and its journal has exactly the called actions.
+pub record IsWhole (ms : List Meaning) (plan : PlanView) (report : Report) : Type 0 where
+  pub reported : IsReported ms plan report
+  pub journal : IsJournal plan reported.done report.journal.entries
+
 -- What a walk answers: a whole report, with its journal. A walk of one thread doesn't tear its journal.
 abbrev pub IsWalked : List Meaning → PlanView → Walked → Type 0
-IsWalked ms plan (Whole report) =
-    (requests : Requests) → AreRequests plan requests
-    → (done : List Done) × (outputs : List OutputDone) × IsReport ms requests plan done outputs report × IsJournal plan done report.journal.entries
+IsWalked ms plan (Whole report) = IsWhole ms plan report
 IsWalked ms plan (Torn report) = ⊥

@@ -24,7 +24,7 @@ fn outcome(ended: &Option<Ended>) -> Outcome
     ensures { result ≡ outcome_of (done_or_skipped ended.now) }
 {
     match ended {
-        None | Some(Ended::Skipped(_)) => Outcome::Skipped,
+        None | Some(Ended::Skipped(_, _)) => Outcome::Skipped,
         Some(Ended::NotAsked(_) | Ended::NotServed(_) | Ended::Left(_, _)) => Outcome::Excused,
         Some(Ended::Faulted(_, _)) => Outcome::ArgumentFault,
         Some(Ended::Called(served)) => Outcome::Judged(served.call.verdict()),

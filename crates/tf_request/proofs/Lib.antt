@@ -2,4 +2,3 @@ mod Alone
 pub mod Wanting
 pub mod Answering
 pub mod Requesting
-pub mod Staying

@@ -2,11 +2,9 @@
 //!
 //! A plan is carried out in the order in which names need each other. What is asked of a provider for an instance is
 //! the object that is planned for it, valued again where each resource that it needs stands for what its providers
-//! answered (`specs/Requests.antt`). An output is evaluated so too. What is known in the plan stands in the request
-//! (`laws`).
+//! answered (`specs/Requests.antt`). An output is evaluated so too.
 #![tactic(auto)]
 
-pub mod laws;
 mod named;
 mod outputs;
 mod requests;

@@ -1,20 +1,17 @@
 -- What a walk of many workers answers.
 use Rattle.std.specs.Prelude.{ℕ, ◌&&◌, Bool, nat_le, List}
 use Rattle.tf_outcome.specs.Journal.{IsJournal}
-use Rattle.tf_outcome.specs.Outcome.{Done, Requests, AreRequests}
-use Rattle.tf_outputs.specs.Outputs.{OutputDone}
 use Rattle.tf_plan_data.specs.Plan.{PlanView}
 use Rattle.tf_protocol.specs.Meaning.{Meaning}
-use Rattle.tf_report.specs.Report.{IsReport, IsWalked}
+use Rattle.tf_report.specs.Report.{IsReported, IsWalked}
 use Rattle.tf_report.specs.declared.report.Report.{Report}
 use Rattle.tf_report.specs.declared.report.Walked.{Walked}
 use Rattle.tf_report.specs.declared.report.Walked.TheVariants.{Whole, Torn}
 
 -- A report tells what came of a plan, but its journal isn't that of the calls that it tells of.
-abbrev pub IsTorn : List Meaning → PlanView → Report → Type 0
-IsTorn ms plan report =
-    (requests : Requests) → AreRequests plan requests
-    → (done : List Done) × (outputs : List OutputDone) × IsReport ms requests plan done outputs report × (IsJournal plan done report.journal.entries → ⊥)
+pub record IsTorn (ms : List Meaning) (plan : PlanView) (report : Report) : Type 0 where
+  pub reported : IsReported ms plan report
+  pub not_journal : IsJournal plan reported.done report.journal.entries → ⊥
 
 -- What a walk answers: a whole report, as that of one thread; or a report whose journal is withheld, exactly since it isn't
 -- that of the calls.

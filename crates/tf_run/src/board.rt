@@ -65,6 +65,6 @@ fn forget(ended: Ended) {
             let (_request, _reply) = call.into_report();
         }
         Ended::Faulted(_, _) | Ended::Left(_, _) => {}
-        Ended::Skipped(_) | Ended::NotAsked(_) | Ended::NotServed(_) => {}
+        Ended::Skipped(_, _) | Ended::NotAsked(_) | Ended::NotServed(_) => {}
     }
 }

@@ -3,6 +3,7 @@
 ghost use Rattle.std.specs.Prelude.{◌≡◌, List, None, map, replicate};
 ghost use Rattle.tf_outcome.specs.Words.{FitsTogether, names_in, plan_names, plan_of};
 ghost use Rattle.tf_report.specs.Furnished.{IsFurnished};
+ghost use Rattle.tf_report.specs.Report.{report_of};
 ghost use Rattle.tf_run.specs.Run.{IsRun};
 
 use crate::fitting::demand_fit;
@@ -38,7 +39,8 @@ pub(crate) fn conclude<N: Naming, R: Wait>(
     requires cells { cells ≡ plan.now.order.nodes }
     requires results { results.items ≡ replicate plan.now.order.nodes None }
     requires journal { journal.graph ≡ plan.now.order }
-    ensures { IsRun (map (λ b. meaning b) providers.now) (plan_of plan.now) result }
+    ensures run { IsRun (map (λ b. meaning b) providers.now) (plan_of plan.now) result }
+    ensures journal { (report_of result).journal.graph ≡ plan.now.order }
 {
     cells.take_out(&mut results);
     demand_fit(rt, plan.order.graph(), &results);

@@ -11,7 +11,6 @@ use std::sync::Wait;
 use std::sync::atomic::AtomicU64;
 use tf_graph::Graph;
 use tf_outcome::Ended;
-use tf_protocol::Verdict;
 
 /// Returns where each action is skipped exactly where one directly before it isn't good. Of ends that don't fit together
 /// nothing can be reported, so it sleeps for ever there.
@@ -78,8 +77,8 @@ fn is_good(ended: &Option<Ended>) -> bool
     ensures { result ≡ is_good (done_or_skipped ended.now) }
 {
     match ended {
-        Some(Ended::Called(served)) => served.call.verdict() == Verdict::Good,
-        _ => false,
+        Some(ended) => ended.is_good(),
+        None => false,
     }
 }
 
@@ -87,5 +86,5 @@ fn is_good(ended: &Option<Ended>) -> bool
 fn is_skipped(ended: &Option<Ended>) -> bool
     ensures { result ≡ is_skipped (done_or_skipped ended.now) }
 {
-    matches!(ended, None | Some(Ended::Skipped(_)))
+    matches!(ended, None | Some(Ended::Skipped(_, _)))
 }

@@ -3,6 +3,7 @@
 ghost use Rattle.std.specs.Prelude.{◌≡◌, List, map, true, IfOk, MatchBool, MatchResult};
 ghost use Rattle.tf_outcome.specs.Words.{action_of, AreServed, FitsTogether, plan_of};
 ghost use Rattle.tf_refusal.specs.Refusal.{no_memory, told, workers as wrong_workers};
+ghost use Rattle.tf_report.specs.Report.{report_of};
 ghost use Rattle.tf_run.specs.Prepared.{IsPrepared};
 ghost use Rattle.tf_run.specs.Run.{IsRun, are_workers};
 
@@ -47,6 +48,7 @@ pub fn run<R: Threads + Wait + Sync>(
     requires fits { FitsTogether plan.now }
     requires served { AreServed (map (λ b. meaning b) providers.now) (map action_of plan.now.actions.items) }
     ensures walked { IfOk result (IsRun (map (λ b. meaning b) providers.now) (plan_of plan.now)) }
+    ensures journal { IfOk result (λ walked. (report_of walked).journal.graph ≡ plan.now.order) }
     ensures refused { MatchResult result
         (λ _. are_workers workers ≡ true)
         (λ r. MatchBool (are_workers workers) (told r ≡ no_memory) (told r ≡ wrong_workers)) }
@@ -74,6 +76,7 @@ pub fn run_and_close<R: Threads + Wait + Sync>(
     requires fits { FitsTogether plan.now }
     requires served { AreServed (map (λ b. meaning b) providers.now) (map action_of plan.now.actions.items) }
     ensures walked { IfOk result (λ ended. IsRun (map (λ b. meaning b) providers.now) (plan_of plan.now) ended.0) }
+    ensures journal { IfOk result (λ ended. (report_of ended.0).journal.graph ≡ plan.now.order) }
     ensures refused { MatchResult result
         (λ _. are_workers workers ≡ true)
         (λ r. MatchBool (are_workers workers) (told r ≡ no_memory) (told r ≡ wrong_workers)) }
@@ -107,7 +110,8 @@ fn run_as<N: Naming + Send + Sync, R: Threads + Wait + Sync>(
     requires meanings { N.meanings ≡ map (λ b. meaning b) providers.now }
     requires plan { N.plan ≡ plan_of plan.now }
     requires served { AreServed (map (λ b. meaning b) providers.now) (map action_of plan.now.actions.items) }
-    ensures { IfOk result (λ ended. IsRun (map (λ b. meaning b) providers.now) (plan_of plan.now) ended.0) }
+    ensures walked { IfOk result (λ ended. IsRun (map (λ b. meaning b) providers.now) (plan_of plan.now) ended.0) }
+    ensures journal { IfOk result (λ ended. (report_of ended.0).journal.graph ≡ plan.now.order) }
 {
     let prepared = prepare::<N>(alloc, plan, workers)?;
     Ok(carry_out(rt, alloc, plan, providers, stop, prepared))
@@ -128,7 +132,8 @@ fn carry_out<N: Naming + Send + Sync, R: Threads + Wait + Sync>(
     requires plan { N.plan ≡ plan_of plan.now }
     requires served { AreServed (map (λ b. meaning b) providers.now) (map action_of plan.now.actions.items) }
     requires prepared { IsPrepared plan.now prepared }
-    ensures { IsRun (map (λ b. meaning b) providers.now) (plan_of plan.now) result.0 }
+    ensures walked { IsRun (map (λ b. meaning b) providers.now) (plan_of plan.now) result.0 }
+    ensures journal { (report_of result.0).journal.graph ≡ plan.now.order }
 {
     let Prepared {
         names,

@@ -1,7 +1,7 @@
 //! One worker of a walk.
 
-ghost use Rattle.std.specs.Prelude.{◌≡◌, ◌<◌, All, List, map};
-ghost use Rattle.tf_run.specs.Walk.{IsOneWalk};
+ghost use Rattle.std.specs.Prelude.{◌≡◌, ◌<◌, List, map};
+ghost use Rattle.tf_run.specs.Walk.{HasLetGoFrom, IsOneWalk};
 
 use crate::bound::InPlan;
 use crate::walk::{Desk, Ground, Walk};
@@ -190,27 +190,30 @@ impl<N: Naming, B: Ground<N>, R: Wait> Worker<'_, '_, N, B, R> {
         let finished = workshop.end_action(providers, permit);
         walk.claims.finish(&mut desk.seat, finished);
         walk.claims.let_go_from(&mut desk.seat, action);
-        let next = walk.claims.graph().successors(action);
-        let free = give_hints(walk, &mut desk.hints, next);
+        let free = give_hints(walk, &desk.seat, &mut desk.hints, action);
         walk.progress.tell_end(free);
         true
     }
 }
 
-/// Gives a hint at each of some actions that wait for nothing more, now that one directly before them has ended. Returns how
-/// many there are. Where a hint is lost, the workers look at all actions anew.
+/// Gives a hint at each action directly behind one that waits for nothing more, now that this one has ended and the seat has
+/// let go of the edges out of it: so whoever follows the hint finds the action free. Returns how many there are. Where a hint
+/// is lost, the workers look at all actions anew.
 fn give_hints<N: Naming>(
     walk: &Walk<'_, N>,
+    seat: &Seat,
     hints: &mut Hints<InPlan<N>>,
-    actions: &[usize],
+    action: usize,
 ) -> usize
-    requires { All (λ action. action < N.plan.order.nodes) actions.now }
+    requires graph { walk.now.claims.now.graph ≡ N.plan.order }
+    requires within { action < N.plan.order.nodes }
+    requires released { HasLetGoFrom walk.now.claims.now.graph action seat.now.view }
 {
     let mut free = 0;
-    for action in actions {
-        if walk.countdown.is_last_before(*action) {
+    for next in walk.claims.graph().successors(action) {
+        if walk.countdown.is_last_before(*next) {
             free += 1;
-            if !hints.push(*action) {
+            if !hints.push(*next) {
                 walk.progress.look_anew();
             }
         }

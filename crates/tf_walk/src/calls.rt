@@ -1,14 +1,14 @@
 //! Calls of providers.
 
 ghost use Rattle.std.specs.List.{list_all};
-ghost use Rattle.std.specs.Prelude.{◌≡◌, ◌<◌, ◌++◌, ◌∷◌, [], None, Some, All, length, map, option_map};
+ghost use Rattle.std.specs.Prelude.{◌≡◌, ◌<◌, ◌++◌, ◌∷◌, [], None, Some, All, is_none, is_some, length, map, option_map, true};
 ghost use Rattle.tf_outcome.specs.Words.{asked, call_of_provider, done_of, done_or_skipped, ended_action, entered_verdict, fault_of, is_good, IsRun, IsServed};
 ghost use Rattle.tf_provider.specs.declared.journal.Entry.{Entry};
-ghost use Rattle.tf_walk.specs.Ends.{done_in};
+ghost use Rattle.tf_walk.specs.Ends.{done_in, end_at};
 
 use tf_claim::{Finished, Permit};
-use tf_outcome::{Asking, Ended, ended_by};
-use tf_provider::{Journal, Provider, Verdict, call};
+use tf_outcome::{Asking, Ended, NotGood, ended_by};
+use tf_provider::{Journal, Provider, call};
 
 /// Calls a provider with a request, and records the call.
 pub fn make_call(
@@ -39,25 +39,28 @@ pub fn make_call(
     }
 }
 
-/// Whether each of some actions is good.
-pub fn are_good(results: &[Option<Ended>], actions: &[usize]) -> bool
-    requires { All (λ n. n < length results.now) actions.now }
-    ensures { result ≡ list_all (λ n. is_good (done_in (map (option_map done_of) results.now) n)) actions.now }
+/// The evidence that one of some actions isn't good, of the first that isn't; `None` where all are good. All of them have
+/// ended.
+pub fn first_not_good(results: &[Option<Ended>], actions: &[usize]) -> Option<NotGood>
+    requires within { All (λ n. n < length results.now) actions.now }
+    requires ended { list_all (λ n. is_some (end_at (map (option_map done_of) results.now) n)) actions.now ≡ true }
+    ensures { is_none result ≡ list_all (λ n. is_good (done_in (map (option_map done_of) results.now) n)) actions.now }
 {
     for action in actions {
-        if !is_good(&results[*action]) {
-            return false;
+        if let Some(bad) = not_good(&results[*action]) {
+            return Some(bad);
         }
     }
-    true
+    None
 }
 
-/// Whether an action is good; one that hasn't ended isn't.
-pub fn is_good(ended: &Option<Ended>) -> bool
-    ensures { result ≡ is_good (done_or_skipped ended.now) }
+/// The evidence that an action isn't good, where it isn't. It has ended.
+fn not_good(ended: &Option<Ended>) -> Option<NotGood>
+    requires { is_some ended.now ≡ true }
+    ensures { is_none result ≡ is_good (done_or_skipped ended.now) }
 {
     match ended {
-        Some(Ended::Called(served)) => served.call.verdict() == Verdict::Good,
-        _ => false,
+        Some(ended) => ended.not_good(),
+        None => unreachable!(),
     }
 }

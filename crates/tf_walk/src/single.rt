@@ -1,11 +1,9 @@
 //! Carrying out a plan by one thread.
 
-ghost use Rattle.std.specs.Prelude.{◌≡◌, List, map, IfOk, IfErr};
-ghost use Rattle.tf_outcome.specs.Words.{action_of, AreServed, Done, FitsTogether, IsJournal, plan_of};
+ghost use Rattle.std.specs.Prelude.{◌≡◌, map, IfOk, IfErr};
+ghost use Rattle.tf_outcome.specs.Words.{action_of, AreServed, FitsTogether, plan_of};
 ghost use Rattle.tf_refusal.specs.Refusal.{no_memory, told};
-ghost use Rattle.tf_outcome.specs.Outcome.{Requests, AreRequests};
-ghost use Rattle.tf_outputs.specs.Outputs.{OutputDone};
-ghost use Rattle.tf_report.specs.Report.{IsReport, IsWalked};
+ghost use Rattle.tf_report.specs.Report.{IsWalked, IsWhole};
 ghost use Rattle.tf_walk.specs.Prepared.{IsPrepared};
 
 use crate::prepared::{Prepared, prepare};
@@ -55,10 +53,7 @@ fn carry_out(
     requires fits { FitsTogether plan.now }
     requires served { AreServed (map (λ b. meaning b) providers.now) (map action_of plan.now.actions.items) }
     requires prepared { IsPrepared plan.now prepared }
-    ensures { (requests : Requests) → AreRequests (plan_of plan.now) requests
-        → (done : List Done) × (outputs : List OutputDone)
-        × IsReport (map (λ b. meaning b) providers.now) requests (plan_of plan.now) done outputs result
-        × IsJournal (plan_of plan.now) done result.journal.entries }
+    ensures { IsWhole (map (λ b. meaning b) providers.now) (plan_of plan.now) result }
 {
     let Prepared {
         names,

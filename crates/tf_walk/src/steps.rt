@@ -1,19 +1,19 @@
 //! The end of one action.
 
 ghost use Rattle.std.specs.List.{list_all};
-ghost use Rattle.std.specs.Prelude.{◌≡◌, ◌<◌, None, Some, length, map, option_map, slice_get, IsSomeAnd, IsTrue};
+ghost use Rattle.std.specs.Prelude.{◌≡◌, ◌<◌, None, Some, is_some, length, map, option_map, slice_get, false, true, IsSomeAnd, IsTrue, MatchOption};
 ghost use Rattle.tf_outcome.specs.Words.{action_of, AreServed, asked, asks_fully, call_of, config_of, done_of, ended_action, fault_of, FitsTogether, is_good, IsRun, names_in, names_of, op_at, plan_of, predecessors_of, schema_in, seen_by};
 ghost use Rattle.tf_outcome.specs.Outcome.{Requests, AreRequests};
 ghost use Rattle.tf_walk.specs.Ends.{Enters, IsEnd, IsSoFar, done_in, end_at};
 
-use crate::calls::{are_good, make_call};
+use crate::calls::{first_not_good, make_call};
 use std::alloc::{AllocError, Global};
 use tf_asks::ask_provider;
 use tf_claim::{Finished, Permit};
 use tf_names::Names;
-use tf_outcome::{Answered, Asking, Ended};
+use tf_outcome::{Answered, Asking, Ended, NotGood};
 use tf_plan_data::Plan;
-use tf_provider::{Journal, Provider, first_provider, waive_for};
+use tf_provider::{Journal, Provider, first_provider};
 use tf_stop::Stop;
 
 /// Ends a claimed action: skips it where an action directly before it isn't good; leaves it where the walk is to stop by
@@ -34,6 +34,7 @@ pub fn end_action(
     requires served { AreServed (map (λ b. meaning b) providers.now) (map action_of plan.now.actions.items) }
     requires so_far { IsSoFar (map (λ b. meaning b) providers.now) (plan_of plan.now) (map (option_map done_of) results.now) journal.old.entries }
     requires free { end_at (map (option_map done_of) results.now) permit ≡ None }
+    requires before { list_all (λ n. is_some (end_at (map (option_map done_of) results.now) n)) (predecessors_of plan.now.order permit) ≡ true }
     requires within { permit < length plan.now.actions.items }
     requires graph { journal.old.graph ≡ plan.now.order }
     ensures finished { result.1 ≡ permit }
@@ -44,13 +45,11 @@ pub fn end_action(
     ensures same_graph { journal.new.graph ≡ journal.old.graph }
 {
     let action = permit.action();
-    if !is_due(plan, results, action) {
-        let (finished, waived) = waive_for(permit);
-        return (Ended::Skipped(waived), finished);
+    if let Some(bad) = not_good_before(plan, results, action) {
+        return Ended::skipped(permit, bad);
     }
     if let Some(stopped) = stop.look() {
-        let (finished, waived) = waive_for(permit);
-        return (Ended::Left(waived, stopped), finished);
+        return Ended::left(permit, stopped);
     }
     let actions = plan.actions.as_slice();
     let seen = Answered {
@@ -61,25 +60,22 @@ pub fn end_action(
         results,
     };
     match ask_provider(alloc, plan, names, providers, &actions[action], &seen) {
-        Err(AllocError) => {
-            let (finished, waived) = waive_for(permit);
-            (Ended::NotAsked(waived), finished)
-        }
-        Ok(Err(faulted)) => {
-            let (finished, waived) = waive_for(permit);
-            (Ended::Faulted(faulted, waived), finished)
-        }
+        Err(AllocError) => Ended::not_asked(permit),
+        Ok(Err(faulted)) => Ended::faulted(permit, faulted),
         Ok(Ok(asking)) => serve(providers, journal, permit, asking),
     }
 }
 
-/// Whether all that stands directly before an action is good, so that it may be called.
-fn is_due(plan: &Plan, results: &[Option<Ended>], action: usize) -> bool
+/// The evidence that an action directly before one isn't good, where one isn't. All of them have ended.
+fn not_good_before(plan: &Plan, results: &[Option<Ended>], action: usize) -> Option<NotGood>
     requires within { action < plan.now.order.nodes }
     requires sized { length results.now ≡ plan.now.order.nodes }
-    ensures { result ≡ list_all (λ n. is_good (done_in (map (option_map done_of) results.now) n)) (predecessors_of plan.now.order action) }
+    requires ended { list_all (λ n. is_some (end_at (map (option_map done_of) results.now) n)) (predecessors_of plan.now.order action) ≡ true }
+    ensures { MatchOption result
+        (list_all (λ n. is_good (done_in (map (option_map done_of) results.now) n)) (predecessors_of plan.now.order action) ≡ true)
+        (λ _. list_all (λ n. is_good (done_in (map (option_map done_of) results.now) n)) (predecessors_of plan.now.order action) ≡ false) }
 {
-    are_good(results, plan.order.graph().predecessors(action))
+    first_not_good(results, plan.order.graph().predecessors(action))
 }
 
 /// Calls the first provider that has the type of a request.
@@ -99,10 +95,7 @@ fn serve(
     ensures same_graph { journal.new.graph ≡ journal.old.graph }
 {
     match first_provider(providers, asking.request.type_name.as_str()) {
-        None => {
-            let (finished, waived) = waive_for(permit);
-            (Ended::Skipped(waived), finished)
-        }
+        None => unreachable!(),
         Some(provider) => make_call(provider, journal, permit, asking),
     }
 }

@@ -1,9 +1,9 @@
 //! What a worker asks for an action.
 
-ghost use Rattle.std.specs.Prelude.{◌≡◌, ◌<◌, map, IfOk, IsSomeAnd, IsTrue};
-ghost use Rattle.tf_outcome.specs.Words.{asked, asks_fully, comes_of, Done, IsRun, names_in, schema_in};
+ghost use Rattle.std.specs.Prelude.{◌≡◌, ◌<◌, All, map, IfOk, IsSomeAnd, IsTrue};
+ghost use Rattle.tf_outcome.specs.Words.{asked, asks_fully, comes_of, Done, IsRun, names_in, predecessors_of, schema_in};
 ghost use Rattle.tf_asks.specs.AskedBy.{asked_by};
-ghost use Rattle.tf_cells.specs.Ideal.{IsTrueTo};
+ghost use Rattle.tf_cells.specs.Ideal.{IsGoodInEach, IsTrueTo};
 ghost use Rattle.tf_workers.specs.Shared.{IsOfWalk};
 
 use crate::seeing::good_before;
@@ -29,6 +29,7 @@ impl<N: Naming, R: Wait> Workshop<'_, N, R> {
     ) -> Result<Result<Asking, Faulted>, AllocError>
         requires walk { IsOfWalk N.plan N.meanings self.now.plan.now (names_in self.now.names.now) self.now.cells.now (map (λ b. meaning b) providers.now) }
         requires within { action < self.now.plan.now.order.nodes }
+        requires good { All (λ n. IsGoodInEach N.meanings N.plan n) (predecessors_of self.now.plan.now.order action) }
         ensures asked { IfOk result (λ made. (d : Done) → IsRun (comes_of (map (λ b. meaning b) providers.now) (asked_by made)) d → IsTrueTo N.meanings N.plan action d) }
         ensures served { IfOk result (λ made. IfOk made (λ asking.
             IsSomeAnd (schema_in (asked asking.request).type_name (map (λ b. meaning b) providers.now)) (λ s. IsTrue (asks_fully (asked asking.request) s)))) }

@@ -1,7 +1,7 @@
 //! Calls of providers, and their records.
 
 ghost use Rattle.std.specs.Prelude.{◌≡◌, ◌<◌, map, IsSomeAnd, IsTrue};
-ghost use Rattle.tf_outcome.specs.Words.{asked, asks_fully, call_of, call_of_provider, done_of, ended_action, IsRun, IsServed, schema_in};
+ghost use Rattle.tf_outcome.specs.Words.{asked, asks_fully, call_of, call_of_provider, done_of, ended_action, HasCause, IsRun, IsServed, schema_in};
 
 use crate::log::Log;
 use std::sync::{Mutex, Wait};
@@ -9,7 +9,7 @@ use std::thread;
 use tf_cells::Naming;
 use tf_claim::{Finished, Permit};
 use tf_outcome::{Asking, Ended, ended_by};
-use tf_provider::{Called, Provider, Recorded, call, first_provider, waive_for};
+use tf_provider::{Called, Provider, Recorded, call, first_provider};
 
 /// Calls the first provider that has the type of a request, and records the call.
 pub(crate) fn serve<N: Naming, R: Wait>(
@@ -23,13 +23,11 @@ pub(crate) fn serve<N: Naming, R: Wait>(
     requires within { permit < N.plan.order.nodes }
     ensures finished { result.1 ≡ permit }
     ensures action { ended_action result.0 ≡ permit }
+    ensures cause { HasCause N.plan.order result.0 }
     ensures ended { IsRun (call_of (map (λ b. meaning b) providers.now) (asked asking.request)) (done_of result.0) }
 {
     match first_provider(providers, asking.request.type_name.as_str()) {
-        None => {
-            let (finished, waived) = waive_for(permit);
-            (Ended::Skipped(waived), finished)
-        }
+        None => unreachable!(),
         Some(provider) => make_call(rt, provider, log, permit, asking),
     }
 }
@@ -46,6 +44,7 @@ fn make_call<N: Naming, R: Wait>(
     requires within { permit < N.plan.order.nodes }
     ensures finished { result.1 ≡ permit }
     ensures action { ended_action result.0 ≡ permit }
+    ensures cause { HasCause N.plan.order result.0 }
     ensures ended { IsRun (call_of_provider (asked asking.request) (meaning provider.now)) (done_of result.0) }
 {
     let called = call(provider, permit, asking.request);

@@ -1,6 +1,8 @@
 //! What a worker sees of the actions before one.
 
-ghost use Rattle.std.specs.Prelude.{◌≡◌, ◌<◌, All, IfOk};
+ghost use Rattle.std.specs.Prelude.{◌≡◌, ◌<◌, All, Contains, IfOk, MatchOption};
+ghost use Rattle.tf_outcome.specs.Words.{predecessors_of};
+ghost use Rattle.tf_cells.specs.Ideal.{IsGoodInEach};
 ghost use Rattle.tf_workers.specs.Seen.{AreSeen};
 
 use std::alloc::{AllocError, Global};
@@ -8,27 +10,37 @@ use std::sync::Wait;
 use std::thread;
 use tf_cells::{Before, Cells, Naming, Sight};
 use tf_names::Names;
+use tf_outcome::NotGood;
 use tf_plan_data::Plan;
 
-/// Whether each of some actions is good, once what came of it can be read. It takes no memory.
-pub(crate) fn are_good<N: Naming, R: Wait>(rt: &R, cells: &Cells<N>, actions: &[usize]) -> bool
+/// The evidence that one of some actions isn't good, of the first that isn't, once what came of those up to it can be read;
+/// `None` where all are good, and then they are in every ideal. It takes no memory.
+pub(crate) fn first_not_good<N: Naming, R: Wait>(
+    rt: &R,
+    cells: &Cells<N>,
+    actions: &[usize],
+) -> Option<NotGood>
     requires { All (λ n. n < cells.now) actions.now }
+    ensures { MatchOption result
+        (All (λ n. IsGoodInEach N.meanings N.plan n) actions.now)
+        (λ bad. Contains actions.now bad) }
 {
     for action in actions {
-        if !is_good(rt, cells, *action) {
-            return false;
+        if let Some(bad) = not_good(rt, cells, *action) {
+            return Some(bad);
         }
     }
-    true
+    None
 }
 
-/// Whether an action is good, once what came of it can be read.
-fn is_good<N: Naming, R: Wait>(rt: &R, cells: &Cells<N>, action: usize) -> bool
+/// The evidence that an action isn't good, where it isn't, once what came of it can be read.
+fn not_good<N: Naming, R: Wait>(rt: &R, cells: &Cells<N>, action: usize) -> Option<NotGood>
     requires { action < cells.now }
+    ensures { MatchOption result (IsGoodInEach N.meanings N.plan action) (λ bad. bad ≡ action) }
 {
     for _ in rt.forever() {
         if let Some(reading) = cells.read(action) {
-            return reading.is_good();
+            return reading.not_good();
         }
         thread::yield_now();
     }
@@ -50,6 +62,7 @@ pub(crate) fn good_before<'a, N: Naming, R: Wait>(
 ) -> Result<Before<'a, N>, AllocError>
     requires cells { cells.now ≡ plan.now.order.nodes }
     requires within { action < plan.now.order.nodes }
+    requires good { All (λ n. IsGoodInEach N.meanings N.plan n) (predecessors_of plan.now.order action) }
     ensures { IfOk result (AreSeen N.meanings N.plan plan.now names.now action) }
 {
     let actions = plan.actions.as_slice();

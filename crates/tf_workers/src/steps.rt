@@ -1,13 +1,13 @@
 //! The end of one action, by a worker.
 
 ghost use Rattle.std.specs.Prelude.{◌≡◌, ◌<◌, map};
-ghost use Rattle.tf_outcome.specs.Words.{done_of, ended_action, names_in};
+ghost use Rattle.tf_outcome.specs.Words.{done_of, ended_action, HasCause, names_in};
 ghost use Rattle.tf_cells.specs.Ideal.{IsEndOf, IsTrueTo};
 ghost use Rattle.tf_workers.specs.Shared.{IsOfWalk};
 
 use crate::calls::serve;
 use crate::log::Log;
-use crate::seeing::are_good;
+use crate::seeing::first_not_good;
 use std::alloc::{AllocError, Global};
 use std::sync::{Mutex, Wait};
 use std::thread;
@@ -16,7 +16,7 @@ use tf_claim::{Finished, Permit};
 use tf_names::Names;
 use tf_outcome::Ended;
 use tf_plan_data::Plan;
-use tf_provider::{Provider, waive_for};
+use tf_provider::Provider;
 use tf_stop::Stop;
 
 /// What a worker works with, beside the providers: the plan of a walk, the names of its configuration, the cells of the plan's
@@ -65,27 +65,20 @@ impl<N: Naming, R: Wait> Workshop<'_, N, R> {
         requires within { permit < self.now.plan.now.order.nodes }
         ensures finished { result.1 ≡ permit }
         ensures action { ended_action result.0 ≡ permit }
+        ensures cause { HasCause N.plan.order result.0 }
         ensures ended { IsTrueTo N.meanings N.plan permit (done_of result.0) }
     {
         let action = permit.action();
         let before = self.plan.order.graph().predecessors(action);
-        if !are_good(self.rt, self.cells, before) {
-            let (finished, waived) = waive_for(permit);
-            return (Ended::Skipped(waived), finished);
+        if let Some(bad) = first_not_good(self.rt, self.cells, before) {
+            return Ended::skipped(permit, bad);
         }
         if let Some(stopped) = self.stop.look() {
-            let (finished, waived) = waive_for(permit);
-            return (Ended::Left(waived, stopped), finished);
+            return Ended::left(permit, stopped);
         }
         match self.ask(providers, action) {
-            Err(AllocError) => {
-                let (finished, waived) = waive_for(permit);
-                (Ended::NotAsked(waived), finished)
-            }
-            Ok(Err(faulted)) => {
-                let (finished, waived) = waive_for(permit);
-                (Ended::Faulted(faulted, waived), finished)
-            }
+            Err(AllocError) => Ended::not_asked(permit),
+            Ok(Err(faulted)) => Ended::faulted(permit, faulted),
             Ok(Ok(asking)) => serve(self.rt, providers, self.journal, permit, asking),
         }
     }

@@ -11,7 +11,6 @@ returns c =
       values = c.values_are_one.ensures.one;
       read = c.read_states_are_valid.ensures;
       empty = c.new_states_are_valid.ensures.empty;
-      requests = c.requests_exist.ensures.exist;
       reports = c.applies_converge.ensures.reports;
     } in
     let back = c.texts_read_back.ensures.back in

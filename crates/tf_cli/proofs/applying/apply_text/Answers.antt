@@ -22,13 +22,11 @@ returns-in-Ok-clause-applied g c =
     let planned = c.in_ok-plan.ensures.planned in
     let plan = plan_of c.in_ok-plan.plan in
     let read = planned.stand.read in
-    let fits = c.in_ok-plan.ensures.fits in
-    let found = c.requests_exist.ensures.exist plan (fits.dependence.ranked fits.acyclic) in
     let named : AllByRecursion IsNamed plan.config.blocks = subst (λ (config : ConfigView). AllByRecursion IsNamed config.blocks) (sym planned.planned.config) (c.blocks_have_names.ensures read.tree planned.config read.stands) in
     record {
       plan = plan;
       planned = planned;
-      carried_out = is_carried_out ms plan c.in-Ok.walked _ found.0 found.1 named c.in_ok-plan.ensures.valid
+      carried_out = is_carried_out ms plan c.in-Ok.walked _ named c.in_ok-plan.ensures.valid
           (ap string_bytes c.answer_of.ensures.plan ∙ (c.in_ok-text.ensures ∙ ap₂ (λ xs ls. plan_text (λ n. slice_index_or ls n false) (map action_of xs)) c.as_slice.ensures.value c.as_slice-2.ensures.value))
           c.in-Ok.ensures.walked c.answer_of.ensures.walked c.answer_of.ensures.text
           (c.answer_of.ensures.changed ∙ ap (λ (n : ℕ). not ((state_of (report_of c.in-Ok.walked).state).serial == n)) c.serial.ensures);

@@ -12,5 +12,5 @@ returns g c =
     let names = names_given c.args.given.now in
     let resources = resources_given c.args.given.now in
     let sorted : AreInAddressOrder (numbered names resources) c.in_ok-places.places.items = rw c.requires.numbered at c.in_ok-places.ensures in
-    planned-is ms resources (variables_given c.args.given.now) names (outputs_given c.args.given.now) (shapes_of c.args.shapes.now) c.in_ok-places.places.items (standings_of c.in_ok-kept.kept.items) c.plan_places.result
-    sorted c.in_ok-kept.ensures (rw (c.as_slice.ensures.value, c.as_slice-2.ensures.value) at c.plan_places.ensures)
+    planned-is ms resources (variables_given c.args.given.now) names (outputs_given c.args.given.now) (shapes_of c.args.shapes.now) c.in_ok-places.places.items (standings_of c.in_ok-kept.kept.items)
+    c.args.given.now.declared.now.dependence.now c.plan_places.result c.requires.dependence c.requires.acyclic sorted c.in_ok-kept.ensures (rw (c.as_slice.ensures.value, c.as_slice-2.ensures.value) at c.plan_places.ensures)

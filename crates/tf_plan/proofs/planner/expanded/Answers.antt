@@ -2,7 +2,8 @@ use Rattle.std.proofs.Common.{◌≡◌, ◌∷◌, [], List}
 use Rattle.tf_names.specs.Table.{names_in}
 use Rattle.tf_refusal.specs.Refusal.{Told, told}
 use Rattle.tf_value.specs.Tree.{entries_view}
-use Rattle.tf_plan.proofs.Refusing.{fault-placed, fault-told, tells-weaker}
+use Rattle.tf_environment.specs.Views.{shapes_of}
+use Rattle.tf_plan.proofs.Refusing.{fault-placed, fault-told, instances-are, tells-weaker}
 use Rattle.tf_plan.specs.Refused.{AreUnexpanded}
 use Rattle.tf_plan.proofs.planner.expanded.Goals as goal
 
@@ -17,4 +18,10 @@ returns-in_ok-alone-in-Err-clause-refused c =
     let names = names_in c.args.declared.now.names.now in
     let t = told c.in_ok-refusal-in-Err.refusal in
     tells-weaker (λ (tolds : List Told). tolds ≡ t ∷ []) (AreUnexpanded variables names) c.in_ok-alone-in-Err.field-0
-    (λ tolds is. fault-told variables names c.in-Err.fault t tolds c.in-Err.ensures c.in_ok-refusal-in-Err.ensures is) c.in_ok-alone-in-Err.ensures
+    (λ tolds is.
+    fault-told variables names c.args.declared.now.dependence.now c.in-Err.fault t tolds c.requires.dependence c.requires.acyclic c.in-Err.ensures c.in_ok-refusal-in-Err.ensures is) c.in_ok-alone-in-Err.ensures
+
+pub returns-in-Ok-clause-instances : goal.returns-in-Ok-clause-instances
+returns-in-Ok-clause-instances c =
+    instances-are (entries_view c.args.declared.now.variables.now.entries) (names_in c.args.declared.now.names.now) c.args.declared.now.dependence.now (shapes_of c.in-Ok.shapes.items) c.requires.dependence c.requires.acyclic
+    c.in-Ok.ensures

@@ -3,10 +3,10 @@ use Rattle.tf_plan.proofs.planner.plan.Goals as goal
 
 pub returns-clause-fits : goal.returns-clause-fits
 returns-clause-fits g c =
-    let fit = made-fits _ _ _ _ c.args.prior c.args.dependence _ _ _ _ _ c.requires.dependence c.requires.acyclic c.blocks_are_apart.ensures c.in_ok-parts.ensures.planned in
+    let fit = made-fits _ _ _ _ c.args.prior _ _ _ _ _ c.blocks_are_apart.ensures c.in_ok-parts.ensures.planned in
     record { dependence = c.requires.dependence; acyclic = c.requires.acyclic; placed = fit.placed; declared = fit.declared; apart = fit.apart; serial = c.requires.serial }
 
 pub returns-clause-served : goal.returns-clause-served
 returns-clause-served g c =
-    let fit = made-fits _ _ _ _ c.args.prior c.args.dependence _ _ _ _ _ c.requires.dependence c.requires.acyclic c.blocks_are_apart.ensures c.in_ok-parts.ensures.planned in
+    let fit = made-fits _ _ _ _ c.args.prior _ _ _ _ _ c.blocks_are_apart.ensures c.in_ok-parts.ensures.planned in
     fit.served

@@ -2,5 +2,5 @@
 use Rattle.std.proofs.Common.{◌≤◌}
 use Rattle.tf_run.proofs.worker.give_hints.Given as goal
 
-abbrev pub invariant-loop-action : goal.invariant-loop-action
-invariant-loop-action g l = l.free ≤ l.action-index
+abbrev pub invariant-loop-next : goal.invariant-loop-next
+invariant-loop-next g l = l.free ≤ l.next-index

@@ -53,7 +53,7 @@ report_of-requires-clause-judged g c =
     subst (λ rs. AreJudged ms (map (λ a. op_of a.step) (map action_of c.args.plan.now.actions.items)) (dones_of rs)) (sym left.0) judged
 
 pub returns : goal.returns
-returns g c = λ requests are.
+returns g c =
     let ms = map (λ b. (goal.Provider-dyn g (b.vtable, b.value)).meaning b.value) c.args.providers.now in
     let plan = plan_of c.args.plan.now in
     let new = c.walk.new.results in
@@ -69,17 +69,26 @@ returns g c = λ requests are.
     let excuses = λ (n : ℕ). ap (λ es. excuse_of es n) told.1.lawful ∙ excuses-with_outputs done (map end_of told.0) n in
     let written : report.journal.entries ≡ entries = ap (λ (l : Log). l.entries) c.report_of.ensures.journal in
     let allowed : IsInOrder (predecessors_of c.args.plan.now.order) (actions_of entries) =
-    subst (λ (d : Digraph). IsInOrder (predecessors_of d) (actions_of entries)) c.walk.ensures.graph c.entries-entries.ensures.allowed in (
-      done,
-      told.0,
-      record {
-        solved = so_far-solves ms requests plan ends entries done report.excused.items c.walk.ensures.so_far are c.walk.ensures.all lengths same excuses;
-        asked = so_far-asked ms requests plan ends entries done c.walk.ensures.so_far are same;
-        told = told.1;
-      },
-      record {
-        in_order = subst (λ es. IsInOrder (predecessors_of c.args.plan.now.order) (actions_of es)) (sym written) allowed;
-        verdicts = λ n. ap (λ es. verdict_in es n) written ∙ so_far-entered ms plan ends entries done c.walk.ensures.so_far same n;
-        ops = subst (λ es. AllByRecursion (IsOfAction plan.actions) es) (sym written) c.walk.ensures.so_far.ops;
-      },
-    )
+    subst (λ (d : Digraph). IsInOrder (predecessors_of d) (actions_of entries)) c.walk.ensures.graph c.entries-entries.ensures.allowed in
+    let asked = some_requests plan (c.requires.fits.dependence.ranked c.requires.fits.acyclic) in
+    record {
+      reported =
+          record {
+            requests = asked.0;
+            are_requests = asked.1;
+            done = done;
+            outputs = told.0;
+            is_report =
+                record {
+                  solved = so_far-solves ms asked.0 plan ends entries done report.excused.items c.walk.ensures.so_far asked.1 c.walk.ensures.all lengths same excuses;
+                  asked = so_far-asked ms asked.0 plan ends entries done c.walk.ensures.so_far asked.1 same;
+                  told = told.1;
+                };
+          };
+      journal =
+          record {
+            in_order = subst (λ es. IsInOrder (predecessors_of c.args.plan.now.order) (actions_of es)) (sym written) allowed;
+            verdicts = λ n. ap (λ es. verdict_in es n) written ∙ so_far-entered ms plan ends entries done c.walk.ensures.so_far same n;
+            ops = subst (λ es. AllByRecursion (IsOfAction plan.actions) es) (sym written) c.walk.ensures.so_far.ops;
+          };
+    }

@@ -11,35 +11,44 @@ use Rattle.tf_outcome.specs.Ended.{done_of}
 use Rattle.tf_outcome.specs.Excuse.{before_call, by_stop}
 use Rattle.tf_outcome.specs.Outcome.{excused, faulted}
 use Rattle.tf_outcome.specs.Asked.{op_of}
+use Rattle.tf_graph.specs.Solutions.{seen_by}
 use Rattle.tf_outcome.specs.declared.asking.Asking.{Asking}
+use Rattle.tf_outcome.specs.declared.ended.Ended.{Ended}
 use Rattle.tf_outcome.specs.declared.ended.Faulted.{Faulted}
 use Rattle.tf_outcome.specs.Journal.{op_at}
 use Rattle.tf_protocol.specs.Meaning.{asked}
 use Rattle.tf_protocol.specs.declared.request.Op.{Op}
-use Rattle.tf_walk.specs.Ends.{Enters, done_in}
+use Rattle.tf_walk.specs.Ends.{Enters, IsEnd, done_in}
 use Rattle.tf_names.specs.Table.{names_in}
 use Rattle.tf_outcome.proofs.Calling.{read_at, slice_get-map}
 use Rattle.tf_walk.proofs.Ending.{ends_asked, ends_run, ends_skipped}
 use Rattle.tf_walk.proofs.Entered.{may_record}
 use Rattle.tf_walk.proofs.steps.end_action.Goals as goal
 
-pub returns-then-not-is_due-clause-ended : goal.returns-then-not-is_due-clause-ended
-returns-then-not-is_due-clause-ended g c = λ requests are.
+pub returns-in-Some-clause-ended : goal.returns-in-Some-clause-ended
+returns-in-Some-clause-ended g c = λ requests are.
     let order = c.args.plan.now.order in
     let ms = map (λ b. (goal.Provider-dyn g (b.vtable, b.value)).meaning b.value) c.args.providers.now in
     let ends = map (option_map done_of) c.args.results.now in
-    let good = rw c.action-action.ensures at c.if-not-is_due.ensures in
-    ends_skipped ms requests (plan_of c.args.plan.now) c.args.permit (done_in ends) (predecessors_of order c.args.permit) (sym good)
+    let bad = rw c.action-action.ensures at c.in-Some.ensures in
+    subst (λ (e : Ended). IsEnd ms requests (plan_of c.args.plan.now) c.args.permit (seen_by (done_in ends) (predecessors_of order c.args.permit)) (done_of e)) (sym c.skipped.ensures.ended)
+    (ends_skipped ms requests (plan_of c.args.plan.now) c.args.permit (done_in ends) (predecessors_of order c.args.permit) bad)
 
-pub returns-in-Some-clause-ended : goal.returns-in-Some-clause-ended
-returns-in-Some-clause-ended g c = λ requests are.
+pub returns-in-Some-look-clause-ended : goal.returns-in-Some-look-clause-ended
+returns-in-Some-look-clause-ended g c = λ requests are.
+    let order = c.args.plan.now.order in
     let ms = map (λ b. (goal.Provider-dyn g (b.vtable, b.value)).meaning b.value) c.args.providers.now in
-    ends_run ms requests (plan_of c.args.plan.now) c.args.permit (done_in (map (option_map done_of) c.args.results.now)) (predecessors_of c.args.plan.now.order c.args.permit) (excused by_stop) (sym (rw c.action-action.ensures at c.if-not-is_due.ensures)) tt
+    let ends = map (option_map done_of) c.args.results.now in
+    subst (λ (e : Ended). IsEnd ms requests (plan_of c.args.plan.now) c.args.permit (seen_by (done_in ends) (predecessors_of order c.args.permit)) (done_of e)) (sym c.left.ensures.ended)
+    (ends_run ms requests (plan_of c.args.plan.now) c.args.permit (done_in ends) (predecessors_of order c.args.permit) (excused by_stop) (rw c.action-action.ensures at c.in_default.ensures) tt)
 
 pub returns-in-Err-clause-ended : goal.returns-in-Err-clause-ended
 returns-in-Err-clause-ended g c = λ requests are.
+    let order = c.args.plan.now.order in
     let ms = map (λ b. (goal.Provider-dyn g (b.vtable, b.value)).meaning b.value) c.args.providers.now in
-    ends_run ms requests (plan_of c.args.plan.now) c.args.permit (done_in (map (option_map done_of) c.args.results.now)) (predecessors_of c.args.plan.now.order c.args.permit) (excused before_call) (sym (rw c.action-action.ensures at c.if-not-is_due.ensures)) tt
+    let ends = map (option_map done_of) c.args.results.now in
+    subst (λ (e : Ended). IsEnd ms requests (plan_of c.args.plan.now) c.args.permit (seen_by (done_in ends) (predecessors_of order c.args.permit)) (done_of e)) (sym c.not_asked.ensures.ended)
+    (ends_run ms requests (plan_of c.args.plan.now) c.args.permit (done_in ends) (predecessors_of order c.args.permit) (excused before_call) (rw c.action-action.ensures at c.in_default.ensures) tt)
 
 pub ask_provider-requires-clause-declared : goal.ask_provider-requires-clause-declared
 ask_provider-requires-clause-declared g c =
@@ -56,17 +65,20 @@ pub serve-requires-clause-fits : goal.serve-requires-clause-fits
 serve-requires-clause-fits g c =
     let order = c.args.plan.now.order in
     let ends = map (option_map done_of) c.args.results.now in
-    let good = rw c.action-action.ensures at c.if-not-is_due.ensures in
+    let good = rw c.action-action.ensures at c.in_default.ensures in
     let good_here = rw (← c.requires.graph) at good in
-    may_record c.args.journal.now ends c.args.permit c.requires.so_far.entered c.requires.free (sym good_here)
+    may_record c.args.journal.now ends c.args.permit c.requires.so_far.entered c.requires.free good_here
 
 pub returns-in-Ok-Err-clause-ended : goal.returns-in-Ok-Err-clause-ended
 returns-in-Ok-Err-clause-ended g c = λ requests are.
     let ms = map (λ b. (goal.Provider-dyn g (b.vtable, b.value)).meaning b.value) c.args.providers.now in
     let read = rw (c.action-action.ensures, c.as_slice-actions.ensures.value) at c.index-actions-action.is in
-    ends_asked ms requests (plan_of c.args.plan.now) c.args.permit (names_in c.args.names.now) (map action_of c.as_slice-actions.result.now) c.args.results.now c.predecessors.result.now (action_of c.index-actions-action.result) c.in-Ok-Err.field-0 (Err c.in-Ok-Err.faulted) (faulted (instance_fault_of c.in-Ok-Err.faulted.fault)) c.in-Ok-Err.field-0-is refl
+    let order = c.args.plan.now.order in
+    let ends = map (option_map done_of) c.args.results.now in
+    subst (λ (e : Ended). IsEnd ms requests (plan_of c.args.plan.now) c.args.permit (seen_by (done_in ends) (predecessors_of order c.args.permit)) (done_of e)) (sym c.faulted.ensures.ended)
+    (ends_asked ms requests (plan_of c.args.plan.now) c.args.permit (names_in c.args.names.now) (map action_of c.as_slice-actions.result.now) c.args.results.now c.predecessors.result.now (action_of c.index-actions-action.result) c.in-Ok-Err.field-0 (Err c.in-Ok-Err.faulted) (faulted (instance_fault_of c.in-Ok-Err.faulted.fault)) c.in-Ok-Err.field-0-is refl
     c.requires.names (ap (map action_of) c.as_slice-actions.ensures.value) (rw (c.graph.ensures.graph, c.action-action.ensures) at c.predecessors.ensures.nodes) (slice_get-map action_of c.args.plan.now.actions.items c.args.permit c.index-actions-action.result c.requires.within read)
-    (sym (rw c.action-action.ensures at c.if-not-is_due.ensures)) (c.in-Ok-Err.ensures.asked requests are)
+    (rw c.action-action.ensures at c.in_default.ensures) (c.in-Ok-Err.ensures.asked requests are))
 
 pub returns-in-Ok-Ok-clause-ended : goal.returns-in-Ok-Ok-clause-ended
 returns-in-Ok-Ok-clause-ended g c = λ requests are.
@@ -74,7 +86,7 @@ returns-in-Ok-Ok-clause-ended g c = λ requests are.
     let read = rw (c.action-action.ensures, c.as_slice-actions.ensures.value) at c.index-actions-action.is in
     ends_asked ms requests (plan_of c.args.plan.now) c.args.permit (names_in c.args.names.now) (map action_of c.as_slice-actions.result.now) c.args.results.now c.predecessors.result.now (action_of c.index-actions-action.result) c.in-Ok-Ok.field-0 (Ok c.in-Ok-Ok.asking) (done_of c.serve.result.0) c.in-Ok-Ok.field-0-is c.serve.ensures.ended
     c.requires.names (ap (map action_of) c.as_slice-actions.ensures.value) (rw (c.graph.ensures.graph, c.action-action.ensures) at c.predecessors.ensures.nodes) (slice_get-map action_of c.args.plan.now.actions.items c.args.permit c.index-actions-action.result c.requires.within read)
-    (sym (rw c.action-action.ensures at c.if-not-is_due.ensures)) (c.in-Ok-Ok.ensures.asked requests are)
+    (rw c.action-action.ensures at c.in_default.ensures) (c.in-Ok-Ok.ensures.asked requests are)
 
 pub returns-in-Ok-Ok-clause-entered : goal.returns-in-Ok-Ok-clause-entered
 returns-in-Ok-Ok-clause-entered g c =

@@ -12,6 +12,15 @@ use Rattle.tf_walk.proofs.SoFar.{so_far-more, staged-more, claimable_is, all_end
 use Rattle.tf_walk.proofs.Stages.{taken_there, fewer_free, map-set}
 use Rattle.tf_walk.proofs.walk.walk.Goals as goal
 
+pub end_action-ended-requires-clause-before : goal.end_action-ended-requires-clause-before
+end_action-ended-requires-clause-before g c =
+    let p = c.in-Some.permit in
+    let claimed = c.in-Some.ensures.claimed in
+    let old = c.loop-permit.book in
+    let ends = map (option_map done_of) c.loop-permit.results in
+    let parts = claimable_is old ends p c.loop-permit.invariant.staged claimed.1 in
+    rw c.loop-permit.invariant.book at parts.1
+
 pub close-requires : goal.close-requires
 close-requires g c =
     let p = c.in-Some.permit in

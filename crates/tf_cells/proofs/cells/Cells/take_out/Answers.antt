@@ -27,7 +27,7 @@ loop-cell-preserved-in-Some-into_inner g c =
     let at : c.len.result ≡ length rest = search rules in
     let placed : c.place.new.results ≡ slice_set c.loop-cell.results (length rest) (Some ended) = c.place.ensures ∙ ap (λ (k : ℕ). slice_set c.loop-cell.results k (Some ended)) at in
     subst (λ (rs : List (Option Ended)). IsTakenOut ms plan count rest rs) (sym placed)
-    (one-placed ms plan count rest c.loop-cell.results ended below (subst (λ (k : ℕ). IsTrueTo ms plan k (done_of ended)) last c.in-Some-into_inner.ensures.1) shorter)
+    (one-placed ms plan count rest c.loop-cell.results ended below (subst (λ (k : ℕ). IsTrueTo ms plan k (done_of ended)) last c.in-Some-into_inner.ensures.2) shorter)
 
 pub loop-cell-preserved : goal.loop-cell-preserved
 loop-cell-preserved g c = one-less g.N.Naming.meanings g.N.Naming.plan c.args.self c.loop-cell.cells.items c.pop.new.self.items c.in-Some.cell c.loop-cell.results c.in-Some.ensures.items c.loop-cell.invariant

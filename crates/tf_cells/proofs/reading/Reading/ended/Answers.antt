@@ -5,6 +5,13 @@ use Rattle.tf_cells.specs.Ideal.{IsEndOf, IsTrueTo}
 use Rattle.tf_cells.specs.Reading.{done_held}
 use Rattle.tf_cells.proofs.reading.Reading.ended.Goals as goal
 
+pub returns-clause-own : goal.returns-clause-own
+returns-clause-own g c =
+    let claim = c.args.self.now.claim in
+    let own : IsEndOf g.N.Naming.meanings g.N.Naming.plan claim.tag c.in-Some.kept.ended =
+    subst (λ o. IfSome o (λ kept. IsEndOf g.N.Naming.meanings g.N.Naming.plan claim.tag kept.ended)) c.in-Some.is c.get.ensures.1 in
+    own.0 ∙ c.args.self.now.own
+
 pub returns-clause-fits : goal.returns-clause-fits
 returns-clause-fits g c =
     let claim = c.args.self.now.claim in
@@ -12,4 +19,4 @@ returns-clause-fits g c =
     let own : IsEndOf g.N.Naming.meanings g.N.Naming.plan claim.tag c.in-Some.kept.ended =
     subst (λ o. IfSome o (λ kept. IsEndOf g.N.Naming.meanings g.N.Naming.plan claim.tag kept.ended)) c.in-Some.is c.get.ensures.1 in
     let held : done_of c.in-Some.kept.ended ≡ done_held claim.value = ap (λ o. done_held (Some o)) (sym c.in-Some.is) ∙ ap done_held c.get.ensures.0 in
-    subst (λ n. true_to n (done_held claim.value)) c.args.self.now.own (subst (λ d. true_to claim.tag d) held own.1)
+    subst (λ n. true_to n (done_held claim.value)) c.args.self.now.own (subst (λ d. true_to claim.tag d) held own.2)

@@ -22,7 +22,7 @@ store-requires g c =
     let P : Digraph × ℕ × View → Type 0 = λ z. Owes z.0 z.1 z.2 in (
       at.table,
       omega (arith, at.nodes, at.key_nodes, c.self.invariant.1),
-      words.ends_as _ _ _ _ _ _ _ (at.key ∙ sym c.requires.about.0) (is ∙ sym c.requires.about.1) (subst P (λ i. (sym at.key i, sym is i, sym at.view i)) c.requires.owed),
+      words.ends_as _ _ _ c.seat.invariant.2 _ _ _ _ (at.key ∙ sym c.requires.about.0) (is ∙ sym c.requires.about.1) (subst P (λ i. (sym at.key i, sym is i, sym at.view i)) c.requires.owed),
     )
 
 pub overflow_add-seat : goal.overflow_add-seat

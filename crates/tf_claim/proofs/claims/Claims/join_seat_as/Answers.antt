@@ -1,8 +1,10 @@
-use Rattle.std.proofs.Common.{◌≡◌, sym, ap, subst, ◌∙◌, arith}
+use Rattle.std.proofs.Common.{◌≡◌, ◌<◌, sym, ap, subst, ◌∙◌, arith, length}
 use Rattle.tf_claim.specs.declared.seat.View.{View}
 use Rattle.tf_claim.specs.Views.{Seated, both}
 use Rattle.tf_claim.specs.Claims.{Shared, Stands}
+use Rattle.tf_claim.specs.Plays.{Sat}
 use Rattle.tf_claim.proofs.Keeping as keeping
+use Rattle.tf_claim.proofs.Parts.{some_joined}
 use Rattle.tf_claim.proofs.Words as words
 use Rattle.tf_claim.proofs.claims.Claims.join_seat_as.Goals as goal
 
@@ -13,7 +15,7 @@ join_seat-requires g c =
       ap (λ (z : Seated). z.table) c.other.view_is ∙ c.requires.other ∙ sym (ap (λ (z : Shared). z.table) c.self.view_is),
       c.other.invariant.0,
       omega arith,
-      words.joins _ _ _ _ _,
+      words.joins _ _ _ _ _ c.seat.invariant.2,
     )
 
 pub load-requires : goal.load-requires
@@ -22,7 +24,7 @@ load-requires g c =
     let now : c.self.inside.table.shared.key ≡ g.B.About.graph = c.self.invariant.0 ∙ ap (λ (z : Shared). z.graph) c.self.view_is ∙ sym c.requires.about in (
       c.join_seat.ensures.0 ∙ ap (λ (z : Seated). z.table) c.seat.view_is ∙ c.requires.seat ∙ sym (ap (λ (z : Shared). z.table) c.self.view_is),
       omega arith,
-      words.rests_as _ _ _ _ _ _ now,
+      words.rests_as _ _ _ (subst (λ (v : View). 0 < length v.part) (sym (ap (λ (m : Sat). m.0) c.join_seat.ensures.2)) (some_joined c.seat.inside.place.me.0.part c.other.inside.place.me.0.part c.seat.invariant.2)) _ _ _ now,
     )
 
 pub overflow_add-seat : goal.overflow_add-seat

@@ -14,7 +14,7 @@ fetch_sub-requires g c =
     let P : Digraph × View → Type 0 = λ z. MayLetGo z.0 g.B.About.number z.1 in (
       at.table,
       omega (arith, at.nodes, at.key_nodes, c.self.invariant.1),
-      words.releases_as _ _ _ _ _ g.B.About.number g.B.About.number (at.key ∙ sym c.requires.about.0) refl _ is (omega (arith, at.nodes, at.key_nodes, c.self.invariant.1)) (subst P (λ i. (sym at.key i, sym at.view i)) c.requires.may),
+      words.releases_as _ _ _ c.seat.invariant.2 _ _ g.B.About.number g.B.About.number (at.key ∙ sym c.requires.about.0) refl _ is (omega (arith, at.nodes, at.key_nodes, c.self.invariant.1)) (subst P (λ i. (sym at.key i, sym at.view i)) c.requires.may),
     )
 
 pub overflow_add-seat : goal.overflow_add-seat

@@ -9,5 +9,5 @@ split_seat-place-requires c =
     let words_are = c.self.invariant.1 in (
       ap (λ (z : Seated). z.table) c.seat.view_is ∙ c.requires ∙ sym (ap (λ (z : Shared). z.table) c.self.view_is),
       omega arith,
-      words.splits _ _ _,
+      words.splits _ _ _ c.seat.invariant.2,
     )

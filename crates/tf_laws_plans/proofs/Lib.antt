@@ -1,0 +1,8 @@
+mod Rising
+mod Places
+mod Shaped
+mod Ordering
+mod Plans
+pub mod Leading
+mod Sorting
+mod Finding

@@ -1,0 +1,75 @@
+-- That there is one plan, or one list of refusals, and never both.
+use Rattle.std.specs.Prelude.{◌≡◌, ◌<◌, ◌⊎◌, ℕ, List, Some, length, map, codes}
+use Rattle.std.specs.List.{AllByRecursion}
+use Rattle.std.specs.List.Sorted.{IsStrictlySortedBy}
+use Rattle.tf_address.specs.Label.{label_cmp}
+use Rattle.tf_config_data.specs.Config.{ConfigView}
+use Rattle.tf_config_data.specs.Names.{directly_before, names_of, place_of}
+use Rattle.tf_graph.specs.Solutions.{Ranked}
+use Rattle.tf_names.specs.Needs.{IsAcyclic, IsDependence}
+use Rattle.tf_names.specs.declared.dependence.Dependence.{Dependence}
+use Rattle.tf_plan.specs.Plan.{IsPlan}
+use Rattle.tf_plan.specs.Refused.{AreRefused}
+use Rattle.tf_plan_data.specs.Plan.{PlanView, plan_names}
+use Rattle.tf_plan_text.specs.Text.{plan_text}
+use Rattle.tf_protocol.specs.Meaning.{Meaning}
+use Rattle.tf_refusal.specs.Refusal.{Told}
+use Rattle.tf_state_data.specs.Addresses.{AreByAddress}
+use Rattle.tf_state_data.specs.Ids.{AreById}
+use Rattle.tf_state_data.specs.State.{StateView}
+use Rattle.tf_syntax.specs.TemplateNames.{Pair}
+use Rattle.tf_value.specs.Tree.{Entries}
+
+-- What is planned keeps to what was shown where it was read: no name of the configuration needs itself; its blocks stand in the
+-- order of their addresses, and none is of the type `local`, by which locals are named; and the resources of the prior state
+-- stand in the order of their addresses, with the records of each in the order of their ids.
+pub record AreOrderly (config : ConfigView) (prior : StateView) : Type 0 where
+  pub ranked : Ranked (directly_before (names_of config))
+  pub blocks : IsStrictlySortedBy label_cmp (map (λ b. b.label) config.blocks)
+  pub own_names : AllByRecursion (λ b. ¬ (b.label.type_name ≡ codes "local")) config.blocks
+  pub resources : AreByAddress prior.resources
+  pub records : AllByRecursion (λ r. AreById r.records) prior.resources
+
+-- Two plans are the same: they start from the same state, configuration and values; each name has the same instances, and what
+-- it needs is the same; the same resources are late; and they have the same actions in the same order.
+pub record AreOne (p q : PlanView) : Type 0 where
+  pub prior : p.prior ≡ q.prior
+  pub config : p.config ≡ q.config
+  pub variables : p.variables ≡ q.variables
+  pub shapes : (n : ℕ) → n < length (plan_names p) → p.shapes n ≡ q.shapes n
+  pub needs : (name : Pair) (n m : ℕ) → place_of (plan_names p) name ≡ Some n → p.needs n m ≡ q.needs n m
+  pub late : (n : ℕ) → p.late n ≡ q.late n
+  pub actions : p.actions ≡ q.actions
+  pub order : p.order ≡ q.order
+
+-- Two plans of one configuration, one list of values and one prior state are the same.
+abbrev pub PlansAreOne : Type 0
+PlansAreOne =
+    (ms : List Meaning) (config : ConfigView) (variables : Entries) (prior : StateView) (p q : PlanView)
+    → AreOrderly config prior → IsPlan ms config variables prior p → IsPlan ms config variables prior q → AreOne p q
+
+-- So the same text is shown of them.
+abbrev pub PlanTextsAreOne : Type 0
+PlanTextsAreOne =
+    (ms : List Meaning) (config : ConfigView) (variables : Entries) (prior : StateView) (p q : PlanView)
+    → AreOrderly config prior → IsPlan ms config variables prior p → IsPlan ms config variables prior q
+    → plan_text p.late p.actions ≡ plan_text q.late q.actions
+
+-- Where there is a plan, nothing is refused.
+abbrev pub PlansAreNotRefused : Type 0
+PlansAreNotRefused =
+    (ms : List Meaning) (config : ConfigView) (variables : Entries) (prior : StateView) (plan : PlanView) (tolds : List Told)
+    → AreOrderly config prior → IsPlan ms config variables prior plan → ¬ AreRefused ms config variables prior tolds
+
+-- Two lists of what is refused of one configuration, one list of values and one prior state are the same.
+abbrev pub RefusalsAreOne : Type 0
+RefusalsAreOne =
+    (ms : List Meaning) (config : ConfigView) (variables : Entries) (prior : StateView) (tolds others : List Told)
+    → AreOrderly config prior → AreRefused ms config variables prior tolds → AreRefused ms config variables prior others → tolds ≡ others
+
+-- Where it is told which name of a configuration needs which, and none needs itself, there is a plan, or something is refused.
+abbrev pub PlannedOrRefused : Type 0
+PlannedOrRefused =
+    (ms : List Meaning) (config : ConfigView) (variables : Entries) (prior : StateView) (d : Dependence)
+    → IsDependence (names_of config) d → IsAcyclic d
+    → ((plan : PlanView) × IsPlan ms config variables prior plan) ⊎ ((tolds : List Told) × AreRefused ms config variables prior tolds)

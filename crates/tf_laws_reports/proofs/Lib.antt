@@ -1,0 +1,11 @@
+pub mod Called
+pub mod Due
+pub mod Ended
+pub mod Fitting
+pub mod Heads
+pub mod Journals
+pub mod Lists
+pub mod Named
+pub mod Planned
+pub mod Told
+pub mod Whole

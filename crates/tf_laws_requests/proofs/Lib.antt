@@ -1,0 +1,9 @@
+mod Alike
+mod Answered
+mod Applied
+mod Called
+mod Instance
+mod Keys
+mod Planned
+mod Requested
+mod Steps

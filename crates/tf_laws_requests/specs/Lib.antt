@@ -1,0 +1,2 @@
+pub mod Instances
+pub mod Requests

@@ -1,0 +1,10 @@
+mod Reading
+mod Ranking
+mod Planning
+mod Complete
+mod Settling
+mod Alike
+mod Applying
+mod Unrefused
+mod Once
+mod Refusing

@@ -1,0 +1,6 @@
+pub mod Laws
+pub mod Readings
+pub mod Plans
+pub mod Refusals
+pub mod Success
+pub mod Applies

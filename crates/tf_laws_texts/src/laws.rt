@@ -1,0 +1,106 @@
+//! Laws on texts.
+
+ghost use Rattle.tf_laws_texts.specs.Applies.{AppliesAreOne};
+ghost use Rattle.tf_laws_texts.specs.Laws.{Laws};
+ghost use Rattle.tf_laws_texts.specs.Plans.{AppliesShowThePlan, PlannedTextsAreNotRefused, RefusalsOfTextsAreOne, TextsHaveOnePlan, TextsHaveOnePlanApart, TextsShowOnePlan};
+ghost use Rattle.tf_laws_texts.specs.Refusals.{ApplyRefusalsTellTheSame, PlannedTextsHaveNoRefusals, ReadTextsAreNotRefused, RefusalsTellTheSame, RefusedReadingsAreOne};
+ghost use Rattle.tf_laws_texts.specs.Readings.{TextsStandForOne, TextsStandForOneApart};
+ghost use Rattle.tf_laws_texts.specs.Success.{SecondAppliesSettle, SuccessIsComplete, ThirdAppliesChangeNothing};
+
+use tf_config::{blocks_are_in_order, faultless_trees_stand};
+use tf_converges::laws::{applies_settle, read_configurations_fit};
+use tf_laws_plans::laws::{plans_are_not_refused, plans_are_one, refusals_are_one};
+use tf_laws_reports::laws::{plans_are_founded, reports_are_one};
+use tf_state::{new_states_are_valid, read_states_are_valid, texts_are_of_one, texts_read_back};
+use tf_variables::values_are_one;
+
+/// What reading answers has the laws that all those of texts rest on.
+fn laws_of_reading()
+    ensures { Laws }
+{
+    faultless_trees_stand();
+    blocks_are_in_order();
+    tf_config::refusals_are_one();
+    values_are_one();
+    read_states_are_valid();
+    new_states_are_valid();
+    texts_are_of_one();
+    read_configurations_fit();
+}
+
+/// Texts stand for one configuration, one list of values of its variables and one prior state, where a new state is of
+/// one lineage; and by another lineage no more than that of a new state is another.
+pub fn texts_stand_for_one()
+    ensures one { TextsStandForOne }
+    ensures apart { TextsStandForOneApart }
+{
+    laws_of_reading();
+}
+
+/// Texts have one plan: by another lineage of a new state no more than that lineage is another. So one text is shown of it,
+/// by a plan as by an apply.
+pub fn texts_have_one_plan()
+    ensures plans { TextsHaveOnePlan }
+    ensures apart { TextsHaveOnePlanApart }
+    ensures texts { TextsShowOnePlan }
+    ensures applies { AppliesShowThePlan }
+{
+    laws_of_reading();
+    plans_are_one();
+}
+
+/// What the plan of texts is refused for is one list, and there is none where they have a plan.
+pub fn plans_exclude_refusals()
+    ensures excluded { PlannedTextsAreNotRefused }
+    ensures one { RefusalsOfTextsAreOne }
+{
+    laws_of_reading();
+    plans_are_not_refused();
+    refusals_are_one();
+}
+
+/// Of texts that stand for something no refusal is told, but that there was no memory; so texts that have a plan have no
+/// list of refusals.
+pub fn readings_exclude_refusals()
+    ensures read { ReadTextsAreNotRefused }
+    ensures planned { PlannedTextsHaveNoRefusals }
+{
+    laws_of_reading();
+    plans_exclude_refusals();
+}
+
+/// Texts that can't be read are refused for one fault, so two lists of the refusals of the same texts tell the same; but of
+/// a text in the configuration that spells no template an offset is told, which is free, or that it is too deep.
+pub fn refused_readings_are_one()
+    ensures read { RefusedReadingsAreOne }
+    ensures lists { RefusalsTellTheSame }
+    ensures applies { ApplyRefusalsTellTheSame }
+{
+    laws_of_reading();
+    plans_exclude_refusals();
+    readings_exclude_refusals();
+}
+
+/// Where the status of an apply is 0, all that was planned was done: each action is good, and each output has a value. So a
+/// second apply over the text of the state that it left changes flags `create_before_destroy` at most, and the serial, and a
+/// third one nothing.
+pub fn success_is_complete()
+    ensures complete { SuccessIsComplete }
+    ensures second { SecondAppliesSettle }
+    ensures third { ThirdAppliesChangeNothing }
+{
+    laws_of_reading();
+    texts_read_back();
+    read_configurations_fit();
+    applies_settle();
+}
+
+/// Two applies of the same texts that excuse the same answer the same, by however many workers.
+pub fn applies_are_one()
+    ensures { AppliesAreOne }
+{
+    laws_of_reading();
+    plans_are_one();
+    plans_are_founded();
+    reports_are_one();
+}
