@@ -33,6 +33,7 @@ use Rattle.tf_state_data.specs.State.{StateView}
 use Rattle.tf_value.specs.Tree.{Entries}
 use Rattle.tf_laws_plans.proofs.Leading.{decided_late, decided_path, tested}
 use Rattle.tf_laws_plans.proofs.Sorting.{some_order}
+use Rattle.tf_laws_plans.proofs.Telling.{some_dependence}
 use Rattle.tf_laws_plans.specs.Plans.{PlannedOrRefused}
 
 -- ---- instances
@@ -188,4 +189,4 @@ module _ (ms : List Meaning) (config : ConfigView) (variables : Entries) (prior 
       ]
 
 pub planned_or_refused : PlannedOrRefused
-planned_or_refused ms config variables prior d is acyclic = by_expansion ms config variables prior d is acyclic
+planned_or_refused ms config variables prior few none = let told = some_dependence (names_of config) few none in by_expansion ms config variables prior told.0 told.1 told.2

@@ -5,4 +5,6 @@ mod Ordering
 mod Plans
 pub mod Leading
 mod Sorting
+mod Graphs
+pub mod Telling
 mod Finding

@@ -1,13 +1,12 @@
 -- That there is one plan, or one list of refusals, and never both.
-use Rattle.std.specs.Prelude.{◌≡◌, ◌<◌, ◌⊎◌, ℕ, List, Some, length, map, codes}
+use Rattle.std.specs.Prelude.{◌≡◌, ◌^◌, ◌<◌, ◌⊎◌, ℕ, List, Some, length, map, codes}
 use Rattle.std.specs.List.{AllByRecursion}
 use Rattle.std.specs.List.Sorted.{IsStrictlySortedBy}
 use Rattle.tf_address.specs.Label.{label_cmp}
 use Rattle.tf_config_data.specs.Config.{ConfigView}
 use Rattle.tf_config_data.specs.Names.{directly_before, names_of, place_of}
 use Rattle.tf_graph.specs.Solutions.{Ranked}
-use Rattle.tf_names.specs.Needs.{IsAcyclic, IsDependence}
-use Rattle.tf_names.specs.declared.dependence.Dependence.{Dependence}
+use Rattle.tf_names.specs.Needs.{Needs}
 use Rattle.tf_plan.specs.Plan.{IsPlan}
 use Rattle.tf_plan.specs.Refused.{AreRefused}
 use Rattle.tf_plan_data.specs.Plan.{PlanView, plan_names}
@@ -67,9 +66,10 @@ RefusalsAreOne =
     (ms : List Meaning) (config : ConfigView) (variables : Entries) (prior : StateView) (tolds others : List Told)
     → AreOrderly config prior → AreRefused ms config variables prior tolds → AreRefused ms config variables prior others → tolds ≡ others
 
--- Where it is told which name of a configuration needs which, and none needs itself, there is a plan, or something is refused.
+-- Where no name of a configuration needs itself, there is a plan, or something is refused: of fewer names than 2^63, which is
+-- more than any memory holds.
 abbrev pub PlannedOrRefused : Type 0
 PlannedOrRefused =
-    (ms : List Meaning) (config : ConfigView) (variables : Entries) (prior : StateView) (d : Dependence)
-    → IsDependence (names_of config) d → IsAcyclic d
+    (ms : List Meaning) (config : ConfigView) (variables : Entries) (prior : StateView)
+    → length (names_of config) < 2 ^ 63 → ((pair : Pair) → ¬ Needs (names_of config) pair pair)
     → ((plan : PlanView) × IsPlan ms config variables prior plan) ⊎ ((tolds : List Told) × AreRefused ms config variables prior tolds)

@@ -18,7 +18,7 @@ pub fn refusals_are_one()
     ensures { RefusalsAreOne }
 {}
 
-/// Where it is told which name needs which, and none needs itself, there is a plan, or something is refused.
+/// Where no name of a configuration needs itself, there is a plan, or something is refused.
 pub fn planned_or_refused()
     ensures { PlannedOrRefused }
 {}
