@@ -8,3 +8,7 @@ mod Applying
 mod Unrefused
 mod Once
 mod Refusing
+mod Decided
+mod Circles
+mod ToldOf
+mod OneOfTwo

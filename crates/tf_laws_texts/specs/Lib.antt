@@ -4,3 +4,4 @@ pub mod Plans
 pub mod Refusals
 pub mod Success
 pub mod Applies
+pub mod OneOfTwo

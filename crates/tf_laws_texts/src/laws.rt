@@ -2,14 +2,17 @@
 
 ghost use Rattle.tf_laws_texts.specs.Applies.{AppliesAreOne};
 ghost use Rattle.tf_laws_texts.specs.Laws.{Laws};
+ghost use Rattle.tf_laws_texts.specs.OneOfTwo.{AppliesHavePlanOrRefusals, PlansAreTold, ReadingsAreTold, TextsAreReadOrRefused, TextsHavePlanOrRefusals};
 ghost use Rattle.tf_laws_texts.specs.Plans.{AppliesShowThePlan, PlannedTextsAreNotRefused, RefusalsOfTextsAreOne, TextsHaveOnePlan, TextsHaveOnePlanApart, TextsShowOnePlan};
 ghost use Rattle.tf_laws_texts.specs.Refusals.{ApplyRefusalsTellTheSame, PlannedTextsHaveNoRefusals, ReadTextsAreNotRefused, RefusalsTellTheSame, RefusedReadingsAreOne};
 ghost use Rattle.tf_laws_texts.specs.Readings.{TextsStandForOne, TextsStandForOneApart};
 ghost use Rattle.tf_laws_texts.specs.Success.{SecondAppliesSettle, SuccessIsComplete, ThirdAppliesChangeNothing};
 
-use tf_config::{blocks_are_in_order, faultless_trees_stand};
+use tf_config::{blocks_are_in_order, faultless_trees_stand, names_are_few};
 use tf_converges::laws::{applies_settle, read_configurations_fit};
-use tf_laws_plans::laws::{plans_are_not_refused, plans_are_one, refusals_are_one};
+use tf_laws_plans::laws::{
+    planned_or_refused, plans_are_not_refused, plans_are_one, refusals_are_one,
+};
 use tf_laws_reports::laws::{plans_are_founded, reports_are_one};
 use tf_state::{new_states_are_valid, read_states_are_valid, texts_are_of_one, texts_read_back};
 use tf_variables::values_are_one;
@@ -79,6 +82,29 @@ pub fn refused_readings_are_one()
     laws_of_reading();
     plans_exclude_refusals();
     readings_exclude_refusals();
+}
+
+/// Of no texts neither of two holds: they stand for something, or a refusal of them is told that isn't want of memory. Where it
+/// can be told of each text whether it is a template, it can be told which of the two holds.
+pub fn texts_are_read_or_refused()
+    ensures never_neither { TextsAreReadOrRefused }
+    ensures told { ReadingsAreTold }
+{
+    faultless_trees_stand();
+    values_are_one();
+}
+
+/// So no texts have neither a plan nor refusals, and of an apply of them by some number of workers neither; and where it can be told of
+/// each text whether it is a template, it can be told which of the two texts have.
+pub fn texts_have_plan_or_refusals()
+    ensures never_neither { TextsHavePlanOrRefusals }
+    ensures applies { AppliesHavePlanOrRefusals }
+    ensures told { PlansAreTold }
+{
+    faultless_trees_stand();
+    values_are_one();
+    names_are_few();
+    planned_or_refused();
 }
 
 /// Where the status of an apply is 0, all that was planned was done: each action is good, and each output has a value. So a
