@@ -1,6 +1,7 @@
 mod applying;
 mod counted;
 mod large;
+mod limits;
 mod refusals;
 mod replies;
 mod shown;

@@ -6,6 +6,10 @@ mod excuses;
 #[cfg(test)]
 mod meetings;
 #[cfg(test)]
+mod replies;
+#[cfg(test)]
 mod runs;
+#[cfg(test)]
+mod steps;
 #[cfg(test)]
 mod torn;

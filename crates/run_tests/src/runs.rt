@@ -39,15 +39,15 @@ pub(crate) const BROKEN: &str =
     r#"{"resource": {"sim_host": {"a": {"name": "a"}, "b": {"name": "b", "net": "${sim_host.a.id}", "size": 101}, "c": {"name": "c", "net": "${sim_host.a.id}"}, "d": {"name": "d", "net": "${sim_host.b.id}-${sim_host.c.id}"}}}}"#;
 
 /// The state of a net, and of a host on it.
-const BEFORE: &str =
+pub(crate) const BEFORE: &str =
     r#"{"version": 4, "serial": 1, "lineage": "L", "resources": [{"mode": "managed", "type": "sim_net", "name": "a", "provider": "p", "instances": [{"schema_version": 0, "attributes": {"cidr": "x", "id": "net-x", "tag": null}}]}, {"mode": "managed", "type": "sim_host", "name": "h", "provider": "p", "instances": [{"schema_version": 0, "attributes": {"id": "host-h", "name": "h", "net": "net-x", "size": null}, "dependencies": ["sim_net.a"]}]}]}"#;
 
 /// Another net, created before the old one is destroyed.
-const LATE: &str =
+pub(crate) const LATE: &str =
     r#"{"resource": {"sim_net": {"a": {"cidr": "y", "lifecycle": {"create_before_destroy": true}}}, "sim_host": {"h": {"name": "h", "net": "${sim_net.a.id}"}}}}"#;
 
 /// Another net and another host, both created before the old ones are destroyed.
-const BOTH_LATE: &str =
+pub(crate) const BOTH_LATE: &str =
     r#"{"resource": {"sim_net": {"a": {"cidr": "y"}}, "sim_host": {"h": {"name": "g", "net": "${sim_net.a.id}", "lifecycle": {"create_before_destroy": true}}}}}"#;
 
 /// Hosts that all wait for all nets.
@@ -97,8 +97,21 @@ fn check_runs<R: Abort + Threads + Wait + Sync>(
 ) -> Result<(), Fail> {
     let mut providers: Vec<Box<dyn Provider + Sync>> = Vec::new(alloc);
     providers.push(Box::new(alloc, Sim::new(alloc)?)?)?;
-    let plan = plan_texts(alloc, config, state, &providers)?;
-    let Ok(walked) = run_one(alloc, &plan, &providers, &Stop::new()) else {
+    check_runs_by(rt, alloc, &providers, config, state, outcomes, times)
+}
+
+/// The same, by these providers.
+pub(crate) fn check_runs_by<R: Abort + Threads + Wait + Sync>(
+    rt: &R,
+    alloc: Global,
+    providers: &[Box<dyn Provider + Sync>],
+    config: &str,
+    state: Option<&str>,
+    outcomes: Option<&str>,
+    times: usize,
+) -> Result<(), Fail> {
+    let plan = plan_texts(alloc, config, state, providers)?;
+    let Ok(walked) = run_one(alloc, &plan, providers, &Stop::new()) else {
         return Err("no memory".into());
     };
     let one = tell_of(alloc, walked)?;
@@ -107,7 +120,7 @@ fn check_runs<R: Abort + Threads + Wait + Sync>(
     }
     for workers in [1, 2, 4, 64] {
         for _ in 0..times {
-            check_run(rt, alloc, &plan, &providers, workers, &one)?;
+            check_run(rt, alloc, &plan, providers, workers, &one)?;
         }
     }
     Ok(())
@@ -133,6 +146,11 @@ fn check_run<R: Abort + Threads + Wait + Sync>(
     assert!(rt; is_closed && many.whole, "{workers}");
     assert_eq!(rt; many.excused.as_str(), "", "{workers}");
     assert_eq!(rt; many.outcomes.as_str(), one.outcomes.as_str(), "{workers}");
+    assert_eq!(rt;
+        many.diagnostics.as_str(),
+        one.diagnostics.as_str(),
+        "{workers}"
+    );
     assert_eq!(rt; many.journal.len(), one.journal.len(), "{workers}");
     assert!(rt; many.state == one.state, "{workers}");
     Ok(())

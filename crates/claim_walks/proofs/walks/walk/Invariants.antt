@@ -1,6 +1,6 @@
 -- the seat belongs to these claims
 use Rattle.std.proofs.Common.{◌≡◌}
-use Rattle.claim_tests.proofs.claims.walk.Given as goal
+use Rattle.claim_walks.proofs.walks.walk.Given as goal
 
 abbrev pub invariant-loop-action : goal.invariant-loop-action
 invariant-loop-action l = l.seat.table ≡ l.claims.table
