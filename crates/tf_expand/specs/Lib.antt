@@ -1,3 +1,4 @@
 pub mod Expanding
 pub mod Laws
+pub mod Needed
 pub mod Told

@@ -2,12 +2,13 @@
 use Rattle.std.specs.Prelude.{◌≡◌, ◌<◌, ℕ, List, length, None, Result, Ok, Err}
 use Rattle.tf_config_data.specs.Names.{NameView}
 use Rattle.tf_value.specs.Tree.{Entries}
-use Rattle.tf_names.specs.Needs.{IsReferredTo}
+use Rattle.tf_names.specs.declared.dependence.Dependence.{Dependence}
 use Rattle.tf_environment.specs.Stages.{expansion}
 use Rattle.tf_environment.specs.Standing.{StandingView, AreStandings}
 use Rattle.tf_environment.specs.Views.{shapes_of}
 use Rattle.tf_environment.specs.declared.shape.Shape.{Shape}
 use Rattle.tf_expand.specs.Expanding.{expanded, AreExpanded, IsFirstRefused, AreTooMany}
+use Rattle.tf_expand.specs.Needed.{IsNeeded}
 use Rattle.tf_expand.specs.declared.expansion.ExpansionFault.{ExpansionFault}
 use Rattle.tf_expand.specs.declared.expansion.ExpansionFault.TheVariants.{OutOfMemory, Resource, TooMany}
 
@@ -22,10 +23,10 @@ abbrev pub Tells : {X : Type 0} → (X → List Shape) → Entries → List Name
 Tells view variables names standings (Ok shapes) = AreExpanded variables names standings (shapes_of (view shapes))
 Tells view variables names standings (Err fault) = Refuses variables names standings fault
 
--- The names that another refers to have their standings in the expansion; at no other place does anything stand.
-pub record AreReferredStandings (variables : Entries) (names : List NameView) (kept : ℕ → StandingView) : Type 0 where
-  pub referred : (standings : ℕ → StandingView) → AreStandings expansion variables names standings → (n : ℕ) → IsReferredTo names n → kept n ≡ standings n
-  pub only : (n : ℕ) → n < length names → ¬ IsReferredTo names n → kept n ≡ None
+-- The names that a resource needs have their standings in the expansion; at no other place does anything stand.
+pub record AreNeededStandings (variables : Entries) (names : List NameView) (d : Dependence) (kept : ℕ → StandingView) : Type 0 where
+  pub needed : (standings : ℕ → StandingView) → AreStandings expansion variables names standings → (n : ℕ) → IsNeeded names d n → kept n ≡ standings n
+  pub only : (n : ℕ) → n < length names → ¬ IsNeeded names d n → kept n ≡ None
 
 -- a shape for each name, and the right one
 pub record HaveShapes (variables : Entries) (names : List NameView) (standings : ℕ → StandingView) (shapes : List Shape) : Type 0 where

@@ -3,9 +3,10 @@
 ghost use Rattle.std.specs.Prelude.{◌≡◌, ◌<◌, ℕ, IfOk, Some, length, min};
 ghost use Rattle.tf_environment.specs.Words.{AreStandings, directly_before, entries_view, expansion, IsAcyclic, IsDependence, meant_at, named_view, names_in, shape_of, shapes_of, standings_of, StandingView, worked_out};
 ghost use Rattle.tf_expand.specs.Expanding.{expanded, instance_count, instances_before};
-ghost use Rattle.tf_expand.specs.Told.{AreReferredStandings, Shapes, Tells};
+ghost use Rattle.tf_expand.specs.Told.{AreNeededStandings, Shapes, Tells};
 ghost use Rattle.tf_expand.specs.declared.expansion.ExpansionFault.TheVariants.{OutOfMemory};
 
+use crate::needed::needed_by_resources;
 use std::alloc::{AllocError, AllocFailed, Global};
 use tf_environment::{
     Declarations, Expansion, NamesScope, RepetitionFault, Shape, Standing, all_stand, instances,
@@ -56,7 +57,7 @@ pub fn expand(alloc: Global, declared: &Declarations) -> Result<Vec<Shape>, Expa
         → AreStandings expansion (entries_view declared.now.variables.now.entries) (names_in declared.now.names.now) standings
         → Tells (λ shapes. shapes.items) (entries_view declared.now.variables.now.entries) (names_in declared.now.names.now) standings result }
 {
-    let kept = referred_standings(alloc, declared)?;
+    let kept = needed_standings(alloc, declared)?;
     let shapes = shapes_by(alloc, declared, kept.as_slice())?;
     if count(declared.names, shapes.as_slice()) > MAX_INSTANCES {
         return Err(ExpansionFault::TooMany);
@@ -64,14 +65,14 @@ pub fn expand(alloc: Global, declared: &Declarations) -> Result<Vec<Shape>, Expa
     Ok(shapes)
 }
 
-/// What the names to which others refer stand for in the expansion. At any other place nothing stands: no value is made
-/// of the objects of a resource to which no name refers.
-fn referred_standings(alloc: Global, declared: &Declarations) -> Result<Vec<Standing>, AllocError>
+/// What the names that resources need stand for in the expansion. At any other place nothing stands: no local is evaluated
+/// that no resource needs, and no value is made of the objects of a resource to which no name refers.
+fn needed_standings(alloc: Global, declared: &Declarations) -> Result<Vec<Standing>, AllocError>
     requires dependence { IsDependence (names_in declared.now.names.now) declared.now.dependence.now }
     requires acyclic { IsAcyclic declared.now.dependence.now }
-    ensures { IfOk result (λ kept. AreReferredStandings (entries_view declared.now.variables.now.entries) (names_in declared.now.names.now) (standings_of kept.items)) }
+    ensures { IfOk result (λ kept. AreNeededStandings (entries_view declared.now.variables.now.entries) (names_in declared.now.names.now) declared.now.dependence.now (standings_of kept.items)) }
 {
-    let wanted = declared.dependence.referred_to(alloc)?;
+    let wanted = needed_by_resources(alloc, declared)?;
     let kept = standings(alloc, &Expansion, declared, wanted.as_slice())?;
     Ok(kept)
 }

@@ -6,5 +6,7 @@
 
 mod expansion;
 pub mod laws;
+mod needed;
 
 pub use expansion::{ExpansionFault, MAX_INSTANCES, expand};
+pub use needed::{needed_by, needed_by_resources};
