@@ -103,7 +103,8 @@ name-get : (o : Option NameView) (name : NameView) → option_map a_name o ≡ S
 name-get None name e = absurd (cc)
 name-get (Some x) name e = let same : x ≡ name = cc in ap (λ (y : NameView). Some y.meant) same
 
-name-stands : (names : List NameView) (resources : List ResourceView) (n : ℕ) (name : NameView) → slice_get (numbered names resources) n ≡ Some (a_name name) → (n < length names) × (meant_at names n ≡ Some name.meant)
+-- what is numbered as a name is one, and means what it does
+pub name-stands : (names : List NameView) (resources : List ResourceView) (n : ℕ) (name : NameView) → slice_get (numbered names resources) n ≡ Some (a_name name) → (n < length names) × (meant_at names n ≡ Some name.meant)
 name-stands names resources n name e =
     let inside = named_within (numbered names resources) names resources n name refl e in
     (inside, meant-get names n ∙ name-get (slice_get names n) name (sym ((numbers-in_order names resources).first_names n inside) ∙ e))

@@ -14,6 +14,8 @@ pub mod Sameness
 pub mod Solved
 pub mod Excluding
 pub mod Tied
+pub mod Marking
 pub mod Wanting
+pub mod Looking
 pub mod Declaring
 pub mod Fitting

@@ -1,28 +1,21 @@
 -- Where each name stands for the same, the same is planned.
-use Rattle.std.proofs.Common.{◌≡◌, ◌∙◌, ◌<◌, ◌++◌, ℕ, Option, Some, None, Result, Ok, Err, IfOk, List, [], ◌∷◌, map, length, if◌then◌else◌, refl, sym, ap}
+use Rattle.std.proofs.Common.{◌≡◌, ◌<◌, ◌++◌, ℕ, Option, Some, None, List, [], ◌∷◌, map, length, if◌then◌else◌, refl, ap}
 use Rattle.std.specs.List.{AllByRecursion}
 use Rattle.std.specs.Prelude.{codes, fold, slice_get}
 use Rattle.std.specs.Str.{bytes_eq}
-use Rattle.std.specs.declared.alloc.AllocError.{AllocError}
-use Rattle.tf_address_order.specs.Order.{AreInAddressOrder}
 use Rattle.tf_config_data.specs.Names.{NameView, Meant, a_local, a_block, meant_at, refers_at, directly_before, place_before, place_of, places}
 use Rattle.tf_deciding.specs.Deciding.{DecidedView, with_block}
-use Rattle.tf_deciding.specs.Stage.{deciding}
 use Rattle.tf_deciding.specs.Whole.{decided, nothing_decided, with_meant, with_numbered}
 use Rattle.tf_environment.proofs.Places.{all_places}
 use Rattle.tf_environment.specs.Shape.{ShapeView}
-use Rattle.tf_environment.specs.Standing.{StandingView, AreStandings, all_stand, answer_at, environment, or_missing}
+use Rattle.tf_environment.specs.Standing.{StandingView, all_stand, answer_at, environment, or_missing}
 use Rattle.tf_eval.specs.ExprMeaning.{meaning}
 use Rattle.tf_graph.proofs.Solving.{seen_by-same}
 use Rattle.tf_graph.specs.Solutions.{seen_by}
 use Rattle.tf_operators.specs.Answer.{Answer, present_value}
-use Rattle.tf_names.specs.Needs.{IsAcyclic, IsDependence}
-use Rattle.tf_names.specs.declared.dependence.Dependence.{Dependence}
-use Rattle.tf_plan.proofs.Existing.{some_standings}
 use Rattle.tf_plan.specs.Outputs.{output_fault, output_refusal, output_refusals}
-use Rattle.tf_plan.specs.Planned.{IsPlanned, planned_in, planned_of}
+use Rattle.tf_plan.specs.Planned.{planned_in}
 use Rattle.tf_plan.specs.Told.{instance_told}
-use Rattle.tf_plan.specs.declared.deciding.Planned.{Planned}
 use Rattle.tf_protocol.specs.Meaning.{Meaning}
 use Rattle.tf_resources.specs.Numbering.{NumberedView, a_name, an_orphan, numbered}
 use Rattle.tf_state_data.specs.Resource.{ResourceView}
@@ -77,19 +70,3 @@ module _ (variables : Entries) (names : List NameView) (kept standings : ℕ →
       let d = decided-same ms resources shapes (numbered names resources) order in
       let told = outputs-same outputs in
       (λ i. record { actions = (d i).actions; refusals = map instance_told (d i).refusals ++ told i })
-
--- what is planned where names stand for the very standings
-pub planned-is : (ms : List Meaning) (resources : List ResourceView) (variables : Entries) (names : List NameView) (outputs : expr.Entries) (shapes : ℕ → ShapeView) (order : List ℕ) (kept : ℕ → StandingView) (d : Dependence)
-    (result : Result Planned AllocError) → IsDependence names d → IsAcyclic d → AreInAddressOrder (numbered names resources) order
-    → ((standings : ℕ → StandingView) → AreStandings (deciding ms resources shapes) variables names standings → (n : ℕ) → n < length names → kept n ≡ standings n)
-    → IfOk result (λ p. planned_of p ≡ planned_in ms resources variables names outputs shapes order kept) → IfOk result (λ p. IsPlanned ms resources variables names outputs shapes (planned_of p))
-planned-is ms resources variables names outputs shapes order kept d (Ok p) is acyclic sorted same made =
-    let found = some_standings (deciding ms resources shapes) variables names d is acyclic in
-    record {
-      places = order;
-      in_order = sorted;
-      standings = found.0;
-      stand = found.1;
-      decided = sym (planned-same variables names kept found.0 (same found.0 found.1) ms resources outputs shapes order) ∙ sym made;
-    }
-planned-is ms resources variables names outputs shapes order kept d (Err e) is acyclic sorted same made = made

@@ -1,5 +1,6 @@
 pub mod Told
 pub mod Outputs
+pub mod Wanted
 pub mod Given
 pub mod Planned
 pub mod Ordered

@@ -1,13 +1,15 @@
 //! What is planned of the instances of a configuration and a prior state together.
 
-ghost use Rattle.std.specs.Prelude.{◌≡◌, ◌<◌, ℕ, IfOk, length, map};
+ghost use Rattle.std.specs.Prelude.{◌≡◌, ℕ, IfOk, map};
 ghost use Rattle.tf_deciding.specs.Stage.{deciding};
 ghost use Rattle.tf_plan_data.specs.Words.{AreStandings, shapes_of, standings_of, StandingView};
 ghost use Rattle.tf_plan.specs.Given.{IsGiven, names_given, outputs_given, resources_given, variables_given};
 ghost use Rattle.tf_plan.specs.Planned.{IsPlanned, planned_in, planned_of};
+ghost use Rattle.tf_plan.specs.Wanted.{IsWanted};
 
 use crate::outputs::add_outputs;
 use crate::telling::refusals_of;
+use crate::wanted::wanted_names;
 use std::alloc::{AllocError, Global};
 use std::collections::BTreeMap;
 use tf_action_data::Action;
@@ -65,7 +67,8 @@ pub(crate) fn plan_instances(
     )
 }
 
-/// What each name stands for in the plan.
+/// What each wanted name stands for in the plan. No local is evaluated that no resource and no output needs, and no
+/// object is worked out that nobody refers to.
 fn stage_standings(
     alloc: Global,
     given: &Given,
@@ -75,7 +78,7 @@ fn stage_standings(
     requires { IsGiven given.now }
     ensures { IfOk result (λ kept. (standings : ℕ → StandingView)
         → AreStandings (deciding (map (λ b. meaning b) providers.now) (resources_given given.now) (shapes_of shapes.now)) (variables_given given.now) (names_given given.now) standings
-        → (n : ℕ) → n < length (names_given given.now) → standings_of kept.items n ≡ standings n) }
+        → (n : ℕ) → IsWanted (names_given given.now) given.now.declared.now.dependence.now (outputs_given given.now) n → standings_of kept.items n ≡ standings n) }
 {
     let stage = Deciding {
         shapes,
@@ -84,7 +87,7 @@ fn stage_standings(
             providers,
         },
     };
-    let wanted = vec![in alloc; true; given.declared.names.len()]?;
+    let wanted = wanted_names(alloc, given.declared, given.outputs)?;
     standings(alloc, &stage, given.declared, wanted.as_slice())
 }
 

@@ -11,6 +11,7 @@ mod outputs;
 mod planner;
 mod refused;
 mod telling;
+mod wanted;
 
 pub use planner::{MAX_ACTIONS, plan};
 pub use refused::Refused;

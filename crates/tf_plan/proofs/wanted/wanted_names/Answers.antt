@@ -1,0 +1,32 @@
+use Rattle.std.proofs.Common.{◌≡◌, ◌<◌, ◌+◌, ◌||◌, ℕ, Bool, true, List, length, ap, subst, ◌∙◌, arith}
+use Rattle.std.specs.Prelude.{◌↔◌}
+use Rattle.std.proofs.lemmas.List.{length_push}
+use Rattle.tf_expand.proofs.Needing.{marked_more}
+use Rattle.tf_expand.specs.Needed.{IsNeededBy}
+use Rattle.tf_graph.specs.NodeSet.{has}
+use Rattle.tf_names.specs.Table.{names_in}
+use Rattle.tf_plan.proofs.Wanting.{wanted_by_either}
+use Rattle.tf_syntax.specs.ExprTree.{entries_view}
+use Rattle.tf_plan.proofs.wanted.wanted_names.Goals as goal
+
+pub loop-place-preserved : goal.loop-place-preserved
+loop-place-preserved c =
+    let found = c.loop-place.wanted.items in
+    let r = c.in_ok-by_resources.by_resources.items in
+    let m = c.in_ok-named.named.items in
+    let t = c.in_ok-by_named.by_named.items in
+    record {
+      long = ap (λ xs. length xs) c.in_ok-push.ensures.items ∙ length_push found c.is_either.result ∙ ap (λ k. k + 1) c.loop-place.invariant.long;
+      each = marked_more (λ n (b : Bool). b ≡ (has r n || has m n || has t n)) c.loop-place.place found c.push.new.self.items c.is_either.result c.in_ok-push.ensures.items c.loop-place.invariant.long
+          c.loop-place.invariant.each (rw (c.as_slice-in-loop-place.ensures.value, c.as_slice-in-loop-place-2.ensures.value, c.as_slice-in-loop-place-3.ensures.value) at c.is_either.ensures);
+    }
+
+pub returns : goal.returns
+returns c =
+    let names = names_in c.args.declared.now.names.now in
+    let d = c.args.declared.now.dependence.now in
+    let through : (n : ℕ) → n < length names → (has c.in_ok-by_named.by_named.items n ≡ true) ↔ IsNeededBy (λ a. has c.in_ok-named.named.items a ≡ true) d n = λ n h.
+    subst (λ (xs : List Bool). (has c.in_ok-by_named.by_named.items n ≡ true) ↔ IsNeededBy (λ a. has xs a ≡ true) d n) c.as_slice.ensures.value (c.in_ok-by_named.ensures n (omega (arith, h, c.requires.count))) in
+    wanted_by_either names c.args.declared.now.dependence.now (entries_view c.args.outputs.now.entries) c.in_ok-by_resources.by_resources.items c.in_ok-named.named.items c.in_ok-by_named.by_named.items
+    c.loop-place.wanted.items c.in_ok-by_resources.ensures c.in_ok-named.ensures through
+    (λ n h. c.loop-place.invariant.each n (omega (arith, h, c.loop-place-test.false, c.len-place-end.ensures)))

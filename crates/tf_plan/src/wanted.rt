@@ -1,0 +1,104 @@
+//! Which names a plan looks at.
+
+ghost use Rattle.std.specs.List.{AllByRecursion};
+ghost use Rattle.std.specs.Prelude.{◌≡◌, ◌<◌, ◌↔◌, ◌||◌, ◌⊎◌, ℕ, IfOk, true, false, length, replicate, Contains};
+ghost use Rattle.tf_config_data.specs.Names.{places};
+ghost use Rattle.tf_plan_data.specs.Words.{IsDependence, names_in};
+ghost use Rattle.tf_graph.specs.NodeSet.{has};
+ghost use Rattle.tf_plan.specs.Wanted.{IsNamed, IsWanted};
+ghost use Rattle.tf_syntax.specs.ExprNames.{named_below};
+ghost use Rattle.tf_syntax.specs.ExprTree.{entries_view};
+
+use std::alloc::{AllocError, Global};
+use std::collections::BTreeMap;
+use tf_environment::Declarations;
+use tf_expand::{needed_by, needed_by_resources};
+use tf_names::Names;
+use tf_syntax::Expr;
+
+/// For each place, whether the name there is wanted: a resource or an output needs it.
+pub(crate) fn wanted_names(
+    alloc: Global,
+    declared: &Declarations,
+    outputs: &BTreeMap<String, Expr>,
+) -> Result<Vec<bool>, AllocError>
+    requires { IsDependence (names_in declared.now.names.now) declared.now.dependence.now }
+    ensures { IfOk result (λ wanted. (n : ℕ) → n < length (names_in declared.now.names.now)
+        → (has wanted.items n ≡ true) ↔ IsWanted (names_in declared.now.names.now) declared.now.dependence.now (entries_view outputs.now.entries) n) }
+{
+    let by_resources = needed_by_resources(alloc, declared)?;
+    let named = named_by_outputs(alloc, declared.names, outputs)?;
+    let by_named = needed_by(alloc, declared.dependence, named.as_slice())?;
+    let mut wanted = Vec::with_capacity(alloc, declared.names.len())?;
+    for place in 0..declared.names.len() {
+        wanted.push(is_either(
+            by_resources.as_slice(),
+            named.as_slice(),
+            by_named.as_slice(),
+            place,
+        ))?;
+    }
+    Ok(wanted)
+}
+
+/// Whether a place is marked in one of three lists.
+fn is_either(one: &[bool], other: &[bool], third: &[bool], place: usize) -> bool
+    ensures { result ≡ has one.now place || has other.now place || has third.now place }
+{
+    contains(one, place) || contains(other, place) || contains(third, place)
+}
+
+/// For each place, whether an output names what stands there.
+fn named_by_outputs(
+    alloc: Global,
+    names: &Names<'_>,
+    outputs: &BTreeMap<String, Expr>,
+) -> Result<Vec<bool>, AllocError>
+    ensures { IfOk result (λ named. (n : ℕ) → (has named.items n ≡ true) ↔ IsNamed (names_in names.now) (entries_view outputs.now.entries) n) }
+{
+    let places = places_in_outputs(alloc, names, outputs)?;
+    let mut named = none_marked(alloc, names.len())?;
+    mark(named.as_mut_slice(), places.as_slice());
+    Ok(named)
+}
+
+/// The places of what outputs name, as often as they do. What isn't declared is left out.
+fn places_in_outputs(
+    alloc: Global,
+    names: &Names<'_>,
+    outputs: &BTreeMap<String, Expr>,
+) -> Result<Vec<usize>, AllocError>
+    ensures { IfOk result (λ found. found.items ≡ places (names_in names.now) (named_below (entries_view outputs.now.entries))) }
+{
+    let mut found = Vec::new(alloc);
+    for (_, expr) in outputs.iter() {
+        let more = names.named_in(alloc, expr)?;
+        found.extend_from_slice(more.as_slice())?;
+    }
+    Ok(found)
+}
+
+/// As many places, none of which is marked.
+fn none_marked(alloc: Global, count: usize) -> Result<Vec<bool>, AllocError>
+    ensures { IfOk result (λ marked. marked.items ≡ replicate count false) }
+{
+    vec![in alloc; false; count]
+}
+
+/// Marks places.
+fn mark(marked: &mut [bool], places: &[usize])
+    requires within { AllByRecursion (λ n. n < length marked.old) places.now }
+    ensures length { length marked.new ≡ length marked.old }
+    ensures marked { (n : ℕ) → (has marked.new n ≡ true) ↔ ((has marked.old n ≡ true) ⊎ Contains places.now n) }
+{
+    for place in places {
+        marked[*place] = true;
+    }
+}
+
+/// Whether a place is marked.
+fn contains(marked: &[bool], place: usize) -> bool
+    ensures { result ≡ has marked.now place }
+{
+    place < marked.len() && marked[place]
+}
