@@ -1,8 +1,8 @@
 -- Two applies of the same texts that excuse the same answer the same.
 use Rattle.std.proofs.Common.{◌≡◌, ◌∙◌, ℕ, Bool, true, false, List, Ok, String, Global, refl, sym, ap, subst, string_bytes}
-use Rattle.tf_again.proofs.Again.{saved_text}
-use Rattle.tf_again.proofs.Planned.{plan_acyclic, reported}
-use Rattle.tf_again.proofs.Reading.{prior_valid, read_in_order}
+use Rattle.tf_laws_texts.proofs.Again.{saved_text}
+use Rattle.tf_laws_texts.proofs.Planned.{plan_acyclic, reported}
+use Rattle.tf_laws_texts.proofs.Reading.{prior_valid, read_in_order}
 use Rattle.tf_cli.specs.Applies.{IsApplied, state_in}
 use Rattle.tf_cli.specs.declared.applied.Applied.{Applied}
 use Rattle.tf_config_data.specs.Config.{ConfigView}

@@ -6,8 +6,8 @@ use Rattle.tf_action_data.specs.Action.{ActionView}
 use Rattle.tf_additions.specs.Diagnostics.{action_diagnostics, diagnostic_of}
 use Rattle.tf_additions.specs.declared.diagnostic.Diagnostic.{Diagnostic}
 use Rattle.tf_address.specs.ObjectId.{InstanceKeyView}
-use Rattle.tf_again.proofs.Again.{good_outcomes, success}
-use Rattle.tf_again.proofs.Planned.{plan_ranked}
+use Rattle.tf_laws_texts.proofs.Again.{good_outcomes, success}
+use Rattle.tf_laws_texts.proofs.Planned.{plan_ranked}
 use Rattle.tf_cli.specs.Shown.{all_good, cant_write, is_empty, is_good_outcome, is_torn}
 use Rattle.tf_config_data.specs.Names.{Meant, NameView, a_block, a_local, directly_before, meant_at, places}
 use Rattle.tf_converges.specs.Converges.{IsValued}

@@ -12,3 +12,10 @@ mod Decided
 mod Circles
 mod ToldOf
 mod OneOfTwo
+mod Again
+mod Counted
+mod Faultless
+mod Planned
+mod Refused
+mod Schemas
+mod Unplanned

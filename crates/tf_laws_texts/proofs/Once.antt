@@ -5,8 +5,8 @@ use Rattle.std.specs.Cmp.Lexicographic.{slice_cmp}
 use Rattle.std.specs.Fmt.{decimal}
 use Rattle.std.specs.Ordering.{nat_cmp}
 use Rattle.serde_json.specs.Data.{Data, null, boolean, number, string, array, object, Items, no_items, item, Members, no_members, member}
-use Rattle.tf_again.proofs.Faultless.{is_file, names_known}
-use Rattle.tf_again.proofs.Reading.{one_tree}
+use Rattle.tf_laws_texts.proofs.Faultless.{is_file, names_known}
+use Rattle.tf_laws_texts.proofs.Reading.{one_tree}
 use Rattle.tf_config.proofs.RefusalLaws.{apart}
 use Rattle.tf_config.specs.Demand.{AreMet, Checks, Demand, Fails, IsMet, Refuses, holds, nothing_fits, of_expression}
 use Rattle.tf_config.specs.Laws.{RefusedOnce}

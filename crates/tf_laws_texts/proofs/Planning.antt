@@ -1,8 +1,8 @@
 -- The same texts have the same plan, or the same refusals of it.
 use Rattle.std.proofs.Common.{◌≡◌, ◌∙◌, ℕ, List, [], ◌∷◌, sym, ap, subst}
 use Rattle.std.specs.List.{AllByRecursion}
-use Rattle.tf_again.proofs.Planned.{planned_over}
-use Rattle.tf_again.proofs.Reading.{prior_valid, read_in_order}
+use Rattle.tf_laws_texts.proofs.Planned.{planned_over}
+use Rattle.tf_laws_texts.proofs.Reading.{prior_valid, read_in_order}
 use Rattle.tf_cli.specs.Applies.{IsPlanOf}
 use Rattle.tf_config_data.specs.Config.{ConfigView}
 use Rattle.tf_config_data.specs.Names.{names_of}

@@ -1,6 +1,6 @@
 -- Two refusals of the same texts tell the same fault.
 use Rattle.std.proofs.Common.{◌≡◌, ◌⊎◌, ◌∙◌, ℕ, List, [], ◌∷◌, Option, Some, None, inl, inr, refl, sym, subst}
-use Rattle.tf_again.proofs.Reading.{one_config}
+use Rattle.tf_laws_texts.proofs.Reading.{one_config}
 use Rattle.tf_cli.specs.Refusals.{IsPlanRefused, IsRefusedAlone}
 use Rattle.tf_config_data.specs.Config.{ConfigView}
 use Rattle.tf_inputs.specs.Refusals.{AreNamesRefused, AreValuesRefused, IsStateRefused, IsToldOf, IsToldOfState}
@@ -9,7 +9,7 @@ use Rattle.tf_names.specs.Judging.{RefusesItsNames}
 use Rattle.tf_protocol.specs.Meaning.{Meaning}
 use Rattle.tf_refusal.specs.Refusal.{Told, no_memory}
 use Rattle.tf_variables.specs.Reading as variables
-use Rattle.tf_again.proofs.Faultless.{config_read}
+use Rattle.tf_laws_texts.proofs.Faultless.{config_read}
 use Rattle.tf_laws_texts.proofs.Once.{config_once, names_once, state_once, variables_once}
 use Rattle.tf_laws_texts.proofs.Unrefused.{names_stand, none_told, values_stand}
 use Rattle.tf_laws_texts.specs.Laws.{Laws}

@@ -1,10 +1,10 @@
 -- What applies of texts change after one whose status is 0.
 use Rattle.std.proofs.Common.{◌≡◌, ◌∙◌, ℕ, false, List, Ok, String, Global, sym, subst, string_bytes}
-use Rattle.tf_again.proofs.Again.{saved_reads}
-use Rattle.tf_again.proofs.Planned.{plan_acyclic, reported}
-use Rattle.tf_again.proofs.Reading.{one_config, one_values, prior_valid}
-use Rattle.tf_again.proofs.Schemas.{schemas_in}
-use Rattle.tf_again.specs.Again.{HaveSchemas, over}
+use Rattle.tf_laws_texts.proofs.Again.{saved_reads}
+use Rattle.tf_laws_texts.proofs.Planned.{plan_acyclic, reported}
+use Rattle.tf_laws_texts.proofs.Reading.{one_config, one_values, prior_valid}
+use Rattle.tf_laws_texts.proofs.Schemas.{schemas_in}
+use Rattle.tf_laws_texts.specs.Again.{HaveSchemas, over}
 use Rattle.tf_cli.specs.Applies.{IsApplied, state_in}
 use Rattle.tf_cli.specs.Shown.{applied_status}
 use Rattle.tf_cli.specs.declared.applied.Applied.{Applied}

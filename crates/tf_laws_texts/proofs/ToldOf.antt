@@ -2,7 +2,7 @@
 use Rattle.std.proofs.Common.{◌≡◌, ◌∙◌, ◌≤◌, ◌⊎◌, ℕ, Bool, true, false, List, [], ◌∷◌, Option, Some, None, IsTrue, codes, length, inl, inr, refl, ap, arith}
 use Rattle.std.proofs.lemmas.Bool.{cases_Bool, cases_lt}
 use Rattle.serde_json.specs.Data.{Data}
-use Rattle.tf_again.proofs.Reading.{one_tree}
+use Rattle.tf_laws_texts.proofs.Reading.{one_tree}
 use Rattle.tf_config.specs.Config.{names_in}
 use Rattle.tf_config.specs.Configuration.{configuration_checks, whole_file}
 use Rattle.tf_config.specs.Demand.{AreMet, Checks, Fails, IsMet}

@@ -1,7 +1,7 @@
 -- Of texts that stand for something nothing is told but want of memory.
 use Rattle.std.proofs.Common.{◌≡◌, ℕ, List, Option, Some, None, inl, inr, refl, subst, arith}
-use Rattle.tf_again.proofs.Faultless.{config_read, names_good, values_good}
-use Rattle.tf_again.proofs.Reading.{one_config}
+use Rattle.tf_laws_texts.proofs.Faultless.{config_read, names_good, values_good}
+use Rattle.tf_laws_texts.proofs.Reading.{one_config}
 use Rattle.tf_config_data.specs.Config.{ConfigView}
 use Rattle.tf_inputs.specs.Refusals.{AreNamesRefused, AreValuesRefused, IsToldOf, IsToldOfState, fault_told}
 use Rattle.tf_inputs.specs.Texts.{AreNamesGood, AreTheValues, IsPrior, IsRead, StandFor, Texts}

@@ -5,3 +5,4 @@ pub mod Refusals
 pub mod Success
 pub mod Applies
 pub mod OneOfTwo
+pub mod Again

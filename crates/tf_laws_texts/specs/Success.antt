@@ -2,7 +2,7 @@
 use Rattle.std.specs.Prelude.{◌≡◌, ℕ, false, List, Ok, String, string_bytes}
 use Rattle.std.specs.List.{AllByRecursion}
 use Rattle.std.specs.declared.alloc.Global.{Global}
-use Rattle.tf_again.specs.Again.{HaveSchemas, WentWell, over}
+use Rattle.tf_laws_texts.specs.Again.{HaveSchemas, WentWell, over}
 use Rattle.tf_cli.specs.Applies.{IsApplied, state_in}
 use Rattle.tf_cli.specs.Shown.{applied_status, is_torn}
 use Rattle.tf_cli.specs.declared.applied.Applied.{Applied}

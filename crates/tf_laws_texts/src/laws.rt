@@ -1,5 +1,7 @@
 //! Laws on texts.
 
+ghost use Rattle.std.specs.Prelude.{[], ◌∷◌};
+ghost use Rattle.tf_laws_texts.specs.Again.{HaveSchemas, NothingIsDoneAgain, NothingIsPlannedAfterSuccess, NothingIsPlannedAgain, OnlyInstancesAreRefused};
 ghost use Rattle.tf_laws_texts.specs.Applies.{AppliesAreOne};
 ghost use Rattle.tf_laws_texts.specs.Laws.{Laws};
 ghost use Rattle.tf_laws_texts.specs.OneOfTwo.{AppliesHavePlanOrRefusals, PlansAreTold, ReadingsAreTold, TextsAreReadOrRefused, TextsHavePlanOrRefusals};
@@ -7,9 +9,13 @@ ghost use Rattle.tf_laws_texts.specs.Plans.{AppliesShowThePlan, PlannedTextsAreN
 ghost use Rattle.tf_laws_texts.specs.Refusals.{ApplyRefusalsTellTheSame, PlannedTextsHaveNoRefusals, ReadTextsAreNotRefused, RefusalsTellTheSame, RefusedReadingsAreOne};
 ghost use Rattle.tf_laws_texts.specs.Readings.{TextsStandForOne, TextsStandForOneApart};
 ghost use Rattle.tf_laws_texts.specs.Success.{SecondAppliesSettle, SuccessIsComplete, ThirdAppliesChangeNothing};
+ghost use Rattle.tf_sim.specs.Table.{sim_meaning};
 
 use tf_config::{blocks_are_in_order, faultless_trees_stand, names_are_few};
-use tf_converges::laws::{applies_settle, read_configurations_fit};
+use tf_converges::laws::{
+    applies_converge, applies_settle, nothing_is_planned_at_rest, quiet_applies_keep_objects,
+    read_configurations_fit,
+};
 use tf_laws_plans::laws::{
     planned_or_refused, plans_are_not_refused, plans_are_one, refusals_are_one,
 };
@@ -106,6 +112,33 @@ pub fn texts_have_plan_or_refusals()
     names_are_few();
     planned_or_refused();
 }
+
+/// Where an apply of texts went well, the same configuration and variables plan nothing over the text of the state that it
+/// left, and an apply over that text does nothing. Where its status is 0, the texts that there are after it plan nothing. What may
+/// be refused over that text is the state itself, or instances and outputs.
+pub fn texts_converge()
+    ensures planned { NothingIsPlannedAgain }
+    ensures done { NothingIsDoneAgain }
+    ensures success { NothingIsPlannedAfterSuccess }
+    ensures refused { OnlyInstancesAreRefused }
+{
+    faultless_trees_stand();
+    blocks_are_in_order();
+    tf_config::refusals_are_one();
+    values_are_one();
+    read_states_are_valid();
+    new_states_are_valid();
+    texts_are_of_one();
+    texts_read_back();
+    nothing_is_planned_at_rest();
+    applies_converge();
+    quiet_applies_keep_objects();
+}
+
+/// The provider `sim`, which is that of the programs, has schemas.
+pub fn sim_has_schemas()
+    ensures { HaveSchemas (sim_meaning ∷ []) }
+{}
 
 /// Where the status of an apply is 0, all that was planned was done: each action is good, and each output has a value. So a
 /// second apply over the text of the state that it left changes flags `create_before_destroy` at most, and the serial, and a

@@ -26,7 +26,7 @@ use Rattle.tf_variables.specs.Reading.{IsFaulty, IsFile, IsFileOf, IsNoFile, IsR
 use Rattle.tf_variables.specs.Reading as variables
 use Rattle.tf_variables.specs.Values.{HasNone, file_checks, value_checks}
 use Rattle.tf_value.specs.Tree.{Entries}
-use Rattle.tf_again.proofs.Reading.{one_tree}
+use Rattle.tf_laws_texts.proofs.Reading.{one_tree}
 
 -- ---- the configuration
 

@@ -23,12 +23,12 @@ use Rattle.tf_state_data.specs.State.{StateView}
 use Rattle.tf_value.specs.Tree.{Entries}
 use Rattle.tf_variables.specs.Laws.{ValuesAreFaultless}
 use Rattle.tf_variables.specs.Reading as variables
-use Rattle.tf_again.proofs.Again.{saved_reads}
-use Rattle.tf_again.proofs.Faultless.{config_read, names_good, values_good}
-use Rattle.tf_again.proofs.Planned.{Laws}
-use Rattle.tf_again.proofs.Reading.{one_config, one_values}
-use Rattle.tf_again.proofs.Unplanned.{serial_after, unplanned_after}
-use Rattle.tf_again.specs.Again.{AreUnplannedAgain, HaveSchemas, HasLastSerial, OnlyInstancesAreRefused, WentWell, over}
+use Rattle.tf_laws_texts.proofs.Again.{saved_reads}
+use Rattle.tf_laws_texts.proofs.Faultless.{config_read, names_good, values_good}
+use Rattle.tf_laws_texts.proofs.Planned.{Laws}
+use Rattle.tf_laws_texts.proofs.Reading.{one_config, one_values}
+use Rattle.tf_laws_texts.proofs.Unplanned.{serial_after, unplanned_after}
+use Rattle.tf_laws_texts.specs.Again.{AreUnplannedAgain, HaveSchemas, HasLastSerial, OnlyInstancesAreRefused, WentWell, over}
 
 -- the laws that this rests on beside those
 pub record Others : Type 0 where

@@ -30,9 +30,9 @@ use Rattle.tf_state_data.specs.Resource.{ResourceView}
 use Rattle.tf_state_data.specs.State.{StateView}
 use Rattle.tf_value.specs.Tree.{Entries}
 use Rattle.tf_variables.specs.Laws.{ValuesAreOne}
-use Rattle.tf_again.proofs.Reading.{one_config, one_values, prior_valid, read_in_order}
-use Rattle.tf_again.proofs.Schemas.{schemas_in}
-use Rattle.tf_again.specs.Again.{HaveSchemas, WentWell, no_changes}
+use Rattle.tf_laws_texts.proofs.Reading.{one_config, one_values, prior_valid, read_in_order}
+use Rattle.tf_laws_texts.proofs.Schemas.{schemas_in}
+use Rattle.tf_laws_texts.specs.Again.{HaveSchemas, WentWell, no_changes}
 
 -- the laws below that all rests on
 pub record Laws : Type 0 where

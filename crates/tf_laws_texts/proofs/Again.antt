@@ -26,9 +26,9 @@ use Rattle.tf_state.specs.Table.{Reads}
 use Rattle.tf_state.specs.Text.{state_text}
 use Rattle.tf_state_data.specs.State.{StateView, record_in}
 use Rattle.tf_value.proofs.Conjunction.{and-first, and-second}
-use Rattle.tf_again.proofs.Planned.{Laws, no_entries, none_again, plan_ranked, reported, shown_none}
-use Rattle.tf_again.proofs.Reading.{one_prior}
-use Rattle.tf_again.specs.Again.{HaveSchemas, NothingIsDoneAgain, NothingIsPlannedAfterSuccess, NothingIsPlannedAgain, WentWell, no_changes, over, with_written}
+use Rattle.tf_laws_texts.proofs.Planned.{Laws, no_entries, none_again, plan_ranked, reported, shown_none}
+use Rattle.tf_laws_texts.proofs.Reading.{one_prior}
+use Rattle.tf_laws_texts.specs.Again.{HaveSchemas, NothingIsDoneAgain, NothingIsPlannedAfterSuccess, NothingIsPlannedAgain, WentWell, no_changes, over, with_written}
 
 -- ---- the state that was written reads back
 

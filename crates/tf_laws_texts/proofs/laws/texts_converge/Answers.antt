@@ -1,7 +1,7 @@
-use Rattle.tf_again.proofs.Again.{nothing_is_done_again, nothing_is_planned_after_success, nothing_is_planned_again}
-use Rattle.tf_again.proofs.Planned.{Laws}
-use Rattle.tf_again.proofs.Refused.{Others, only_instances_are_refused}
-use Rattle.tf_again.proofs.laws.texts_converge.Goals as goal
+use Rattle.tf_laws_texts.proofs.Again.{nothing_is_done_again, nothing_is_planned_after_success, nothing_is_planned_again}
+use Rattle.tf_laws_texts.proofs.Planned.{Laws}
+use Rattle.tf_laws_texts.proofs.Refused.{Others, only_instances_are_refused}
+use Rattle.tf_laws_texts.proofs.laws.texts_converge.Goals as goal
 
 pub returns : goal.returns
 returns c =

@@ -25,9 +25,9 @@ use Rattle.tf_state.specs.Table.{IsBeyond, last_serial}
 use Rattle.tf_state_data.specs.Resource.{ResourceView}
 use Rattle.tf_syntax.specs.ExprTree as expr
 use Rattle.tf_value.specs.Tree.{Entries, Tree}
-use Rattle.tf_again.proofs.Counted.{beyond_by_serial}
-use Rattle.tf_again.proofs.Planned.{Laws, plan_acyclic, plan_ranked, reported, sound}
-use Rattle.tf_again.specs.Again.{HaveSchemas, WentWell}
+use Rattle.tf_laws_texts.proofs.Counted.{beyond_by_serial}
+use Rattle.tf_laws_texts.proofs.Planned.{Laws, plan_acyclic, plan_ranked, reported, sound}
+use Rattle.tf_laws_texts.specs.Again.{HaveSchemas, WentWell}
 
 -- ---- no refusal of the instances of resources at rest, but of what is planned of them
 
