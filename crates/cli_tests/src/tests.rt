@@ -5,4 +5,5 @@ mod limits;
 mod refusals;
 mod replies;
 mod shown;
+mod wide;
 mod workers;

@@ -44,6 +44,10 @@ const EVERYTHING: &str = r#"{
   }
 }"#;
 
+// A net that is replaced late, and the host that names it.
+const LATE: &str =
+    r#"{"resource": {"sim_net": {"a": {"cidr": "y", "lifecycle": {"create_before_destroy": true}}}, "sim_host": {"h": {"name": "h", "net": "${sim_net.a.id}"}}}}"#;
+
 const VALUES: &str = r#"{"v": {"a": "é", "b": [0, -1, {"k": true}]}, "w": [null]}"#;
 
 #[test]
@@ -57,6 +61,19 @@ fn refuses_each_beginning(rt: HostRuntime) -> Result<(), Fail> {
         let texts = Texts {
             config: &EVERYTHING.as_bytes()[..length],
             vars: Some(VALUES.as_bytes()),
+            state: None,
+        };
+        check_refused(
+            &rt,
+            rt.alloc(),
+            texts,
+            "error 1 at configuration: NotJson\n",
+        )?;
+    }
+    for length in 0..LATE.len() {
+        let texts = Texts {
+            config: &LATE.as_bytes()[..length],
+            vars: None,
             state: None,
         };
         check_refused(
