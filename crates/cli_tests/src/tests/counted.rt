@@ -1,5 +1,5 @@
-//! Each call is in the journal. `tools/each_allocation/run.sh` runs these tests once for each of their allocations, with
-//! that one refused.
+//! Each call is in the journal. `tools/refusing/run` carries such plans out once for each growth of their memory, with that one
+//! refused.
 
 use std::alloc::Global;
 use std::process::Abort;
