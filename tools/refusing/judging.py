@@ -31,7 +31,8 @@ class Judge:
     """Compares the runs of a plan with what `run_one` makes of it, where the provider has no memory for what a run excuses."""
 
     def __init__(self, program, given, outputs, without):
-        """Takes the names of the plan's outputs, and a function by which some of them aren't declared in what is given."""
+        """Takes the names of the plan's outputs, and a function from actions and outputs: what is given where the request of none
+        of these actions has a fault, and these outputs aren't declared."""
         self.program, self.given, self.outputs, self.without, self.known = program, given, sorted(outputs), without, {}
         self.text = program.run("apply", given).shown.removesuffix(self.by_one((), ()).shown)
 
@@ -39,7 +40,8 @@ class Judge:
         """Returns what `run_one` makes of the plan, where the provider has no memory for actions and there is none for outputs:
         such an output isn't evaluated, and nothing is stored of it before."""
         if (forgets, lost) not in self.known:
-            one = self.program.run("one", self.without(lost) if lost else self.given, forgets=forgets)
+            given = self.without(forgets, lost) if forgets or lost else self.given
+            one = self.program.run("one", given, forgets=forgets)
             for name in lost:
                 *lines, last = one.shown.splitlines()
                 lines.append(f"error 26 at output.{name}: no memory")

@@ -35,6 +35,21 @@ PLANS = {
     "an output": ({"output": {"o": {"value": "${1 + 2}"}}}, None, []),
 }
 
+# The request of h has a fault. Where there is no memory for the request, that doesn't show: as if h had none.
+COUNTS_AND_KEYS = blocks(
+    {"a": {"count": "${var.n}", "cidr": "${count.index}"}},
+    {
+        "g": {"for_each": '${toset(["k", "j"])}', "name": "${each.key}", "net": "${local.id}"},
+        "h": {"name": "h", "size": "${local.id}"},
+        "i": {"name": "i", "depends_on": ["sim_host.h"]},
+    },
+    variable={"n": {"default": 2}},
+    locals={"id": "${sim_net.a[0].id}"},
+    output={"id": {"value": "${local.id}"}, "sum": {"value": "${local.id + 1}"}},
+)
+HOSTS_AND_NETS = COUNTS_AND_KEYS["resource"]
+MENDED = {**HOSTS_AND_NETS, "sim_host": {**HOSTS_AND_NETS["sim_host"], "h": {"name": "h"}}}
+
 # The same, of mixtures: nets and hosts of which some aren't good and one is skipped; an output of more than itself; counts, keys
 # and faults; and late and early replaces, an update, and destroys of what is current and what is deposed.
 MIXTURES = {
@@ -47,19 +62,10 @@ MIXTURES = {
         created("sim_host.h", "sim_host.k", "sim_net.a", "sim_net.b", "sim_net.c"),
     ),
     "counts and keys": (
-        blocks(
-            {"a": {"count": "${var.n}", "cidr": "${count.index}"}},
-            {
-                "g": {"for_each": '${toset(["k", "j"])}', "name": "${each.key}", "net": "${local.id}"},
-                "h": {"name": "h", "size": "${local.id}"},
-                "i": {"name": "i", "depends_on": ["sim_host.h"]},
-            },
-            variable={"n": {"default": 2}},
-            locals={"id": "${sim_net.a[0].id}"},
-            output={"id": {"value": "${local.id}"}, "sum": {"value": "${local.id + 1}"}},
-        ),
+        COUNTS_AND_KEYS,
         None,
         created('sim_host.g["j"]', 'sim_host.g["k"]', "sim_host.h", "sim_host.i", "sim_net.a[0]", "sim_net.a[1]"),
+        {"sim_host.h create": {**COUNTS_AND_KEYS, "resource": MENDED}},
     ),
     "all kinds of changes": (
         blocks(
