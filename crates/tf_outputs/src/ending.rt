@@ -1,10 +1,11 @@
 //! Outputs are worked out after an apply.
 
 ghost use Rattle.std.specs.Prelude.{◌≡◌, ◌≤◌, [], IfOk, Ok, length, true, vec_capacity};
-ghost use Rattle.tf_environment.specs.Words.{entries_view, has, has_no_set, IsAcyclic, IsDependence, IsTable, named_by, names_in, shapes_of, tree_of, with_nulls};
+ghost use Rattle.tf_environment.specs.Words.{entries_view, has, has_no_set, IsAcyclic, IsDependence, IsTable, named_by, names_in, shapes_of, standings_of, tree_of, with_nulls};
 ghost use Rattle.tf_config_data.specs.Names.{places as places_of};
 ghost use Rattle.tf_outputs.specs.Keeping.{IsSameOrExcused, MayBeSaved, done_of};
 ghost use Rattle.tf_outputs.specs.Outputs.{AreOutputsEnded, IsOutputDone, done_with};
+ghost use Rattle.tf_request.specs.Requests.{AreStandingsSoFar, IsOutput};
 ghost use Rattle.tf_outputs.specs.Rooms.{HavePlaces, outputs_in};
 ghost use Rattle.tf_state_data.specs.State.{outputs_of};
 ghost use Rattle.tf_syntax.specs.ExprTree.{tree_of as expr_of};
@@ -15,7 +16,7 @@ use crate::rooms::OutputRoom;
 use crate::settling::all_settled;
 use std::alloc::{AllocError, Global};
 use std::collections::BTreeMap;
-use tf_environment::{Declarations, Shape};
+use tf_environment::{Declarations, Shape, Standing};
 use tf_eval::EvalFault;
 use tf_request::{Results, output_value};
 use tf_state_data::Object;
@@ -25,7 +26,8 @@ use tf_value::{Value, is_known, is_within_limits, with_nulls};
 /// What comes of all outputs: their values by name, without those that are null, and, in `ends`, what is told of each,
 /// in the order of `rooms`. Where an output has no value, its entry among those that are `kept` stays. `settled` says of the
 /// place of each name whether it is settled, `shapes` how its instances stand together. It can't fail: where memory is
-/// refused for an output, that is told of it.
+/// refused for an output, that is told of it. Outputs share what names stand for, so that each local is evaluated once; where
+/// memory runs out over that, it is let go, and the output is tried by itself.
 pub fn renew_outputs<R: Results>(
     alloc: Global,
     declared: &Declarations,
@@ -46,15 +48,18 @@ pub fn renew_outputs<R: Results>(
     ensures stored { IsTable (outputs_of kept.entries) → IsTable (outputs_of result.entries) }
 {
     let mut outputs = kept;
+    let mut stood = Vec::new(alloc);
     for room in rooms {
         let OutputRoom { name, expr, places } = room;
-        let ended = end_output(alloc, declared, shapes, expr, &places, settled, results);
+        let ended = end_output(
+            alloc, declared, shapes, expr, &places, settled, results, &mut stood,
+        );
         ends.push(keep(&mut outputs, name, ended)).unwrap();
     }
     outputs
 }
 
-/// What comes of one output, by the places of what it names.
+/// What comes of one output, by the places of what it names. `stood` has what names stand for so far.
 fn end_output<R: Results>(
     alloc: Global,
     declared: &Declarations,
@@ -63,10 +68,15 @@ fn end_output<R: Results>(
     places: &[usize],
     settled: &[bool],
     results: &R,
+    stood: &mut Vec<Standing>,
 ) -> Ended
     requires dependence { IsDependence (names_in declared.now.names.now) declared.now.dependence.now }
     requires acyclic { IsAcyclic declared.now.dependence.now }
     requires places { places.now ≡ places_of (names_in declared.now.names.now) (named_by (expr_of expr.now)) }
+    requires answered { AreStandingsSoFar (entries_view declared.now.variables.now.entries) (names_in declared.now.names.now)
+        (shapes_of shapes.now) (R.objects results.now) (standings_of stood.old.items) }
+    ensures answered { AreStandingsSoFar (entries_view declared.now.variables.now.entries) (names_in declared.now.names.now)
+        (shapes_of shapes.now) (R.objects results.now) (standings_of stood.new.items) }
     ensures done { IsOutputDone (entries_view declared.now.variables.now.entries) (names_in declared.now.names.now)
         (shapes_of shapes.now) (R.objects results.now) (has settled.now) (expr_of expr.now) (done_of result) }
     ensures stored { MayBeSaved (done_of result) }
@@ -74,10 +84,65 @@ fn end_output<R: Results>(
     if !all_settled(settled, places) {
         return Ended::NotEvaluated;
     }
-    match output_value(alloc, declared, shapes, expr, results) {
+    match shared_value(alloc, declared, shapes, expr, results, stood) {
         Err(_) => Ended::NoMemory,
         Ok(Err(fault)) => Ended::Faulted(fault),
         Ok(Ok(value)) => within_limits(alloc, value),
+    }
+}
+
+/// The value of an output, or the fault of its expression, by what names stand for so far. Where memory runs out, and anything
+/// stood, that is let go, and the output is tried by itself.
+fn shared_value<R: Results>(
+    alloc: Global,
+    declared: &Declarations,
+    shapes: &[Shape],
+    expr: &Expr,
+    results: &R,
+    stood: &mut Vec<Standing>,
+) -> Result<Result<Value, EvalFault>, AllocError>
+    requires dependence { IsDependence (names_in declared.now.names.now) declared.now.dependence.now }
+    requires acyclic { IsAcyclic declared.now.dependence.now }
+    requires answered { AreStandingsSoFar (entries_view declared.now.variables.now.entries) (names_in declared.now.names.now)
+        (shapes_of shapes.now) (R.objects results.now) (standings_of stood.old.items) }
+    ensures answered { AreStandingsSoFar (entries_view declared.now.variables.now.entries) (names_in declared.now.names.now)
+        (shapes_of shapes.now) (R.objects results.now) (standings_of stood.new.items) }
+    ensures output { IfOk result (λ output. IsOutput (entries_view declared.now.variables.now.entries) (names_in declared.now.names.now)
+        (shapes_of shapes.now) (R.objects results.now) (expr_of expr.now) output) }
+{
+    if stood.is_empty() {
+        return value_by(alloc, declared, shapes, expr, results, stood);
+    }
+    match value_by(alloc, declared, shapes, expr, results, stood) {
+        Ok(answer) => Ok(answer),
+        Err(_) => value_by(alloc, declared, shapes, expr, results, stood),
+    }
+}
+
+/// The same, without a second try. Where memory runs out, what stood is let go.
+fn value_by<R: Results>(
+    alloc: Global,
+    declared: &Declarations,
+    shapes: &[Shape],
+    expr: &Expr,
+    results: &R,
+    stood: &mut Vec<Standing>,
+) -> Result<Result<Value, EvalFault>, AllocError>
+    requires dependence { IsDependence (names_in declared.now.names.now) declared.now.dependence.now }
+    requires acyclic { IsAcyclic declared.now.dependence.now }
+    requires answered { AreStandingsSoFar (entries_view declared.now.variables.now.entries) (names_in declared.now.names.now)
+        (shapes_of shapes.now) (R.objects results.now) (standings_of stood.old.items) }
+    ensures answered { AreStandingsSoFar (entries_view declared.now.variables.now.entries) (names_in declared.now.names.now)
+        (shapes_of shapes.now) (R.objects results.now) (standings_of stood.new.items) }
+    ensures output { IfOk result (λ output. IsOutput (entries_view declared.now.variables.now.entries) (names_in declared.now.names.now)
+        (shapes_of shapes.now) (R.objects results.now) (expr_of expr.now) output) }
+{
+    match output_value(alloc, declared, shapes, expr, results, stood) {
+        Ok(answer) => Ok(answer),
+        Err(fault) => {
+            stood.clear();
+            Err(fault)
+        }
     }
 }
 

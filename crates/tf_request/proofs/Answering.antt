@@ -1,9 +1,9 @@
 -- What wanted names stand for in an apply. There a resource stands for its answered objects whatever is before it, and
 -- so everything stands for something.
-use Rattle.std.proofs.Common.{◌≡◌, ◌≢◌, ◌<◌, ◌+◌, ℕ, zero, suc, Bool, true, false, if◌then◌else◌, List, [], ◌∷◌, map, length, get_or, set, take, Contains, Option, None, Some, option_map, is_some, Result, Ok, Err, IfOk, Vec, Global, refl, sym, ap, ◌∙◌, arith, inl, inr}
+use Rattle.std.proofs.Common.{◌≡◌, ◌<◌, ◌+◌, ℕ, zero, suc, Bool, true, false, if◌then◌else◌, List, [], ◌∷◌, length, get_or, set, take, Contains, Option, None, Some, option_map, is_some, Result, Ok, Err, IfOk, Vec, Global, refl, sym, ap, ◌∙◌, arith, inl, inr}
 use Rattle.std.specs.declared.alloc.AllocError.{AllocError}
 use Rattle.std.proofs.lemmas.Bool.{cases_eq}
-use Rattle.std.proofs.lemmas.List.{get_or-set_same, get_or-set_other, map-set, length-map, length-set, length-take, get_or-take, get_or_default}
+use Rattle.std.proofs.lemmas.List.{length-set, get_or_default}
 use Rattle.std.specs.Prelude.{slice_index}
 use Rattle.std.specs.List.{AllByRecursion}
 use Rattle.tf_address.specs.ObjectId.{InstanceKeyView}
@@ -46,14 +46,14 @@ laid_there one object = refl
 laid_there (many n) object = some_mapped (objects_at (λ key. Some (object key)) (instance_keys (many n))) _ (objects_there object (instance_keys (many n)))
 laid_there (named names) object = some_mapped (objects_at (λ key. Some (object key)) (instance_keys (named names))) _ (objects_there object (instance_keys (named names)))
 
-meant_there : (names : List NameView) (n : ℕ) → n < length names → is_some (meant_at names n) ≡ true
+pub meant_there : (names : List NameView) (n : ℕ) → n < length names → is_some (meant_at names n) ≡ true
 meant_there [] n h = absurd (omega arith)
 meant_there (name ∷ names) zero h = refl
 meant_there (name ∷ names) (suc n) h = meant_there names n (omega arith)
 
 module _ (shapes : ℕ → ShapeView) (objects : ℕ → InstanceKeyView → Tree) where
   -- a name of the list stands for something by itself
-  stands_there : (n : ℕ) (m : Option Meant) (env : Environment) → is_some m ≡ true → is_some (stands_at (applying shapes objects) n m env) ≡ true
+  pub stands_there : (n : ℕ) (m : Option Meant) (env : Environment) → is_some m ≡ true → is_some (stands_at (applying shapes objects) n m env) ≡ true
   stands_there n None env h = absurd (cc)
   stands_there n (Some (a_local e)) env h = refl
   stands_there n (Some (a_block b)) env h = some_mapped (laid_out (shapes n) (λ key. Some (objects n key))) _ (laid_there (shapes n) (objects n))

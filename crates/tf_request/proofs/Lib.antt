@@ -1,4 +1,5 @@
 mod Alone
 pub mod Wanting
 pub mod Answering
+pub mod Shared
 pub mod Requesting

@@ -1,5 +1,5 @@
 -- What an apply asks of providers, and what outputs are then.
-use Rattle.std.specs.Prelude.{◌≡◌, ℕ, Bool, true, false, List, Option, Some, Result, Ok, Err}
+use Rattle.std.specs.Prelude.{◌≡◌, ℕ, Bool, true, false, List, Option, Some, is_some, Result, Ok, Err}
 use Rattle.tf_address.specs.ObjectId.{InstanceKeyView}
 use Rattle.tf_config_data.specs.Config.{BlockView}
 use Rattle.tf_config_data.specs.Names.{NameView, Meant, a_block, meant_at}
@@ -39,3 +39,8 @@ abbrev pub IsOutput : Entries → List NameView → (ℕ → ShapeView) → (ℕ
 IsOutput variables names shapes objects e output =
     (standings : ℕ → StandingView) → AreStandings (applying shapes objects) variables names standings
     → Answers (without_sets (meaning (environment variables names standings) e)) output
+
+-- What stands at a place so far is what the name there stands for in the apply. At other places nothing stands yet.
+abbrev pub AreStandingsSoFar : Entries → List NameView → (ℕ → ShapeView) → (ℕ → InstanceKeyView → Tree) → (ℕ → StandingView) → Type 0
+AreStandingsSoFar variables names shapes objects kept =
+    (standings : ℕ → StandingView) → AreStandings (applying shapes objects) variables names standings → (n : ℕ) → is_some (kept n) ≡ true → kept n ≡ standings n

@@ -10,6 +10,7 @@ mod outputs;
 mod requests;
 mod resources;
 mod results;
+mod sharing;
 mod standing;
 mod wanted;
 

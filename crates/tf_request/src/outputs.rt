@@ -1,14 +1,14 @@
 //! What outputs are after an apply.
 
 ghost use Rattle.std.specs.Prelude.{IfOk};
-ghost use Rattle.tf_environment.specs.Words.{Answers, entries_view, IsAcyclic, IsDependence, meaning, names_in, shapes_of};
+ghost use Rattle.tf_environment.specs.Words.{Answers, entries_view, IsAcyclic, IsDependence, meaning, names_in, shapes_of, standings_of};
 ghost use Rattle.tf_syntax.specs.ExprTree.{tree_of};
-ghost use Rattle.tf_request.specs.Requests.{IsOutput, without_sets};
+ghost use Rattle.tf_request.specs.Requests.{AreStandingsSoFar, IsOutput, without_sets};
 
 use crate::results::Results;
-use crate::standing::answered_standings;
+use crate::sharing::add_standings;
 use std::alloc::{AllocError, Global};
-use tf_environment::{Declarations, NamesScope, Shape};
+use tf_environment::{Declarations, NamesScope, Shape, Standing};
 use tf_eval::{EvalFault, Scope, eval_expr};
 use tf_syntax::Expr;
 use tf_value::{Value, with_lists};
@@ -18,23 +18,31 @@ use tf_value::{Value, with_lists};
 /// each name how its instances stand together. No local is evaluated, and no object copied, that the expression doesn't
 /// name, directly or through locals.
 ///
+/// `kept` has what names stand for so far, by place, none at first, and then also what they stand for that the expression
+/// names: outputs that share it have each local evaluated once.
+///
 /// # Errors
 ///
-/// Only where memory runs out.
+/// Only where memory runs out. What stands in `kept` is right then too, and may be more than before.
 pub fn output_value<R: Results>(
     alloc: Global,
     declared: &Declarations,
     shapes: &[Shape],
     expr: &Expr,
     results: &R,
+    kept: &mut Vec<Standing>,
 ) -> Result<Result<Value, EvalFault>, AllocError>
     requires dependence { IsDependence (names_in declared.now.names.now) declared.now.dependence.now }
     requires acyclic { IsAcyclic declared.now.dependence.now }
-    ensures { IfOk result (λ output. IsOutput (entries_view declared.now.variables.now.entries) (names_in declared.now.names.now)
+    requires answered { AreStandingsSoFar (entries_view declared.now.variables.now.entries) (names_in declared.now.names.now)
+        (shapes_of shapes.now) (R.objects results.now) (standings_of kept.old.items) }
+    ensures output { IfOk result (λ output. IsOutput (entries_view declared.now.variables.now.entries) (names_in declared.now.names.now)
         (shapes_of shapes.now) (R.objects results.now) (tree_of expr.now) output) }
+    ensures answered { AreStandingsSoFar (entries_view declared.now.variables.now.entries) (names_in declared.now.names.now)
+        (shapes_of shapes.now) (R.objects results.now) (standings_of kept.new.items) }
 {
     let named = declared.names.named_in(alloc, expr)?;
-    let kept = answered_standings(alloc, declared, shapes, named.as_slice(), results)?;
+    add_standings(alloc, declared, shapes, named.as_slice(), results, kept)?;
     let scope = NamesScope {
         variables: declared.variables,
         names: declared.names,

@@ -1,13 +1,15 @@
 //! What names stand for in an apply.
 
 ghost use Rattle.std.specs.List.{AllByRecursion, list_all};
-ghost use Rattle.std.specs.Prelude.{◌≡◌, ◌<◌, ℕ, IfOk, None, true, if◌then◌else◌, length, Contains};
-ghost use Rattle.tf_environment.specs.Words.{applying, AreStandings, entries_view, environment, HaveStandings, IsAcyclic, IsDependence, meant_at, names_in, OnlyWanted, order_in, shapes_of, standing_of, standings_of, StandingView, stands_at};
-ghost use Rattle.tf_request.specs.Requests.{is_resource};
+ghost use Rattle.std.specs.Prelude.{◌≡◌, ◌<◌, ◌≤◌, ℕ, IfOk, MatchBool, None, OnErr, OnOk, true, if◌then◌else◌, is_some, length, set, Contains};
+ghost use Rattle.tf_environment.specs.Words.{applying, AreStandings, entries_view, environment, has, HaveStandings, IsAcyclic, IsDependence, meant_at, names_in, OnlyWanted, order_in, shapes_of, standing_of, standings_of, StandingView, stands_at};
+ghost use Rattle.tf_environment.specs.declared.standing.Standing.{Standing as Stood};
+ghost use Rattle.tf_request.specs.Requests.{AreStandingsSoFar, is_resource};
 ghost use Rattle.tf_request.specs.Wanted.{AreClosedForLocals, IsWanted};
 
 use crate::resources::{are_resources, past_last};
 use crate::results::{Answered, Results};
+use crate::sharing::is_missing;
 use crate::wanted::wanted_by;
 use std::alloc::{AllocError, Global};
 use tf_environment::{Declarations, Instanced, Shape, Standing, no_standings, standing_at};
@@ -44,11 +46,11 @@ pub(crate) fn answered_standings<R: Results>(
 
 /// The names of a configuration in an apply, where resources stand for what their providers answered.
 #[derive(Drop)]
-struct Applied<'a, 'n, R> {
-    alloc: Global,
-    declared: &'a Declarations<'a, 'n>,
-    shapes: &'a [Shape],
-    results: &'a R,
+pub(crate) struct Applied<'a, 'n, R> {
+    pub(crate) alloc: Global,
+    pub(crate) declared: &'a Declarations<'a, 'n>,
+    pub(crate) shapes: &'a [Shape],
+    pub(crate) results: &'a R,
 }
 
 impl<R: Results> Applied<'_, '_, R> {
@@ -93,7 +95,7 @@ impl<R: Results> Applied<'_, '_, R> {
     }
 
     /// What the name at a place stands for, by what names stand for so far; nothing where it isn't wanted.
-    fn standing_at(
+    pub(crate) fn standing_at(
         &self,
         kept: &[Standing],
         place: usize,
@@ -116,5 +118,54 @@ impl<R: Results> Applied<'_, '_, R> {
             objects: &objects,
         };
         standing_at(self.alloc, &stage, self.declared, kept, place)
+    }
+
+    /// Adds what each wanted name stands for where nothing stands so far.
+    pub(crate) fn add_wanted(
+        &self,
+        kept: &mut Vec<Standing>,
+        wanted: &[bool],
+    ) -> Result<(), AllocError>
+        requires dependence { IsDependence (names_in self.now.declared.now.names.now) self.now.declared.now.dependence.now }
+        requires acyclic { IsAcyclic self.now.declared.now.dependence.now }
+        requires closed { AreClosedForLocals (names_in self.now.declared.now.names.now) wanted.now }
+        requires room { length (names_in self.now.declared.now.names.now) ≤ length kept.old.items }
+        requires answered { AreStandingsSoFar (entries_view self.now.declared.now.variables.now.entries) (names_in self.now.declared.now.names.now)
+            (shapes_of self.now.shapes.now) (R.objects self.now.results.now) (standings_of kept.old.items) }
+        ensures answered { AreStandingsSoFar (entries_view self.now.declared.now.variables.now.entries) (names_in self.now.declared.now.names.now)
+            (shapes_of self.now.shapes.now) (R.objects self.now.results.now) (standings_of kept.new.items) }
+        ensures there { OnOk result ((n : ℕ) → Contains (order_in self.now.declared.now.dependence.now) n → has wanted.now n ≡ true
+            → is_some (standings_of kept.new.items n) ≡ true) }
+    {
+        for place in self.declared.dependence.order() {
+            let is_missing = is_missing(kept.as_slice(), wanted, *place);
+            self.add_standing(kept, *place, is_missing)?;
+        }
+        Ok(())
+    }
+
+    /// Adds what the name at a place stands for, by what names stand for so far, where that is missing.
+    fn add_standing(
+        &self,
+        kept: &mut Vec<Standing>,
+        place: usize,
+        is_missing: bool,
+    ) -> Result<(), AllocError>
+        requires place { place < length (names_in self.now.declared.now.names.now) }
+        requires room { place < length kept.old.items }
+        ensures added { OnOk result (MatchBool is_missing
+            ((s : Stood) × (kept.new.items ≡ set kept.old.items place s)
+            × (standing_of s ≡ stands_at (applying (shapes_of self.now.shapes.now) (R.objects self.now.results.now)) place
+            (meant_at (names_in self.now.declared.now.names.now) place)
+            (environment (entries_view self.now.declared.now.variables.now.entries) (names_in self.now.declared.now.names.now) (standings_of kept.old.items))))
+            (kept.new.items ≡ kept.old.items)) }
+        ensures no_memory { OnErr result (kept.new.items ≡ kept.old.items) }
+    {
+        if !is_missing {
+            return Ok(());
+        }
+        let standing = self.standing_at(kept.as_slice(), place, true)?;
+        kept[place] = standing;
+        Ok(())
     }
 }

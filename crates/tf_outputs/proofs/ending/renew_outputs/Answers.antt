@@ -7,6 +7,7 @@ use Rattle.tf_outputs.proofs.Done.{EndsWith, ends_start, ends_more, ends_all, no
 use Rattle.tf_outputs.specs.Keeping.{done_of}
 use Rattle.tf_outputs.specs.Rooms.{HavePlaces, outputs_in}
 use Rattle.tf_outputs.specs.declared.rooms.OutputRoom.{OutputRoom}
+use Rattle.tf_request.proofs.Shared.{none_answered}
 use Rattle.tf_state_data.specs.State.{outputs_of}
 use Rattle.tf_syntax.specs.ExprTree.{tree_of}
 use Rattle.tf_value.specs.Stored.{IsTable}
@@ -21,6 +22,9 @@ loop-room-init g c =
       stored = λ table. table;
       places = subst (HavePlaces (names_in c.args.declared.now.names.now)) (sym given) c.requires.places;
       room = omega (arith, ap length given, ap length c.requires.none, c.requires.room);
+      answered =
+          none_answered (entries_view c.args.declared.now.variables.now.entries) (names_in c.args.declared.now.names.now) (shapes_of c.args.shapes.now) (g.R.Results.objects c.args.results.now)
+          c.new-stood.result.items c.new-stood.ensures.items;
     }
 
 pub loop-room-preserved : goal.loop-room-preserved
@@ -49,6 +53,7 @@ loop-room-preserved g c =
       stored = λ table. table_more name d c.keep.result saved after c.end_output-ended.ensures.stored c.keep.ensures (old.invariant.stored table);
       places = (subst (HavePlaces names) step old.invariant.places).1;
       room = omega (arith, rooms_less (into_iter_items old.room-iterator) left room step, one_longer c.push.new.self.items old.ends.items c.keep.result more, old.invariant.room, c.push.ensures.capacity);
+      answered = c.end_output-ended.ensures.answered;
     }
 
 pub returns-clause-ended : goal.returns-clause-ended

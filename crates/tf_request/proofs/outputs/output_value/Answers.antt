@@ -8,19 +8,23 @@ use Rattle.tf_syntax.specs.ExprNames.{named_by}
 use Rattle.tf_syntax.specs.ExprTree.{tree_of}
 use Rattle.tf_value.specs.Tree.{entries_view}
 use Rattle.tf_request.proofs.Requesting.{answered, standing_same}
+use Rattle.tf_request.proofs.Shared.{answered_each}
 use Rattle.tf_request.proofs.outputs.output_value.Goals as goal
 
-pub answered_standings-requires-clause-within : goal.answered_standings-requires-clause-within
-answered_standings-requires-clause-within g c =
+pub add_standings-requires-clause-within : goal.add_standings-requires-clause-within
+add_standings-requires-clause-within g c =
     let names = names_in c.args.declared.now.names.now in
     let named : c.as_slice.result.now ≡ places names (named_by (tree_of c.args.expr.now)) = c.as_slice.ensures.value ∙ c.in_ok-named.ensures in
     subst (λ (ns : List ℕ). AllByRecursion (λ n. n < length names) ns) (sym named) (all_places (λ n. n < length names) names (named_by (tree_of c.args.expr.now)) (λ n h. h))
 
-pub returns : goal.returns
-returns g c =
+pub returns-clause-output : goal.returns-clause-output
+returns-clause-output g c =
+    let variables = entries_view c.args.declared.now.variables.now.entries in
     let names = names_in c.args.declared.now.names.now in
+    let shapes = shapes_of c.args.shapes.now in
+    let objects = g.R.Results.objects c.args.results.now in
     let named : c.as_slice.result.now ≡ places names (named_by (tree_of c.args.expr.now)) = c.as_slice.ensures.value ∙ c.in_ok-named.ensures in
-    answered (entries_view c.args.declared.now.variables.now.entries) names (shapes_of c.args.shapes.now) (g.R.Results.objects c.args.results.now) (standings_of c.as_slice-2.result.now) (tree_of c.args.expr.now)
-    (λ standings solves. standing_same standings c.as_slice.result.now (places names (named_by (tree_of c.args.expr.now))) c.in_ok-kept.kept.items c.as_slice-2.result.now named c.as_slice-2.ensures.value
-    (c.in_ok-kept.ensures.standings standings solves))
+    answered variables names shapes objects (standings_of c.as_slice-2.result.now) (tree_of c.args.expr.now)
+    (λ standings solves. standing_same standings c.as_slice.result.now (places names (named_by (tree_of c.args.expr.now))) c.add_standings.new.kept.items c.as_slice-2.result.now named c.as_slice-2.ensures.value
+    (answered_each variables names shapes objects (standings_of c.add_standings.new.kept.items) c.as_slice.result.now c.in_ok-add_standings.ensures.answered c.in_ok-add_standings.ensures.there standings solves))
     c.listed_value.result c.listed_value.ensures

@@ -1,0 +1,80 @@
+//! What names stand for in an apply, worked out once for many that name them.
+
+ghost use Rattle.std.specs.List.{AllByRecursion};
+ghost use Rattle.std.specs.Prelude.{◌≡◌, ◌<◌, ◌≤◌, ◌&&◌, ℕ, OnOk, true, is_some, length, not};
+ghost use Rattle.tf_environment.specs.Words.{entries_view, has, IsAcyclic, IsDependence, names_in, shapes_of, standings_of};
+ghost use Rattle.tf_request.specs.Requests.{AreStandingsSoFar};
+
+use crate::results::Results;
+use crate::standing::Applied;
+use crate::wanted::wanted_by;
+use std::alloc::{AllocError, Global};
+use tf_environment::{Declarations, Shape, Standing, all_stand};
+
+/// Adds what the names at some places stand for, and all that is wanted for them, to what names stand for so far. What
+/// stands already isn't worked out again. Where memory runs out, what was worked out by then stays.
+pub(crate) fn add_standings<R: Results>(
+    alloc: Global,
+    declared: &Declarations,
+    shapes: &[Shape],
+    others: &[usize],
+    results: &R,
+    kept: &mut Vec<Standing>,
+) -> Result<(), AllocError>
+    requires dependence { IsDependence (names_in declared.now.names.now) declared.now.dependence.now }
+    requires acyclic { IsAcyclic declared.now.dependence.now }
+    requires within { AllByRecursion (λ n. n < length (names_in declared.now.names.now)) others.now }
+    requires answered { AreStandingsSoFar (entries_view declared.now.variables.now.entries) (names_in declared.now.names.now)
+        (shapes_of shapes.now) (R.objects results.now) (standings_of kept.old.items) }
+    ensures answered { AreStandingsSoFar (entries_view declared.now.variables.now.entries) (names_in declared.now.names.now)
+        (shapes_of shapes.now) (R.objects results.now) (standings_of kept.new.items) }
+    ensures there { OnOk result (AllByRecursion (λ n. is_some (standings_of kept.new.items n) ≡ true) others.now) }
+{
+    if all_stand(kept.as_slice(), others) {
+        return Ok(());
+    }
+    let wanted = wanted_by(alloc, declared, others)?;
+    fill(kept, declared.names.len())?;
+    let applied = Applied {
+        alloc,
+        declared,
+        shapes,
+        results,
+    };
+    applied.add_wanted(kept, wanted.as_slice())
+}
+
+/// Makes room for so many names; nothing stands at the places that are added.
+fn fill(kept: &mut Vec<Standing>, count: usize) -> Result<(), AllocError>
+    ensures room { OnOk result (count ≤ length kept.new.items) }
+    ensures same { (n : ℕ) → standings_of kept.new.items n ≡ standings_of kept.old.items n }
+{
+    for _ in kept.len()..count {
+        kept.push(Standing::Nothing)?;
+    }
+    Ok(())
+}
+
+/// Whether a place is wanted and nothing stands there.
+pub(crate) fn is_missing(kept: &[Standing], wanted: &[bool], place: usize) -> bool
+    ensures { result ≡ has wanted.now place && not (is_some (standings_of kept.now place)) }
+{
+    contains(wanted, place) && !stands(kept, place)
+}
+
+/// Whether a place is wanted.
+fn contains(wanted: &[bool], place: usize) -> bool
+    ensures { result ≡ has wanted.now place }
+{
+    place < wanted.len() && wanted[place]
+}
+
+/// Whether something stands at a place.
+fn stands(kept: &[Standing], place: usize) -> bool
+    ensures { result ≡ is_some (standings_of kept.now place) }
+{
+    match kept.get(place) {
+        Some(standing) => standing.is_there(),
+        None => false,
+    }
+}
