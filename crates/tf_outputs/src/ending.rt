@@ -27,7 +27,7 @@ use tf_value::{Value, is_known, is_within_limits, with_nulls};
 /// in the order of `rooms`. Where an output has no value, its entry among those that are `kept` stays. `settled` says of the
 /// place of each name whether it is settled, `shapes` how its instances stand together. It can't fail: where memory is
 /// refused for an output, that is told of it. Outputs share what names stand for, so that each local is evaluated once; where
-/// memory runs out over that, it is let go, and the output is tried by itself.
+/// memory runs out over the value of one, that is let go, and the output is tried by itself.
 pub fn renew_outputs<R: Results>(
     alloc: Global,
     declared: &Declarations,

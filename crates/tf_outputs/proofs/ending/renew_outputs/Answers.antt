@@ -10,7 +10,6 @@ use Rattle.tf_outputs.specs.declared.rooms.OutputRoom.{OutputRoom}
 use Rattle.tf_request.proofs.Shared.{none_answered}
 use Rattle.tf_state_data.specs.State.{outputs_of}
 use Rattle.tf_syntax.specs.ExprTree.{tree_of}
-use Rattle.tf_value.specs.Stored.{IsTable}
 use Rattle.tf_value.specs.Tree.{entries_view}
 use Rattle.tf_outputs.proofs.ending.renew_outputs.Goals as goal
 
