@@ -2,3 +2,5 @@ mod Carried
 mod Planned
 mod Writes
 mod Numbered
+mod Worked
+mod RefusalLines

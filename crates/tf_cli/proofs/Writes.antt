@@ -63,3 +63,16 @@ start_at f xs i x u v w e lt before part = start_within f xs i x u v w lt before
 pub both_part : {F : Type 0} (p : Result (Unit {0}) F) (u v w : Option (List ℕ)) (a b : List ℕ) → OnOk p (Appends u v a) → AppendsStart u v a → MatchResult p (λ _. AppendsStart v w b) (λ _. w ≡ v) → AppendsStart u w (a ++ b)
 both_part (Ok x) u v w a b h s k = start_behind u v w a b h k
 both_part (Err e) u v w a b h s k = subst (λ x. AppendsStart u x (a ++ b)) (sym k) (start_before u v a b s)
+
+-- what is written of three texts one after another
+pub three_whole : (u v w x : Option (List ℕ)) (a b c : List ℕ) → Appends u v a → Appends v w b → Appends w x c → Appends u x (a ++ (b ++ c))
+three_whole u v w x a b c first second third = appends_then u v x a (b ++ c) first (appends_then v w x b c second third)
+
+pub first_part : (u v : Option (List ℕ)) (a b c : List ℕ) → AppendsStart u v a → AppendsStart u v (a ++ (b ++ c))
+first_part u v a b c part = start_before u v a (b ++ c) part
+
+pub second_part : (u v w : Option (List ℕ)) (a b c : List ℕ) → Appends u v a → AppendsStart v w b → AppendsStart u w (a ++ (b ++ c))
+second_part u v w a b c first part = start_behind u v w a (b ++ c) first (start_before v w b c part)
+
+pub third_part : (u v w x : Option (List ℕ)) (a b c : List ℕ) → Appends u v a → Appends v w b → AppendsStart w x c → AppendsStart u x (a ++ (b ++ c))
+third_part u v w x a b c first second part = start_behind u v x a (b ++ c) first (start_behind v w x b c second part)

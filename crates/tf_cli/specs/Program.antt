@@ -14,11 +14,6 @@ IsFailure status = exit_status status ≡ 1
 abbrev pub unread_line : List ℕ → List ℕ
 unread_line file = codes "error: cannot read " ++ (file ++ 10 ∷ [])
 
--- A file that isn't there is none. Any other that can't be read stays so.
-abbrev pub IsOptional : {X E : Type 0} → (E → Type 0) → Result X E → Result (Option X) E → Type 0
-IsOptional IsAbsent (Ok x) result = result ≡ Ok (Some x)
-IsOptional IsAbsent (Err error) result = (IsAbsent error → result ≡ Ok None) × ((IsAbsent error → ⊥) → result ≡ Err error)
-
 -- What was read of a file is gone on with. Where it can't be read, the program is to end with status 1.
 abbrev pub GoesOn : {X E : Type 0} → Result X E → Result X ExitCode → Type 0
 GoesOn (Ok x) result = result ≡ Ok x
@@ -28,6 +23,24 @@ GoesOn (Err error) result = MatchResult result (λ _. ⊥) IsFailure
 abbrev pub TellsUnread : {X E : Type 0} → Result X E → List ℕ → Option (List ℕ) → Option (List ℕ) → Type 0
 TellsUnread (Ok x) file old new = new ≡ old
 TellsUnread (Err error) file old new = AppendsStart old new (unread_line file)
+
+-- What was read of a file that need not be named: of a name, what it gave, and nothing without one.
+abbrev pub ReadsNamed : {X E : Type 0} → (List ℕ → Result X E → Type 0) → Option (List ℕ) → Option X → Type 0
+ReadsNamed Reads (Some name) (Some bytes) = Reads name (Ok bytes)
+ReadsNamed Reads None None = Unit {0}
+ReadsNamed Reads _ _ = ⊥
+
+-- A file that isn't there is none, and what is there was read.
+abbrev pub ReadsOptional : {X E : Type 0} → (E → Type 0) → (List ℕ → Result X E → Type 0) → List ℕ → Option X → Type 0
+ReadsOptional IsAbsent Reads name (Some bytes) = Reads name (Ok bytes)
+ReadsOptional {X} {E} IsAbsent Reads name None = (error : E) × IsAbsent error × Reads name (Err error)
+
+-- What is given is what the reads gave, each of the file that its own word names: the configuration, the variables where they
+-- are named, and the state.
+pub record AreReads {X E : Type 0} (IsAbsent : E → Type 0) (Reads : List ℕ → Result X E → Type 0) (config_name : List ℕ) (vars_name : Option (List ℕ)) (state_name : List ℕ) (config : X) (vars : Option X) (state : Option X) : Type 0 where
+  pub configuration : Reads config_name (Ok config)
+  pub variables : ReadsNamed Reads vars_name vars
+  pub prior : ReadsOptional IsAbsent Reads state_name state
 
 -- An end before the work: help, with status 0; what is refused or can't be read, with status 1; or an error.
 abbrev pub IsEarly : {E : Type 0} → Result ExitCode E → Type 0

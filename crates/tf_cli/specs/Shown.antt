@@ -16,7 +16,6 @@ use Rattle.tf_additions.specs.declared.diagnostic.Diagnostic.{Diagnostic}
 use Rattle.tf_report.specs.declared.report.Report.{Report}
 use Rattle.tf_report.specs.declared.report.Walked.{Walked}
 use Rattle.tf_report.specs.declared.report.Walked.TheVariants.{Whole, Torn}
-use Rattle.tf_cli.specs.Saved.{AppendsStart}
 use Rattle.tf_cli.specs.declared.applied.Applied.{Applied}
 
 abbrev pub is_torn : Walked → Bool
@@ -28,6 +27,10 @@ is_torn (Torn report) = true
 -- a refusal has a line
 abbrev pub refusal_line : Told → List ℕ
 refusal_line t = refusal_text t ++ 10 ∷ []
+
+-- `error CODE at PLACE: NAME`, up to what stands behind the name
+abbrev pub fault_opening : ℕ → List ℕ → List ℕ → List ℕ
+fault_opening code place name = codes "error " ++ (decimal code ++ (codes " at " ++ (place ++ (codes ": " ++ name))))
 
 -- each refusal in a line, in order
 abbrev pub refused_errors : Refused → List ℕ
@@ -93,8 +96,12 @@ cant_write a = a.changed && is_err a.state
 abbrev pub torn_warning : Bool → List ℕ
 torn_warning torn = if torn then codes "warning: the journal is withheld\n" else []
 
+-- what is told where the state isn't written
+abbrev pub unwritten_line : List ℕ
+unwritten_line = codes "error: state not written\n"
+
 abbrev pub unwritten_error : Bool → List ℕ
-unwritten_error unwritten = if unwritten then codes "error: state not written\n" else []
+unwritten_error unwritten = if unwritten then unwritten_line else []
 
 -- on standard output: the plan and the summary
 abbrev pub applied_output : Applied → List ℕ
@@ -115,17 +122,6 @@ output_of (Err refused) = []
 abbrev pub errors_of : Result Applied Refused → List ℕ
 errors_of (Ok a) = applied_errors a
 errors_of (Err refused) = refused_errors refused
-
--- A writer got a first part of what is told of a refusal, where that is want of memory. The lines of other refusals
--- are made as they are written, and what a writer got of those that weren't all written isn't said.
-abbrev pub RefusesStart : Option (List ℕ) → Option (List ℕ) → Refused → Type 0
-RefusesStart old new NoMemory = AppendsStart old new (refused_errors NoMemory)
-RefusesStart old new (These refusals) = Unit {0}
-
--- standard error got a first part of what it is to get
-abbrev pub TellsStart : Option (List ℕ) → Option (List ℕ) → Result Applied Refused → Type 0
-TellsStart old new (Ok a) = AppendsStart old new (applied_errors a)
-TellsStart old new (Err refused) = RefusesStart old new refused
 
 -- 3 where the state isn't written, else 2 where some action or output isn't good or the report is torn, else 0
 abbrev pub applied_status : Applied → ℕ

@@ -1,22 +1,21 @@
 //! What an apply prints, and its status.
 
 ghost use Rattle.std.specs.Io.KnownBytes.{Appends};
-ghost use Rattle.std.specs.List.{flat_map, list_all};
+ghost use Rattle.std.specs.List.{list_all};
 ghost use Rattle.std.specs.Prelude.{◌≡◌, IsErr, MatchResult, OnOk};
 ghost use Rattle.tf_cli.specs.Saved.{AppendsStart};
-ghost use Rattle.tf_cli.specs.Shown.{RefusesStart, TellsStart, all_good, applied_errors, applied_output, applied_status, cant_write, counts, diagnostic_line, diagnostic_lines, error_line, errors_of, is_good_outcome, is_torn, output_of, refusal_line, refused_errors, report_summary, status_of, summary_opening, torn_warning, unwritten_error, warnings};
-ghost use Rattle.tf_refusal.specs.Refusal.{told};
+ghost use Rattle.tf_cli.specs.Shown.{all_good, applied_errors, applied_output, applied_status, cant_write, counts, diagnostic_line, diagnostic_lines, error_line, errors_of, is_good_outcome, is_torn, output_of, refused_errors, report_summary, status_of, summary_opening, torn_warning, unwritten_error, warnings};
 ghost use Rattle.tf_additions.specs.Diagnostics.{diagnostic_of};
 
 use crate::applied::Applied;
-use crate::lines::{RefusalLine, verb_text};
+use crate::lines::verb_text;
+use crate::refusing::print_refusals;
 use crate::saving::{SaveFault, save, save_all};
 use itoa::Buffer;
 use std::io::Write;
 use tf_outcome::Outcome;
 use tf_plan::Refused;
 use tf_provider::Verdict;
-use tf_refusal::Refusal;
 use tf_report::{Diagnostic, Report, Walked};
 
 /// Whether something was printed.
@@ -29,7 +28,7 @@ type Printed = Result<(), SaveFault>;
 pub fn show<O: Write, E: Write>(answer: &Result<Applied, Refused>, out: &mut O, err: &mut E) -> u8
     ensures status { result ≡ status_of answer.now }
     ensures output { AppendsStart (O.contents out.old) (O.contents out.new) (output_of answer.now) }
-    ensures errors { TellsStart (E.contents err.old) (E.contents err.new) answer.now }
+    ensures errors { AppendsStart (E.contents err.old) (E.contents err.new) (errors_of answer.now) }
 {
     let _ = print(answer, out, err);
     status(answer)
@@ -46,7 +45,7 @@ pub fn print<O: Write, E: Write>(
     ensures output { OnOk result (Appends (O.contents out.old) (O.contents out.new) (output_of answer.now)) }
     ensures errors { OnOk result (Appends (E.contents err.old) (E.contents err.new) (errors_of answer.now)) }
     ensures output_part { AppendsStart (O.contents out.old) (O.contents out.new) (output_of answer.now) }
-    ensures errors_part { TellsStart (E.contents err.old) (E.contents err.new) answer.now }
+    ensures errors_part { AppendsStart (E.contents err.old) (E.contents err.new) (errors_of answer.now) }
 {
     match answer {
         Ok(applied) => print_applied(applied, out, err),
@@ -181,25 +180,15 @@ fn print_error<'a, E: Write>(
     save_all(err, &texts)
 }
 
-/// Prints each refusal in a line.
+/// Prints each refusal in a line. Where a write fails, nothing more is written.
 pub fn print_refused<E: Write>(refused: &Refused, err: &mut E) -> Printed
     ensures whole { OnOk result (Appends (E.contents err.old) (E.contents err.new) (refused_errors refused.now)) }
-    ensures part { RefusesStart (E.contents err.old) (E.contents err.new) refused.now }
+    ensures part { AppendsStart (E.contents err.old) (E.contents err.new) (refused_errors refused.now) }
 {
     match refused {
         Refused::NoMemory => save(err, "error 15 at memory: OutOfMemory\n"),
         Refused::These(refusals) => print_refusals(refusals, err),
     }
-}
-
-fn print_refusals<E: Write>(refusals: &[Refusal], err: &mut E) -> Printed
-    ensures { OnOk result (Appends (E.contents err.old) (E.contents err.new) (flat_map (λ r. refusal_line (told r)) refusals.now)) }
-{
-    for refusal in refusals {
-        let line = RefusalLine { refusal };
-        write!(err, "{line}")?;
-    }
-    Ok(())
 }
 
 fn is_torn(walked: &Walked) -> bool

@@ -4,7 +4,7 @@ use Rattle.std.specs.List.{flat_map}
 use Rattle.std.specs.Io.KnownBytes.{Appends}
 use Rattle.tf_refusal.specs.Refusal.{told}
 use Rattle.tf_cli.specs.Shown.{refusal_line}
-use Rattle.tf_cli.proofs.printing.print_refusals.Given as goal
+use Rattle.tf_cli.proofs.refusing.print_refusals.Given as goal
 
 abbrev pub invariant-loop-refusal : goal.invariant-loop-refusal
 invariant-loop-refusal g l = Appends (g.E.Write.contents l.fn.err) (g.E.Write.contents l.err) (flat_map (λ r. refusal_line (told r)) (take l.refusal-index l.refusals))

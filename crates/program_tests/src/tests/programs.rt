@@ -1,0 +1,558 @@
+//! The two programs, over files and words that stand in memory.
+
+use crate::tests::disk::{Disk, Fault, Kind, Store};
+use crate::tests::kept::{STATE, UNWRITTEN};
+use crate::tests::writers::{Bad, Faulty};
+use std::alloc::Global;
+use std::cell::RefCell;
+use std::io;
+use std::io::Write;
+use std::process::{Abort, ExitCode};
+use std::sync::Wait;
+use std::test::Fail;
+use std::thread::Threads;
+use tf_cli::program::{Given, run};
+use tf_cli::{Stop, carry_out, print_plan};
+use tf_provider::Provider;
+use tf_sim::Sim;
+
+#[derive(Clone, Copy, PartialEq)]
+enum Program {
+    Plan,
+    Apply,
+}
+
+// What is told on an output.
+#[derive(Clone, Copy)]
+enum Told {
+    Is(&'static str),
+    /// A text that `clap` words.
+    Something,
+}
+
+// A run of a program: what it finds, and what has to come of it.
+struct Row {
+    program: Program,
+    words: &'static [&'static str],
+    files: &'static [(&'static str, Kind, &'static str)],
+    fault: Fault,
+    status: u8,
+    out: Told,
+    err: Told,
+    /// The calls that name a file, in order.
+    calls: &'static str,
+    /// What stands afterwards at the name `s`, if anything.
+    state: Option<&'static str>,
+}
+
+const NET: &str = r#"{"resource": {"sim_net": {"a": {"cidr": "x"}}}}"#;
+
+const NAMED: &str =
+    r#"{"variable": {"v": {}}, "resource": {"sim_net": {"a": {"cidr": "${var.v}"}}}}"#;
+
+const HALF: &str = r#"{"resource": {"sim_net": {"a": {"cidr": "x"}, "b": {"cidr": "bad"}}}}"#;
+
+const PLANNED: &str =
+    "+ sim_net.a\n    cidr = \"x\"\n    id = (known after apply)\nPlan: 1 to add, 0 to change, 0 to destroy.\n";
+
+const APPLIED: &str =
+    "+ sim_net.a\n    cidr = \"x\"\n    id = (known after apply)\nPlan: 1 to add, 0 to change, 0 to destroy.\nApply complete! Resources: 1 added, 0 changed, 0 destroyed.\n";
+
+const HALF_APPLIED: &str =
+    "+ sim_net.a\n    cidr = \"x\"\n    id = (known after apply)\n+ sim_net.b\n    cidr = \"bad\"\n    id = (known after apply)\nPlan: 2 to add, 0 to change, 0 to destroy.\nApply incomplete. Resources: 1 added, 0 changed, 0 destroyed.\n";
+
+const REPLACED: &str = "read c\nread s\ncreate s.new\nsync s.new\nrename s.new\nto s\n";
+
+const WORDS: &[&str] = &["apply", "--config", "c", "--state", "s", "--lineage", "L"];
+
+const OLD: &str =
+    r#"{"version": 4, "terraform_version": "1.0.0", "serial": 0, "lineage": "L", "outputs": {}, "resources": []}"#;
+
+const APPLIED_AND_STATE: &str =
+    "+ sim_net.a\n    cidr = \"x\"\n    id = (known after apply)\nPlan: 1 to add, 0 to change, 0 to destroy.\nApply complete! Resources: 1 added, 0 changed, 0 destroyed.\n{\n  \"lineage\": \"L\",\n  \"outputs\": {},\n  \"resources\": [\n    {\n      \"instances\": [\n        {\n          \"attributes\": {\n            \"cidr\": \"x\",\n            \"id\": \"net-x\",\n            \"tag\": null\n          },\n          \"schema_version\": 0\n        }\n      ],\n      \"mode\": \"managed\",\n      \"name\": \"a\",\n      \"provider\": \"provider[\\\"registry.terraform.io/hashicorp/sim\\\"]\",\n      \"type\": \"sim_net\"\n    }\n  ],\n  \"serial\": 1,\n  \"terraform_version\": \"1.0.0\",\n  \"version\": 4\n}\n";
+
+const HALF_AND_STATE: &str =
+    "+ sim_net.a\n    cidr = \"x\"\n    id = (known after apply)\n+ sim_net.b\n    cidr = \"bad\"\n    id = (known after apply)\nPlan: 2 to add, 0 to change, 0 to destroy.\nApply incomplete. Resources: 1 added, 0 changed, 0 destroyed.\n{\n  \"lineage\": \"L\",\n  \"outputs\": {},\n  \"resources\": [\n    {\n      \"instances\": [\n        {\n          \"attributes\": {\n            \"cidr\": \"x\",\n            \"id\": \"net-x\",\n            \"tag\": null\n          },\n          \"schema_version\": 0\n        }\n      ],\n      \"mode\": \"managed\",\n      \"name\": \"a\",\n      \"provider\": \"provider[\\\"registry.terraform.io/hashicorp/sim\\\"]\",\n      \"type\": \"sim_net\"\n    }\n  ],\n  \"serial\": 1,\n  \"terraform_version\": \"1.0.0\",\n  \"version\": 4\n}\n";
+
+const WRONG_TWICE: &str =
+    r#"{"output": {"p": {"value": "${1 + true}"}, "o": {"value": "${[1][1]}"}}}"#;
+
+const TWO_REFUSED: &str =
+    "error 9 at output.o: Evaluate(Missing)\nerror 9 at output.p: Evaluate(WrongKind)\n";
+
+const HALF_UNWRITTEN: &str = "error 21 at sim_net.b create: refused\nerror: state not written\n";
+
+static ROWS: [Row; 26] = [
+    Row {
+        program: Program::Apply,
+        words: WORDS,
+        files: &[("c", Kind::File, NET)],
+        fault: Fault::None,
+        status: 0,
+        out: Told::Is(APPLIED),
+        err: Told::Is(""),
+        calls: REPLACED,
+        state: Some(STATE),
+    },
+    Row {
+        program: Program::Apply,
+        words: WORDS,
+        files: &[("c", Kind::File, NET), ("s", Kind::File, OLD)],
+        fault: Fault::None,
+        status: 0,
+        out: Told::Is(APPLIED),
+        err: Told::Is(""),
+        calls: REPLACED,
+        state: Some(STATE),
+    },
+    Row {
+        program: Program::Apply,
+        words: WORDS,
+        files: &[("c", Kind::File, NET), ("s", Kind::File, STATE)],
+        fault: Fault::None,
+        status: 0,
+        out: Told::Is("No changes.\nApply complete! Resources: 0 added, 0 changed, 0 destroyed.\n"),
+        err: Told::Is(""),
+        calls: "read c\nread s\n",
+        state: Some(STATE),
+    },
+    Row {
+        program: Program::Apply,
+        words: &["apply", "--lineage", "L"],
+        files: &[("main.tf.json", Kind::File, "{}")],
+        fault: Fault::None,
+        status: 0,
+        out: Told::Is("No changes.\nApply complete! Resources: 0 added, 0 changed, 0 destroyed.\n"),
+        err: Told::Is(""),
+        calls: "read main.tf.json\nread terraform.tfstate\n",
+        state: None,
+    },
+    Row {
+        program: Program::Apply,
+        words: &[
+            "apply",
+            "--state",
+            "s",
+            "--vars",
+            "v",
+            "--config",
+            "c",
+            "--lineage",
+            "L",
+        ],
+        files: &[
+            ("c", Kind::File, NAMED),
+            ("v", Kind::File, "{\"v\": \"x\"}"),
+        ],
+        fault: Fault::None,
+        status: 0,
+        out: Told::Is(APPLIED),
+        err: Told::Is(""),
+        calls: "read c\nread v\nread s\ncreate s.new\nsync s.new\nrename s.new\nto s\n",
+        state: Some(STATE),
+    },
+    Row {
+        program: Program::Apply,
+        words: &[
+            "apply",
+            "--state",
+            "s",
+            "--vars",
+            "v",
+            "--config",
+            "c",
+            "--lineage",
+            "L",
+        ],
+        files: &[("c", Kind::File, NAMED), ("s", Kind::File, OLD)],
+        fault: Fault::None,
+        status: 1,
+        out: Told::Is(""),
+        err: Told::Is("error: cannot read v\n"),
+        calls: "read c\nread v\n",
+        state: Some(OLD),
+    },
+    Row {
+        program: Program::Apply,
+        words: WORDS,
+        files: &[("s", Kind::File, OLD)],
+        fault: Fault::None,
+        status: 1,
+        out: Told::Is(""),
+        err: Told::Is("error: cannot read c\n"),
+        calls: "read c\n",
+        state: Some(OLD),
+    },
+    Row {
+        program: Program::Apply,
+        words: WORDS,
+        files: &[("c", Kind::Folder, "")],
+        fault: Fault::None,
+        status: 1,
+        out: Told::Is(""),
+        err: Told::Is("error: cannot read c\n"),
+        calls: "read c\n",
+        state: None,
+    },
+    Row {
+        program: Program::Apply,
+        words: WORDS,
+        files: &[("c", Kind::File, NET), ("s", Kind::Secret, OLD)],
+        fault: Fault::None,
+        status: 1,
+        out: Told::Is(""),
+        err: Told::Is("error: cannot read s\n"),
+        calls: "read c\nread s\n",
+        state: Some(OLD),
+    },
+    Row {
+        program: Program::Apply,
+        words: WORDS,
+        files: &[("c", Kind::File, NET), ("s", Kind::Folder, "")],
+        fault: Fault::None,
+        status: 1,
+        out: Told::Is(""),
+        err: Told::Is("error: cannot read s\n"),
+        calls: "read c\nread s\n",
+        state: Some(""),
+    },
+    Row {
+        program: Program::Apply,
+        words: WORDS,
+        files: &[("c", Kind::File, NET), ("s", Kind::File, "")],
+        fault: Fault::None,
+        status: 1,
+        out: Told::Is(""),
+        err: Told::Is("error 13 at state: BadState\n"),
+        calls: "read c\nread s\n",
+        state: Some(""),
+    },
+    Row {
+        program: Program::Apply,
+        words: &["apply", "--nope"],
+        files: &[],
+        fault: Fault::None,
+        status: 1,
+        out: Told::Is(""),
+        err: Told::Something,
+        calls: "",
+        state: None,
+    },
+    Row {
+        program: Program::Apply,
+        words: &["apply", "--config", "c", "--parallelism", "0"],
+        files: &[("c", Kind::File, NET)],
+        fault: Fault::None,
+        status: 1,
+        out: Told::Is(""),
+        err: Told::Something,
+        calls: "",
+        state: None,
+    },
+    Row {
+        program: Program::Apply,
+        words: &["apply", "--help"],
+        files: &[],
+        fault: Fault::None,
+        status: 0,
+        out: Told::Something,
+        err: Told::Is(""),
+        calls: "",
+        state: None,
+    },
+    Row {
+        program: Program::Apply,
+        words: WORDS,
+        files: &[("c", Kind::File, HALF)],
+        fault: Fault::None,
+        status: 2,
+        out: Told::Is(HALF_APPLIED),
+        err: Told::Is("error 21 at sim_net.b create: refused\n"),
+        calls: REPLACED,
+        state: Some(STATE),
+    },
+    Row {
+        program: Program::Apply,
+        words: WORDS,
+        files: &[("c", Kind::File, NET), ("s", Kind::File, OLD)],
+        fault: Fault::Create,
+        status: 3,
+        out: Told::Is(APPLIED_AND_STATE),
+        err: Told::Is(UNWRITTEN),
+        calls: "read c\nread s\ncreate s.new\nremove s.new\n",
+        state: Some(OLD),
+    },
+    Row {
+        program: Program::Apply,
+        words: WORDS,
+        files: &[("c", Kind::File, NET), ("s", Kind::File, OLD)],
+        fault: Fault::Write,
+        status: 3,
+        out: Told::Is(APPLIED_AND_STATE),
+        err: Told::Is(UNWRITTEN),
+        calls: "read c\nread s\ncreate s.new\nremove s.new\n",
+        state: Some(OLD),
+    },
+    Row {
+        program: Program::Apply,
+        words: WORDS,
+        files: &[("c", Kind::File, NET), ("s", Kind::File, OLD)],
+        fault: Fault::Sync,
+        status: 3,
+        out: Told::Is(APPLIED_AND_STATE),
+        err: Told::Is(UNWRITTEN),
+        calls: "read c\nread s\ncreate s.new\nsync s.new\nremove s.new\n",
+        state: Some(OLD),
+    },
+    Row {
+        program: Program::Apply,
+        words: WORDS,
+        files: &[("c", Kind::File, NET), ("s", Kind::File, OLD)],
+        fault: Fault::Rename,
+        status: 3,
+        out: Told::Is(APPLIED_AND_STATE),
+        err: Told::Is(UNWRITTEN),
+        calls: "read c\nread s\ncreate s.new\nsync s.new\nrename s.new\nto s\nremove s.new\n",
+        state: Some(OLD),
+    },
+    Row {
+        program: Program::Apply,
+        words: WORDS,
+        files: &[("c", Kind::File, HALF)],
+        fault: Fault::Rename,
+        status: 3,
+        out: Told::Is(HALF_AND_STATE),
+        err: Told::Is(HALF_UNWRITTEN),
+        calls: "read c\nread s\ncreate s.new\nsync s.new\nrename s.new\nto s\nremove s.new\n",
+        state: None,
+    },
+    Row {
+        program: Program::Plan,
+        words: WORDS,
+        files: &[("c", Kind::File, NET), ("s", Kind::File, OLD)],
+        fault: Fault::None,
+        status: 0,
+        out: Told::Is(PLANNED),
+        err: Told::Is(""),
+        calls: "read c\nread s\n",
+        state: Some(OLD),
+    },
+    Row {
+        program: Program::Plan,
+        words: WORDS,
+        files: &[("c", Kind::File, NET), ("s", Kind::File, STATE)],
+        fault: Fault::None,
+        status: 0,
+        out: Told::Is("No changes.\n"),
+        err: Told::Is(""),
+        calls: "read c\nread s\n",
+        state: Some(STATE),
+    },
+    Row {
+        program: Program::Plan,
+        words: &[
+            "apply",
+            "--state",
+            "s",
+            "--vars",
+            "v",
+            "--config",
+            "c",
+            "--lineage",
+            "L",
+        ],
+        files: &[
+            ("c", Kind::File, NAMED),
+            ("v", Kind::File, "{\"v\": \"x\"}"),
+        ],
+        fault: Fault::None,
+        status: 0,
+        out: Told::Is(PLANNED),
+        err: Told::Is(""),
+        calls: "read c\nread v\nread s\n",
+        state: None,
+    },
+    Row {
+        program: Program::Apply,
+        words: WORDS,
+        files: &[("c", Kind::File, WRONG_TWICE), ("s", Kind::File, OLD)],
+        fault: Fault::None,
+        status: 1,
+        out: Told::Is(""),
+        err: Told::Is(TWO_REFUSED),
+        calls: "read c\nread s\n",
+        state: Some(OLD),
+    },
+    Row {
+        program: Program::Plan,
+        words: WORDS,
+        files: &[("c", Kind::File, WRONG_TWICE), ("s", Kind::File, OLD)],
+        fault: Fault::None,
+        status: 1,
+        out: Told::Is(""),
+        err: Told::Is(TWO_REFUSED),
+        calls: "read c\nread s\n",
+        state: Some(OLD),
+    },
+    Row {
+        program: Program::Plan,
+        words: WORDS,
+        files: &[("c", Kind::File, "{\"resource\":")],
+        fault: Fault::None,
+        status: 1,
+        out: Told::Is(""),
+        err: Told::Is("error 1 at configuration: NotJson\n"),
+        calls: "read c\nread s\n",
+        state: None,
+    },
+];
+
+// What came of a run.
+#[derive(Drop)]
+struct Ran {
+    ended: io::Result<ExitCode>,
+    out: Vec<u8>,
+    err: Vec<u8>,
+}
+
+fn work<T: Threads + Wait + Sync, O: Write, E: Write>(
+    rt: &T,
+    alloc: Global,
+    disk: &(Disk<'_>, Global),
+    program: Program,
+    given: &Given,
+    out: &mut O,
+    err: &mut E,
+) -> io::Result<ExitCode> {
+    let mut providers: Vec<Box<dyn Provider + Sync>> = Vec::new(alloc);
+    providers.push(Box::new(alloc, Sim::new(alloc)?)?)?;
+    let status = match program {
+        Program::Plan => print_plan(alloc, given, &providers, out, err),
+        Program::Apply => carry_out(disk, rt, given, &providers, &Stop::new(), out, err),
+    };
+    Ok(ExitCode::from(status))
+}
+
+fn run_on<T: Threads + Wait + Sync, O: Write>(
+    rt: &T,
+    alloc: Global,
+    row: &Row,
+    store: &RefCell<Store>,
+    out: &mut O,
+    err: &mut Vec<u8>,
+) -> io::Result<ExitCode> {
+    let disk = (
+        Disk {
+            store,
+            words: row.words,
+        },
+        alloc,
+    );
+    run(&disk, out, err, |given, out, err| {
+        work(rt, alloc, &disk, row.program, given, out, err)
+    })
+}
+
+fn run_row<T: Threads + Wait + Sync>(
+    rt: &T,
+    alloc: Global,
+    row: &Row,
+    store: &RefCell<Store>,
+) -> Ran {
+    let mut out = Vec::new(alloc);
+    let mut err = Vec::new(alloc);
+    let ended = run_on(rt, alloc, row, store, &mut out, &mut err);
+    Ran { ended, out, err }
+}
+
+fn store_of(alloc: Global, row: &Row) -> Result<Store, Fail> {
+    let mut store = Store::new(alloc, row.fault);
+    for (name, kind, text) in row.files {
+        store.add(name, *kind, text.as_bytes())?;
+    }
+    Ok(store)
+}
+
+fn is_told(told: Told, bytes: &[u8]) -> bool {
+    match told {
+        Told::Is(text) => bytes == text.as_bytes(),
+        Told::Something => !bytes.is_empty(),
+    }
+}
+
+fn is_left(row: &Row, store: &Store) -> bool {
+    let state = store.find("s").map(|entry| entry.bytes.as_slice());
+    store.calls.as_str() == row.calls
+        && state == row.state.map(|text| text.as_bytes())
+        && store.find("s.new").is_none()
+}
+
+fn is_ended(ended: &io::Result<ExitCode>, row: &Row) -> bool {
+    match ended {
+        Ok(status) => *status == ExitCode::from(row.status),
+        Err(_) => false,
+    }
+}
+
+// What isn't as the row has it, by name.
+fn amiss(ran: &Ran, row: &Row, store: &Store) -> &'static str {
+    if !is_ended(&ran.ended, row) {
+        "status"
+    } else if !is_told(row.out, ran.out.as_slice()) {
+        "output"
+    } else if !is_told(row.err, ran.err.as_slice()) {
+        "errors"
+    } else if !is_left(row, store) {
+        "files"
+    } else {
+        ""
+    }
+}
+
+fn check_row<R: Abort + Threads + Wait + Sync>(
+    rt: &R,
+    alloc: Global,
+    at: usize,
+) -> Result<(), Fail> {
+    let Some(row) = ROWS.get(at) else {
+        return Ok(());
+    };
+    let store = RefCell::new(store_of(alloc, row)?);
+    let ran = run_row(rt, alloc, row, &store);
+    let wrong = amiss(&ran, row, &store.into_inner());
+    assert_eq!(rt; wrong, "", "{at}");
+    Ok(())
+}
+
+#[test]
+fn runs_as_the_rows_say(rt: HostRuntime) -> Result<(), Fail> {
+    for at in 0..ROWS.len() {
+        check_row(&rt, rt.alloc(), at)?;
+    }
+    Ok(())
+}
+
+// Whether an apply comes to the same status, errors and files where the first write to standard output fails, after which that
+// gets a state's text alone, where this isn't written.
+fn is_same_unheard<T: Threads + Wait + Sync>(
+    rt: &T,
+    alloc: Global,
+    row: &Row,
+) -> Result<bool, Fail> {
+    let store = RefCell::new(store_of(alloc, row)?);
+    let mut out = Faulty::new(alloc, 0, Bad::Fails);
+    let mut err = Vec::new(alloc);
+    let ended = run_on(rt, alloc, row, &store, &mut out, &mut err);
+    let same = is_ended(&ended, row) && is_told(row.err, err.as_slice());
+    let shown = if row.status == 3 { STATE } else { "" };
+    Ok(same && out.held.as_slice() == shown.as_bytes() && is_left(row, &store.into_inner()))
+}
+
+#[test]
+fn applies_the_same_unheard(rt: HostRuntime) -> Result<(), Fail> {
+    for (at, row) in ROWS.iter().enumerate() {
+        let so = row.program == Program::Plan || is_same_unheard(&rt, rt.alloc(), row)?;
+        assert!(rt; so, "{at}");
+    }
+    Ok(())
+}
