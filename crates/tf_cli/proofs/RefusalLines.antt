@@ -1,5 +1,5 @@
 -- The line of a refusal, part by part.
-use Rattle.std.proofs.Common.{◌≡◌, ◌∷◌, [], ◌++◌, ◌<◌, ℕ, List, Option, Result, refl, sym, ap, subst, take, length, map, codes, decimal, string_bytes, append_assoc, arith, rules}
+use Rattle.std.proofs.Common.{◌≡◌, ◌∷◌, ◌++◌, ℕ, List, Option, Result, sym, subst, take, length, map, codes, decimal, string_bytes, append_assoc, rules}
 use Rattle.std.proofs.lemmas.List.{take_all}
 use Rattle.std.proofs.lemmas.List.Folds.{flat_map-map}
 use Rattle.std.specs.Io.KnownBytes.{Appends}

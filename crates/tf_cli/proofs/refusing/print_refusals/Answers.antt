@@ -1,7 +1,6 @@
-use Rattle.std.proofs.Common.{take, subst, arith}
+use Rattle.std.proofs.Common.{take, arith}
 use Rattle.std.proofs.lemmas.List.{take_all}
 use Rattle.std.specs.List.{flat_map}
-use Rattle.tf_cli.specs.Saved.{AppendsStart}
 use Rattle.tf_cli.specs.Shown.{refusal_line}
 use Rattle.tf_refusal.specs.Refusal.{told}
 use Rattle.tf_cli.proofs.RefusalLines.{start_whole}
