@@ -1,5 +1,7 @@
 //! Files and words that stand in memory, in place of the system's.
 
+ghost use Rattle.std.specs.Prelude.{◌≤◌, IfOk, length};
+
 use std::alloc::{Allocator, Global};
 use std::cell::{RefCell, RefMut};
 use std::env::FillError;
@@ -119,7 +121,9 @@ impl Store {
     }
 
     /// Reads from a place on.
-    fn read(&self, name: &str, at: usize, buf: &mut [u8]) -> io::Result<usize> {
+    fn read(&self, name: &str, at: usize, buf: &mut [u8]) -> io::Result<usize>
+        ensures { IfOk result (λ count. count ≤ length buf.new) }
+    {
         match self.find(name) {
             Some(entry) if entry.kind == Kind::File => {
                 let rest = entry.bytes.as_slice().get(at..).unwrap_or(b"");
@@ -133,7 +137,9 @@ impl Store {
     }
 
     /// Takes what is written in pieces of at most 100 bytes.
-    fn write(&mut self, name: &str, buf: &[u8]) -> io::Result<usize> {
+    fn write(&mut self, name: &str, buf: &[u8]) -> io::Result<usize>
+        ensures { IfOk result (λ count. count ≤ length buf.now) }
+    {
         self.fails(Fault::Write)?;
         let mut entry = self.take(name)?;
         let count = buf.len().min(100);
