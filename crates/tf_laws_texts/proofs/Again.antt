@@ -27,7 +27,7 @@ use Rattle.tf_state.specs.Text.{state_text}
 use Rattle.tf_state_data.specs.State.{StateView, record_in}
 use Rattle.tf_value.proofs.Conjunction.{and-first, and-second}
 use Rattle.tf_laws_texts.proofs.Planned.{Laws, no_entries, none_again, plan_ranked, reported, shown_none}
-use Rattle.tf_laws_texts.proofs.Reading.{one_prior}
+use Rattle.tf_laws_texts.proofs.Reading.{one_resources}
 use Rattle.tf_laws_texts.specs.Again.{HaveSchemas, NothingIsDoneAgain, NothingIsPlannedAfterSuccess, NothingIsPlannedAgain, WentWell, no_changes, over, with_written}
 
 -- ---- the state that was written reads back
@@ -118,7 +118,7 @@ module _ (laws : Laws) (back : TextReadsAsState) (one : TextIsOfOne) (ms : List 
       let first = applied.planned in
       let second = is.planned in
       let stays : first.prior ≡ state_in a = sym first.planned.prior ∙ sym (applied.carried_out.changed.0 same) in
-      let resources = one_prior one texts.state lineage is.lineage first.prior second.prior first.stand.before second.stand.before ∙ ap (λ (s : StateView). s.resources) stays in
+      let resources = one_resources one texts.state lineage is.lineage first.prior second.prior first.stand.before second.stand.before ∙ ap (λ (s : StateView). s.resources) stays in
       is.shown ∙ shown_none is.plan.late is.plan.actions (none_again laws ms texts lineage a schemas applied well second.config second.values second.prior is.plan second.stand.read second.stand.valued resources second.planned)
 
   after : (changed : Bool) (state : Result (String Global) AllocError) → a.changed ≡ changed → a.state ≡ state → (changed && is_err state) ≡ false

@@ -42,9 +42,9 @@ one_values law vars config values others h k =
 -- ---- what a prior state has
 
 -- the resources of prior states of one text are the same, of whatever lineages where there is none
-pub one_prior : TextIsOfOne → (state : Option (List ℕ)) (lineage other : List ℕ) (prior again : StateView) → IsPrior state lineage prior → IsPrior state other again → again.resources ≡ prior.resources
-one_prior law None lineage other prior again h k = ap (λ (s : StateView). s.resources) k ∙ sym (ap (λ (s : StateView). s.resources) h)
-one_prior law (Some bytes) lineage other prior again h k = ap (λ (s : StateView). s.resources) (law bytes again prior k.0 h.0)
+pub one_resources : TextIsOfOne → (state : Option (List ℕ)) (lineage other : List ℕ) (prior again : StateView) → IsPrior state lineage prior → IsPrior state other again → again.resources ≡ prior.resources
+one_resources law None lineage other prior again h k = ap (λ (s : StateView). s.resources) k ∙ sym (ap (λ (s : StateView). s.resources) h)
+one_resources law (Some bytes) lineage other prior again h k = ap (λ (s : StateView). s.resources) (law bytes again prior k.0 h.0)
 
 pub prior_valid : ReadIsValid → EmptyIsValid → (state : Option (List ℕ)) (lineage : List ℕ) (prior : StateView) → IsPrior state lineage prior → IsValid prior
 prior_valid read empty None lineage prior h = subst IsValid (sym h) (empty lineage)
@@ -64,7 +64,7 @@ labels_in_order (b ∷ blocks) h = (labels_after b blocks h.0, labels_in_order b
 pub read_in_order : BlocksAreInOrder → (tree : Data) (config : ConfigView) → IsConfiguration tree config → IsStrictlySortedBy label_cmp (map (λ b. b.label) config.blocks)
 read_in_order law tree config h = labels_in_order config.blocks (law tree config h)
 
--- ---- the same texts
+-- ---- the same prior state
 
 pub one_prior : TextIsOfOne → (state : Option (List ℕ)) (lineage : List ℕ) (prior again : StateView) → IsPrior state lineage prior → IsPrior state lineage again → again ≡ prior
 one_prior law None lineage prior again h k = k ∙ sym h
