@@ -1,0 +1,10 @@
+//! A log of an apply, as text: what was given, and of each call that it was begun and what was answered.
+#![tactic(auto)]
+
+mod entry;
+mod fault;
+mod writing;
+
+pub use entry::{Entry, Header, Log};
+pub use fault::{LineFault, LogFault, Unwritten};
+pub use writing::{answered_line, begun_line, header_line};
