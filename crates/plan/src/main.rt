@@ -4,8 +4,10 @@
 use std::io;
 use std::io::Write;
 use std::process::ExitCode;
-use tf_cli::print_plan;
-use tf_cli::program::{Given, run};
+use std::sync::Wait;
+use std::thread::Threads;
+use tf_logged::{Replayed, split};
+use tf_program::{Options, Seen, foresee, print_plan, run, see};
 use tf_provider::Provider;
 use tf_sim::Sim;
 
@@ -14,18 +16,41 @@ fn main(rt: HostRuntime) -> io::Result<ExitCode> {
         &rt,
         &mut rt.stdout(),
         &mut rt.stderr(),
-        |given, out, err| plan(&rt, given, out, err),
+        |options, out, err| plan(&rt, &rt, options, out, err),
     )
 }
 
-fn plan<O: Write, E: Write>(
+/// Prints the plan from the state that is there, or that an apply that did not end leaves.
+fn plan<T: Threads + Wait + Sync, O: Write, E: Write>(
     rt: &HostRuntime,
-    given: &Given,
+    threads: &T,
+    options: Options,
     out: &mut O,
     err: &mut E,
 ) -> io::Result<ExitCode> {
-    let mut providers: Vec<Box<dyn Provider + Sync>> = Vec::new(rt.alloc());
-    providers.push(Box::new(rt.alloc(), Sim::new(rt.alloc())?)?)?;
-    let status = print_plan(rt.alloc(), given, &providers, out, err);
+    let alloc = rt.alloc();
+    let seen = match see(rt, options, err) {
+        Ok(seen) => seen,
+        Err(status) => return Ok(status),
+    };
+    let Seen {
+        mut given,
+        place,
+        past,
+    } = seen;
+    let mut providers: Vec<Box<dyn Provider + Sync>> = Vec::new(alloc);
+    providers.push(Box::new(alloc, Sim::new(alloc)?)?)?;
+    if let Some((past, entries)) = past {
+        let mut replayed: Vec<Box<dyn Provider + Sync>> = Vec::new(alloc);
+        for own in split(alloc, entries, &providers)? {
+            replayed.push(Box::new(alloc, Replayed::new(alloc, own, Sim::new(alloc)?))?)?;
+        }
+        if let Err(status) = foresee(
+            threads, alloc, &place, &mut given, &past, &replayed, err,
+        ) {
+            return Ok(status);
+        }
+    }
+    let status = print_plan(alloc, &given, &providers, out, err);
     Ok(ExitCode::from(status))
 }

@@ -1,4 +1,5 @@
 mod disk;
+mod failing;
 mod kept;
 mod programs;
 mod writers;

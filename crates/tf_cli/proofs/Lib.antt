@@ -2,5 +2,4 @@ mod Carried
 mod Planned
 mod Writes
 mod Numbered
-mod Worked
 mod RefusalLines

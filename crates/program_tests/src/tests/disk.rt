@@ -5,10 +5,11 @@ ghost use Rattle.std.specs.Prelude.{◌≤◌, IfOk, length};
 use std::alloc::{Allocator, Global};
 use std::cell::{RefCell, RefMut};
 use std::env::FillError;
-use std::fs::{Metadata, OpenFile, OpenOptions};
+use std::fs::{Metadata, OpenFile, OpenOptions, Permissions};
 use std::io;
 use std::io::{ErrorKind, Read, Seek, SeekFrom, Write};
 use std::rt::{Env, Files};
+use tf_program::LogFile;
 
 /// What stands at a name.
 #[derive(Clone, Copy, PartialEq)]
@@ -43,6 +44,10 @@ pub struct Store {
     pub entries: Vec<Entry>,
     pub calls: String,
     pub fault: Fault,
+    /// How many calls can fail before one does.
+    pub before_failure: usize,
+    /// Whether somebody else holds each lock.
+    pub is_locked: bool,
 }
 
 impl Store {
@@ -52,6 +57,8 @@ impl Store {
             entries: Vec::new(alloc),
             calls: String::new(alloc),
             fault,
+            before_failure: usize::MAX,
+            is_locked: false,
         }
     }
 
@@ -73,8 +80,11 @@ impl Store {
         Ok(())
     }
 
-    fn fails(&self, fault: Fault) -> io::Result<()> {
-        if self.fault == fault {
+    /// Whether a call with a file of this name fails. Faults are those of the file that is to take the state's place.
+    fn fails(&mut self, name: &str, fault: Fault) -> io::Result<()> {
+        let left = self.before_failure;
+        self.before_failure = left.wrapping_sub(1);
+        if left == 0 || (self.fault == fault && name == "s.new") {
             Err(io::Error::from(ErrorKind::Other))
         } else {
             Ok(())
@@ -104,13 +114,28 @@ impl Store {
 
     fn create(&mut self, name: &str) -> io::Result<()> {
         self.note("create ", name)?;
-        self.fails(Fault::Create)?;
-        let _ = self.take(name);
+        self.fails(name, Fault::Create)?;
+        if self.find(name).is_some() {
+            return Err(io::Error::from(ErrorKind::AlreadyExists));
+        }
         self.add(name, Kind::File, b"")
+    }
+
+    /// Opens a file that is added to, which is made where it isn't there.
+    fn append(&mut self, name: &str) -> io::Result<()> {
+        self.note("append ", name)?;
+        self.fails(name, Fault::None)?;
+        if self.find(name).is_none() {
+            self.add(name, Kind::File, b"")?;
+        }
+        Ok(())
     }
 
     fn open(&mut self, name: &str) -> io::Result<()> {
         self.note("read ", name)?;
+        if name == "." {
+            return Ok(());
+        }
         match self.find(name) {
             None => Err(io::Error::from(ErrorKind::NotFound)),
             Some(entry) if entry.kind == Kind::Secret => {
@@ -140,7 +165,7 @@ impl Store {
     fn write(&mut self, name: &str, buf: &[u8]) -> io::Result<usize>
         ensures { IfOk result (λ count. count ≤ length buf.now) }
     {
-        self.fails(Fault::Write)?;
+        self.fails(name, Fault::Write)?;
         let mut entry = self.take(name)?;
         let count = buf.len().min(100);
         entry.bytes.extend_from_slice(&buf[..count])?;
@@ -148,15 +173,24 @@ impl Store {
         Ok(count)
     }
 
+    /// Takes a line whole.
+    fn add_line(&mut self, name: &str, line: &[u8]) -> io::Result<usize> {
+        self.fails(name, Fault::None)?;
+        let mut entry = self.take(name)?;
+        entry.bytes.extend_from_slice(line)?;
+        self.entries.push(entry)?;
+        Ok(line.len())
+    }
+
     fn sync(&mut self, name: &str) -> io::Result<()> {
         self.note("sync ", name)?;
-        self.fails(Fault::Sync)
+        self.fails(name, Fault::Sync)
     }
 
     fn rename(&mut self, from: &str, to: &str) -> io::Result<()> {
         self.note("rename ", from)?;
         self.note("to ", to)?;
-        self.fails(Fault::Rename)?;
+        self.fails(from, Fault::Rename)?;
         let mut entry = self.take(from)?;
         let _ = self.take(to);
         entry.name = String::from_str(self.alloc, to)?;
@@ -165,9 +199,34 @@ impl Store {
     }
 
     fn remove(&mut self, name: &str) -> io::Result<()> {
-        self.note("remove ", name)?;
         self.take(name)?;
+        self.note("remove ", name)
+    }
+
+    /// Gives a file another name beside its own.
+    fn link(&mut self, from: &str, to: &str) -> io::Result<()> {
+        let entry = self.take(from)?;
+        let copied = self.add(to, entry.kind, entry.bytes.as_slice());
+        self.entries.push(entry)?;
+        copied?;
+        self.note("link ", from)?;
+        self.note("to ", to)?;
+        self.fails(from, Fault::None)
+    }
+
+    fn empty(&mut self, name: &str) -> io::Result<()> {
+        self.note("empty ", name)?;
+        self.fails(name, Fault::None)?;
+        let mut entry = self.take(name)?;
+        entry.bytes.clear();
+        self.entries.push(entry)?;
         Ok(())
+    }
+
+    fn lock(&mut self, name: &str) -> io::Result<bool> {
+        self.note("lock ", name)?;
+        self.fails(name, Fault::None)?;
+        Ok(!self.is_locked)
     }
 }
 
@@ -240,11 +299,14 @@ impl Seek for Open<'_> {
 
 impl OpenFile for Open<'_> {
     fn metadata(&self) -> io::Result<Metadata> {
-        Err(io::Error::from(ErrorKind::Unsupported))
+        match lock(self.store)?.find(self.name.as_str()) {
+            Some(entry) => Ok(Metadata::of_file(entry.bytes.len() as u64)),
+            None => Err(io::Error::from(ErrorKind::NotFound)),
+        }
     }
 
     fn set_len(&self, _size: u64) -> io::Result<()> {
-        Err(io::Error::from(ErrorKind::Unsupported))
+        lock(self.store)?.empty(self.name.as_str())
     }
 
     fn sync_all(&self) -> io::Result<()> {
@@ -252,7 +314,21 @@ impl OpenFile for Open<'_> {
     }
 
     fn sync_data(&self) -> io::Result<()> {
-        Err(io::Error::from(ErrorKind::Unsupported))
+        lock(self.store)?.sync(self.name.as_str())
+    }
+
+    fn set_permissions(&self, _perm: Permissions) -> io::Result<()> {
+        Ok(())
+    }
+}
+
+impl LogFile for Open<'_> {
+    fn try_lock(&self) -> io::Result<bool> {
+        lock(self.store)?.lock(self.name.as_str())
+    }
+
+    fn append(&self, bytes: &[u8]) -> io::Result<usize> {
+        lock(self.store)?.add_line(self.name.as_str(), bytes)
     }
 }
 
@@ -263,7 +339,9 @@ impl<'a> Files for Disk<'a> {
 
     fn open_file(&self, how: &OpenOptions, path: &str) -> io::Result<Open<'a>> {
         let alloc = lock(self.store)?.alloc;
-        if how.asks_write() {
+        if how.asks_append() {
+            lock(self.store)?.append(path)?;
+        } else if how.asks_create_new() {
             lock(self.store)?.create(path)?;
         } else {
             lock(self.store)?.open(path)?;
@@ -279,8 +357,11 @@ impl<'a> Files for Disk<'a> {
         Err(io::Error::from(ErrorKind::Unsupported))
     }
 
-    fn metadata(&self, _path: &str) -> io::Result<Metadata> {
-        Err(io::Error::from(ErrorKind::Unsupported))
+    fn metadata(&self, path: &str) -> io::Result<Metadata> {
+        match lock(self.store)?.find(path) {
+            Some(_) => Ok(Metadata::of_file(0)),
+            None => Err(io::Error::from(ErrorKind::NotFound)),
+        }
     }
 
     fn symlink_metadata(&self, _path: &str) -> io::Result<Metadata> {
@@ -297,6 +378,10 @@ impl<'a> Files for Disk<'a> {
 
     fn remove_file(&self, path: &str) -> io::Result<()> {
         lock(self.store)?.remove(path)
+    }
+
+    fn hard_link(&self, original: &str, link: &str) -> io::Result<()> {
+        lock(self.store)?.link(original, link)
     }
 
     fn create_dir(&self, _path: &str) -> io::Result<()> {

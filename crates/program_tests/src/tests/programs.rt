@@ -8,30 +8,31 @@ use std::cell::RefCell;
 use std::io;
 use std::io::Write;
 use std::process::{Abort, ExitCode};
-use std::sync::Wait;
+use std::sync::{Arc, Wait};
 use std::test::Fail;
 use std::thread::Threads;
-use tf_cli::program::{Given, run};
-use tf_cli::{Stop, carry_out, print_plan};
+use tf_cli::Stop;
+use tf_logged::OpenLog;
+use tf_program::{LogSink, Options, carry_out_logged, hold, print_plan, run, see};
 use tf_provider::Provider;
 use tf_sim::Sim;
 
 #[derive(Clone, Copy, PartialEq)]
-enum Program {
+pub enum Program {
     Plan,
     Apply,
 }
 
 // What is told on an output.
 #[derive(Clone, Copy)]
-enum Told {
+pub enum Told {
     Is(&'static str),
     /// A text that `clap` words.
     Something,
 }
 
 // A run of a program: what it finds, and what has to come of it.
-struct Row {
+pub struct Row {
     program: Program,
     words: &'static [&'static str],
     files: &'static [(&'static str, Kind, &'static str)],
@@ -40,7 +41,7 @@ struct Row {
     out: Told,
     err: Told,
     /// The calls that name a file, in order.
-    calls: &'static str,
+    calls: &'static [&'static str],
     /// What stands afterwards at the name `s`, if anything.
     state: Option<&'static str>,
 }
@@ -61,7 +62,22 @@ const APPLIED: &str =
 const HALF_APPLIED: &str =
     "+ sim_net.a\n    cidr = \"x\"\n    id = (known after apply)\n+ sim_net.b\n    cidr = \"bad\"\n    id = (known after apply)\nPlan: 2 to add, 0 to change, 0 to destroy.\nApply incomplete. Resources: 1 added, 0 changed, 0 destroyed.\n";
 
-const REPLACED: &str = "read c\nread s\ncreate s.new\nsync s.new\nrename s.new\nto s\n";
+// The calls of an apply that name a file: the state is locked, and read with the log.
+const HELD: &str = "append s.log\nlock s.log\nread s\nread s.log\n";
+
+// The log's first line is on the disk.
+const STARTED: &str = "sync s.log\nread .\nsync .\n";
+
+// The new state is on the disk.
+const CREATED: &str = "create s.new\nsync s.new\n";
+
+// The one that is there is kept.
+const BACKED: &str = "link s\nto s.backup.new\nrename s.backup.new\nto s.backup\n";
+
+// The new one takes its place.
+const MOVED: &str = "rename s.new\nto s\nread .\nsync .\n";
+
+const EMPTIED: &str = "empty s.log\nsync s.log\n";
 
 const WORDS: &[&str] = &["apply", "--config", "c", "--state", "s", "--lineage", "L"];
 
@@ -82,7 +98,7 @@ const TWO_REFUSED: &str =
 
 const HALF_UNWRITTEN: &str = "error 21 at sim_net.b create: refused\nerror: state not written\n";
 
-static ROWS: [Row; 26] = [
+pub static ROWS: [Row; 26] = [
     Row {
         program: Program::Apply,
         words: WORDS,
@@ -91,7 +107,7 @@ static ROWS: [Row; 26] = [
         status: 0,
         out: Told::Is(APPLIED),
         err: Told::Is(""),
-        calls: REPLACED,
+        calls: &["read c\n", HELD, STARTED, CREATED, MOVED, EMPTIED],
         state: Some(STATE),
     },
     Row {
@@ -102,7 +118,7 @@ static ROWS: [Row; 26] = [
         status: 0,
         out: Told::Is(APPLIED),
         err: Told::Is(""),
-        calls: REPLACED,
+        calls: &["read c\n", HELD, STARTED, CREATED, BACKED, MOVED, EMPTIED],
         state: Some(STATE),
     },
     Row {
@@ -113,7 +129,7 @@ static ROWS: [Row; 26] = [
         status: 0,
         out: Told::Is("No changes.\nApply complete! Resources: 0 added, 0 changed, 0 destroyed.\n"),
         err: Told::Is(""),
-        calls: "read c\nread s\n",
+        calls: &["read c\n", HELD, STARTED, EMPTIED],
         state: Some(STATE),
     },
     Row {
@@ -124,7 +140,7 @@ static ROWS: [Row; 26] = [
         status: 0,
         out: Told::Is("No changes.\nApply complete! Resources: 0 added, 0 changed, 0 destroyed.\n"),
         err: Told::Is(""),
-        calls: "read main.tf.json\nread terraform.tfstate\n",
+        calls: &["read main.tf.json\nappend terraform.tfstate.log\nlock terraform.tfstate.log\nread terraform.tfstate\nread terraform.tfstate.log\n", "sync terraform.tfstate.log\nread .\nsync .\n", "empty terraform.tfstate.log\nsync terraform.tfstate.log\n"],
         state: None,
     },
     Row {
@@ -148,7 +164,7 @@ static ROWS: [Row; 26] = [
         status: 0,
         out: Told::Is(APPLIED),
         err: Told::Is(""),
-        calls: "read c\nread v\nread s\ncreate s.new\nsync s.new\nrename s.new\nto s\n",
+        calls: &["read c\nread v\n", HELD, STARTED, CREATED, MOVED, EMPTIED],
         state: Some(STATE),
     },
     Row {
@@ -169,7 +185,7 @@ static ROWS: [Row; 26] = [
         status: 1,
         out: Told::Is(""),
         err: Told::Is("error: cannot read v\n"),
-        calls: "read c\nread v\n",
+        calls: &["read c\nread v\n"],
         state: Some(OLD),
     },
     Row {
@@ -180,7 +196,7 @@ static ROWS: [Row; 26] = [
         status: 1,
         out: Told::Is(""),
         err: Told::Is("error: cannot read c\n"),
-        calls: "read c\n",
+        calls: &["read c\n"],
         state: Some(OLD),
     },
     Row {
@@ -191,7 +207,7 @@ static ROWS: [Row; 26] = [
         status: 1,
         out: Told::Is(""),
         err: Told::Is("error: cannot read c\n"),
-        calls: "read c\n",
+        calls: &["read c\n"],
         state: None,
     },
     Row {
@@ -202,7 +218,7 @@ static ROWS: [Row; 26] = [
         status: 1,
         out: Told::Is(""),
         err: Told::Is("error: cannot read s\n"),
-        calls: "read c\nread s\n",
+        calls: &["read c\nappend s.log\nlock s.log\nread s\n"],
         state: Some(OLD),
     },
     Row {
@@ -213,7 +229,7 @@ static ROWS: [Row; 26] = [
         status: 1,
         out: Told::Is(""),
         err: Told::Is("error: cannot read s\n"),
-        calls: "read c\nread s\n",
+        calls: &["read c\nappend s.log\nlock s.log\nread s\n"],
         state: Some(""),
     },
     Row {
@@ -224,7 +240,7 @@ static ROWS: [Row; 26] = [
         status: 1,
         out: Told::Is(""),
         err: Told::Is("error 13 at state: BadState\n"),
-        calls: "read c\nread s\n",
+        calls: &["read c\n", HELD, STARTED, EMPTIED],
         state: Some(""),
     },
     Row {
@@ -235,7 +251,7 @@ static ROWS: [Row; 26] = [
         status: 1,
         out: Told::Is(""),
         err: Told::Something,
-        calls: "",
+        calls: &[],
         state: None,
     },
     Row {
@@ -246,7 +262,7 @@ static ROWS: [Row; 26] = [
         status: 1,
         out: Told::Is(""),
         err: Told::Something,
-        calls: "",
+        calls: &[],
         state: None,
     },
     Row {
@@ -257,7 +273,7 @@ static ROWS: [Row; 26] = [
         status: 0,
         out: Told::Something,
         err: Told::Is(""),
-        calls: "",
+        calls: &[],
         state: None,
     },
     Row {
@@ -268,7 +284,7 @@ static ROWS: [Row; 26] = [
         status: 2,
         out: Told::Is(HALF_APPLIED),
         err: Told::Is("error 21 at sim_net.b create: refused\n"),
-        calls: REPLACED,
+        calls: &["read c\n", HELD, STARTED, CREATED, MOVED, EMPTIED],
         state: Some(STATE),
     },
     Row {
@@ -279,7 +295,7 @@ static ROWS: [Row; 26] = [
         status: 3,
         out: Told::Is(APPLIED_AND_STATE),
         err: Told::Is(UNWRITTEN),
-        calls: "read c\nread s\ncreate s.new\nremove s.new\n",
+        calls: &["read c\n", HELD, STARTED, "create s.new\n"],
         state: Some(OLD),
     },
     Row {
@@ -290,7 +306,7 @@ static ROWS: [Row; 26] = [
         status: 3,
         out: Told::Is(APPLIED_AND_STATE),
         err: Told::Is(UNWRITTEN),
-        calls: "read c\nread s\ncreate s.new\nremove s.new\n",
+        calls: &["read c\n", HELD, STARTED, "create s.new\nremove s.new\n"],
         state: Some(OLD),
     },
     Row {
@@ -301,7 +317,7 @@ static ROWS: [Row; 26] = [
         status: 3,
         out: Told::Is(APPLIED_AND_STATE),
         err: Told::Is(UNWRITTEN),
-        calls: "read c\nread s\ncreate s.new\nsync s.new\nremove s.new\n",
+        calls: &["read c\n", HELD, STARTED, "create s.new\nsync s.new\nremove s.new\n"],
         state: Some(OLD),
     },
     Row {
@@ -312,7 +328,7 @@ static ROWS: [Row; 26] = [
         status: 3,
         out: Told::Is(APPLIED_AND_STATE),
         err: Told::Is(UNWRITTEN),
-        calls: "read c\nread s\ncreate s.new\nsync s.new\nrename s.new\nto s\nremove s.new\n",
+        calls: &["read c\n", HELD, STARTED, CREATED, BACKED, "rename s.new\nto s\nremove s.new\n"],
         state: Some(OLD),
     },
     Row {
@@ -323,7 +339,7 @@ static ROWS: [Row; 26] = [
         status: 3,
         out: Told::Is(HALF_AND_STATE),
         err: Told::Is(HALF_UNWRITTEN),
-        calls: "read c\nread s\ncreate s.new\nsync s.new\nrename s.new\nto s\nremove s.new\n",
+        calls: &["read c\n", HELD, STARTED, CREATED, "rename s.new\nto s\nremove s.new\n"],
         state: None,
     },
     Row {
@@ -334,7 +350,7 @@ static ROWS: [Row; 26] = [
         status: 0,
         out: Told::Is(PLANNED),
         err: Told::Is(""),
-        calls: "read c\nread s\n",
+        calls: &["read c\nread s\nread s.log\n"],
         state: Some(OLD),
     },
     Row {
@@ -345,7 +361,7 @@ static ROWS: [Row; 26] = [
         status: 0,
         out: Told::Is("No changes.\n"),
         err: Told::Is(""),
-        calls: "read c\nread s\n",
+        calls: &["read c\nread s\nread s.log\n"],
         state: Some(STATE),
     },
     Row {
@@ -369,7 +385,7 @@ static ROWS: [Row; 26] = [
         status: 0,
         out: Told::Is(PLANNED),
         err: Told::Is(""),
-        calls: "read c\nread v\nread s\n",
+        calls: &["read c\nread v\nread s\nread s.log\n"],
         state: None,
     },
     Row {
@@ -380,7 +396,7 @@ static ROWS: [Row; 26] = [
         status: 1,
         out: Told::Is(""),
         err: Told::Is(TWO_REFUSED),
-        calls: "read c\nread s\n",
+        calls: &["read c\n", HELD, STARTED, EMPTIED],
         state: Some(OLD),
     },
     Row {
@@ -391,7 +407,7 @@ static ROWS: [Row; 26] = [
         status: 1,
         out: Told::Is(""),
         err: Told::Is(TWO_REFUSED),
-        calls: "read c\nread s\n",
+        calls: &["read c\nread s\nread s.log\n"],
         state: Some(OLD),
     },
     Row {
@@ -402,7 +418,7 @@ static ROWS: [Row; 26] = [
         status: 1,
         out: Told::Is(""),
         err: Told::Is("error 1 at configuration: NotJson\n"),
-        calls: "read c\nread s\n",
+        calls: &["read c\n", HELD, STARTED, EMPTIED],
         state: None,
     },
 ];
@@ -420,20 +436,63 @@ fn work<T: Threads + Wait + Sync, O: Write, E: Write>(
     alloc: Global,
     disk: &(Disk<'_>, Global),
     program: Program,
-    given: &Given,
+    options: Options,
     out: &mut O,
     err: &mut E,
 ) -> io::Result<ExitCode> {
     let mut providers: Vec<Box<dyn Provider + Sync>> = Vec::new(alloc);
     providers.push(Box::new(alloc, Sim::new(alloc)?)?)?;
-    let status = match program {
-        Program::Plan => print_plan(alloc, given, &providers, out, err),
-        Program::Apply => carry_out(disk, rt, given, &providers, &Stop::new(), out, err),
-    };
-    Ok(ExitCode::from(status))
+    match program {
+        Program::Plan => Ok(plan(alloc, disk, options, &providers, out, err)),
+        Program::Apply => apply(rt, alloc, disk, options, &providers, out, err),
+    }
 }
 
-fn run_on<T: Threads + Wait + Sync, O: Write>(
+fn plan<O: Write, E: Write>(
+    alloc: Global,
+    disk: &(Disk<'_>, Global),
+    options: Options,
+    providers: &[Box<dyn Provider + Sync>],
+    out: &mut O,
+    err: &mut E,
+) -> ExitCode {
+    match see(disk, options, err) {
+        Ok(seen) => ExitCode::from(print_plan(alloc, &seen.given, providers, out, err)),
+        Err(status) => status,
+    }
+}
+
+// An apply by providers that don't log their calls.
+fn apply<T: Threads + Wait + Sync, O: Write, E: Write>(
+    rt: &T,
+    alloc: Global,
+    disk: &(Disk<'_>, Global),
+    options: Options,
+    providers: &[Box<dyn Provider + Sync>],
+    out: &mut O,
+    err: &mut E,
+) -> io::Result<ExitCode> {
+    let (seen, file) = match hold(disk, options, err) {
+        Ok(held) => held,
+        Err(status) => return Ok(status),
+    };
+    let file = Arc::new(alloc, file)?;
+    let log = OpenLog::new(LogSink::new(Arc::try_clone(&file)?));
+    Ok(carry_out_logged(
+        disk,
+        rt,
+        &seen.place,
+        &file,
+        &log,
+        &seen.given,
+        providers,
+        &Stop::new(),
+        out,
+        err,
+    ))
+}
+
+pub fn run_on<T: Threads + Wait + Sync, O: Write>(
     rt: &T,
     alloc: Global,
     row: &Row,
@@ -448,8 +507,8 @@ fn run_on<T: Threads + Wait + Sync, O: Write>(
         },
         alloc,
     );
-    run(&disk, out, err, |given, out, err| {
-        work(rt, alloc, &disk, row.program, given, out, err)
+    run(&disk, out, err, |options, out, err| {
+        work(rt, alloc, &disk, row.program, options, out, err)
     })
 }
 
@@ -465,7 +524,7 @@ fn run_row<T: Threads + Wait + Sync>(
     Ran { ended, out, err }
 }
 
-fn store_of(alloc: Global, row: &Row) -> Result<Store, Fail> {
+pub fn store_of(alloc: Global, row: &Row) -> Result<Store, Fail> {
     let mut store = Store::new(alloc, row.fault);
     for (name, kind, text) in row.files {
         store.add(name, *kind, text.as_bytes())?;
@@ -480,9 +539,21 @@ fn is_told(told: Told, bytes: &[u8]) -> bool {
     }
 }
 
+// Whether these are all calls, one after another.
+fn are_calls(parts: &[&str], calls: &str) -> bool {
+    let mut rest = calls;
+    for part in parts {
+        match rest.strip_prefix(*part) {
+            Some(after) => rest = after,
+            None => return false,
+        }
+    }
+    rest.is_empty()
+}
+
 fn is_left(row: &Row, store: &Store) -> bool {
     let state = store.find("s").map(|entry| entry.bytes.as_slice());
-    store.calls.as_str() == row.calls
+    are_calls(row.calls, store.calls.as_str())
         && state == row.state.map(|text| text.as_bytes())
         && store.find("s.new").is_none()
 }

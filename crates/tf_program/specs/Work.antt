@@ -1,0 +1,54 @@
+-- What the programs do with what they were given.
+use Rattle.std.specs.Prelude.{◌≡◌, ◌⊎◌, true, ℕ, List, Option, Some, None, Result, Ok, Err, option_map, string_bytes}
+use Rattle.std.specs.Io.KnownBytes.{Appends}
+use Rattle.tf_inputs.specs.Texts.{Texts, the_texts}
+use Rattle.tf_plan.specs.Refused.{Tells}
+use Rattle.tf_plan.specs.declared.refused.Refused.{Refused}
+use Rattle.tf_protocol.specs.Meaning.{Meaning}
+use Rattle.tf_run.specs.Run.{are_workers}
+use Rattle.tf_cli.specs.Applies.{IsApplied, IsPlanText, to_write}
+use Rattle.tf_program.specs.Kept.{EndsKept}
+use Rattle.tf_cli.specs.Refusals.{AreApplyRefusals, AreRefusals}
+use Rattle.tf_cli.specs.Saved.{AppendsStart}
+use Rattle.tf_cli.specs.Shown.{errors_of, output_of, refused_errors, status_of}
+use Rattle.tf_cli.specs.declared.applied.Applied.{Applied}
+use Rattle.tf_program.specs.declared.given.Given.{Given}
+
+-- the texts that a program was given
+abbrev pub texts_of : Given → Texts
+texts_of given = the_texts given.config.items (option_map (λ bytes. bytes.items) given.vars) (option_map (λ bytes. bytes.items) given.state)
+
+-- the answer of a plan of what was given: its text, or what is refused
+abbrev pub IsPlanAnswer : List Meaning → Given → Result (List ℕ) Refused → Type 0
+IsPlanAnswer ms given (Ok text) = IsPlanText ms (texts_of given) text
+IsPlanAnswer ms given (Err refused) = Tells (AreRefusals ms (texts_of given)) refused
+
+-- The plan's text is on standard output, with status 0, or a first part of it, with status 1; or the refusals, or a first part
+-- of them, are on standard error, with status 1. Nothing else is anywhere.
+abbrev pub EndsPlan : Result (List ℕ) Refused → (result : ℕ) (out out_after err err_after : Option (List ℕ)) → Type 0
+EndsPlan (Ok text) result out out_after err err_after =
+    (err_after ≡ err)
+    × (((result ≡ 0) × Appends out out_after text) ⊎ ((result ≡ 1) × AppendsStart out out_after text))
+EndsPlan (Err refused) result out out_after err err_after =
+    (result ≡ 1) × (out_after ≡ out) × AppendsStart err err_after (refused_errors refused)
+
+-- the answer of an apply of what was given
+abbrev pub IsAnswer : List Meaning → Given → Result Applied Refused → Type 0
+IsAnswer ms given (Ok applied) =
+    IsApplied ms (texts_of given) (string_bytes given.options.lineage) applied × (are_workers given.options.parallelism ≡ true)
+IsAnswer ms given (Err refused) =
+    Tells (AreApplyRefusals ms (texts_of given) (string_bytes given.options.lineage) given.options.parallelism) refused
+
+-- what is shown of an answer, or a first part of it, and nothing else
+abbrev pub IsShown : Result Applied Refused → (out out_after err err_after : Option (List ℕ)) → Type 0
+IsShown answer out out_after err err_after = AppendsStart out out_after (output_of answer) × AppendsStart err err_after (errors_of answer)
+
+-- What was answered is shown, and then the state is kept, where there is one to write.
+abbrev pub EndsWith : Option (List ℕ) → Result Applied Refused → (result : ℕ) (out out_after err err_after : Option (List ℕ)) → Type 0
+EndsWith None answer result out out_after err err_after = (result ≡ status_of answer) × IsShown answer out out_after err err_after
+EndsWith (Some text) answer result out out_after err err_after =
+    (out_shown : Option (List ℕ)) × (err_shown : Option (List ℕ)) × IsShown answer out out_shown err err_shown
+    × EndsKept (status_of answer) result text out_shown out_after err_shown err_after
+
+abbrev pub EndsApply : Result Applied Refused → (result : ℕ) (out out_after err err_after : Option (List ℕ)) → Type 0
+EndsApply answer result out out_after err err_after = EndsWith (to_write answer) answer result out out_after err err_after

@@ -1,0 +1,93 @@
+//! The file of a log: what an apply is locked by, and what its log's lines are added to.
+
+use std::fs::{File, OpenFile, OpenOptions, Permissions, TryLockError};
+use std::io::{ErrorKind, Write};
+use std::os::unix::fs::{OpenOptionsExt, PermissionsExt};
+use std::rt::Files;
+use std::sync::Arc;
+use std::{fs, io};
+use tf_logged::{NotAdded, Sink};
+
+/// Who may read and write a log, and a new state: their owner alone, since configurations and states hold secrets.
+pub const OWNER_ALONE: u32 = 0o600;
+
+/// What a file has to do that it can be a log's.
+pub trait LogFile: OpenFile + Drop {
+    /// Locks the file until it is closed, however that comes; false where somebody else holds the lock.
+    fn try_lock(&self) -> io::Result<bool>;
+
+    /// Writes at the file's end, by one call, and answers how many bytes were taken.
+    fn append(&self, bytes: &[u8]) -> io::Result<usize>;
+}
+
+impl LogFile for File {
+    fn try_lock(&self) -> io::Result<bool> {
+        match File::try_lock(self) {
+            Ok(()) => Ok(true),
+            Err(TryLockError::WouldBlock) => Ok(false),
+            Err(TryLockError::Error(error)) => Err(error),
+        }
+    }
+
+    fn append(&self, bytes: &[u8]) -> io::Result<usize> {
+        let mut file = self;
+        file.write(bytes)
+    }
+}
+
+/// A log's lines go to its file. Each is written by one call at the file's end, and is on the disk before the next step.
+#[derive(Drop)]
+pub struct LogSink<F: LogFile> {
+    file: Arc<F>,
+}
+
+impl<F: LogFile> LogSink<F> {
+    /// What adds to the log in this file.
+    pub fn new(file: Arc<F>) -> LogSink<F> {
+        LogSink { file }
+    }
+}
+
+impl<F: LogFile> Sink for LogSink<F> {
+    fn add(&self, text: &str) -> Result<(), NotAdded> {
+        match self.file.append(text.as_bytes()) {
+            Ok(count) if count == text.len() => match self.file.sync_data() {
+                Ok(()) => Ok(()),
+                Err(_) => Err(NotAdded),
+            },
+            _ => Err(NotAdded),
+        }
+    }
+}
+
+/// Takes all lines of a log away.
+pub fn empty<F: LogFile>(file: &F) -> io::Result<()> {
+    file.set_len(0)?;
+    file.sync_all()
+}
+
+/// Opens the file of a log, which is made where it isn't there, and locks it. `None` where somebody else holds the lock. Nobody
+/// but its owner can read the file; a link isn't followed.
+pub fn open_log<R: Files>(rt: &R, name: &str) -> io::Result<Option<R::File>>
+where
+    R::File: LogFile,
+{
+    if is_link(rt, name) {
+        return Err(io::Error::from(ErrorKind::InvalidInput));
+    }
+    let mut options = OpenOptions::new();
+    options.read(true).append(true).create(true).mode(OWNER_ALONE);
+    let file = options.open(rt, name)?;
+    if !LogFile::try_lock(&file)? {
+        return Ok(None);
+    }
+    file.set_permissions(Permissions::from_mode(OWNER_ALONE))?;
+    Ok(Some(file))
+}
+
+fn is_link<R: Files>(rt: &R, name: &str) -> bool {
+    match fs::symlink_metadata(rt, name) {
+        Ok(metadata) => metadata.is_symlink(),
+        Err(_) => false,
+    }
+}
