@@ -3,9 +3,11 @@
 //! that an apply which was cut off is carried out from its log.
 #![tactic(auto)]
 
+mod calling;
 mod copies;
 mod entries;
 mod laws;
+mod lines;
 mod logged;
 mod open_log;
 mod replaying;

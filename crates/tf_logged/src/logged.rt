@@ -2,7 +2,8 @@
 
 ghost use Rattle.std.specs.Prelude.{◌≡◌};
 
-use crate::open_log::{Guarded, OpenLog};
+use crate::calling::Guarded;
+use crate::open_log::OpenLog;
 use crate::sink::Sink;
 use std::alloc::Global;
 use std::sync::Arc;

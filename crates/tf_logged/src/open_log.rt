@@ -1,14 +1,13 @@
 //! A log that lines are added to.
 
-mod guarded;
-
 ghost use Rattle.std.specs.Prelude.{◌≡◌, IfOk};
 ghost use Rattle.tf_log.specs.Entry.{replied};
 ghost use Rattle.tf_logged.specs.True.{IsTrueOf};
 ghost use Rattle.tf_protocol.specs.Meaning.{asked, answered};
 
-use crate::sink::{NotAdded, Sink};
-pub use guarded::Guarded;
+use crate::calling::{Begun, Called};
+use crate::lines::{Lines, Telling};
+use crate::sink::Sink;
 use std::alloc::Global;
 use std::error::Error;
 use std::fmt;
@@ -38,75 +37,34 @@ impl Error for NotStarted {}
 
 /// A request isn't in the log as begun, so no provider may be asked it.
 #[derive(Clone, Copy, Debug, PartialEq, Eq)]
-pub struct NotBegun;
+pub(crate) struct NotBegun;
 
-/// What may be told in a log.
-trait Telling {
-    ghost may_tell: { Self → List ℕ → Type 0 };
-
-    ghost use Rattle.std.specs.Prelude.{ℕ, List};
-}
-
-/// What was given may be told by a log's first line.
+/// It may be told what was given.
 impl Telling for Header {
     ghost use Rattle.tf_log.specs.Line.{IsHeaderLine};
 
     ghost may_tell = { λ header text. IsHeaderLine header text };
 }
 
-/// A request may be told to be begun.
-impl Telling for Request {
-    ghost use Rattle.tf_log.specs.Entry.{begun};
-    ghost use Rattle.tf_log.specs.Line.{IsEntryLine};
-    ghost use Rattle.tf_protocol.specs.Meaning.{asked};
-
-    ghost may_tell = { λ request text. IsEntryLine (begun (asked request)) text };
-}
-
-/// A request that the log tells to be begun: the right to ask a provider it, once. It can be neither copied nor let go, only
-/// the writing of its line makes one, and it is spent by the call.
-pub struct Begun<'a> {
-    request: &'a Request,
-}
-
-/// A call that was made: of which provider, what was asked, and what was replied. It can be neither copied nor let go, only a
-/// call makes one, and its reply is had by the writing of its line alone.
-pub struct Called<'a, P: Provider> {
-    provider: &'a Guarded<P>,
-    request: &'a Request,
-    reply: Reply,
-}
-
-/// What was replied may be told where it is true of the provider that was called.
-impl<'a, P: Provider> Telling for Called<'a, P> {
-    ghost use Rattle.tf_log.specs.Entry.{replied};
-    ghost use Rattle.tf_logged.specs.True.{IsTrueLine};
-    ghost use Rattle.tf_protocol.specs.Meaning.{asked, answered};
-
-    ghost may_tell = { λ called text. IsTrueLine (P.meaning called.provider.now) (replied (asked called.request.now) (answered called.reply)) text };
-}
-
 /// A log that lines are added to, by the calls of providers that share it. Once a line couldn't be written it is lost: no line
 /// is added any more, and no request is begun.
 #[derive(Drop)]
 pub struct OpenLog<S: Sink> {
-    sink: S,
+    lines: Lines<S>,
     is_open: AtomicBool,
-    is_lost: AtomicBool,
 }
 
 impl<S: Sink> OpenLog<S> {
     /// A log that isn't started. No request is begun in it.
     pub fn new(sink: S) -> OpenLog<S> {
         OpenLog {
-            sink,
+            lines: Lines::new(sink),
             is_open: AtomicBool::new(false),
-            is_lost: AtomicBool::new(false),
         }
     }
 
-    /// Starts the log: with its first line, which tells what the apply was given. Requests can be begun from here on. A log is
-    /// started once.
+    /// Starts the log, with the line that tells what the apply was given. Requests can be begun from here on. A log is started
+    /// once.
     pub fn start(&self, alloc: Global, header: &Header) -> Result<(), NotStarted> {
         if self.is_open.load(Ordering::SeqCst) {
             return Err(NotStarted::NotWritten);
@@ -114,20 +72,22 @@ impl<S: Sink> OpenLog<S> {
         let Ok(line) = header_line(alloc, header) else {
             return Err(NotStarted::OutOfMemory);
         };
-        let Ok(()) = self.add(header, line.as_str()) else {
-            return Err(NotStarted::NotWritten);
-        };
-        self.is_open.store(true, Ordering::SeqCst);
-        Ok(())
+        match self.lines.add(header, line.as_str()) {
+            Ok(_) => {
+                self.is_open.store(true, Ordering::SeqCst);
+                Ok(())
+            }
+            Err(_) => Err(NotStarted::NotWritten),
+        }
     }
 
     /// Whether a line couldn't be written. Then the log doesn't tell all that was done.
     pub fn is_lost(&self) -> bool {
-        self.is_lost.load(Ordering::SeqCst)
+        self.lines.is_lost()
     }
 
-    /// Tells in the log that a request is begun: the right to ask a provider it. Refused where the log isn't open, where the
-    /// request has no line, and where the line couldn't be written; only then is the log lost.
+    /// Tells that a request is begun: the right to ask a provider it. Refused where the log isn't started or is lost, where the
+    /// request has no line, and where the line can't be written, by which the log is lost.
     pub(crate) fn begin<'a>(
         &self,
         alloc: Global,
@@ -141,49 +101,26 @@ impl<S: Sink> OpenLog<S> {
         let Ok(line) = begun_line(alloc, request) else {
             return Err(NotBegun);
         };
-        let Ok(()) = self.add(request, line.as_str()) else {
-            return Err(NotBegun);
-        };
-        Ok(Begun { request })
+        match self.lines.add(request, line.as_str()) {
+            Ok(added) => Ok(Begun::by(request, added)),
+            Err(_) => Err(NotBegun),
+        }
     }
 
-    /// Tells in the log what a provider replied, and gives the reply out. Where that can't be written the log is lost.
+    /// Tells what a provider replied, and gives the reply out. Where that can't be written the log is lost.
     pub(crate) fn end<P: Provider>(&self, alloc: Global, called: Called<'_, P>) -> Reply
         requires { IsTrueOf (P.meaning called.provider.now) (replied (asked called.request.now) (answered called.reply)) }
         ensures { result ≡ called.entry.reply }
     {
-        match answered_line(alloc, called.request, &called.reply) {
+        match answered_line(alloc, called.request(), called.reply()) {
             Ok(line) => {
-                let _ = self.add(&called, line.as_str());
+                let told = self.lines.add(&called, line.as_str());
+                called.into_reply(told)
             }
-            Err(_) => self.lose(),
+            Err(_) => {
+                let lost = self.lines.lose();
+                called.into_reply(Err(lost))
+            }
         }
-        let Called {
-            provider: _,
-            request: _,
-            reply,
-        } = called;
-        reply
-    }
-
-    /// Adds a text that may be told at the end, and nothing once the log is lost, which it is where the text can't be added.
-    /// Nothing else reaches the sink.
-    fn add<T: Telling>(&self, _teller: &T, text: &str) -> Result<(), NotAdded>
-        requires { T.may_tell _teller.now text.now }
-    {
-        if self.is_lost.load(Ordering::SeqCst) {
-            return Err(NotAdded);
-        }
-        let added = self.sink.add(text);
-        if added.is_err() {
-            self.lose();
-        }
-        added
-    }
-
-    /// Adds no line and begins no request from here on.
-    fn lose(&self) {
-        self.is_lost.store(true, Ordering::SeqCst);
-        self.is_open.store(false, Ordering::SeqCst);
     }
 }
