@@ -1,0 +1,4 @@
+pub mod Written
+pub mod Formed
+pub mod OneLine
+pub mod ReadBack

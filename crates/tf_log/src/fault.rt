@@ -1,5 +1,8 @@
 //! Why a line isn't written, and why a log isn't read.
 
+ghost use Rattle.std.specs.Prelude.{◌≡◌};
+ghost use Rattle.tf_log.specs.declared.fault.Unwritten.TheVariants.{OutOfMemory};
+
 use std::alloc::AllocError;
 use std::error::Error;
 use std::fmt;

@@ -3,6 +3,8 @@
 
 mod entry;
 mod fault;
+mod fit;
+mod forms;
 mod writing;
 
 pub use entry::{Entry, Header, Log};
