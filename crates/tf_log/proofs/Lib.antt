@@ -2,3 +2,4 @@ pub mod Written
 pub mod Formed
 pub mod OneLine
 pub mod ReadBack
+pub mod Lines

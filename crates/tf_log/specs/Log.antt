@@ -33,3 +33,13 @@ log_in (first ∷ lines) = header_then (header_in first) (header_fault first) (e
 abbrev pub IsUnread : List ℕ → LogFault → Type 0
 IsUnread bytes (Line number fault) = log_in (lines_of bytes) ≡ Err (number, fault)
 IsUnread bytes OutOfMemory = ⊤
+
+-- Why a log's first line isn't read: it tells nothing, and the fault is what is wrong with it; or there was no memory.
+abbrev pub IsHeaderRefused : List ℕ → LogFault → Type 0
+IsHeaderRefused line (Line number fault) = (header_in line ≡ None) × (number ≡ 1) × (fault ≡ header_fault line)
+IsHeaderRefused line OutOfMemory = ⊤
+
+-- Why the lines after the first aren't read: the first faulty one is no entry, or there was no memory.
+abbrev pub IsEntryRefused : List (List ℕ) → LogFault → Type 0
+IsEntryRefused lines (Line number fault) = entries_in 2 lines ≡ Err (number, fault)
+IsEntryRefused lines OutOfMemory = ⊤

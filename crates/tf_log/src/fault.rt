@@ -1,8 +1,5 @@
 //! Why a line isn't written, and why a log isn't read.
 
-ghost use Rattle.std.specs.Prelude.{◌≡◌};
-ghost use Rattle.tf_log.specs.declared.fault.Unwritten.TheVariants.{OutOfMemory};
-
 use std::alloc::AllocError;
 use std::error::Error;
 use std::fmt;
@@ -17,6 +14,9 @@ pub enum Unwritten {
 }
 
 impl From<AllocError> for Unwritten {
+    ghost use Rattle.std.specs.Prelude.{◌≡◌};
+    ghost use Rattle.tf_log.specs.declared.fault.Unwritten.TheVariants.{OutOfMemory};
+
     ghost from_gives = { λ _ fault. fault ≡ OutOfMemory };
 
     fn from(_: AllocError) -> Unwritten {
@@ -42,6 +42,17 @@ pub enum LogFault {
     Line(usize, LineFault),
     /// Memory ran out.
     OutOfMemory,
+}
+
+impl From<AllocError> for LogFault {
+    ghost use Rattle.std.specs.Prelude.{◌≡◌};
+    ghost use Rattle.tf_log.specs.declared.fault.LogFault.TheVariants.{OutOfMemory};
+
+    ghost from_gives = { λ _ fault. fault ≡ OutOfMemory };
+
+    fn from(_: AllocError) -> LogFault {
+        LogFault::OutOfMemory
+    }
 }
 
 impl fmt::Display for LineFault {
