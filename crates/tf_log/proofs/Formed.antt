@@ -1,12 +1,10 @@
 -- What holds of forms: their numbers, their depth, and what they read as.
-use Rattle.std.proofs.Common.{◌≡◌, ◌≤◌, ◌<◌, ◌+◌, ◌^◌, ◌&&◌, ℕ, ℤ, suc, pos, negsuc, max, List, [], ◌∷◌, Bool, true, false, Option, Some, None, nat_le, refl, sym, ap, ◌∙◌, arith, rules}
+use Rattle.std.proofs.Common.{◌≡◌, ◌≤◌, ◌<◌, ◌^◌, ℕ, ℤ, suc, pos, negsuc, true, false, refl, ap, arith, rules}
 use Rattle.std.proofs.lemmas.Int.{ints}
-use Rattle.std.proofs.lemmas.Bool.{leb-true}
 use Rattle.std.specs.Prelude.{FitsSigned}
 use Rattle.std.specs.Int.{w64}
 use Rattle.serde_json.specs.Data as json
 use Rattle.serde_json.specs.Find.{of_integer}
-use Rattle.tf_protocol.specs.Meaning.{Asked, Answer, object, gone, failed}
 use Rattle.tf_value.specs.Json.{tree_from, items_from, entries_from}
 use Rattle.tf_value.specs.Measure.{depth, depth_of_items, depth_of_entries}
 use Rattle.tf_value.specs.Parts.{items_have_only, entries_have_only}

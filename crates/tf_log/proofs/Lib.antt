@@ -3,3 +3,4 @@ pub mod Formed
 pub mod OneLine
 pub mod ReadBack
 pub mod Lines
+pub mod Beginnings

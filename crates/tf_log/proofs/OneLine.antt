@@ -1,7 +1,6 @@
 -- The text of a JSON tree is one line.
-use Rattle.std.proofs.Common.{◌≡◌, ◌++◌, ◌≤◌, ◌<◌, ◌+◌, ◌/◌, ◌%◌, ◌^◌, ◌==◌, ◌||◌, ℕ, suc, pos, negsuc, List, ◌∷◌, [], Bool, true, false, cond, nat_lt, decimal, Some, None, All, IsUtf8, refl, sym, ap, subst, ◌∙◌, arith}
-use Rattle.std.proofs.lemmas.Bool.{eqb-true, cases_Bool}
-use Rattle.std.proofs.lemmas.Bool.Decides.{nat_tests}
+use Rattle.std.proofs.Common.{◌≡◌, ◌++◌, ◌≤◌, ◌<◌, ◌+◌, ◌/◌, ◌%◌, ◌^◌, ◌==◌, ◌||◌, ℕ, suc, pos, negsuc, List, ◌∷◌, [], Bool, true, false, cond, nat_lt, decimal, Some, None, All, IsUtf8, refl, sym, subst, arith}
+use Rattle.std.proofs.lemmas.Bool.{eqb-true}
 use Rattle.std.proofs.lemmas.Fmt.{decimal_by_steps}
 use Rattle.std.proofs.lemmas.List.Elements.{All-cons, All-append}
 use Rattle.std.proofs.lemmas.Str.{is_utf8-from_IsUtf8}
@@ -11,7 +10,7 @@ use Rattle.json.specs.Print.{escape_byte, escape_letter, escape, quoted}
 use Rattle.serde_json.specs.Data as json
 use Rattle.serde_json.specs.Read.{read, max_depth}
 use Rattle.serde_json.specs.Written.{has_float, items_have_float, members_have_float, comma_if, number_text, compact_text, items_text, members_text}
-use Rattle.tf_log.specs.Line.{IsInLine, tree_in}
+use Rattle.tf_log.specs.Line.{IsInLine}
 use Rattle.tf_log.specs.Text.{IsSimple, AreSimple, AreSimpleMembers, IsTreeLine}
 
 abbrev AreInLine : List ℕ → Type 0

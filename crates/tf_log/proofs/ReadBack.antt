@@ -1,7 +1,7 @@
 -- The forms of what lines tell read back, and are those of lines.
-use Rattle.std.proofs.Common.{◌≡◌, ◌≤◌, ◌&&◌, ◌++◌, ℕ, List, ◌∷◌, [], Bool, true, Option, Some, None, nat_le, refl, sym, ap, subst, ◌∙◌, arith}
+use Rattle.std.proofs.Common.{◌≡◌, ◌≤◌, ◌&&◌, ℕ, List, true, Option, Some, None, nat_le, refl, ap, subst, ◌∙◌, arith}
 use Rattle.std.proofs.lemmas.Bool.{leb-true}
-use Rattle.std.specs.Prelude.{option_and_then, codes}
+use Rattle.std.specs.Prelude.{option_and_then}
 use Rattle.serde_json.specs.Data as json
 use Rattle.serde_json.specs.Read.{max_depth}
 use Rattle.tf_protocol.specs.Meaning.{Asked, Answer, object, gone, failed}
@@ -15,8 +15,8 @@ use Rattle.tf_value.proofs.Conjunction.{and-first, and-second}
 use Rattle.tf_log.specs.Entry.{EntryView, begun, replied, HeaderView}
 use Rattle.tf_log.specs.Fit.{fits, option_fits, request_fits, answer_fits}
 use Rattle.tf_log.specs.Form.{value_form, text_form, option_form, op_word, request_form, reply_form, entry_form, header_form}
-use Rattle.tf_log.specs.From.{text_from, option_text_from, option_from, op_from, request_from, reply_from, entry_from, header_from}
-use Rattle.tf_log.specs.Line.{IsEntryLine, IsHeaderLine, tree_in}
+use Rattle.tf_log.specs.From.{option_text_from, option_from, op_from, request_from, reply_from, entry_from, header_from}
+use Rattle.tf_log.specs.Line.{IsEntryLine, IsHeaderLine}
 use Rattle.tf_log.specs.Text.{IsSimple, IsTreeLine, IsOptionHeld, IsRequestHeld, IsAnswerHeld}
 use Rattle.tf_log.proofs.Formed.{simple_form, depth_form, form_reads}
 

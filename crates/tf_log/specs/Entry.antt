@@ -1,5 +1,5 @@
 -- What a log holds, as plain data.
-use Rattle.std.specs.Prelude.{ℕ, List, map, Option}
+use Rattle.std.specs.Prelude.{List, map, Option}
 pub use Rattle.tf_log.specs.Header.{HeaderView}
 use Rattle.tf_protocol.specs.Meaning.{Asked, Answer, asked, answered}
 use Rattle.tf_log.specs.declared.entry.Entry.{Entry}

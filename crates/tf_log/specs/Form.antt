@@ -1,12 +1,10 @@
 -- The JSON forms of what the lines of a log tell.
-use Rattle.std.specs.Prelude.{ℕ, List, [], ◌∷◌, codes, Option, Some, None, Bool, true, ◌&&◌, nat_le}
+use Rattle.std.specs.Prelude.{ℕ, List, codes, Option, Some, None}
 use Rattle.serde_json.specs.Data as json
 use Rattle.serde_json.specs.Find.{of_integer}
 use Rattle.tf_protocol.specs.Meaning.{Asked, Answer, object, gone, failed}
 use Rattle.tf_protocol.specs.declared.request.Op.{Op}
 use Rattle.tf_protocol.specs.declared.request.Op.TheVariants as op
-use Rattle.tf_value.specs.Measure.{depth}
-use Rattle.tf_value.specs.Sets.{has_no_set}
 use Rattle.tf_value.specs.Tree as tree
 use Rattle.tf_log.specs.Entry.{EntryView, begun, replied, HeaderView}
 

@@ -6,3 +6,4 @@ pub mod From
 pub mod Line
 pub mod Log
 pub mod Text
+pub mod Laws

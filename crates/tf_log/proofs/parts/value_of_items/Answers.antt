@@ -1,4 +1,4 @@
-use Rattle.std.proofs.Common.{◌≤◌, length, sym, rules, arith}
+use Rattle.std.proofs.Common.{◌≤◌, length, sym}
 use Rattle.tf_log.proofs.Lines.{many_items}
 use Rattle.tf_log.proofs.parts.value_of_items.Goals as goal
 

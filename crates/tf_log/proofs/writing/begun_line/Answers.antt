@@ -1,4 +1,4 @@
-use Rattle.std.proofs.Common.{◌≡◌, true, string_bytes, sym, ◌∙◌, rules}
+use Rattle.std.proofs.Common.{◌≡◌, true, string_bytes, rules}
 use Rattle.serde_json.specs.View.{view}
 use Rattle.tf_protocol.specs.Meaning.{asked}
 use Rattle.tf_log.specs.Fit.{request_fits}
