@@ -14,6 +14,8 @@ mod replaying;
 mod same;
 mod shared;
 mod sink;
+#[cfg(test)]
+mod tests;
 
 pub use entries::{answer_count, in_flight, split};
 pub use laws::{
