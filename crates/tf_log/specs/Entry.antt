@@ -1,17 +1,10 @@
 -- What a log holds, as plain data.
-use Rattle.std.specs.Prelude.{ℕ, List, map, Option}
+use Rattle.std.specs.Prelude.{List, map, Option}
+pub use Rattle.tf_log.specs.Header.{HeaderView}
 use Rattle.tf_protocol.specs.Meaning.{Asked, Answer, asked, answered}
 use Rattle.tf_log.specs.declared.entry.Entry.{Entry}
 use Rattle.tf_log.specs.declared.entry.Entry.TheVariants as entry
 use Rattle.tf_log.specs.declared.entry.Log.{Log}
-
--- what an apply was given: the texts of the configuration, of the variables file and of the prior state, where there are such,
--- and the lineage of a new state
-pub record HeaderView : Type 0 where
-  pub config : List ℕ
-  pub vars : Option (List ℕ)
-  pub state : Option (List ℕ)
-  pub lineage : List ℕ
 
 -- what a line tells: that a request is begun, or what was answered to one, which is nothing where there was no memory
 pub data EntryView : Type 0 where

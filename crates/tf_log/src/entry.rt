@@ -18,7 +18,7 @@ pub struct Header {
 
 impl Model for Header {
     ghost use Rattle.std.specs.Prelude.{string_bytes, option_map};
-    ghost use Rattle.tf_log.specs.Entry.{HeaderView};
+    ghost use Rattle.tf_log.specs.Header.{HeaderView};
 
     ghost Value = { HeaderView };
 

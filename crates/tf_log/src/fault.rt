@@ -14,6 +14,9 @@ pub enum Unwritten {
 }
 
 impl From<AllocError> for Unwritten {
+    ghost use Rattle.std.specs.Prelude.{◌≡◌};
+    ghost use Rattle.tf_log.specs.declared.fault.Unwritten.TheVariants.{OutOfMemory};
+
     ghost from_gives = { λ _ fault. fault ≡ OutOfMemory };
 
     fn from(_: AllocError) -> Unwritten {
@@ -39,6 +42,17 @@ pub enum LogFault {
     Line(usize, LineFault),
     /// Memory ran out.
     OutOfMemory,
+}
+
+impl From<AllocError> for LogFault {
+    ghost use Rattle.std.specs.Prelude.{◌≡◌};
+    ghost use Rattle.tf_log.specs.declared.fault.LogFault.TheVariants.{OutOfMemory};
+
+    ghost from_gives = { λ _ fault. fault ≡ OutOfMemory };
+
+    fn from(_: AllocError) -> LogFault {
+        LogFault::OutOfMemory
+    }
 }
 
 impl fmt::Display for LineFault {

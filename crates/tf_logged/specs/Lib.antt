@@ -1,0 +1,4 @@
+pub mod Laws
+pub mod Replayed
+pub mod Same
+pub mod True
