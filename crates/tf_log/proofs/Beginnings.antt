@@ -92,19 +92,18 @@ entries_read number (entry ∷ entries) (text ∷ texts) bytes rest h e =
       ap (λ lines. entries_in number lines) (torn_lines h.0.line text bytes rest (joined texts) h.0.is_text h.0.in_line e short),
     )
     at (inr long) later =
-      let found = behind_text text bytes rest (joined texts) e long in
-      let more = later found.0 found.2 in
-      let lines = whole_lines h.0.line text bytes found.0 h.0.is_text h.0.in_line found.1 in
-      (
-        suc more.0,
-        record {
-          within = (let within = more.1.within in omega arith);
-          torn = more.1.torn;
-          is_bytes = found.1 ∙ ap (λ behind. text ++ behind) more.1.is_bytes ∙ sym (append_assoc text (joined (take more.0 texts)) more.1.torn);
-          is_torn = more.1.is_torn;
-        },
-        entry_more number entry h.0.line (lines_of found.0) (lines_of bytes) (take more.0 entries) lines h.0.tells more.2,
-      )
+        let found = behind_text text bytes rest (joined texts) e long in
+        let more = later found.0 found.2 in
+        let lines = whole_lines h.0.line text bytes found.0 h.0.is_text h.0.in_line found.1 in (
+          suc more.0,
+          record {
+            within = (let within = more.1.within in omega arith);
+            torn = more.1.torn;
+            is_bytes = found.1 ∙ ap (λ behind. text ++ behind) more.1.is_bytes ∙ sym (append_assoc text (joined (take more.0 texts)) more.1.torn);
+            is_torn = more.1.is_torn;
+          },
+          entry_more number entry h.0.line (lines_of found.0) (lines_of bytes) (take more.0 entries) lines h.0.tells more.2,
+        )
 entries_read number [] (text ∷ texts) bytes rest h e = absurd h
 entries_read number (entry ∷ entries) [] bytes rest h e = absurd h
 
@@ -119,13 +118,13 @@ beginnings_read header written entries texts bytes rest first h e = at (cases_lt
     at : (length bytes < length written) ⊎ (length written ≤ length bytes) → ((length bytes < length written) × (lines_of bytes ≡ [])) ⊎ ReadsAsFar header written entries texts bytes
     at (inl short) = inl (short, torn_lines first.line written bytes rest (joined texts) first.is_text first.in_line e short)
     at (inr long) =
-      let found = behind_text written bytes rest (joined texts) e long in
-      let more = entries_read 2 entries texts found.0 rest h found.2 in
-      let lines = whole_lines first.line written bytes found.0 first.is_text first.in_line found.1 in
-      inr record {
-        n = more.0;
-        behind = found.0;
-        is_bytes = found.1;
-        whole = more.1;
-        reads = header_more header first.line (lines_of found.0) (lines_of bytes) (take more.0 entries) lines first.tells more.2;
-      }
+        let found = behind_text written bytes rest (joined texts) e long in
+        let more = entries_read 2 entries texts found.0 rest h found.2 in
+        let lines = whole_lines first.line written bytes found.0 first.is_text first.in_line found.1 in
+        inr record {
+          n = more.0;
+          behind = found.0;
+          is_bytes = found.1;
+          whole = more.1;
+          reads = header_more header first.line (lines_of found.0) (lines_of bytes) (take more.0 entries) lines first.tells more.2;
+        }

@@ -66,3 +66,25 @@ impl fmt::Display for LineFault {
 }
 
 impl Error for LineFault {}
+
+impl fmt::Display for LogFault {
+    fn fmt<W: fmt::Write>(&self, f: &mut fmt::Formatter<W>) -> fmt::Result {
+        match self {
+            LogFault::Line(number, fault) => write!(f, "line {number}: {fault}"),
+            LogFault::OutOfMemory => write!(f, "out of memory"),
+        }
+    }
+}
+
+impl Error for LogFault {}
+
+impl fmt::Display for Unwritten {
+    fn fmt<W: fmt::Write>(&self, f: &mut fmt::Formatter<W>) -> fmt::Result {
+        match self {
+            Unwritten::Unfit => write!(f, "a value with a set in it, or nested too deep"),
+            Unwritten::OutOfMemory => write!(f, "out of memory"),
+        }
+    }
+}
+
+impl Error for Unwritten {}

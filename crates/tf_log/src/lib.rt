@@ -8,6 +8,8 @@ mod forms;
 mod laws;
 mod parts;
 mod reading;
+#[cfg(test)]
+mod tests;
 mod values;
 mod writing;
 
