@@ -97,7 +97,8 @@ fn op_word(op: Op) -> &'static str
     }
 }
 
-fn request_form(alloc: Global, request: &Request) -> Result<Json, AllocError>
+/// The form of a request.
+pub(crate) fn request_form(alloc: Global, request: &Request) -> Result<Json, AllocError>
     ensures held { OnOk result (IsRequestHeld (asked request.now)) }
     ensures value { IfOk result (λ j. view j ≡ request_form (asked request.now)) }
 {

@@ -17,4 +17,4 @@ pub use entry::{Entry, Header, Log};
 pub use fault::{LineFault, LogFault, Unwritten};
 pub use laws::beginnings_are_read;
 pub use reading::read_log;
-pub use writing::{answered_line, begun_line, header_line};
+pub use writing::{answered_line, begun_line, header_line, request_line};

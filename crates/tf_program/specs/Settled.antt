@@ -5,7 +5,6 @@ use Rattle.std.specs.declared.string.String.{String}
 use Rattle.tf_log.specs.Entry.{HeaderView}
 use Rattle.tf_protocol.specs.Meaning.{Meaning}
 use Rattle.tf_recovery.specs.Recovered.{IsRecovered}
-use Rattle.tf_recovery.specs.declared.recovering.Recovered.{Recovered}
 use Rattle.tf_program.specs.declared.given.Given.{Given}
 use Rattle.tf_program.specs.declared.looking.Standing.{Standing}
 use Rattle.tf_program.specs.declared.looking.Standing.TheVariants.{Before, After}
@@ -16,23 +15,23 @@ abbrev pub state_given : Given → Option (List ℕ)
 state_given given = option_map (λ bytes. bytes.items) given.state
 
 -- the text that an apply leaves in the place of a state: its own, or the one before where it changed nothing
-abbrev pub left_by : Option (List ℕ) → Recovered → Option (List ℕ)
-left_by before recovered = option_or (option_map string_bytes recovered.state) before
+abbrev pub left_by : Option (List ℕ) → Option (List ℕ) → Option (List ℕ)
+left_by before recovered = option_or recovered before
 
 -- The state that is there is the one before the apply, and the other is to take its place; or it is the one that the apply left.
-abbrev pub IsStanding : Option (List ℕ) → Recovered → Option (List ℕ) → Standing → Type 0
-IsStanding before recovered there (Before text) = (there ≡ before) × (text ≡ recovered.state)
+abbrev pub IsStanding : Option (List ℕ) → Option (List ℕ) → Option (List ℕ) → Standing → Type 0
+IsStanding before recovered there (Before text) = (there ≡ before) × (option_map string_bytes text ≡ recovered)
 IsStanding before recovered there After = (there ≢ before) × (there ≡ left_by before recovered)
 
 -- What is looked back at: what is recovered by these providers, and how the state that is there stands to it.
 pub record IsLookedAt (ms : List Meaning) (past : Past) (given : Given) (standing : Standing) : Type 0 where
-  pub recovered : Recovered
+  pub recovered : Option (List ℕ)
   pub is_recovered : IsRecovered ms past.header past.answers recovered
   pub stands : IsStanding past.header.state recovered (state_given given) standing
 
 -- What a program goes on from: what it was given, with the state that the apply leaves in place of the one that is there.
 pub record GoesOnFrom (ms : List Meaning) (past : Past) (old new : Given) : Type 0 where
-  pub recovered : Recovered
+  pub recovered : Option (List ℕ)
   pub is_recovered : IsRecovered ms past.header past.answers recovered
   pub options : new.options ≡ old.options
   pub config : new.config ≡ old.config

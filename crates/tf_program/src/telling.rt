@@ -10,7 +10,7 @@ use std::alloc::Global;
 use std::io::Write;
 use std::process::ExitCode;
 use tf_cli::{Refused, print_refused, save, save_all, verb_text};
-use tf_log::{LineFault, request_text};
+use tf_log::{LineFault, request_line};
 use tf_protocol::Request;
 
 /// Tells that there was no memory. The answer is the program's status.
@@ -95,7 +95,7 @@ pub fn tell_past<E: Write>(alloc: Global, past: &Past, err: &mut E) {
 fn tell_in_flight<E: Write>(alloc: Global, request: &Request, err: &mut E) {
     let verb = verb_text(&Some(request.op));
     let _ = writeln!(err, "warning: {}{verb} was begun, its result is not known", request.address);
-    if let Ok(text) = request_text(alloc, request) {
-        let _ = save_all(err, &[text.as_str(), "\n"]);
+    if let Ok(line) = request_line(alloc, request) {
+        let _ = save(err, line.as_str());
     }
 }

@@ -1,42 +1,11 @@
-//! STUB
+//! What an apply that was cut off did, by its log: one more apply of the same texts, in which what was answered is answered again
+//! from the log, and nothing is called.
 #![tactic(auto)]
 
-use std::alloc::Global;
-use std::sync::Wait;
-use std::thread::Threads;
-use tf_cli::{Refused, Stop, apply_text, state_to_write};
-use tf_log::Header;
-use tf_provider::Provider;
+mod laws;
+mod recovering;
+mod taking;
 
-#[derive(Drop)]
-pub struct Recovered {
-    pub state: Option<String>,
-}
-
-#[derive(Drop)]
-pub enum Unrecovered {
-    Refused(Refused),
-    NotAll,
-    OutOfMemory,
-}
-
-pub fn recover<R: Threads + Wait + Sync>(
-    rt: &R,
-    alloc: Global,
-    header: &Header,
-    answers: usize,
-    providers: &[Box<dyn Provider + Sync>],
-) -> Result<Recovered, Unrecovered> {
-    let answer = apply_text(
-        rt,
-        alloc,
-        header.config.as_bytes(),
-        header.vars.as_ref().map(|text| text.as_bytes()),
-        header.state.as_ref().map(|text| text.as_bytes()),
-        header.lineage.as_str(),
-        providers,
-        1,
-        &Stop::new(),
-    );
-    Ok(Recovered { state: state_to_write(answer) })
-}
+pub use laws::{what_a_cut_log_leaves_is_recovered, what_is_recovered_is_applied};
+pub use recovering::recover;
+pub use taking::{Recovered, Unrecovered};
