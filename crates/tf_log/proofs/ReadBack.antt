@@ -16,7 +16,7 @@ use Rattle.tf_log.specs.Entry.{EntryView, begun, replied, HeaderView}
 use Rattle.tf_log.specs.Fit.{fits, option_fits, request_fits, answer_fits}
 use Rattle.tf_log.specs.Form.{value_form, text_form, option_form, op_word, request_form, reply_form, entry_form, header_form}
 use Rattle.tf_log.specs.From.{option_text_from, option_from, op_from, request_from, reply_from, entry_from, header_from}
-use Rattle.tf_log.specs.Line.{IsEntryLine, IsHeaderLine, IsRequestLine}
+use Rattle.tf_log.specs.Line.{IsEntryLine, IsHeaderLine, IsRequestLine, header_in, tree_in}
 use Rattle.tf_log.specs.Text.{IsSimple, IsTreeLine, IsOptionHeld, IsRequestHeld, IsAnswerHeld}
 use Rattle.tf_log.proofs.Formed.{simple_form, depth_form, form_reads}
 
@@ -128,11 +128,16 @@ replied_is_line r a d text held answer_held both is line =
     let reply_below = reply_depth a answer_fit in
     entry_line (replied r a) text (rw (request_reads r held fit, reply_reads a answer_held answer_fit) refl) (at (request_simple r held, (reply_simple a answer_held, tt)) (omega arith))
 
+header_reads : (h : HeaderView) → header_from (header_form h) ≡ Some h
+header_reads h = rw (text_reads h.state, text_reads h.vars) refl
+
+header_tells : (h : HeaderView) (line : List ℕ) → tree_in line ≡ Some (header_form h) → header_in line ≡ Some h
+header_tells h line is = ap (option_and_then header_from) is ∙ header_reads h
+
 pub header_is_line : (h : HeaderView) (d : json.Data) (text : List ℕ) → d ≡ header_form h → (IsSimple d → json.depth d ≤ max_depth → IsTreeLine d text) → IsHeaderLine h text
 header_is_line h d text form line =
     let at : IsSimple (header_form h) → json.depth (header_form h) ≤ max_depth → IsTreeLine (header_form h) text = subst (λ x. IsSimple x → json.depth x ≤ max_depth → IsTreeLine x text) form line in
     let state = text_depth h.state in
     let vars = text_depth h.vars in
-    let reads : header_from (header_form h) ≡ Some h = rw (text_reads h.state, text_reads h.vars) refl in
     let is = at (tt, (tt, (text_simple h.state, (text_simple h.vars, (omega arith, tt))))) (omega arith) in
-    record { line = is.line; in_line = is.in_line; tells = ap (option_and_then header_from) is.reads ∙ reads; is_text = is.is_text }
+    record { line = is.line; in_line = is.in_line; tells = header_tells h is.line is.reads; is_text = is.is_text }

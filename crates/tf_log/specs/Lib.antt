@@ -2,6 +2,7 @@ pub mod Header
 pub mod Entry
 pub mod Form
 pub mod Fit
+pub mod Fault
 pub mod From
 pub mod Line
 pub mod Log

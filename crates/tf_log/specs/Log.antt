@@ -7,18 +7,20 @@ use Rattle.tf_log.specs.declared.fault.LineFault.TheVariants.{NotAnEntry}
 use Rattle.tf_log.specs.declared.fault.LogFault.{LogFault}
 use Rattle.tf_log.specs.declared.fault.LogFault.TheVariants.{Line, OutOfMemory}
 
--- an entry before those that the next lines tell, or what is wrong with the first faulty line, which has this number where it tells none
+-- What a line and those behind it tell: an entry and the further entries, or the number and the fault of the first faulty line, which is
+-- the line itself where it tells no entry.
 abbrev pub entry_then : Option EntryView → ℕ → Result (List EntryView) (ℕ × LineFault) → Result (List EntryView) (ℕ × LineFault)
 entry_then None number told = Err (number, NotAnEntry)
 entry_then (Some entry) number (Ok entries) = Ok (entry ∷ entries)
 entry_then (Some entry) number (Err fault) = Err fault
 
--- what lines of entries tell, of which the first has this number
+-- what lines tell that have to be entries, of which the first has this number
 abbrev pub entries_in : ℕ → List (List ℕ) → Result (List EntryView) (ℕ × LineFault)
 entries_in number [] = Ok []
 entries_in number (line ∷ lines) = entry_then (entry_in line) number (entries_in (number + 1) lines)
 
--- what was given and the entries, or what is wrong with the first faulty line, which is that of the fault where the first line tells nothing
+-- What a first line and those behind it tell: what was given and the entries, or the number and the fault of the first faulty line, which is
+-- the first line itself where it tells nothing.
 abbrev pub header_then : Option HeaderView → LineFault → Result (List EntryView) (ℕ × LineFault) → Result (Option LogView) (ℕ × LineFault)
 header_then None fault told = Err (1, fault)
 header_then (Some given) fault (Ok told) = Ok (Some record { header = given; entries = told })

@@ -56,6 +56,11 @@ impl From<AllocError> for LogFault {
 }
 
 impl fmt::Display for LineFault {
+    ghost use Rattle.std.specs.Prelude.{Some};
+    ghost use Rattle.tf_log.specs.Fault.{line_fault_text};
+
+    ghost output = { λ fault. Some (line_fault_text fault) };
+
     fn fmt<W: fmt::Write>(&self, f: &mut fmt::Formatter<W>) -> fmt::Result {
         match self {
             LineFault::NotAHeader => write!(f, "not the first line of a log"),
@@ -68,6 +73,11 @@ impl fmt::Display for LineFault {
 impl Error for LineFault {}
 
 impl fmt::Display for LogFault {
+    ghost use Rattle.std.specs.Prelude.{Some};
+    ghost use Rattle.tf_log.specs.Fault.{log_fault_text};
+
+    ghost output = { λ fault. Some (log_fault_text fault) };
+
     fn fmt<W: fmt::Write>(&self, f: &mut fmt::Formatter<W>) -> fmt::Result {
         match self {
             LogFault::Line(number, fault) => write!(f, "line {number}: {fault}"),
@@ -79,6 +89,11 @@ impl fmt::Display for LogFault {
 impl Error for LogFault {}
 
 impl fmt::Display for Unwritten {
+    ghost use Rattle.std.specs.Prelude.{Some};
+    ghost use Rattle.tf_log.specs.Fault.{unwritten_text};
+
+    ghost output = { λ fault. Some (unwritten_text fault) };
+
     fn fmt<W: fmt::Write>(&self, f: &mut fmt::Formatter<W>) -> fmt::Result {
         match self {
             Unwritten::Unfit => write!(f, "a value with a set in it, or nested too deep"),
