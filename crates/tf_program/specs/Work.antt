@@ -1,6 +1,8 @@
 -- What the programs do with what they were given.
 use Rattle.std.specs.Prelude.{◌≡◌, ◌⊎◌, true, ℕ, List, Option, Some, None, Result, Ok, Err, option_map, string_bytes}
 use Rattle.std.specs.Io.KnownBytes.{Appends}
+use Rattle.std.specs.Process.{exit_status}
+use Rattle.std.specs.declared.process.ExitCode.{ExitCode}
 use Rattle.tf_inputs.specs.Texts.{Texts, the_texts}
 use Rattle.tf_plan.specs.Refused.{Tells}
 use Rattle.tf_plan.specs.declared.refused.Refused.{Refused}
@@ -52,3 +54,10 @@ EndsWith (Some text) answer result out out_after err err_after =
 
 abbrev pub EndsApply : Result Applied Refused → (result : ℕ) (out out_after err err_after : Option (List ℕ)) → Type 0
 EndsApply answer result out out_after err err_after = EndsWith (to_write answer) answer result out out_after err err_after
+
+-- An apply with a log ends before any call, with status 1 and nothing on standard output; or it ends as the apply that it is,
+-- where more may be told on standard error.
+abbrev pub EndsLogged : List Meaning → Given → (result : ExitCode) (out out_after err : Option (List ℕ)) → Type 0
+EndsLogged ms given result out out_after err =
+    ((exit_status result ≡ 1) × (out_after ≡ out))
+    ⊎ ((answer : Result Applied Refused) × (status : ℕ) × (err_shown : Option (List ℕ)) × IsAnswer ms given answer × EndsApply answer status out out_after err err_shown × (exit_status result ≡ status))

@@ -2,6 +2,7 @@
 
 ghost use Rattle.std.specs.Prelude.{◌≡◌, ◌⊎◌, IfErr, IfOk, map};
 ghost use Rattle.tf_program.specs.Program.{IsFailure};
+ghost use Rattle.tf_program.specs.Work.{EndsLogged};
 ghost use Rattle.tf_program.specs.Settled.{GoesOnFrom, IsLookedInto, IsPut};
 
 use crate::given::Given;
@@ -75,10 +76,9 @@ pub fn foresee<T: Threads + Wait + Sync, E: Write>(
     ensures from { IfOk result (λ _. GoesOnFrom (map (λ b. meaning b) replayed.now) past.now given.old given.new) }
     ensures status { IfErr result IsFailure }
 {
-    if let Standing::Before(Some(state)) =
-        look_back(threads, alloc, place, given, past, replayed, err)?
-    {
-        given.state = Some(state.into_bytes());
+    match look_back(threads, alloc, place, given, past, replayed, err)? {
+        Standing::After | Standing::Before(None) => {}
+        Standing::Before(Some(state)) => given.state = Some(state.into_bytes()),
     }
     Ok(())
 }
@@ -108,7 +108,9 @@ fn empty_or_tell<F: LogFile, E: Write>(
     file: &F,
     place: &Place,
     err: &mut E,
-) -> Result<(), ExitCode> {
+) -> Result<(), ExitCode>
+    ensures { IfErr result IsFailure }
+{
     match empty(file) {
         Ok(()) => Ok(()),
         Err(_) => Err(tell_no_log(place.log.as_str(), err)),
@@ -138,6 +140,7 @@ pub fn carry_out_logged<
 ) -> ExitCode
 where
     R::File: LogFile,
+    ensures { EndsLogged (map (λ b. meaning b) providers.now) given.now result (O.contents out.old) (O.contents out.new) (E.contents err.old) }
 {
     if let Err(status) = start(rt, place, log, given, err) {
         return status;
@@ -159,7 +162,9 @@ fn start<R: Files + AllocGlobal, S: Sink, E: Write>(
     log: &OpenLog<S>,
     given: &Given,
     err: &mut E,
-) -> Result<(), ExitCode> {
+) -> Result<(), ExitCode>
+    ensures { IfErr result IsFailure }
+{
     let header = match header_of(rt.alloc(), given) {
         Ok(Some(header)) => header,
         Ok(None) => return Ok(()),

@@ -1,5 +1,8 @@
 //! What a program finds: the files that its words name, and the log of an apply that did not end.
 
+ghost use Rattle.std.specs.Prelude.{IfErr};
+ghost use Rattle.tf_program.specs.Program.{IsFailure};
+
 use crate::given::Given;
 use crate::log_file::{LogFile, empty, open_log};
 use crate::past::{Past, read_past};
@@ -30,7 +33,9 @@ pub fn see<R: Files + AllocGlobal, E: Write>(
     rt: &R,
     options: Options,
     err: &mut E,
-) -> Result<Seen, ExitCode> {
+) -> Result<Seen, ExitCode>
+    ensures { IfErr result IsFailure }
+{
     let given = read_files(options, &|file| fs::read(rt, file), err)?;
     let place = place_of(rt, &given, err)?;
     see_state(rt, given, place, err)
@@ -45,6 +50,7 @@ pub fn hold<R: Files + AllocGlobal, E: Write>(
 ) -> Result<(Seen, R::File), ExitCode>
 where
     R::File: LogFile,
+    ensures { IfErr result IsFailure }
 {
     let given = read_files(options, &|file| fs::read(rt, file), err)?;
     let place = place_of(rt, &given, err)?;
@@ -61,7 +67,9 @@ fn place_of<R: Files + AllocGlobal, E: Write>(
     rt: &R,
     given: &Given,
     err: &mut E,
-) -> Result<Place, ExitCode> {
+) -> Result<Place, ExitCode>
+    ensures { IfErr result IsFailure }
+{
     match Place::of(rt, given.options.state.as_str()) {
         Ok(place) => Ok(place),
         Err(_) => Err(tell_unread(given.options.state.as_str(), err)),
@@ -77,6 +85,7 @@ fn lock<R: Files, E: Write>(
 ) -> Result<R::File, ExitCode>
 where
     R::File: LogFile,
+    ensures { IfErr result IsFailure }
 {
     match open_log(rt, place.log.as_str()) {
         Ok(Some(file)) => Ok(file),
@@ -99,7 +108,9 @@ fn see_state<R: Files + AllocGlobal, E: Write>(
     mut given: Given,
     place: Place,
     err: &mut E,
-) -> Result<Seen, ExitCode> {
+) -> Result<Seen, ExitCode>
+    ensures { IfErr result IsFailure }
+{
     let read = |file: &str| -> io::Result<Vec<u8>> { fs::read(rt, file) };
     given.state = read_optional(place.state.as_str(), &read, err)?;
     let past = match read_optional(place.log.as_str(), &read, err)? {

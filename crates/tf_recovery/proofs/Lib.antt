@@ -1,1 +1,2 @@
 mod Cut
+mod Taken
