@@ -8,8 +8,6 @@ mod forms;
 mod laws;
 mod parts;
 mod reading;
-#[cfg(test)]
-mod tests;
 mod values;
 mod writing;
 

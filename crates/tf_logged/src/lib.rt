@@ -14,8 +14,6 @@ mod replaying;
 mod same;
 mod shared;
 mod sink;
-#[cfg(test)]
-mod tests;
 
 pub use entries::{answer_count, in_flight, split};
 pub use laws::{

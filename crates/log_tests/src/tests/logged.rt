@@ -1,4 +1,5 @@
-use crate::{Logged, NotAdded, OpenLog, Replayed, Sink, answer_count, in_flight, split};
+//! Providers whose calls are logged, and those that answer from a log.
+
 use std::alloc::Global;
 use std::cell::RefCell;
 use std::rc::Rc;
@@ -6,6 +7,7 @@ use std::sync::Arc;
 use std::sync::atomic::{AtomicUsize, Ordering};
 use std::test::Fail;
 use tf_log::{Entry, Header, answered_line, begun_line, header_line};
+use tf_logged::{Logged, NotAdded, OpenLog, Replayed, Sink, answer_count, in_flight, split};
 use tf_protocol::{Op, Provider, Reply, Request, Schema};
 
 // A log in memory with room for so many lines.

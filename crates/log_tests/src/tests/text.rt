@@ -1,7 +1,9 @@
-use crate::{Header, LineFault, LogFault, answered_line, begun_line, header_line, read_log};
+//! The text of a log, and how it is read where it is cut off or bad.
+
 use std::alloc::Global;
 use std::collections::BTreeMap;
 use std::test::Fail;
+use tf_log::{Header, LineFault, LogFault, answered_line, begun_line, header_line, read_log};
 use tf_protocol::{Op, Reply, Request};
 use tf_value::Value;
 

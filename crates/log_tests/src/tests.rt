@@ -1,0 +1,5 @@
+mod cutting;
+mod logged;
+mod memory;
+mod odd;
+mod text;
