@@ -12,8 +12,8 @@ module _ (ms : List Meaning) (past : Past) where
   pub after_goes_on : (given : Given) → IsLookedAt ms past given After → GoesOnFrom ms past given given
   after_goes_on given h = record { recovered = h.recovered; is_recovered = h.is_recovered; options = refl; config = refl; vars = refl; state = h.stands.1 }
 
-  pub before_goes_on : (old new : Given) (text : Option String) → IsLookedAt ms past old (Before text) → IsPut text old new → GoesOnFrom ms past old new
-  before_goes_on old new text h put = record {
+  pub before_goes_on : (old new : Given) {Z : Type 0} (text : Option (String Z)) → IsLookedAt ms past old (Before text) → IsPut (option_map string_bytes text) old new → GoesOnFrom ms past old new
+  before_goes_on old new {Z} text h put = record {
     recovered = h.recovered;
     is_recovered = h.is_recovered;
     options = put.options;

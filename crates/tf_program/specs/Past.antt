@@ -9,11 +9,11 @@ use Rattle.tf_protocol.specs.Meaning.{asked}
 use Rattle.tf_program.specs.declared.past.Past.{Past}
 
 -- What a log tells of the apply: what it was given, how many results there are, and what was begun and has no result.
-pub record IsTold (log : LogView) (past : Past) (entries : List EntryView) : Type 0 where
+pub record IsTold (log : LogView) (past : Past) (told : List EntryView) : Type 0 where
   pub header : past.header ≡ log.header
   pub answers : past.answers ≡ answer_count log.entries
   pub in_flight : map asked past.in_flight.items ≡ in_flight log.entries
-  pub entries : entries ≡ log.entries
+  pub entries : told ≡ log.entries
 
 -- what is read of a log: nothing where it has no whole line, and else what it tells
 abbrev pub IsPastIn : List ℕ → Option (Past × List EntryView) → Type 0

@@ -1,7 +1,6 @@
 -- How a program goes on from an apply that did not end.
 use Rattle.std.specs.Prelude.{◌≡◌, ◌≢◌, ◌⊎◌, ℕ, List, [], Option, Some, None, option_map, string_bytes}
 use Rattle.std.specs.Option.{option_or}
-use Rattle.std.specs.declared.string.String.{String}
 use Rattle.tf_log.specs.Entry.{HeaderView}
 use Rattle.tf_protocol.specs.Meaning.{Meaning}
 use Rattle.tf_recovery.specs.Recovered.{IsRecovered}
@@ -43,8 +42,8 @@ abbrev pub IsLookedInto : Past → Given → Type 0
 IsLookedInto past old = (past.in_flight.items ≡ []) ⊎ (state_given old ≢ past.header.state)
 
 -- a text takes the place of the state that is given, where there is one, and all else stays
-pub record IsPut (text : Option String) (old new : Given) : Type 0 where
+pub record IsPut (text : Option (List ℕ)) (old new : Given) : Type 0 where
   pub options : new.options ≡ old.options
   pub config : new.config ≡ old.config
   pub vars : new.vars ≡ old.vars
-  pub state : state_given new ≡ option_or (option_map string_bytes text) (state_given old)
+  pub state : state_given new ≡ option_or text (state_given old)

@@ -1,6 +1,6 @@
 //! An apply with a log, and what comes before it where the one before it did not end.
 
-ghost use Rattle.std.specs.Prelude.{◌≡◌, ◌⊎◌, IfErr, IfOk, map};
+ghost use Rattle.std.specs.Prelude.{◌≡◌, ◌⊎◌, IfErr, IfOk, map, option_map, string_bytes};
 ghost use Rattle.tf_program.specs.Program.{IsFailure};
 ghost use Rattle.tf_program.specs.Work.{EndsLogged};
 ghost use Rattle.tf_program.specs.Settled.{GoesOnFrom, IsLookedInto, IsPut};
@@ -91,7 +91,7 @@ fn put_in_place<R: Files, O: Write, E: Write>(
     out: &mut O,
     err: &mut E,
 ) -> Result<(), ExitCode>
-    ensures { IfOk result (λ _. IsPut state given.old given.new) }
+    ensures { IfOk result (λ _. IsPut (option_map string_bytes state) given.old given.new) }
 {
     let Some(state) = state else {
         return Ok(());

@@ -1,5 +1,5 @@
 -- What is recovered of a log that was cut.
-use Rattle.std.proofs.Common.{◌≡◌, ℕ, List, [], ◌++◌, inl, inr, subst}
+use Rattle.std.proofs.Common.{◌≡◌, ℕ, List, [], inl, inr, subst}
 use Rattle.std.specs.Prelude.{◌⊎◌, ◌<◌, length, take}
 use Rattle.tf_log.specs.Entry.{EntryView}
 use Rattle.tf_log.specs.Header.{HeaderView}

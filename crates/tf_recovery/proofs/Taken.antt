@@ -1,5 +1,5 @@
 -- What is taken of an apply of the texts that were given.
-use Rattle.std.proofs.Common.{◌≡◌, ℕ, List, Option, Result, Ok, Err, ap, refl, subst, option_map, string_bytes}
+use Rattle.std.proofs.Common.{◌≡◌, ℕ, List, Option, Result, Ok, Err, refl, subst, option_map, string_bytes}
 use Rattle.std.specs.Prelude.{IfOk, IfErr}
 use Rattle.tf_cli.specs.Applies.{IsApplied}
 use Rattle.tf_cli.specs.declared.applied.Applied.{Applied}

@@ -1,7 +1,4 @@
-use Rattle.std.proofs.Common.{◌≡◌, ℕ, List, Option, map, option_map, string_bytes, sym, ap, ◌∙◌, rules}
-use Rattle.tf_inputs.specs.Texts.{Texts, the_texts}
-use Rattle.tf_log.specs.Header.{HeaderView}
-use Rattle.tf_recovery.specs.Recovered.{texts_in}
+use Rattle.std.proofs.Common.{◌≡◌, map, option_map, rules}
 use Rattle.tf_recovery.proofs.Taken.{is_recovered, is_unrecovered, same_texts}
 use Rattle.tf_recovery.proofs.recovering.recover.Goals as goal
 
@@ -13,7 +10,7 @@ returns-in-Ok-clause-recovered g c =
     let state : option_map (λ s. s.now) c.bytes_of-2.result ≡ given.state = search rules in
     let named : c.as_str.result.now ≡ given.lineage = search rules in
     is_recovered (map (λ b. (goal.Provider-dyn g (b.vtable, b.value)).meaning b.value) c.args.providers.now) given c.args.answers c.in-Ok.applied _ c.as_str.result.now
-        (same_texts given _ _ _ config vars state) named c.in-Ok.ensures.applied c.take.result c.take.ensures.taken
+    (same_texts given _ _ _ config vars state) named c.in-Ok.ensures.applied c.take.result c.take.ensures.taken
 
 pub returns-in-Ok-clause-unrecovered : goal.returns-in-Ok-clause-unrecovered
 returns-in-Ok-clause-unrecovered g c =
@@ -23,4 +20,4 @@ returns-in-Ok-clause-unrecovered g c =
     let state : option_map (λ s. s.now) c.bytes_of-2.result ≡ given.state = search rules in
     let named : c.as_str.result.now ≡ given.lineage = search rules in
     is_unrecovered (map (λ b. (goal.Provider-dyn g (b.vtable, b.value)).meaning b.value) c.args.providers.now) given c.args.answers c.in-Ok.applied _ c.as_str.result.now
-        (same_texts given _ _ _ config vars state) named c.in-Ok.ensures.applied c.take.result c.take.ensures.not_taken
+    (same_texts given _ _ _ config vars state) named c.in-Ok.ensures.applied c.take.result c.take.ensures.not_taken
