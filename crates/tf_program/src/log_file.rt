@@ -76,7 +76,11 @@ where
         return Err(io::Error::from(ErrorKind::InvalidInput));
     }
     let mut options = OpenOptions::new();
-    options.read(true).append(true).create(true).mode(OWNER_ALONE);
+    options
+        .read(true)
+        .append(true)
+        .create(true)
+        .mode(OWNER_ALONE);
     let file = options.open(rt, name)?;
     if !LogFile::try_lock(&file)? {
         return Ok(None);

@@ -1,6 +1,6 @@
 //! An apply with a log, and what comes before it where the one before it did not end.
 
-ghost use Rattle.std.specs.Prelude.{◌≡◌, ◌⊎◌, IfErr, IfOk, map, option_map, string_bytes};
+ghost use Rattle.std.specs.Prelude.{◌≡◌, ◌⊎◌, IfErr, IfOk, OnOk, map, option_map, string_bytes};
 ghost use Rattle.tf_program.specs.Program.{IsFailure};
 ghost use Rattle.tf_program.specs.Work.{EndsLogged};
 ghost use Rattle.tf_program.specs.Settled.{GoesOnFrom, IsLookedInto, IsPut};
@@ -104,11 +104,7 @@ fn put_in_place<R: Files, O: Write, E: Write>(
     Ok(())
 }
 
-fn empty_or_tell<F: LogFile, E: Write>(
-    file: &F,
-    place: &Place,
-    err: &mut E,
-) -> Result<(), ExitCode>
+fn empty_or_tell<F: LogFile, E: Write>(file: &F, place: &Place, err: &mut E) -> Result<(), ExitCode>
     ensures { IfErr result IsFailure }
 {
     match empty(file) {
@@ -163,7 +159,8 @@ fn start<R: Files + AllocGlobal, S: Sink, E: Write>(
     given: &Given,
     err: &mut E,
 ) -> Result<(), ExitCode>
-    ensures { IfErr result IsFailure }
+    ensures status { IfErr result IsFailure }
+    ensures quiet { OnOk result (E.contents err.new ≡ E.contents err.old) }
 {
     let header = match header_of(rt.alloc(), given) {
         Ok(Some(header)) => header,
@@ -210,7 +207,10 @@ fn text_of(alloc: Global, bytes: &[u8]) -> Result<Option<String>, AllocError> {
 }
 
 /// Bytes that need not be there as a text that need not; `None` where they are there and aren't UTF-8.
-fn optional_text(alloc: Global, bytes: Option<&[u8]>) -> Result<Option<Option<String>>, AllocError> {
+fn optional_text(
+    alloc: Global,
+    bytes: Option<&[u8]>,
+) -> Result<Option<Option<String>>, AllocError> {
     match bytes {
         None => Ok(Some(None)),
         Some(bytes) => match text_of(alloc, bytes)? {

@@ -1,9 +1,8 @@
 //! Where a state stands: the file that its name leads to, and the names of what stands beside it.
 
-use std::fs;
-use std::io;
 use std::path::Path;
 use std::rt::Files;
+use std::{fs, io};
 
 /// How many links are followed from a state's name, as Linux does.
 const MOST_LINKS: usize = 40;

@@ -2,7 +2,7 @@
 
 ghost use Rattle.tf_program.specs.Kept.{EndsKept};
 
-use crate::keeping::{keep};
+use crate::keeping::keep;
 use crate::log_file::OWNER_ALONE;
 use crate::place::Place;
 use std::fs::{Metadata, OpenFile, OpenOptions, Permissions};

@@ -38,12 +38,7 @@ pub fn tell_no_log<E: Write>(name: &str, err: &mut E) -> ExitCode
 }
 
 /// Tells that a line of a log isn't one. The answer is the program's status.
-pub fn tell_bad_line<E: Write>(
-    name: &str,
-    number: usize,
-    fault: LineFault,
-    err: &mut E,
-) -> ExitCode
+pub fn tell_bad_line<E: Write>(name: &str, number: usize, fault: LineFault, err: &mut E) -> ExitCode
     ensures { IsFailure result }
 {
     let _ = writeln!(err, "error: {name}: line {number}: {fault}");
@@ -71,7 +66,10 @@ pub fn tell_misfit<E: Write>(place: &Place, err: &mut E) -> ExitCode
 pub fn tell_unrecovered<E: Write>(name: &str, err: &mut E) -> ExitCode
     ensures { IsFailure result }
 {
-    let _ = save_all(err, &["error: ", name, ": not all results could be recovered\n"]);
+    let _ = save_all(
+        err,
+        &["error: ", name, ": not all results could be recovered\n"],
+    );
     ExitCode::FAILURE
 }
 
@@ -79,14 +77,22 @@ pub fn tell_unrecovered<E: Write>(name: &str, err: &mut E) -> ExitCode
 pub fn tell_lost<E: Write>(name: &str, err: &mut E) {
     let _ = save_all(
         err,
-        &["warning: cannot write ", name, ", so nothing more was begun\n"],
+        &[
+            "warning: cannot write ",
+            name,
+            ", so nothing more was begun\n",
+        ],
     );
 }
 
 /// Tells what is recovered of an apply that did not end: how many results, and each request that was begun and whose result
 /// isn't known, with the request itself.
 pub fn tell_past<E: Write>(alloc: Global, past: &Past, err: &mut E) {
-    let _ = writeln!(err, "recovered {} results of an apply that did not end", past.answers);
+    let _ = writeln!(
+        err,
+        "recovered {} results of an apply that did not end",
+        past.answers
+    );
     for request in &past.in_flight {
         tell_in_flight(alloc, request, err);
     }
@@ -94,7 +100,11 @@ pub fn tell_past<E: Write>(alloc: Global, past: &Past, err: &mut E) {
 
 fn tell_in_flight<E: Write>(alloc: Global, request: &Request, err: &mut E) {
     let verb = verb_text(&Some(request.op));
-    let _ = writeln!(err, "warning: {}{verb} was begun, its result is not known", request.address);
+    let _ = writeln!(
+        err,
+        "warning: {}{verb} was begun, its result is not known",
+        request.address
+    );
     if let Ok(line) = request_line(alloc, request) {
         let _ = save(err, line.as_str());
     }

@@ -79,8 +79,7 @@ pub fn carry_out<R: Files + AllocGlobal, T: Threads + Wait + Sync, O: Write, E: 
     );
     let status = show(&answer, out, err);
     match state_to_write(answer) {
-        Some(text) => keep_state(
-            rt, place, text.as_str(), status, out, err),
+        Some(text) => keep_state(rt, place, text.as_str(), status, out, err),
         None => status,
     }
 }

@@ -9,7 +9,7 @@ returns-in-Some g c = (
       c.as_slice.ensures.value c.vars_bytes.ensures c.state_bytes.ensures c.as_str.result.now c.as_str.ensures.value c.apply_text-answer.result
       c.apply_text-answer.ensures.applied c.apply_text-answer.ensures.workers c.apply_text-answer.ensures.refused,
   then_kept _ _ _ _ _ c.apply_text-answer.result c.state_to_write.result c.in-Some.text _ _ c.state_to_write.ensures c.in-Some.is (c.show-status.ensures.output, c.show-status.ensures.errors)
-      (rw (← c.as_str-in-Some-2.ensures.value, ← c.show-status.ensures.status) c.keep_state.ensures),
+      (rw (← c.as_str-in-Some.ensures.value, ← c.show-status.ensures.status) c.keep_state.ensures),
 )
 
 pub returns-in-None : goal.returns-in-None
