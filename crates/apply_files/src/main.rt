@@ -2,18 +2,20 @@
 #![tactic(auto)]
 
 mod lasting;
+mod taking_up;
 
 use crate::lasting::Lasting;
+use crate::taking_up::take_up;
+use std::fs::File;
 use std::io;
 use std::io::Write;
 use std::process::ExitCode;
 use std::sync::{Arc, Wait};
 use std::thread::Threads;
 use tf_cli::Stop;
-use tf_logged::{Logged, OpenLog, Replayed, split};
-use tf_program::{LogSink, Options, Seen, carry_out_logged, hold, run, settle};
+use tf_logged::{Logged, OpenLog};
+use tf_program::{Given, LogSink, Options, Place, Seen, carry_out_logged, hold, run};
 use tf_provider::Provider;
-use tf_sim::Sim;
 
 fn main(rt: HostRuntime) -> io::Result<ExitCode> {
     run(
@@ -24,8 +26,7 @@ fn main(rt: HostRuntime) -> io::Result<ExitCode> {
     )
 }
 
-/// Takes up an apply that did not end, where there is one, and carries the plan out by threads, with the provider and the flag that
-/// the words ask for.
+/// Takes up an apply that did not end, where there is one, and carries the plan out by threads.
 fn apply<T: Threads + Wait + Sync, O: Write, E: Write>(
     rt: &HostRuntime,
     threads: &T,
@@ -33,7 +34,6 @@ fn apply<T: Threads + Wait + Sync, O: Write, E: Write>(
     out: &mut O,
     err: &mut E,
 ) -> io::Result<ExitCode> {
-    let alloc = rt.alloc();
     let (seen, file) = match hold(rt, options, err) {
         Ok(held) => held,
         Err(status) => return Ok(status),
@@ -43,43 +43,59 @@ fn apply<T: Threads + Wait + Sync, O: Write, E: Write>(
         place,
         past,
     } = seen;
-    let file = Arc::new(alloc, file)?;
-    let log = Arc::new(alloc, OpenLog::new(LogSink::new(Arc::try_clone(&file)?)))?;
-    let lasting = Lasting::new(*rt)?;
-    let mut providers: Vec<Box<dyn Provider + Sync>> = Vec::new(alloc);
-    providers.push(Box::new(
-        alloc,
-        Logged::new(alloc, Arc::try_clone(&log)?, lasting),
-    )?)?;
     if let Some((past, entries)) = past {
-        let mut replayed: Vec<Box<dyn Provider + Sync>> = Vec::new(alloc);
-        for own in split(alloc, entries, &providers)? {
-            replayed.push(Box::new(alloc, Replayed::new(alloc, own, Sim::new(alloc)?))?)?;
-        }
-        let settled = settle(
-            rt,
-            threads,
-            &place,
-            &file,
-            &mut given,
-            &past,
-            &replayed,
-            out,
-            err,
-        );
-        if let Err(status) = settled {
+        let taken = take_up(
+            rt, threads, &place, &file, &mut given, &past, entries, out, err,
+        )?;
+        if let Err(status) = taken {
             return Ok(status);
         }
     }
+    let file = Arc::new(rt.alloc(), file)?;
+    apply_by(rt, threads, &place, &file, &given, out, err)
+}
+
+/// Carries the plan out by the provider whose objects last.
+fn apply_by<T: Threads + Wait + Sync, O: Write, E: Write>(
+    rt: &HostRuntime,
+    threads: &T,
+    place: &Place,
+    file: &Arc<File>,
+    given: &Given,
+    out: &mut O,
+    err: &mut E,
+) -> io::Result<ExitCode> {
+    let alloc = rt.alloc();
+    let log = Arc::new(alloc, OpenLog::new(LogSink::new(Arc::try_clone(file)?)))?;
+    let lasting = Lasting::new(*rt)?;
+    let logged = Box::new(alloc, Logged::new(alloc, Arc::try_clone(&log)?, lasting))?;
+    carry_out_by(rt, threads, place, file, &log, given, logged, &Stop::new(), out, err)
+}
+
+/// Carries the plan out by one provider, whose calls are logged.
+fn carry_out_by<T: Threads + Wait + Sync, O: Write, E: Write>(
+    rt: &HostRuntime,
+    threads: &T,
+    place: &Place,
+    file: &File,
+    log: &OpenLog<LogSink<File>>,
+    given: &Given,
+    provider: Box<dyn Provider + Sync>,
+    stop: &Stop,
+    out: &mut O,
+    err: &mut E,
+) -> io::Result<ExitCode> {
+    let mut providers = Vec::new(rt.alloc());
+    providers.push(provider)?;
     Ok(carry_out_logged(
         rt,
         threads,
-        &place,
-        &file,
-        &log,
-        &given,
-        &providers,
-        &Stop::new(),
+        place,
+        file,
+        log,
+        given,
+        providers.as_slice(),
+        stop,
         out,
         err,
     ))

@@ -1,7 +1,7 @@
 //! What the programs `plan` and `apply` share: what they read, what they do with it, and how the state stands on the disk.
 #![tactic(auto)]
 
-pub mod given;
+mod given;
 mod keeping;
 mod log_file;
 mod logging;
@@ -15,6 +15,7 @@ mod seeing;
 mod telling;
 mod work;
 
+pub use given::Given;
 pub use keeping::keep;
 pub use log_file::{LogFile, LogSink};
 pub use logging::{carry_out_logged, foresee, settle};

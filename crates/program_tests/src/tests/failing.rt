@@ -68,7 +68,7 @@ fn is_refused_where_another_applies(rt: HostRuntime) -> Result<(), Fail> {
     let mut err = Vec::new(rt.alloc());
     let ended = run_on(&rt, rt.alloc(), &ROWS[1], &store, &mut out, &mut err)?;
     assert!(rt; ended == ExitCode::from(1) && out.is_empty());
-    assert!(rt; err.as_slice() == b"error: s is locked by another apply\n");
+    assert!(rt; err.as_slice() == "error: s is locked by another apply\n".as_bytes());
     assert!(rt; store.into_inner().calls.as_str() == "read c\nappend s.log\nlock s.log\n");
     Ok(())
 }
