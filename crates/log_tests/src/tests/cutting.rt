@@ -246,16 +246,17 @@ fn check_beginnings<R: Abort + Threads + Wait + Sync>(
     check_beginning(rt, alloc, case, &log, &wanted)
 }
 
-/// Checks each beginning for the first pair of an address at which the provider fails and one for which it has no memory, and for
-/// the others those near the ends of lines.
+/// Checks these beginnings for the first pair of an address at which the provider fails and one for which it has no memory, and
+/// for the other pairs those near the ends of lines.
 fn check_pairs<R: Abort + Threads + Wait + Sync>(
     rt: &R,
     alloc: Global,
     config: &str,
     state: Option<&str>,
     pairs: &[(&str, &str)],
+    first: Cuts,
 ) -> Result<(), Fail> {
-    let mut cuts = Cuts::Each;
+    let mut cuts = first;
     for (fails, forgets) in pairs {
         let case = Case {
             config,
@@ -278,7 +279,7 @@ fn a_diamond_is_recovered(rt: HostRuntime) -> Result<(), Fail> {
         ("", "sim_host.b"),
         ("sim_host.a", "sim_host.d"),
     ];
-    check_pairs(&rt, rt.alloc(), DIAMOND, None, pairs.as_slice())
+    check_pairs(&rt, rt.alloc(), DIAMOND, None, pairs.as_slice(), Cuts::Each)
 }
 
 #[test]
@@ -291,7 +292,14 @@ fn a_late_destroy_is_recovered(rt: HostRuntime) -> Result<(), Fail> {
         ("", "sim_net.a"),
         ("sim_net.a", "sim_host.h"),
     ];
-    check_pairs(&rt, rt.alloc(), LATE, Some(BEFORE), pairs.as_slice())
+    check_pairs(
+        &rt,
+        rt.alloc(),
+        LATE,
+        Some(BEFORE),
+        pairs.as_slice(),
+        Cuts::Each,
+    )
 }
 
 #[test]
@@ -299,7 +307,14 @@ fn a_late_destroy_that_is_stuck_is_recovered(rt: HostRuntime) -> Result<(), Fail
     let alloc = rt.alloc();
     let stuck = BEFORE.replace(alloc, r#""tag": null"#, r#""tag": "stuck""#)?;
     let pairs = [("", ""), ("sim_host.h", ""), ("", "sim_host.h")];
-    check_pairs(&rt, alloc, LATE, Some(stuck.as_str()), pairs.as_slice())
+    check_pairs(
+        &rt,
+        alloc,
+        LATE,
+        Some(stuck.as_str()),
+        pairs.as_slice(),
+        Cuts::ByLines,
+    )
 }
 
 // The log of many workers, in any order of its lines, tells what they left.
