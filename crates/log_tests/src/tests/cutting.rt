@@ -194,11 +194,34 @@ fn check_beginning<R: Abort + Threads + Wait + Sync>(
     Ok(())
 }
 
-/// Checks what each beginning of the log of an apply by one worker comes to.
+/// Which beginnings of a log are looked at.
+#[derive(Clone, Copy)]
+enum Cuts {
+    /// Each.
+    Each,
+    /// Those that end where a line does, or one byte before or behind that.
+    ByLines,
+}
+
+impl Cuts {
+    /// Whether the beginning of so many bytes is one of these.
+    fn has(self, bytes: &[u8], cut: usize) -> bool {
+        match self {
+            Cuts::Each => true,
+            Cuts::ByLines => {
+                let mut near = bytes.iter().skip(cut.saturating_sub(2)).take(3);
+                near.any(|byte| *byte == b'\n')
+            }
+        }
+    }
+}
+
+/// Checks what beginnings of the log of an apply by one worker come to.
 fn check_beginnings<R: Abort + Threads + Wait + Sync>(
     rt: &R,
     alloc: Global,
     case: Case<'_>,
+    cuts: Cuts,
 ) -> Result<(), Fail> {
     let Left { log, state } = apply_logged(rt, alloc, case, 1)?;
     let Some(whole) = read_log(alloc, &log)? else {
@@ -216,19 +239,24 @@ fn check_beginnings<R: Abort + Threads + Wait + Sync>(
         "{all:?}"
     );
     for cut in 0..log.len() {
-        check_beginning(rt, alloc, case, &log[..cut], &wanted)?;
+        if cuts.has(&log, cut) {
+            check_beginning(rt, alloc, case, &log[..cut], &wanted)?;
+        }
     }
     check_beginning(rt, alloc, case, &log, &wanted)
 }
 
-/// Checks each beginning, for each pair of an address at which the provider fails and one for which it has no memory.
-fn check_each<R: Abort + Threads + Wait + Sync>(
+/// Checks these beginnings for the first pair of an address at which the provider fails and one for which it has no memory, and
+/// for the other pairs those near the ends of lines.
+fn check_pairs<R: Abort + Threads + Wait + Sync>(
     rt: &R,
     alloc: Global,
     config: &str,
     state: Option<&str>,
     pairs: &[(&str, &str)],
+    first: Cuts,
 ) -> Result<(), Fail> {
+    let mut cuts = first;
     for (fails, forgets) in pairs {
         let case = Case {
             config,
@@ -236,7 +264,8 @@ fn check_each<R: Abort + Threads + Wait + Sync>(
             fails: *fails,
             forgets: *forgets,
         };
-        check_beginnings(rt, alloc, case)?;
+        check_beginnings(rt, alloc, case, cuts)?;
+        cuts = Cuts::ByLines;
     }
     Ok(())
 }
@@ -244,13 +273,13 @@ fn check_each<R: Abort + Threads + Wait + Sync>(
 #[test]
 fn a_diamond_is_recovered(rt: HostRuntime) -> Result<(), Fail> {
     let pairs = [
+        ("sim_host.b", "sim_host.c"),
         ("", ""),
         ("sim_host.b", ""),
         ("", "sim_host.b"),
-        ("sim_host.b", "sim_host.c"),
         ("sim_host.a", "sim_host.d"),
     ];
-    check_each(&rt, rt.alloc(), DIAMOND, None, pairs.as_slice())
+    check_pairs(&rt, rt.alloc(), DIAMOND, None, pairs.as_slice(), Cuts::Each)
 }
 
 #[test]
@@ -263,7 +292,14 @@ fn a_late_destroy_is_recovered(rt: HostRuntime) -> Result<(), Fail> {
         ("", "sim_net.a"),
         ("sim_net.a", "sim_host.h"),
     ];
-    check_each(&rt, rt.alloc(), LATE, Some(BEFORE), pairs.as_slice())
+    check_pairs(
+        &rt,
+        rt.alloc(),
+        LATE,
+        Some(BEFORE),
+        pairs.as_slice(),
+        Cuts::Each,
+    )
 }
 
 #[test]
@@ -271,7 +307,14 @@ fn a_late_destroy_that_is_stuck_is_recovered(rt: HostRuntime) -> Result<(), Fail
     let alloc = rt.alloc();
     let stuck = BEFORE.replace(alloc, r#""tag": null"#, r#""tag": "stuck""#)?;
     let pairs = [("", ""), ("sim_host.h", ""), ("", "sim_host.h")];
-    check_each(&rt, alloc, LATE, Some(stuck.as_str()), pairs.as_slice())
+    check_pairs(
+        &rt,
+        alloc,
+        LATE,
+        Some(stuck.as_str()),
+        pairs.as_slice(),
+        Cuts::ByLines,
+    )
 }
 
 // The log of many workers, in any order of its lines, tells what they left.
