@@ -73,7 +73,9 @@ fn apply_by<T: Threads + Wait + Sync, O: Write, E: Write>(
     let log = Arc::new(alloc, OpenLog::new(LogSink::new(Arc::try_clone(file)?)))?;
     let sim = Stopping::new(alloc, given.options.stop_after, Arc::try_clone(&stop)?)?;
     let logged = Box::new(alloc, Logged::new(alloc, Arc::try_clone(&log)?, sim))?;
-    carry_out_by(rt, threads, place, file, &log, given, logged, &stop, out, err)
+    carry_out_by(
+        rt, threads, place, file, &log, given, logged, &stop, out, err,
+    )
 }
 
 /// Carries the plan out by one provider, whose calls are logged.

@@ -1,9 +1,8 @@
 //! A provider whose objects last.
 
 use std::alloc::AllocError;
-use std::fs;
 use std::fs::File;
-use std::io;
+use std::{fs, io};
 use tf_provider::{Op, Provider, Reply, Request, Schema};
 use tf_sim::Sim;
 use tf_value::Value;

@@ -69,7 +69,18 @@ fn apply_by<T: Threads + Wait + Sync, O: Write, E: Write>(
     let log = Arc::new(alloc, OpenLog::new(LogSink::new(Arc::try_clone(file)?)))?;
     let lasting = Lasting::new(*rt)?;
     let logged = Box::new(alloc, Logged::new(alloc, Arc::try_clone(&log)?, lasting))?;
-    carry_out_by(rt, threads, place, file, &log, given, logged, &Stop::new(), out, err)
+    carry_out_by(
+        rt,
+        threads,
+        place,
+        file,
+        &log,
+        given,
+        logged,
+        &Stop::new(),
+        out,
+        err,
+    )
 }
 
 /// Carries the plan out by one provider, whose calls are logged.

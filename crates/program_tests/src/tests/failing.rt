@@ -33,14 +33,24 @@ fn amiss<T: Threads + Wait + Sync>(
 }
 
 fn judged(store: &Store, old: bool, ended: ExitCode, out: &[u8]) -> &'static str {
-    let is_new = store.find("s").is_some_and(|it| it.bytes.as_slice() == STATE.as_bytes());
+    let is_new = store
+        .find("s")
+        .is_some_and(|it| it.bytes.as_slice() == STATE.as_bytes());
     let is_logged = store.find("s.log").is_some_and(|it| !it.bytes.is_empty());
     if !is_new && store.find("s").is_some() != old {
         "the old state is gone"
     } else if ended == ExitCode::from(1) {
-        if out.is_empty() && !is_new { "" } else { "refused and done" }
+        if out.is_empty() && !is_new {
+            ""
+        } else {
+            "refused and done"
+        }
     } else if ended == ExitCode::from(3) {
-        if out.ends_with(STATE.as_bytes()) && is_logged { "" } else { "not written and not kept" }
+        if out.ends_with(STATE.as_bytes()) && is_logged {
+            ""
+        } else {
+            "not written and not kept"
+        }
     } else if is_new {
         ""
     } else {

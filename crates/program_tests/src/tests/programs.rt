@@ -140,7 +140,11 @@ pub static ROWS: [Row; 26] = [
         status: 0,
         out: Told::Is("No changes.\nApply complete! Resources: 0 added, 0 changed, 0 destroyed.\n"),
         err: Told::Is(""),
-        calls: &["read main.tf.json\nappend terraform.tfstate.log\nlock terraform.tfstate.log\nread terraform.tfstate\nread terraform.tfstate.log\n", "sync terraform.tfstate.log\nread .\nsync .\n", "empty terraform.tfstate.log\nsync terraform.tfstate.log\n"],
+        calls: &[
+            "read main.tf.json\nappend terraform.tfstate.log\nlock terraform.tfstate.log\nread terraform.tfstate\nread terraform.tfstate.log\n",
+            "sync terraform.tfstate.log\nread .\nsync .\n",
+            "empty terraform.tfstate.log\nsync terraform.tfstate.log\n",
+        ],
         state: None,
     },
     Row {
@@ -317,7 +321,12 @@ pub static ROWS: [Row; 26] = [
         status: 3,
         out: Told::Is(APPLIED_AND_STATE),
         err: Told::Is(UNWRITTEN),
-        calls: &["read c\n", HELD, STARTED, "create s.new\nsync s.new\nremove s.new\n"],
+        calls: &[
+            "read c\n",
+            HELD,
+            STARTED,
+            "create s.new\nsync s.new\nremove s.new\n",
+        ],
         state: Some(OLD),
     },
     Row {
@@ -328,7 +337,14 @@ pub static ROWS: [Row; 26] = [
         status: 3,
         out: Told::Is(APPLIED_AND_STATE),
         err: Told::Is(UNWRITTEN),
-        calls: &["read c\n", HELD, STARTED, CREATED, BACKED, "rename s.new\nto s\nremove s.new\n"],
+        calls: &[
+            "read c\n",
+            HELD,
+            STARTED,
+            CREATED,
+            BACKED,
+            "rename s.new\nto s\nremove s.new\n",
+        ],
         state: Some(OLD),
     },
     Row {
@@ -339,7 +355,13 @@ pub static ROWS: [Row; 26] = [
         status: 3,
         out: Told::Is(HALF_AND_STATE),
         err: Told::Is(HALF_UNWRITTEN),
-        calls: &["read c\n", HELD, STARTED, CREATED, "rename s.new\nto s\nremove s.new\n"],
+        calls: &[
+            "read c\n",
+            HELD,
+            STARTED,
+            CREATED,
+            "rename s.new\nto s\nremove s.new\n",
+        ],
         state: None,
     },
     Row {
