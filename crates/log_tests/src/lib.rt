@@ -1,5 +1,4 @@
-//! Tests of the log of an apply: its text, the providers that write it and those that answer from it, and what is recovered of it
-//! where it is cut off.
+//! Tests of the log of an apply: its text, the providers that write it and those that answer from it.
 #![tactic(auto)]
 
 #[cfg(test)]

@@ -1,5 +1,2 @@
-mod cutting;
 mod logged;
-mod memory;
-mod odd;
 mod text;
