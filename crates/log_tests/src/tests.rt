@@ -1,2 +1,0 @@
-mod logged;
-mod text;
