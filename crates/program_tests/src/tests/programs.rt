@@ -440,7 +440,7 @@ pub static ROWS: [Row; 26] = [
         status: 1,
         out: Told::Is(""),
         err: Told::Is("error 1 at configuration: NotJson\n"),
-        calls: &["read c\n", HELD, STARTED, EMPTIED],
+        calls: &["read c\nread s\nread s.log\n"],
         state: None,
     },
 ];
