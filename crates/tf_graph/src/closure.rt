@@ -1,9 +1,9 @@
 //! Which node of a graph reaches which.
 
-ghost use Rattle.std.specs.Prelude.{◌≡◌, ◌≤◌, ◌<◌, ◌+◌, ◌++◌, ◌∷◌, [], ◌⊎◌, ℕ, true, List, length, All, IfOk, OnOk, vec_len};
+ghost use Rattle.std.specs.Prelude.{◌≡◌, ◌≤◌, ◌<◌, ◌+◌, ◌++◌, ◌∷◌, [], ◌⊎◌, ℕ, true, List, length, All, IfOk, IfSome, OnOk, vec_len};
 ghost use Rattle.tf_graph.specs.Digraph.{Digraph};
 ghost use Rattle.tf_graph.specs.Path.{Reaches};
-ghost use Rattle.tf_graph.specs.NodeSet.{has};
+ghost use Rattle.tf_graph.specs.NodeSet.{has, IsFirstFrom};
 ghost use Rattle.tf_graph.specs.Closure.{IsClosure, reaches};
 ghost use Rattle.tf_graph.specs.Search.{row_of, missing, AreLong, IsSearch, IsTold, IsWalk, IsWide};
 
@@ -45,6 +45,19 @@ impl Closure {
     {
         let rows = &self.rows;
         from < rows.len() && to < rows.len() && rows[from].contains(to)
+    }
+
+    /// The first node at or after a place that a node reaches, if there is one. None for what is no
+    /// node.
+    pub fn first_reached(&self, node: usize, from: usize) -> Option<usize>
+        ensures first { IsFirstFrom (reaches self.now node) from result }
+        ensures nodes { IfSome result (λ k. (node < self.now.nodes) × (k < self.now.nodes)) }
+    {
+        if node < self.rows.len() {
+            self.rows[node].first_from(from)
+        } else {
+            None
+        }
     }
 }
 

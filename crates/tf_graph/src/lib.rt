@@ -9,3 +9,4 @@ mod strip;
 
 pub use closure::Closure;
 pub use graph::{Graph, GraphFault, MAX_NODES};
+pub use node_set::NodeSet;

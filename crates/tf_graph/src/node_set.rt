@@ -1,7 +1,7 @@
 //! A set of nodes, one bit for each.
 
-ghost use Rattle.std.specs.Prelude.{◌≡◌, ◌<◌, ◌==◌, ◌||◌, ℕ, false, length, slice_index, IfOk, bit_or};
-ghost use Rattle.tf_graph.specs.NodeSet.{has};
+ghost use Rattle.std.specs.Prelude.{◌≡◌, ◌≤◌, ◌<◌, ◌^◌, ◌==◌, ◌||◌, ℕ, false, length, slice_index, IfOk, IfSome, bit_or};
+ghost use Rattle.tf_graph.specs.NodeSet.{has, bit_of, IsFirstFrom};
 
 use std::alloc::{AllocError, Global};
 use std::marker::Model;
@@ -61,6 +61,40 @@ impl NodeSet {
     {
         add_bits(self.words.as_mut_slice(), other.words.as_slice());
     }
+
+    /// The first member at or after a place, if there is one.
+    pub fn first_from(&self, from: usize) -> Option<usize>
+        ensures first { IsFirstFrom (has self.now) from result }
+        ensures below { IfSome result (λ k. k < length self.now) }
+    {
+        let count = self.count;
+        match next_bit(self.words.as_slice(), from) {
+            Some(node) if node < count => Some(node),
+            _ => None,
+        }
+    }
+}
+
+/// The first bit at or after a place that is set.
+fn next_bit(words: &[u64], from: usize) -> Option<usize>
+    requires { length words.now ≤ 2 ^ 58 }
+    ensures { IsFirstFrom (bit_of words.now) from result }
+{
+    let at = from / 64;
+    if at >= words.len() {
+        return None;
+    }
+    let rest = words[at] >> (from % 64);
+    if rest != 0 {
+        return Some(from + rest.trailing_zeros() as usize);
+    }
+    for next in at + 1..words.len() {
+        let word = words[next];
+        if word != 0 {
+            return Some(next * 64 + word.trailing_zeros() as usize);
+        }
+    }
+    None
 }
 
 /// Sets each bit that another list of as many words has.
