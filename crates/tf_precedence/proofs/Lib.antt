@@ -1,4 +1,5 @@
 pub mod Chains
 pub mod Listed
+pub mod Keeping
 pub mod Spreading
 pub mod Turned

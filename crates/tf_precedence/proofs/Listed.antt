@@ -20,14 +20,14 @@ use Rattle.tf_precedence.specs.declared.action.Kind.TheVariants.{Apply, Destroy,
 
 -- ---- the test of the five cases
 
-halves-parts : (x y : Action) → are_halves x y ≡ true → (x.replaces ≡ true) × (y.replaces ≡ true) × (x.resource ≡ y.resource) × (x.instance ≡ y.instance)
+pub halves-parts : (x y : Action) → are_halves x y ≡ true → (x.replaces ≡ true) × (y.replaces ≡ true) × (x.resource ≡ y.resource) × (x.instance ≡ y.instance)
 halves-parts x y h =
     let p = and_parts _ _ h in
     let q = and_parts _ _ p.0 in
     let r = and_parts _ _ q.0 in
     (r.0, r.1, eqb-true x.resource y.resource q.1, eqb-true x.instance y.instance p.1)
 
-halves-from : (x y : Action) → x.replaces ≡ true → y.replaces ≡ true → x.resource ≡ y.resource → x.instance ≡ y.instance → are_halves x y ≡ true
+pub halves-from : (x y : Action) → x.replaces ≡ true → y.replaces ≡ true → x.resource ≡ y.resource → x.instance ≡ y.instance → are_halves x y ≡ true
 halves-from x y h k e f = and_from _ _ (and_from _ _ (and_from _ _ h k) (eq-eqb x.resource y.resource e)) (eq-eqb x.instance y.instance f)
 
 module _ (t : TiesView) (x y : Action) where
@@ -124,6 +124,22 @@ module _ {A : Type 0} (f : ℕ → List A) where
       let step : (found ++ f from) ++ made f (from + 1) to ≡ all = made-step from to found (found ++ f from) all h refl e in
       let long : length all ≡ length (found ++ f from) + length (made f (from + 1) to) = ap length (sym step) ∙ length-append (found ++ f from) (made f (from + 1) to) in
       omega (arith, long)
+
+  skip_by : (n from to : ℕ) → from + n ≤ to → ((k : ℕ) → from ≤ k → k < from + n → f k ≡ []) → made f from to ≡ made f (from + n) to
+  skip_by zero from to h none = ap (λ k. made f k to) (omega arith)
+  skip_by (suc n) from to h none =
+      made-next from to (omega (arith, h))
+      ∙ ap (λ xs. xs ++ made f (from + 1) to) (none from (omega arith) (omega arith))
+      ∙ skip_by n (from + 1) to (omega (arith, h)) (λ k low high. none k (omega (arith, low)) (omega (arith, high)))
+      ∙ ap (λ k. made f k to) (omega arith)
+
+  -- numbers of which nothing is made are passed over
+  pub made-skip : (from mid to : ℕ) (found all : List A) → from ≤ mid → mid ≤ to → ((k : ℕ) → from ≤ k → k < mid → f k ≡ []) → found ++ made f from to ≡ all → found ++ made f mid to ≡ all
+  made-skip from mid to found all h k none e =
+      let same : from + (mid - from) ≡ mid = omega (arith, h) in
+      let skipped : made f from to ≡ made f (from + (mid - from)) to = skip_by (mid - from) from to (omega (arith, same, k)) (λ j low high. none j low (omega (arith, same, high))) in
+      let rest : made f from to ≡ made f mid to = skipped ∙ ap (λ j. made f j to) same in
+      ap (λ xs. found ++ xs) (sym rest) ∙ e
 
   pub made-many : (most from to : ℕ) (found all : List A) → from < to → found ++ made f from to ≡ all → most < length (found ++ f from) → most < length all
   made-many most from to found all h e many =

@@ -7,6 +7,7 @@
 mod action;
 mod late;
 pub mod laws;
+mod near;
 mod order;
 mod stored;
 mod ties;

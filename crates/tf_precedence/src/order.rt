@@ -2,14 +2,16 @@
 
 ghost use Rattle.std.specs.Prelude.{◌≡◌, ◌≤◌, ◌<◌, ◌+◌, ◌++◌, ◌∷◌, [], ◌||◌, ◌&&◌, IfOk, OnOk, IsErrOf, length, if◌then◌else◌};
 ghost use Rattle.tf_precedence.specs.Before.{are_halves, is_before, is_dependent, is_destroyed_first};
+ghost use Rattle.tf_precedence.specs.Near.{HoldsBefore};
 ghost use Rattle.tf_precedence.specs.Order.{IsOrder, pairs, pairs_into};
 ghost use Rattle.tf_precedence.specs.Ties.{AreSound, ties_of};
 
 use crate::action::{Action, Kind};
+use crate::near::Near;
 use crate::ties::Ties;
 use std::alloc::Global;
 use std::marker::Model;
-use tf_graph::{Graph, MAX_NODES};
+use tf_graph::{Graph, MAX_NODES, NodeSet};
 
 /// The most pairs of actions of which the first is before the second that a plan may have.
 pub const MAX_PAIRS: usize = 200_000;
@@ -83,29 +85,40 @@ fn all_pairs(
     ensures too_many { IsErrOf result OrderFault.TooMany → MAX_PAIRS < length (pairs (ties_of ties.now) actions.now) }
 {
     let mut found = Vec::new(alloc);
+    let Ok(near) = Near::new(alloc, ties, actions) else {
+        return Err(OrderFault::OutOfMemory);
+    };
     for second in 0..actions.len() {
-        add_before(&mut found, ties, actions, second)?;
+        let Ok(set) = near.before(alloc, ties, actions, second) else {
+            return Err(OrderFault::OutOfMemory);
+        };
+        add_before(&mut found, ties, actions, second, &set)?;
     }
     Ok(found)
 }
 
-/// Adds an action's pairs with those that are before it.
+/// Adds an action's pairs with those that are before it, which are members of a set.
 fn add_before(
     found: &mut Vec<(usize, usize)>,
     ties: &Ties<'_>,
     actions: &[Action],
     second: usize,
+    near: &NodeSet,
 ) -> Result<(), OrderFault>
     requires inside { second < length actions.now }
+    requires long { length near.now ≡ length actions.now }
+    requires near { HoldsBefore (ties_of ties.now) actions.now second near.now }
     requires few { length found.old.items ≤ MAX_PAIRS }
     ensures pairs { OnOk result (found.new.items ≡ found.old.items ++ pairs_into (ties_of ties.now) actions.now second) }
     ensures few { OnOk result (length found.new.items ≤ MAX_PAIRS) }
     ensures too_many { IsErrOf result OrderFault.TooMany
         → MAX_PAIRS < length (found.old.items ++ pairs_into (ties_of ties.now) actions.now second) }
 {
-    for first in 0..actions.len() {
+    let mut from = 0;
+    while let Some(first) = near.first_from(from) {
         let holds = is_before(ties, &actions[first], &actions[second]);
         add_if(found, holds, (first, second))?;
+        from = first + 1;
     }
     Ok(())
 }
@@ -155,7 +168,7 @@ fn is_before(ties: &Ties<'_>, first: &Action, second: &Action) -> bool
 }
 
 /// Whether two actions, of which one creates and the other destroys an object, are the halves of one replace.
-fn are_halves(action: &Action, other: &Action) -> bool
+pub(crate) fn are_halves(action: &Action, other: &Action) -> bool
     ensures { result ≡ are_halves action.now other.now }
 {
     action.replaces

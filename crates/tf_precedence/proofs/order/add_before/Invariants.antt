@@ -1,4 +1,4 @@
-use Rattle.std.proofs.Common.{◌≡◌, ◌≤◌, ◌++◌, length}
+use Rattle.std.proofs.Common.{◌≡◌, ◌≤◌, ◌-◌, ◌++◌, length}
 use Rattle.tf_precedence.proofs.Listed.{made}
 use Rattle.tf_precedence.specs.Order.{pair, pairs_into}
 use Rattle.tf_precedence.specs.Ties.{ties_of}
@@ -6,6 +6,10 @@ use Rattle.tf_precedence.proofs.order.add_before.Given as goal
 
 abbrev pub invariant-loop-first : goal.invariant-loop-first
 invariant-loop-first l = record {
-  rest : l.found.items ++ made (pair (ties_of l.ties) l.actions l.second) l.first (length l.actions) ≡ l.fn.found.items ++ pairs_into (ties_of l.ties) l.actions l.second;
+  within : l.from ≤ length l.actions;
+  rest : l.found.items ++ made (pair (ties_of l.ties) l.actions l.second) l.from (length l.actions) ≡ l.fn.found.items ++ pairs_into (ties_of l.ties) l.actions l.second;
   few : length l.found.items ≤ 200000;
 }
+
+abbrev pub decreases-loop-first : goal.decreases-loop-first
+decreases-loop-first l = length l.actions - l.from
