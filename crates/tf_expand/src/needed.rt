@@ -47,10 +47,15 @@ pub fn needed_by(
 fn is_needed(dependence: &Dependence, marked: &[bool], place: usize) -> bool
     ensures { (result ≡ true) ↔ IsNeededBy (λ a. has marked.now a ≡ true) dependence.now place }
 {
-    for name in 0..marked.len() {
-        if marked[name] && dependence.needs(name, place) {
+    let mut from = 0;
+    while let Some(name) = dependence.table().first_reached(place, from) {
+        if name >= marked.len() {
+            return false;
+        }
+        if marked[name] {
             return true;
         }
+        from = name + 1;
     }
     false
 }
