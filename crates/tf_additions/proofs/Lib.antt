@@ -7,5 +7,6 @@ pub mod Judged
 pub mod Lines
 pub mod Lists
 pub mod Named
+pub mod Ordered
 pub mod Pairs
 pub mod Stored

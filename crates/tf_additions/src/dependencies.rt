@@ -1,11 +1,13 @@
 //! What a resource depends on, as a state keeps it.
 
-ghost use Rattle.std.specs.Prelude.{◌≡◌, ◌<◌, ℕ, false, true, IfOk, OnOk, length, map, string_bytes, Some, if◌then◌else◌};
-ghost use Rattle.tf_outcome.specs.Words.{IsDependence, label_of, label_text, meant_at, names_in, needs_in, put_text};
-ghost use Rattle.tf_additions.specs.Dependencies.{address_of, dependencies, with_address};
+ghost use Rattle.std.specs.Option.{option_to_list};
+ghost use Rattle.std.specs.Prelude.{◌≡◌, ◌<◌, ◌++◌, ◌∷◌, [], ℕ, false, true, IfOk, OnOk, length, map, string_bytes, Some, if◌then◌else◌};
+ghost use Rattle.tf_outcome.specs.Words.{IsDependence, label_of, label_text, meant_at, names_in, needs_in};
+ghost use Rattle.tf_additions.specs.Dependencies.{address_of, addresses, dependencies, put_all};
 
 use std::alloc::{AllocError, Global};
 use std::collections::BTreeSet;
+use std::iter::FromIterator;
 use tf_address::Label;
 use tf_names::{Dependence, Named, Names};
 
@@ -57,7 +59,28 @@ fn dependencies(
 ) -> Result<BTreeSet<String>, AllocError>
     ensures { IfOk result (λ found. map string_bytes found.keys ≡ dependencies (needs_in dependence.now) (names_in names.now) place) }
 {
-    let mut found = BTreeSet::new(alloc);
+    let found = addresses(alloc, names, dependence, place)?;
+    in_order(alloc, found)
+}
+
+/// Texts in byte order, each once. All are put in order together: where they stand in it already, each is compared with
+/// its neighbours alone.
+fn in_order(alloc: Global, texts: Vec<String>) -> Result<BTreeSet<String>, AllocError>
+    ensures { IfOk result (λ found. map string_bytes found.keys ≡ put_all (map string_bytes texts.items)) }
+{
+    BTreeSet::from_iter(alloc, texts)
+}
+
+/// The addresses of all resources that the name at a place needs, in the order of the names. That is nearly byte order.
+fn addresses(
+    alloc: Global,
+    names: &Names<'_>,
+    dependence: &Dependence,
+    place: usize,
+) -> Result<Vec<String>, AllocError>
+    ensures { IfOk result (λ found. map string_bytes found.items ≡ addresses (needs_in dependence.now) (names_in names.now) place) }
+{
+    let mut found = Vec::new(alloc);
     for other in 0..names.len() {
         let is_needed = dependence.needs(place, other);
         note(alloc, &mut found, names, other, is_needed)?;
@@ -68,14 +91,14 @@ fn dependencies(
 /// Notes the address of the name at a place, where it is needed and a resource.
 fn note(
     alloc: Global,
-    found: &mut BTreeSet<String>,
+    found: &mut Vec<String>,
     names: &Names<'_>,
     place: usize,
     is_needed: bool,
 ) -> Result<(), AllocError>
     requires { place < length (names_in names.now) }
-    ensures { OnOk result (map string_bytes found.new.keys
-        ≡ (if is_needed then with_address (address_of (meant_at (names_in names.now) place)) (map string_bytes found.old.keys) else map string_bytes found.old.keys)) }
+    ensures { OnOk result (map string_bytes found.new.items
+        ≡ map string_bytes found.old.items ++ (if is_needed then option_to_list (address_of (meant_at (names_in names.now) place)) else [])) }
 {
     if !is_needed {
         return Ok(());
@@ -87,10 +110,10 @@ fn note(
 }
 
 /// Notes an address.
-fn note_label(alloc: Global, found: &mut BTreeSet<String>, label: &Label) -> Result<(), AllocError>
-    ensures { OnOk result (map string_bytes found.new.keys ≡ put_text (map string_bytes found.old.keys) (label_text (label_of label.now))) }
+fn note_label(alloc: Global, found: &mut Vec<String>, label: &Label) -> Result<(), AllocError>
+    ensures { OnOk result (map string_bytes found.new.items ≡ map string_bytes found.old.items ++ label_text (label_of label.now) ∷ []) }
 {
-    found.insert(text_of(alloc, label)?)?;
+    found.push(text_of(alloc, label)?)?;
     Ok(())
 }
 
@@ -98,5 +121,11 @@ fn note_label(alloc: Global, found: &mut BTreeSet<String>, label: &Label) -> Res
 fn text_of(alloc: Global, label: &Label) -> Result<String, AllocError>
     ensures { IfOk result (λ text. string_bytes text ≡ label_text (label_of label.now)) }
 {
-    label.to_string(alloc)
+    let type_name = label.type_name.as_str();
+    let name = label.name.as_str();
+    let mut text = String::with_capacity(alloc, type_name.len() + 1 + name.len())?;
+    text.push_str(type_name)?;
+    text.push('.')?;
+    text.push_str(name)?;
+    Ok(text)
 }
