@@ -1,6 +1,6 @@
 -- Shapes and standings without where they lie in memory.
 use Rattle.std.specs.Prelude.{ℕ, List, map, slice_index_or, Some, None, Result, Ok, Err, string_bytes}
-use Rattle.tf_value.specs.Tree.{tree_of}
+use Rattle.tf_operators.specs.Bounded.{bounded_tree}
 use Rattle.tf_environment.specs.Shape.{ShapeView, one, many, named}
 use Rattle.tf_environment.specs.Standing.{StandingView}
 use Rattle.tf_environment.specs.declared.repetition.RepetitionFault.{RepetitionFault}
@@ -16,7 +16,7 @@ shape_of (Named names) = named (map string_bytes names.items)
 
 abbrev pub standing_of : Standing → StandingView
 standing_of Nothing = None
-standing_of (Value v) = Some (Ok (tree_of v))
+standing_of (Value b) = Some (Ok (bounded_tree b))
 standing_of (Fault why) = Some (Err why)
 
 -- what stands at each place of a list of standings; past its end nothing does

@@ -12,7 +12,8 @@ ghost use Rattle.tf_environment.specs.Instance.{bound, count_index, each_key, ea
 use std::alloc::{AllocError, Global};
 use tf_address::InstanceKey;
 use tf_config_data::Repetition;
-use tf_eval::{Constant, Constants, EvalFault, Scope, eval_expr};
+use tf_eval::{Constant, Constants, EvalFault, Scope, find_expr};
+use tf_operators::limited_at;
 use tf_syntax::Reference;
 use tf_value::Value;
 
@@ -28,15 +29,15 @@ pub struct Bound<'a, S> {
 impl<S: Scope> Scope for Bound<'_, S> {
     ghost environment = { λ s. bound (constants_of s.constants.now) (S.environment s.around.now) };
 
-    fn look_up(&self, alloc: Global, reference: &Reference) -> Result<Value, EvalFault> {
+    fn look_at<'s>(&'s self, reference: &Reference) -> Result<&'s Value, EvalFault> {
         for constant in &self.constants.constants {
             if constant.reference.first == reference.first
                 && constant.reference.name == reference.name
             {
-                return Ok(constant.value.clone()?);
+                return limited_at(&constant.value);
             }
         }
-        self.around.look_up(alloc, reference)
+        self.around.look_at(reference)
     }
 }
 
@@ -57,8 +58,8 @@ pub fn instance_constants<S: Scope>(
     match (repetition, key) {
         (Repetition::Count(_), InstanceKey::Number(number)) => numbered(alloc, *number),
         (Repetition::ForEach(expr), InstanceKey::Name(name)) => {
-            let all = eval_expr(alloc, expr, scope)?;
-            named(alloc, name, value_at(&all, name)?)
+            let all = find_expr(alloc, expr, scope)?;
+            named(alloc, name, value_at(all.value(), name)?)
         }
         _ => Ok(Constants {
             constants: Vec::new(alloc),

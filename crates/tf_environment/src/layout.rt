@@ -14,7 +14,7 @@ use crate::standing::Standing;
 use std::alloc::{AllocError, Global};
 use std::collections::BTreeMap;
 use tf_address::InstanceKey;
-use tf_operators::limited;
+use tf_operators::Bounded;
 use tf_value::Value;
 
 /// The objects of one resource by the keys of its instances.
@@ -52,8 +52,8 @@ fn measured(value: Option<Value>) -> Standing
 {
     match value {
         None => Standing::Nothing,
-        Some(value) => match limited(value) {
-            Ok(value) => Standing::Value(value),
+        Some(value) => match Bounded::new(value) {
+            Ok(bounded) => Standing::Value(bounded),
             Err(fault) => Standing::Fault(fault),
         },
     }

@@ -43,11 +43,11 @@ pub fn instances<S: Scope>(
     match repetition {
         Repetition::Single => Ok(Ok(Shape::One)),
         Repetition::Count(expr) => match valued(alloc, expr, scope)? {
-            Ok(value) => Ok(counted(&value)),
+            Ok(found) => Ok(counted(found.value())),
             Err(fault) => Ok(Err(RepetitionFault::Evaluation(fault))),
         },
         Repetition::ForEach(expr) => match valued(alloc, expr, scope)? {
-            Ok(value) => keyed(alloc, &value),
+            Ok(found) => keyed(alloc, found.value()),
             Err(fault) => Ok(Err(RepetitionFault::Evaluation(fault))),
         },
     }

@@ -1,16 +1,17 @@
 //! What references stand for, by the standings of names.
 
 ghost use Rattle.tf_names.specs.Table.{names_in};
-ghost use Rattle.tf_operators.specs.Answer.{Gives};
+ghost use Rattle.tf_eval.specs.Meaning.{and_then};
+ghost use Rattle.tf_operators.specs.Answer.{Shows, limited};
 ghost use Rattle.tf_value.specs.Tree.{entries_view};
-ghost use Rattle.tf_environment.specs.Standing.{answer_at, environment, or_missing};
-ghost use Rattle.tf_environment.specs.Views.{standing_of, standings_of};
+ghost use Rattle.tf_environment.specs.Standing.{answer_at, environment};
+ghost use Rattle.tf_environment.specs.Views.{standings_of};
 
 use crate::standing::Standing;
-use std::alloc::Global;
 use std::collections::BTreeMap;
 use tf_eval::{EvalFault, Scope};
 use tf_names::Names;
+use tf_operators::limited_at;
 use tf_syntax::Reference;
 use tf_value::{Value, find};
 
@@ -28,28 +29,28 @@ pub struct NamesScope<'a, 'n> {
 impl Scope for NamesScope<'_, '_> {
     ghost environment = { λ s. environment (entries_view s.variables.now.entries) (names_in s.names.now) (standings_of s.standings.now) };
 
-    fn look_up(&self, alloc: Global, reference: &Reference) -> Result<Value, EvalFault> {
+    fn look_at<'s>(&'s self, reference: &Reference) -> Result<&'s Value, EvalFault> {
         let first = reference.first.as_str();
         let name = reference.name.as_str();
         if first == "var" {
             return match find(self.variables, name) {
-                Some(value) => Ok(value.clone()?),
+                Some(value) => limited_at(value),
                 None => Err(EvalFault::Missing),
             };
         }
-        answer(self.standings, self.names.place(first, name))
+        shown_at(self.standings, self.names.place(first, name))
     }
 }
 
-/// The answer at a place; `Missing` where there is none.
-fn answer(standings: &[Standing], place: Option<usize>) -> Result<Value, EvalFault>
-    ensures { Gives (answer_at (standings_of standings.now) place) result }
+/// The value at a place, where it stands; `Missing` where there is none.
+fn shown_at(standings: &[Standing], place: Option<usize>) -> Result<&Value, EvalFault>
+    ensures { Shows (and_then (answer_at (standings_of standings.now) place) limited) result }
 {
     let Some(place) = place else {
         return Err(EvalFault::Missing);
     };
     match standings.get(place) {
-        Some(standing) => standing.answer(),
+        Some(standing) => standing.shown(),
         None => Err(EvalFault::Missing),
     }
 }

@@ -1,13 +1,13 @@
 //! What names stand for.
 
 ghost use Rattle.std.specs.Prelude.{◌≡◌, IfOk, Some, is_some};
-ghost use Rattle.tf_operators.specs.Answer.{Gives};
+ghost use Rattle.tf_eval.specs.Meaning.{and_then};
+ghost use Rattle.tf_operators.specs.Answer.{Shows, limited};
 ghost use Rattle.tf_syntax.specs.ExprTree.{tree_of as expr_of};
 ghost use Rattle.tf_environment.specs.Words.{meaning, or_missing, standing_of};
 
-use crate::evaluation::valued;
 use std::alloc::{AllocError, Global};
-use tf_eval::{EvalFault, Scope};
+use tf_eval::{Bounded, EvalFault, Scope, eval_bounded};
 use tf_syntax::Expr;
 use tf_value::Value;
 
@@ -16,8 +16,8 @@ use tf_value::Value;
 pub enum Standing {
     /// Nothing: the resource is refused, or something that it needs is.
     Nothing,
-    /// A value.
-    Value(Value),
+    /// A value, which is within the limits.
+    Value(Bounded),
     /// A fault, which is the fault of whoever refers to it. Want of memory is none.
     Fault(EvalFault),
 }
@@ -33,17 +33,17 @@ impl Standing {
         }
     }
 
-    /// The value, copied.
+    /// The value where it stands.
     ///
     /// # Errors
     ///
-    /// The fault, `Missing` where there is nothing, and `OutOfMemory`.
-    pub fn answer(&self) -> Result<Value, EvalFault>
-        ensures { Gives (or_missing (standing_of self.now)) result }
+    /// The fault, and `Missing` where there is nothing.
+    pub fn shown(&self) -> Result<&Value, EvalFault>
+        ensures { Shows (and_then (or_missing (standing_of self.now)) limited) result }
     {
         match self {
             Standing::Nothing => Err(EvalFault::Missing),
-            Standing::Value(value) => Ok(value.clone()?),
+            Standing::Value(bounded) => Ok(bounded.value()),
             Standing::Fault(fault) => Err(*fault),
         }
     }
@@ -57,8 +57,9 @@ impl Standing {
 pub fn evaluated<S: Scope>(alloc: Global, expr: &Expr, scope: &S) -> Result<Standing, AllocError>
     ensures { IfOk result (λ standing. standing_of standing ≡ Some (meaning (S.environment scope.now) (expr_of expr.now))) }
 {
-    match valued(alloc, expr, scope)? {
-        Ok(value) => Ok(Standing::Value(value)),
+    match eval_bounded(alloc, expr, scope) {
+        Ok(bounded) => Ok(Standing::Value(bounded)),
+        Err(EvalFault::OutOfMemory) => Err(AllocError),
         Err(fault) => Ok(Standing::Fault(fault)),
     }
 }

@@ -3,8 +3,7 @@
 ghost use Rattle.tf_eval.specs.Constants.{constant_in, constants_of};
 
 use crate::scope::Scope;
-use std::alloc::Global;
-use tf_operators::EvalFault;
+use tf_operators::{EvalFault, limited_at};
 use tf_syntax::Reference;
 use tf_value::Value;
 
@@ -27,12 +26,12 @@ pub struct Constants {
 impl Scope for Constants {
     ghost environment = { λ s. constant_in (constants_of s) };
 
-    fn look_up(&self, alloc: Global, reference: &Reference) -> Result<Value, EvalFault> {
+    fn look_at<'a>(&'a self, reference: &Reference) -> Result<&'a Value, EvalFault> {
         for constant in &self.constants {
             if constant.reference.first == reference.first
                 && constant.reference.name == reference.name
             {
-                return Ok(constant.value.clone()?);
+                return limited_at(&constant.value);
             }
         }
         Err(EvalFault::Missing)

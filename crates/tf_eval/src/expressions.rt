@@ -2,15 +2,18 @@
 
 ghost use Rattle.tf_value.specs.Tree.{entries_view as entries_of_values};
 ghost use Rattle.tf_operators.specs.Answer.{Gives};
+ghost use Rattle.tf_operators.specs.Bounded.{GivesBounded};
+ghost use Rattle.tf_operators.specs.Found.{Finds};
 ghost use Rattle.tf_eval.specs.Answering.{GivesAs};
 ghost use Rattle.tf_eval.specs.ExprMeaning.{meaning, below};
 ghost use Rattle.tf_syntax.specs.ExprTree.{tree_of, entries_view};
 
-use crate::evaluation::eval;
+use crate::evaluation::{eval, find};
+use crate::laws::values_are_within_limits;
 use crate::scope::Scope;
 use std::alloc::Global;
 use std::collections::BTreeMap;
-use tf_operators::{EvalFault, list, map};
+use tf_operators::{Bounded, EvalFault, Found, list, made, map};
 use tf_syntax::Expr;
 use tf_value::Value;
 
@@ -56,4 +59,35 @@ fn eval_entries<S: Scope>(
         drop(values.insert(name, value)?);
     }
     Ok(values)
+}
+
+/// The value of an expression in a scope, for who only reads it: a value that stands in the scope isn't copied.
+///
+/// # Errors
+///
+/// As `eval_expr`.
+pub fn find_expr<'a, S: Scope>(
+    alloc: Global,
+    expr: &Expr,
+    scope: &'a S,
+) -> Result<Found<'a>, EvalFault>
+    ensures { Finds (meaning (S.environment scope.now) (tree_of expr.now)) result }
+{
+    match expr {
+        Expr::Template(template) => find(alloc, template, scope),
+        _ => made(eval_expr(alloc, expr, scope)),
+    }
+}
+
+/// The value of an expression in a scope, with the limits that it keeps: it isn't measured once more.
+///
+/// # Errors
+///
+/// As `eval_expr`.
+pub fn eval_bounded<S: Scope>(alloc: Global, expr: &Expr, scope: &S) -> Result<Bounded, EvalFault>
+    ensures { GivesBounded (meaning (S.environment scope.now) (tree_of expr.now)) result }
+{
+    values_are_within_limits();
+    let value = eval_expr(alloc, expr, scope)?;
+    Ok(Bounded::of(value))
 }

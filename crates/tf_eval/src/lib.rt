@@ -14,8 +14,8 @@ mod laws;
 mod scope;
 
 pub use constants::{Constant, Constants};
-pub use evaluation::eval;
-pub use expressions::eval_expr;
+pub use evaluation::{eval, find};
+pub use expressions::{eval_bounded, eval_expr, find_expr};
 pub use laws::{expr_knowledge_grows, knowledge_grows, meaning_is_local, values_are_within_limits};
 pub use scope::Scope;
-pub use tf_operators::EvalFault;
+pub use tf_operators::{Bounded, EvalFault, Found};

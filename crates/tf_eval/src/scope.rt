@@ -1,6 +1,5 @@
 //! What references stand for.
 
-use std::alloc::Global;
 use tf_operators::EvalFault;
 use tf_syntax::Reference;
 use tf_value::Value;
@@ -9,15 +8,16 @@ use tf_value::Value;
 pub trait Scope {
     ghost use Rattle.std.specs.Prelude.{string_bytes};
     ghost use Rattle.tf_eval.specs.Environment.{Environment};
-    ghost use Rattle.tf_operators.specs.Answer.{Gives};
+    ghost use Rattle.tf_eval.specs.Meaning.{and_then};
+    ghost use Rattle.tf_operators.specs.Answer.{Shows, limited};
 
     ghost environment: { Self → Environment };
 
-    /// The value that a reference stands for.
+    /// The value that a reference stands for, where it stands in the scope.
     ///
     /// # Errors
     ///
-    /// The fault that it stands for, and `OutOfMemory`.
-    fn look_up(&self, alloc: Global, reference: &Reference) -> Result<Value, EvalFault>
-        ensures { Gives (environment self.now (string_bytes reference.now.first) (string_bytes reference.now.name)) result };
+    /// The fault that it stands for, and `TooLarge` where its value is above the limits on values.
+    fn look_at<'a>(&'a self, reference: &Reference) -> Result<&'a Value, EvalFault>
+        ensures { Shows (and_then (environment self.now (string_bytes reference.now.first) (string_bytes reference.now.name)) limited) result };
 }

@@ -1,17 +1,16 @@
 -- Items and entries, one behind the other.
-use Rattle.std.proofs.Common.{◌≡◌, ◌<◌, ◌≤◌, zero, ◌+◌, add-one, drop-cons, drop, get_or, length, ℕ, List, [], ◌∷◌, ◌++◌, Option, Some, None, Ordering, Less, Equal, Greater, String, Global, string_bytes, string_cmp, nat_cmp, option_map, map as each, suc, arith, refl, sym, ap, ◌∙◌}
+use Rattle.std.proofs.Common.{◌≡◌, ◌<◌, ◌≤◌, zero, ◌+◌, add-one, drop-cons, drop, get_or, length, ℕ, List, [], ◌∷◌, ◌++◌, Option, Some, None, Ordering, Less, Equal, Greater, String, Global, string_bytes, string_cmp, nat_cmp, option_map, suc, arith, refl, sym, ap, ◌∙◌}
 use Rattle.tf_value.specs.Tree.{Tree, Items, no_items, item, tree_of, items_view}
 use Rattle.std.specs.Map.{keys_of, values_of}
-use Rattle.tf_value.specs.Tree.{entries_view, texts_view}
+use Rattle.tf_value.specs.Tree.{entries_view, text, texts_view, text_items}
 use Rattle.std.specs.BTreeSet.{insert_key}
 use Rattle.std.specs.Cmp.Lexicographic.{slice_cmp}
 use Rattle.std.specs.Ordering.{match_ordering}
-use Rattle.tf_value.specs.declared.value.Value.{Value, Text}
+use Rattle.tf_value.specs.declared.value.Value.{Value}
 use Rattle.tf_value.proofs.Views.{Entry}
 use Rattle.tf_operators.specs.Answer.{items_behind, item_behind}
 use Rattle.tf_operators.specs.Parts.{item_at}
 use Rattle.tf_operators.specs.Functions.{key_items, value_items, items_count, entries_count}
-use Rattle.tf_operators.proofs.Trees.{tree_of-Text}
 
 one_more : (n : ℕ) → 1 + n ≡ suc n
 one_more n = omega arith
@@ -49,9 +48,9 @@ value_items-view [] = refl
 value_items-view (e ∷ es) = ap (item (tree_of e.1)) (value_items-view es)
 
 -- the keys, as values
-pub key_items-view : (es : List Entry) → key_items (entries_view es) ≡ items_view (each Text (keys_of es))
+pub key_items-view : (es : List Entry) → text_items (texts_view (keys_of es)) ≡ key_items (entries_view es)
 key_items-view [] = refl
-key_items-view (e ∷ es) = ap (λ t. item t (key_items (entries_view es))) (sym (tree_of-Text e.0)) ∙ ap (item (tree_of (Text e.0))) (key_items-view es)
+key_items-view (e ∷ es) = ap (item (text (string_bytes e.0))) (key_items-view es)
 
 -- lists behind lists behind others
 pub concatenated-step : (vs us : List Value) (o : Option Items) → option_map (items_behind (items_view (vs ++ us))) o ≡ option_map (items_behind (items_view vs)) (option_map (items_behind (items_view us)) o)

@@ -1,5 +1,6 @@
 -- What an operation answers: a value or one fault.
 use Rattle.std.specs.Prelude.{◌≡◌, ◌^◌, ◌&&◌, ◌||◌, Bool, true, false, ℤ, pos, negsuc, nat_lt, nat_le, if◌then◌else◌, Result, Ok, Err, Option, Some, None, ⊤}
+use Rattle.std.specs.Borrow.{Bor}
 use Rattle.tf_value.specs.Tree.{Tree, whole, list, map, unknown, Items, no_items, item, Entries, tree_of}
 use Rattle.tf_value.specs.Measure.{weight, depth, max_weight, max_depth}
 use Rattle.tf_value.specs.declared.value.Value.{Value}
@@ -20,6 +21,11 @@ abbrev pub Gives : Answer → Result Value EvalFault → Type 0
 Gives a (Ok v) = a ≡ Ok (tree_of v)
 Gives a (Err OutOfMemory) = ⊤
 Gives a (Err e) = a ≡ Err e
+
+-- A call shows exactly so: the value where it stands, or the same fault.
+abbrev pub Shows : Answer → Result (Bor Value) EvalFault → Type 0
+Shows a (Ok r) = a ≡ Ok (tree_of r.now)
+Shows a (Err e) = a ≡ Err e
 
 -- A value above the greatest weight or depth is no answer.
 abbrev pub limited : Tree → Answer

@@ -1,5 +1,7 @@
 pub mod EvalFault
 pub mod Answer
+pub mod Bounded
+pub mod Found
 pub mod Operators
 pub mod Parts
 pub mod Joining

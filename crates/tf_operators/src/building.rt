@@ -1,7 +1,7 @@
 //! Values made of values, and the limits on them.
 
 ghost use Rattle.tf_value.specs.Tree.{tree_of, items_view, entries_view};
-ghost use Rattle.tf_operators.specs.Answer.{Answers, limited as limited_value, list_value, map_value};
+ghost use Rattle.tf_operators.specs.Answer.{Answers, Shows, limited as limited_value, list_value, map_value};
 
 use crate::fault::EvalFault;
 use std::collections::BTreeMap;
@@ -12,6 +12,17 @@ pub fn limited(value: Value) -> Result<Value, EvalFault>
     ensures { Answers (limited_value (tree_of value)) result }
 {
     if is_within_limits(&value) {
+        Ok(value)
+    } else {
+        Err(EvalFault::TooLarge)
+    }
+}
+
+/// The same of a value where it stands.
+pub fn limited_at(value: &Value) -> Result<&Value, EvalFault>
+    ensures { Shows (limited_value (tree_of value.now)) result }
+{
+    if is_within_limits(value) {
         Ok(value)
     } else {
         Err(EvalFault::TooLarge)

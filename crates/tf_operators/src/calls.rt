@@ -3,41 +3,49 @@
 ghost use Rattle.std.specs.Prelude.{◌≡◌, IsTrue, pos, vec_len};
 ghost use Rattle.tf_value.specs.Tree.{list, tree_of, items_view};
 ghost use Rattle.tf_operators.specs.Answer.{Answers, Gives, whole_value};
+ghost use Rattle.tf_operators.specs.Found.{found_items};
 ghost use Rattle.tf_operators.specs.Functions.{call_value, takes, length_value, join_value, merge_value, concat_value, spaced, spaced_value};
 ghost use Rattle.tf_operators.specs.declared.function.Function.TheVariants.{Merge, Concat};
 ghost use Rattle.tf_operators.specs.Joining.{joined_value};
 
 use crate::collections::{concat, has_unknown, keys, merge, toset, values};
 use crate::fault::EvalFault;
+use crate::found::{Found, all_owned, owned};
 use crate::function::Function;
 use crate::joining::Joiner;
 use std::alloc::Global;
 use tf_value::{Value, is_known};
 
 /// What a function answers to as many arguments as it takes; `Unknown` where an argument is `Unknown`, and for
-/// `join` and `toset` where any part of an argument is unknown.
+/// `join` and `toset` where any part of an argument is unknown. An argument that is only read isn't copied.
 ///
 /// Refused `WrongKind` exactly where an argument is of a kind that the function doesn't take, `TooLarge`
 /// exactly where the result is above the limits, and else only where there is no memory.
-pub fn call(alloc: Global, function: Function, arguments: Vec<Value>) -> Result<Value, EvalFault>
+pub fn call(
+    alloc: Global,
+    function: Function,
+    arguments: Vec<Found<'_>>,
+) -> Result<Value, EvalFault>
     requires { IsTrue (takes function (vec_len arguments)) }
-    ensures { Gives (call_value function (items_view arguments.items)) result }
+    ensures { Gives (call_value function (found_items arguments.entry.items)) result }
 {
-    let mut arguments = arguments;
     match function {
-        Function::Merge | Function::Concat => return in_one(alloc, function, arguments),
+        Function::Merge | Function::Concat => {
+            return in_one(alloc, function, all_owned(alloc, arguments)?);
+        }
         _ => {}
     }
+    let mut arguments = arguments;
     let Some(last) = arguments.pop() else {
         return Err(EvalFault::Arity);
     };
     match function {
-        Function::Length => length(last),
-        Function::Keys => keys(alloc, last),
-        Function::Values => values(alloc, last),
-        Function::ToSet => toset(alloc, last),
+        Function::Length => length(last.value()),
+        Function::Keys => keys(alloc, last.value()),
+        Function::Values => values(alloc, owned(last)?),
+        Function::ToSet => toset(alloc, owned(last)?),
         _ => match arguments.pop() {
-            Some(separator) => join(alloc, separator, last),
+            Some(separator) => join(alloc, separator.value(), last.value()),
             None => Err(EvalFault::Arity),
         },
     }
@@ -58,8 +66,8 @@ fn in_one(alloc: Global, function: Function, arguments: Vec<Value>) -> Result<Va
 }
 
 // How many elements a list, a map or a set has.
-fn length(argument: Value) -> Result<Value, EvalFault>
-    ensures { Answers (length_value (tree_of argument)) result }
+fn length(argument: &Value) -> Result<Value, EvalFault>
+    ensures { Answers (length_value (tree_of argument.now)) result }
 {
     match argument {
         Value::Unknown => Ok(Value::Unknown),
@@ -80,20 +88,20 @@ fn count(elements: usize) -> Result<Value, EvalFault>
 }
 
 // The items of a list, joined, with a separator between each two.
-fn join(alloc: Global, separator: Value, list: Value) -> Result<Value, EvalFault>
-    ensures { Gives (join_value (tree_of separator) (tree_of list)) result }
+fn join(alloc: Global, separator: &Value, list: &Value) -> Result<Value, EvalFault>
+    ensures { Gives (join_value (tree_of separator.now) (tree_of list.now)) result }
 {
-    if !is_known(&separator) || !is_known(&list) {
+    if !is_known(separator) || !is_known(list) {
         return Ok(Value::Unknown);
     }
-    join_list(alloc, &separator, list)
+    join_list(alloc, separator, list)
 }
 
-fn join_list(alloc: Global, separator: &Value, list: Value) -> Result<Value, EvalFault>
-    ensures { Gives (spaced_value (tree_of separator.now) (tree_of list)) result }
+fn join_list(alloc: Global, separator: &Value, list: &Value) -> Result<Value, EvalFault>
+    ensures { Gives (spaced_value (tree_of separator.now) (tree_of list.now)) result }
 {
     match list {
-        Value::List(items) => join_spaced(alloc, separator, &items),
+        Value::List(items) => join_spaced(alloc, separator, items),
         _ => Err(EvalFault::WrongKind),
     }
 }

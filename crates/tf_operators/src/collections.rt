@@ -1,11 +1,9 @@
 //! Functions on lists, maps and sets.
 
-ghost use Rattle.std.specs.Prelude.{◌≡◌, IfOk, OnOk, map as each, []};
-ghost use Rattle.std.specs.BTreeMap.{keys as map_keys};
+ghost use Rattle.std.specs.Prelude.{◌≡◌, IfOk, OnOk, []};
 ghost use Rattle.tf_value.specs.Tree.{no_entries, tree_of, items_view, entries_view};
-ghost use Rattle.tf_value.specs.declared.value.Value.{Text};
 ghost use Rattle.tf_operators.specs.Answer.{Answers, Gives, any_unknown};
-ghost use Rattle.tf_operators.specs.Functions.{keys_value, values_value, concatenated, entries_value, items_value, laid_over, merged_onto, set_value, toset_value, texts_value, texts_with};
+ghost use Rattle.tf_operators.specs.Functions.{key_items, keys_value, values_value, concatenated, entries_value, items_value, laid_over, merged_onto, set_value, toset_value, texts_value, texts_with};
 
 use crate::building::{list, map};
 use crate::fault::EvalFault;
@@ -14,8 +12,8 @@ use std::collections::{BTreeMap, BTreeSet};
 use tf_value::{Value, is_known};
 
 // The keys of a map.
-pub(crate) fn keys(alloc: Global, argument: Value) -> Result<Value, EvalFault>
-    ensures { Gives (keys_value (tree_of argument)) result }
+pub(crate) fn keys(alloc: Global, argument: &Value) -> Result<Value, EvalFault>
+    ensures { Gives (keys_value (tree_of argument.now)) result }
 {
     match argument {
         Value::Unknown => Ok(Value::Unknown),
@@ -24,10 +22,15 @@ pub(crate) fn keys(alloc: Global, argument: Value) -> Result<Value, EvalFault>
     }
 }
 
-fn key_texts(alloc: Global, entries: BTreeMap<String, Value>) -> Result<Vec<Value>, AllocError>
-    ensures { IfOk result (λ v. v.items ≡ each Text (map_keys entries)) }
+fn key_texts(alloc: Global, entries: &BTreeMap<String, Value>) -> Result<Vec<Value>, AllocError>
+    ensures { IfOk result (λ v. items_view v.items ≡ key_items (entries_view entries.now.entries)) }
 {
-    entries.into_keys().map(Value::Text).collect(alloc)
+    let mut texts = Vec::with_capacity(alloc, entries.len())?;
+    for key in entries.keys() {
+        let text = key.clone()?;
+        texts.push(Value::Text(text))?;
+    }
+    Ok(texts)
 }
 
 // What stands at the keys of a map.

@@ -6,19 +6,25 @@
 //! result is unknown; then the kinds are tested, then whether a number is too large or a part is missing, and
 //! then the limits on values. `laws` has what holds of the definitions.
 
+mod bounded;
 mod building;
 mod calls;
 mod collections;
 mod fault;
+mod found;
 mod function;
 mod joining;
 pub mod laws;
 mod operators;
 mod parts;
 
-pub use building::{limited, list, map};
+pub use bounded::Bounded;
+pub use building::{limited, limited_at, list, map};
 pub use calls::call;
 pub use fault::EvalFault;
+pub use found::{
+    Found, all_owned, attribute_of, binary_of, index_of, list_of, made, owned, unary_of,
+};
 pub use function::Function;
 pub use joining::Joiner;
 pub use operators::{binary, unary};

@@ -13,12 +13,12 @@ use tf_value::{Value, is_known};
 /// What an operator before its operand answers: `!` of a truth value, `-` of a whole number; `Unknown` of
 /// `Unknown`. Refused `WrongKind` exactly where the operand is of another kind, and `Overflow` exactly where
 /// the result is beyond 64 bits.
-pub fn unary(prefix: Prefix, operand: Value) -> Result<Value, EvalFault>
-    ensures { Answers (unary_value prefix (tree_of operand)) result }
+pub fn unary(prefix: Prefix, operand: &Value) -> Result<Value, EvalFault>
+    ensures { Answers (unary_value prefix (tree_of operand.now)) result }
 {
     match (prefix, operand) {
         (_, Value::Unknown) => Ok(Value::Unknown),
-        (Prefix::Not, Value::Bool(truth)) => Ok(Value::Bool(!truth)),
+        (Prefix::Not, Value::Bool(truth)) => Ok(Value::Bool(!*truth)),
         (Prefix::Negate, Value::Int(number)) => whole(number.checked_neg()),
         _ => Err(EvalFault::WrongKind),
     }
@@ -28,12 +28,12 @@ pub fn unary(prefix: Prefix, operand: Value) -> Result<Value, EvalFault>
 /// where a part of an operand is unknown. The others answer `Unknown` where an operand is `Unknown`; they take
 /// two truth values (`||`, `&&`) or two whole numbers (comparisons and arithmetic), and are refused `WrongKind`
 /// exactly where the operands are of other kinds, and `Overflow` exactly where the result is beyond 64 bits.
-pub fn binary(operator: Operator, left: Value, right: Value) -> Result<Value, EvalFault>
-    ensures { Answers (binary_value operator (tree_of left) (tree_of right)) result }
+pub fn binary(operator: Operator, left: &Value, right: &Value) -> Result<Value, EvalFault>
+    ensures { Answers (binary_value operator (tree_of left.now) (tree_of right.now)) result }
 {
     match operator {
-        Operator::Equal => Ok(equal(&left, &right)),
-        Operator::NotEqual => Ok(unequal(&left, &right)),
+        Operator::Equal => Ok(equal(left, right)),
+        Operator::NotEqual => Ok(unequal(left, right)),
         _ => scalars(operator, left, right),
     }
 }
@@ -61,19 +61,19 @@ fn unequal(left: &Value, right: &Value) -> Value
 }
 
 // What an operator other than `==` and `!=` answers.
-fn scalars(operator: Operator, left: Value, right: Value) -> Result<Value, EvalFault>
-    ensures { Answers (scalars_value operator (tree_of left) (tree_of right)) result }
+fn scalars(operator: Operator, left: &Value, right: &Value) -> Result<Value, EvalFault>
+    ensures { Answers (scalars_value operator (tree_of left.now) (tree_of right.now)) result }
 {
     match left {
         Value::Unknown => Ok(Value::Unknown),
         Value::Bool(left) => match right {
             Value::Unknown => Ok(Value::Unknown),
-            Value::Bool(right) => truths(operator, left, right),
+            Value::Bool(right) => truths(operator, *left, *right),
             _ => Err(EvalFault::WrongKind),
         },
         Value::Int(left) => match right {
             Value::Unknown => Ok(Value::Unknown),
-            Value::Int(right) => wholes(operator, left, right),
+            Value::Int(right) => wholes(operator, *left, *right),
             _ => Err(EvalFault::WrongKind),
         },
         _ => match right {

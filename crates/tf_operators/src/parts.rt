@@ -23,8 +23,8 @@ pub fn attribute(value: Value, name: &str) -> Result<Value, EvalFault>
 /// What stands at a text in a map, or at a whole number, from 0 on, in a list; `Unknown` where either operand
 /// is `Unknown`. Refused `WrongKind` exactly where the operands are of other kinds, and `Missing` exactly where
 /// nothing stands there: a negative number isn't counted from the end.
-pub fn index(value: Value, place: Value) -> Result<Value, EvalFault>
-    ensures { Answers (index_value (tree_of value) (tree_of place)) result }
+pub fn index(value: Value, place: &Value) -> Result<Value, EvalFault>
+    ensures { Answers (index_value (tree_of value) (tree_of place.now)) result }
 {
     match value {
         Value::Unknown => Ok(Value::Unknown),
@@ -37,8 +37,8 @@ pub fn index(value: Value, place: Value) -> Result<Value, EvalFault>
     }
 }
 
-fn in_map(entries: BTreeMap<String, Value>, place: Value) -> Result<Value, EvalFault>
-    ensures { Answers (index_value (map (entries_view entries.entries)) (tree_of place)) result }
+fn in_map(entries: BTreeMap<String, Value>, place: &Value) -> Result<Value, EvalFault>
+    ensures { Answers (index_value (map (entries_view entries.entries)) (tree_of place.now)) result }
 {
     match place {
         Value::Unknown => Ok(Value::Unknown),
@@ -47,12 +47,12 @@ fn in_map(entries: BTreeMap<String, Value>, place: Value) -> Result<Value, EvalF
     }
 }
 
-fn in_list(items: Vec<Value>, place: Value) -> Result<Value, EvalFault>
-    ensures { Answers (index_value (list (items_view items.items)) (tree_of place)) result }
+fn in_list(items: Vec<Value>, place: &Value) -> Result<Value, EvalFault>
+    ensures { Answers (index_value (list (items_view items.items)) (tree_of place.now)) result }
 {
     match place {
         Value::Unknown => Ok(Value::Unknown),
-        Value::Int(number) => at_number(items, number),
+        Value::Int(number) => at_number(items, *number),
         _ => Err(EvalFault::WrongKind),
     }
 }

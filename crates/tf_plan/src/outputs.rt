@@ -10,7 +10,7 @@ use crate::faults::evaluation;
 use std::alloc::{AllocError, Global};
 use std::collections::BTreeMap;
 use tf_environment::{Declarations, NamesScope, Standing, all_stand};
-use tf_eval::{EvalFault, eval_expr};
+use tf_eval::{EvalFault, find_expr};
 use tf_refusal::Refusal;
 use tf_syntax::Expr;
 
@@ -52,7 +52,7 @@ fn add_output(
         names: declared.names,
         standings: kept,
     };
-    match eval_expr(alloc, expr, &scope) {
+    match find_expr(alloc, expr, &scope) {
         Ok(_) => Ok(()),
         Err(EvalFault::OutOfMemory) => Err(AllocError),
         Err(why) => {

@@ -5,7 +5,7 @@ use crate::tests::fixtures::value;
 use std::alloc::Global;
 use std::process::Abort;
 use std::test::Fail;
-use tf_operators::{EvalFault, Function, Joiner, attribute, binary, call, index, unary};
+use tf_operators::{EvalFault, Found, Function, Joiner, attribute, binary, call, index, unary};
 use tf_syntax::{Operator, Prefix};
 use tf_value::Value;
 
@@ -44,7 +44,7 @@ static PREFIXES: [(Prefix, &str, &str); 10] = [
 fn prefixes(rt: HostRuntime) -> Result<(), Fail> {
     let alloc = rt.alloc();
     for (prefix, operand, expected) in &PREFIXES {
-        let found = unary(*prefix, value(alloc, operand)?);
+        let found = unary(*prefix, &value(alloc, operand)?);
         assert!(rt; agrees(alloc, found, expected)?, "{prefix:?} {operand}");
     }
     Ok(())
@@ -59,7 +59,7 @@ fn binary_agrees(
     expected: &str,
 ) -> Result<bool, Fail> {
     let left = value(alloc, left)?;
-    let found = binary(operator, left, value(alloc, right)?);
+    let found = binary(operator, &left, &value(alloc, right)?);
     agrees(alloc, found, expected)
 }
 
@@ -166,7 +166,7 @@ fn parts(rt: HostRuntime) -> Result<(), Fail> {
     let alloc = rt.alloc();
     for (whole, at, expected) in &PARTS {
         let whole = value(alloc, whole)?;
-        let found = index(whole, value(alloc, at)?);
+        let found = index(whole, &value(alloc, at)?);
         assert!(rt; agrees(alloc, found, expected)?, "at {at}: {expected}");
     }
     Ok(())
@@ -245,9 +245,9 @@ fn call_agrees(
     expected: &str,
 ) -> Result<bool, Fail> {
     let mut arguments = Vec::new(alloc);
-    arguments.push(value(alloc, first)?)?;
+    arguments.push(Found::Made(value(alloc, first)?))?;
     if let Some(second) = second {
-        arguments.push(value(alloc, second)?)?;
+        arguments.push(Found::Made(value(alloc, second)?))?;
     }
     assert!(rt; function.takes(arguments.len()));
     agrees(alloc, call(alloc, function, arguments), expected)

@@ -4,7 +4,7 @@ use crate::tests::fixtures::{long, pair};
 use std::alloc::{AllocError, Global};
 use std::collections::BTreeMap;
 use std::test::Fail;
-use tf_operators::{EvalFault, Function, Joiner, call, limited, list, map};
+use tf_operators::{EvalFault, Found, Function, Joiner, call, limited, list, map};
 use tf_value::Value;
 
 // A list of so many nulls.
@@ -43,7 +43,7 @@ fn weights(rt: HostRuntime) -> Result<(), Fail> {
 fn are_lists_too_long(alloc: Global, more: usize) -> Result<bool, AllocError> {
     let first = Value::List(nulls(alloc, 500_000)?);
     let second = Value::List(nulls(alloc, more)?);
-    let both = vec![in alloc; first, second]?;
+    let both = vec![in alloc; Found::Made(first), Found::Made(second)]?;
     Ok(is_too_large(call(alloc, Function::Concat, both)))
 }
 
@@ -113,7 +113,8 @@ fn size(answer: Result<Value, EvalFault>) -> Option<usize> {
 fn many_texts(rt: HostRuntime) -> Result<(), Fail> {
     let alloc = rt.alloc();
     let comma = Value::Text(String::from_str(alloc, ",")?);
-    let texts = vec![in alloc; comma, letters(alloc, 100_000)?]?;
+    let all = Found::Made(letters(alloc, 100_000)?);
+    let texts = vec![in alloc; Found::Made(comma), all]?;
     assert_eq!(rt; size(call(alloc, Function::Join, texts)), Some(199_999));
     Ok(())
 }
@@ -122,7 +123,8 @@ fn many_texts(rt: HostRuntime) -> Result<(), Fail> {
 fn large_maps(rt: HostRuntime) -> Result<(), Fail> {
     let alloc = rt.alloc();
     let first = numbered(alloc, 100_000, 50_000)?;
-    let maps = vec![in alloc; first, numbered(alloc, 125_000, 50_000)?]?;
+    let second = numbered(alloc, 125_000, 50_000)?;
+    let maps = vec![in alloc; Found::Made(first), Found::Made(second)]?;
     assert_eq!(rt; size(call(alloc, Function::Merge, maps)), Some(75_000));
     Ok(())
 }
@@ -132,7 +134,7 @@ fn many_lists(rt: HostRuntime) -> Result<(), Fail> {
     let alloc = rt.alloc();
     let mut lists = Vec::with_capacity(alloc, 100_000)?;
     for _ in 0..100_000 {
-        lists.push(pair(alloc, Value::Null, Value::Null)?)?;
+        lists.push(Found::Made(pair(alloc, Value::Null, Value::Null)?))?;
     }
     assert!(rt; Function::Concat.takes(lists.len()));
     assert_eq!(rt; size(call(alloc, Function::Concat, lists)), Some(200_000));

@@ -1,7 +1,8 @@
 use Rattle.std.proofs.Common.{◌≡◌, ℕ, List, map, drop}
-use Rattle.tf_value.specs.Tree.{Tree, Items, tree_of}
+use Rattle.tf_value.specs.Tree.{Tree, Items}
 use Rattle.tf_syntax.specs.TemplateTree.{parts_view, terms_view}
 use Rattle.tf_operators.specs.Answer.{items_behind}
+use Rattle.tf_operators.specs.Found.{found_tree}
 use Rattle.tf_operators.specs.Joiner.{Joins}
 use Rattle.tf_eval.specs.Meaning.{between, laid, meanings}
 use Rattle.tf_eval.proofs.Rows.{onto}
@@ -9,7 +10,7 @@ use Rattle.tf_eval.proofs.evaluation.+eval.Given as goal
 
 abbrev pub invariant-term_values-loop-term : goal.invariant-term_values-loop-term
 invariant-term_values-loop-term g l =
-    meanings (g.S.Scope.environment l.scope) (terms_view l.terms.items) ≡ onto (map tree_of l.values.items) (meanings (g.S.Scope.environment l.scope) (terms_view (drop l.term-index l.terms.items)))
+    meanings (g.S.Scope.environment l.scope) (terms_view l.terms.items) ≡ onto (map found_tree l.values.items) (meanings (g.S.Scope.environment l.scope) (terms_view (drop l.term-index l.terms.items)))
 
 abbrev pub invariant-join_parts-loop-part : goal.invariant-join_parts-loop-part
 invariant-join_parts-loop-part g l =

@@ -1,7 +1,7 @@
 use Rattle.std.proofs.Common.{◌≡◌, map, drop, string_bytes}
 use Rattle.tf_eval.specs.Constants.{constant_of}
 use Rattle.tf_environment.specs.Instance.{bound}
-use Rattle.tf_environment.proofs.instance.BoundScope.look_up.Given as goal
+use Rattle.tf_environment.proofs.instance.BoundScope.look_at.Given as goal
 
 abbrev pub invariant-loop-constant : goal.invariant-loop-constant
 invariant-loop-constant g l =

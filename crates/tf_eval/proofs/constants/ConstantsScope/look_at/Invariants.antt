@@ -1,6 +1,6 @@
 use Rattle.std.proofs.Common.{◌≡◌, map, drop, string_bytes}
 use Rattle.tf_eval.specs.Constants.{constant_of, constant_in}
-use Rattle.tf_eval.proofs.constants.ConstantsScope.look_up.Given as goal
+use Rattle.tf_eval.proofs.constants.ConstantsScope.look_at.Given as goal
 
 abbrev pub invariant-loop-constant : goal.invariant-loop-constant
 invariant-loop-constant l =
