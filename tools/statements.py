@@ -1,11 +1,13 @@
-"""What a check of a crate sees of the crates below it: their statements.
+"""What a check of a crate sees of the crates below it: their statements, as far as it names them.
 
-These are types, traits, constants, what is said of types for contracts, and the signatures of public functions with their
+Statements are types, traits, constants, what is said of types for contracts, and the signatures of public functions with their
 clauses; `specs/`; and the proofs that a crate above may cite. Bodies, private functions, tests, comments and notes to the
-prover's search it doesn't see. A name that a crate only passes on counts as the name of the crate that it comes from.
+prover's search a check doesn't see. Of the statements it sees those that the crate's own texts name, and what these name in
+turn: by a path, as an import does, or by a bare word within one file. What a type has is named where the type is, and its own
+name is a word of what is seen. A name that a crate only passes on counts as the name of the crate that it comes from.
 
 The reader of `.rt` knows the forms of items that stand in this repository. A file in which it meets another form counts as
-seen from its first letter to its last.
+seen from its first letter to its last, for every crate above.
 """
 import os
 import re
@@ -19,8 +21,11 @@ TOKEN = re.compile(
     re.S | re.X,
 )
 PASSED_ON = re.compile(r"^pub use (Rattle\.(?!std\b)[\w.]+)(?: as (\w+))?\n", re.M)
-WORD = re.compile(r"\w+'*\Z")
+WORD = re.compile(r"\w[\w'-]*\Z")
+DECLARES = re.compile(r"(?:pub |abbrev |record |data |mod |mutual\b|use )")
 CLOSING = {"{": "}", "(": ")", "[": "]"}
+RUST_PATH = re.compile(r"\b(\w+)((?:::\w+)+)")
+PATH = re.compile(r"\bRattle\.([\w'.-]+?)(?:\.?\{([^}]*)\})?(?=[^\w'.{-]|\.[^\w{]|$)")
 
 
 class Unreadable(Exception):
@@ -105,17 +110,24 @@ def clauses_end(tokens, at):
 
 
 class Reader:
-    """Takes from a source's tokens those that are seen, and its imports apart from them."""
+    """Takes from a source's tokens the pieces that are seen, each with the names that call it up, and its imports apart from them."""
 
-    def __init__(self):
-        self.seen, self.imports = [], []
+    def __init__(self, types):
+        self.types, self.pieces, self.imports = types, [], []
 
-    def items(self, tokens, at, end, shows_all):
-        """Reads items up to a place; in a trait, and where one is given to a type, each function is seen."""
+    def items(self, tokens, at, end, into=None, head=None, names=frozenset()):
+        """Reads items up to a place. In a trait, and where one is given to a type, each function is seen, and all that is seen is
+        one piece; what else a type has is a piece for each item, with the type's head in front."""
         while at < end:
-            at = self.item(tokens, at, shows_all)
+            at = self.item(tokens, at, into, head, names)
 
-    def item(self, tokens, begin, shows_all):
+    def note(self, names, tokens, into, head, owners=frozenset()):
+        if into is not None:
+            into += tokens
+        else:
+            self.pieces.append((frozenset(names), frozenset(owners), [*head, *tokens, "}"] if head else tokens))
+
+    def item(self, tokens, begin, into, outer, owners):
         at = begin
         while tokens[at : at + 1] == ["#"]:
             at = group_end(tokens, at + 1 + (tokens[at + 1] == "!"))
@@ -133,27 +145,44 @@ class Reader:
             return stop + 1
         if kind == "fn":
             body = clauses_end(tokens, at)
-            if is_public or shows_all:
-                self.seen += [*notes, *tokens[head:body], ";"]
+            if is_public or into is not None:
+                self.note([tokens[at + 1]], [*notes, *tokens[head:body], ";"], into, outer, owners)
             return body + 1 if tokens[body] == ";" else group_end(tokens, body)
         if kind in ("impl", "trait"):
             body = up_to(tokens, at, "{")
             stop = group_end(tokens, body)
-            self.seen += [*notes, *tokens[head : body + 1]]
-            self.items(tokens, body + 1, stop - 1, kind == "trait" or "for" in tokens[at:body])
-            self.seen.append("}")
+            start, names = [*notes, *tokens[head : body + 1]], owners_of(tokens[at:body], self.types)
+            if kind == "trait" or "for" in tokens[at:body]:
+                whole = start
+                self.items(tokens, body + 1, stop - 1, whole)
+                self.note(names, [*whole, "}"], into, outer)
+            else:
+                self.items(tokens, body + 1, stop - 1, None, start, names)
             return stop
         if kind in ("struct", "enum"):
             last = up_to(tokens, at, "{;")
             stop = group_end(tokens, last) if tokens[last] == "{" else last + 1
         elif kind in ("const", "static", "type", "mod", "ghost"):
             stop = up_to(tokens, at, ";") + 1
+            if kind == "mod" and not is_public:
+                return stop
         elif kind == "const fn":
             stop = group_end(tokens, clauses_end(tokens, at))
         else:
             raise Unreadable(kind)
-        self.seen += [*notes, *tokens[head:stop]]
+        name = next(it for it in tokens[at + 1 + (kind == "const fn") :] if WORD.match(it) and it != "mut")
+        self.note([name, *owners], [*notes, *tokens[head:stop]], into, outer)
         return stop
+
+
+def owners_of(head, types):
+    """Returns the names that call up a trait, or what is given to a type: the trait's, or the type's, of those that the crate
+    declares; else all words of the head."""
+    words = {it for it in head[1:] if re.match(r"\w", it)}
+    if head[0] == "trait":
+        return {head[1]}
+    given = {*head[head.index("for") :]} if "for" in head else words
+    return given & types or words
 
 
 def tokens_of(text):
@@ -180,8 +209,71 @@ def imports_of(tokens):
     return [it for at in starts for it in each_import(tokens[at + 1 : up_to(tokens, at, ";")])]
 
 
+def words_of(text):
+    """Returns the words of a text, those with a dash in them and those of two parts too."""
+    return {*re.findall(r"\w+'*", text), *re.findall(r"[\w'][\w'-]*", text), *re.findall(r"\b\w+::\w+", text)}
+
+
+def each_path(text):
+    """Returns the path of each name of a `use` of definitions, and what the name is called there."""
+    head, brace, inside = text.partition("{")
+    parts = [it.strip() for it in inside.rpartition("}")[0].split(",")] if brace else [""]
+    pairs = [(head + it).split(" as ") for it in parts if it or not brace]
+    return [(it[0].strip(), it[-1].strip().rpartition(".")[2] if len(it) == 1 else it[-1].strip()) for it in pairs]
+
+
+def names_of(block):
+    """Returns the names that call a definition up: its own, or those of several that stand together, and constructors; none where
+    one isn't a word."""
+    declared = re.findall(r"^(?:abbrev |record |data |mod |pub )+([^\s({]+)", block, re.M)
+    within = re.findall(r"^ +(?:abbrev |record |data |pub )*([\w'-]+) :", block, re.M)
+    return frozenset([*declared, *within]) if declared and all(re.fullmatch(r"[\w'-]+", it) for it in declared) else None
+
+
+def without_remarks(text):
+    """Returns a text without the comments that fill a line, of either language."""
+    return re.sub(r"^[ \t]*(?://|--).*\n", "", text, flags=re.M)
+
+
 def without_notes(text):
     return re.sub(r"^[ \t]*--.*\n", "", text, flags=re.M)
+
+
+class Piece:
+    """What is seen of a crate where it is called up: by one of its names, or always where it has none. What a type has, a method
+    say, is called up where the type is and its own name is a word of what is seen."""
+
+    def __init__(self, names, owners, text):
+        self.names, self.owners, self.text = names, owners, text
+
+    def placed(self, crate, place, crates):
+        self.place, self.words, self.calls = place, words_of(self.text), calls_of(crate, place, self.text, crates)
+        names = self.owners or self.names or ()
+        self.called_by = {(at, it) for at in (room_of(crate, place.endswith(".rt")), place) for it in names}
+        return self
+
+    def is_called(self, calls, words):
+        return self.names is None or not self.called_by.isdisjoint(calls) and not (self.owners and self.names.isdisjoint(words))
+
+
+def room_of(crate, is_code):
+    return f"{crate}/src" if is_code else crate
+
+
+def calls_of(crate, place, text, crates):
+    """Returns the names that a text calls up: with their crate those that it names by a path, as an import does, and with its own
+    place all others, which are of the same file."""
+    found = {(place, it) for it in words_of(re.sub(PATH, " ", re.sub(RUST_PATH, " ", text)))}
+    for owner, path in re.findall(RUST_PATH, text):
+        names = path.split("::")[1:]
+        own = owner not in crates
+        found |= {(room_of(crate if own else owner, True), it) for it in [*names, *([] if own else [f"::{names[0]}"])]}
+        found |= {(place, it) for it in [owner, *names]} if own else set()
+    for path, inside in re.findall(PATH, text):
+        owner, *parts = path.strip(".").split(".")
+        names = [it.split(" as ")[0].strip() for it in inside.split(",")] if inside else [parts[-1], ".".join(parts)]
+        found |= {(room_of(owner, "declared" in parts), it) for it in [*names, *(parts if {"declared", "proofs"} & {*parts} else [])]}
+    return found
 
 
 class Statements:
@@ -214,30 +306,78 @@ class Statements:
         after = re.sub(r"\bRattle\.\w+\.(?:specs|proofs)\.\w+|\b\w+::\w+", lambda it: self.passed_on.get(it[0], it[0]), text)
         return text if after == text else self.resolved(after)
 
-    def of_source(self, path, text):
-        """Returns what is seen of a source."""
-        tokens, reader = tokens_of(text), Reader()
+    def of_source(self, path, text, types):
+        """Returns the pieces that are seen of a source."""
+        tokens, reader = tokens_of(text), Reader(types)
         try:
-            reader.items(tokens, 0, len(tokens), False)
+            reader.items(tokens, 0, len(tokens))
             imports = [(keeps, it) for keeps, words in reader.imports for it in each_import(words)]
-        except (Unreadable, IndexError):
-            return self.resolved(text)
-        words, is_door = {*reader.seen}, path.endswith("/src/lib.rt")
-        passed_on = {name for keeps, (place, name) in imports if is_door and keeps and place.partition("::")[0] in self.crates}
-        kept = [(place, name) for keeps, (place, name) in imports if keeps or not WORD.match(name) or name in words]
-        kept = [f"{place} as {name}" for place, name in kept if name not in passed_on]
-        imports = sorted(self.resolved(it) for it in kept)
-        return "\n".join([*imports, self.resolved(re.sub(" :: ", "::", " ".join(reader.seen)))])
+        except (Unreadable, IndexError, StopIteration):
+            return [Piece(None, frozenset(), self.resolved(text))]
+        is_door = path.endswith("/src/lib.rt")
+        passed_on = {it for keeps, it in imports if is_door and keeps and it[0].partition("::")[0] in self.crates}
+        own = [it for _, it in imports if it not in passed_on]
+        pieces = [(names, owners, re.sub(" :: ", "::", " ".join(words))) for names, owners, words in reader.pieces]
+        pieces = [Piece(names, owners, self.with_imports(names, text, own)) for names, owners, text in pieces]
+        doors = [it for keeps, it in imports if keeps and it not in passed_on]
+        return pieces + [Piece(frozenset([f"::{name}"]), frozenset(), f"pub use {place} as {name}") for place, name in doors]
+
+    def with_imports(self, names, text, imports):
+        """Returns a piece's text behind the imports whose names it has, or that call it up."""
+        bare, words = text.replace(" ", ""), words_of(text) | (names or frozenset())
+        kept = [it for it in imports if (it[1] in words if WORD.match(it[1]) else all(part in bare for part in it[0].rpartition(".")[2].split("◌")))]
+        return "\n".join([*sorted(self.resolved(f"{place} as {name}") for place, name in kept), self.resolved(text)])
+
+    def of_definitions(self, path, text):
+        """Returns the pieces that are seen of a file of definitions: each definition, and each name that is passed on."""
+        imports, pieces, blocks = [], [], []
+        for line in without_notes(text).splitlines():
+            if DECLARES.match(line):
+                blocks.append(line)
+            elif blocks:
+                blocks[-1] += f"\n{line}"
+            elif line.strip():
+                return [Piece(None, frozenset(), self.resolved(text))]
+        module = f"specs.{os.path.basename(path)[:-5]}"
+        for block in (it.rstrip() for it in blocks):
+            found = re.match(r"(pub )?use (.*)", block, re.S)
+            for place, name in each_path(found[2]) if found else []:
+                imports.append((place, name))
+                pieces += [(frozenset([name, module]), f"pub use {place}")] if found[1] else []
+            if not found:
+                names = names_of(block)
+                pieces.append((names and names | {module}, block))
+        return [Piece(names, frozenset(), self.with_imports(names, text, imports)) for names, text in pieces]
 
     def of(self, crate):
-        """Returns what a check of a crate above sees of this one."""
+        """Returns the pieces of a crate of which a check of a crate above may see some."""
         if crate not in self.known:
-            folder = self.folder(crate)
-            seen = {path: self.of_source(path, text) for path, text in sources(folder).items()}
-            others = {**{it: read(it) for it in files(f"{folder}/specs", ".antt")}, **public_proofs(folder)}
-            seen.update((path, self.resolved(re.sub(PASSED_ON, "", without_notes(text)) if path.endswith("/Lib.antt") else without_notes(text))) for path, text in others.items())
-            self.known[crate] = "".join(f"\n{os.path.relpath(path, self.root)}\n{seen[path]}" for path in sorted(seen))
+            folder, found, own = self.folder(crate), [], sources(self.folder(crate))
+            types = {it for text in own.values() for it in re.findall(r"\b(?:struct|enum|trait) (\w+)", text)}
+            for path, text in own.items():
+                found += [(path, it) for it in self.of_source(path, text, types)]
+            for path in files(f"{folder}/specs", ".antt"):
+                text = read(path)
+                found += [(path, it) for it in self.of_definitions(path, re.sub(PASSED_ON, "", text) if path.endswith("/Lib.antt") else text)]
+            for path, text in public_proofs(folder).items():
+                names = None if path.endswith("/Lib.antt") else frozenset([os.path.basename(path)[:-5]])
+                found.append((path, Piece(names, frozenset(), self.resolved(without_notes(text)))))
+            self.known[crate] = [it.placed(crate, os.path.relpath(path, self.root), self.crates) for path, it in found]
         return self.known[crate]
+
+    def seen_by(self, crate, crates):
+        """Returns all that a check of a crate sees of crates below: what its own texts name, and what that names in turn. A name
+        with its crate's in front calls up what that crate has of the name, and one without what its own crate has. What a type
+        has is called up where both names are."""
+        text, left, seen = without_remarks(self.whole(crate)), [it for other in sorted(crates) for it in self.of(other)], []
+        calls, words = calls_of(crate, "", text, self.crates), words_of(text)
+        while True:
+            called = [it for it in left if it.is_called(calls, words)]
+            if not called:
+                return "".join(sorted(f"\n{it.place}\n{it.text}" for it in seen))
+            seen += called
+            left = [it for it in left if not it.is_called(calls, words)]
+            calls, words = calls.union(*(it.calls for it in called)), words.union(*(it.words for it in called))
 
     def whole(self, crate):
         """Returns a crate's own sources without tests, its definitions, its proofs and its edits, with where each name comes from."""
