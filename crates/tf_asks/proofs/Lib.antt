@@ -3,3 +3,4 @@ pub mod Fallback
 pub mod Growing
 mod Parts
 pub mod Planned
+pub mod Standing

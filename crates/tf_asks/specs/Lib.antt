@@ -1,2 +1,3 @@
 pub mod AskedBy
 pub mod Laws
+pub mod SoFar

@@ -1,12 +1,13 @@
 //! The objects that are asked for.
 
 ghost use Rattle.std.specs.Prelude.{◌≡◌, ◌<◌, true, IfOk, length, map, string_bytes};
+ghost use Rattle.tf_asks.specs.SoFar.{StandSoFar};
 ghost use Rattle.tf_outcome.specs.Words.{action_of, AreRequests, config_of, FitsTogether, has_attributes, has_planned_attributes, ignored_by, instance_of, IsOfBlock, kept_object, meant_at, names_in, names_of, plan_of, Requests, tree_of};
 
 use std::alloc::{AllocError, Global};
 use tf_change::InstanceFault;
 use tf_decision::kept_object;
-use tf_environment::Declarations;
+use tf_environment::{Declarations, Standing};
 use tf_names::{Named, Names};
 use tf_plan_data::{Action, Plan};
 use tf_protocol::Schema;
@@ -26,15 +27,20 @@ pub(crate) struct Task<'a, 'n, R> {
 }
 
 impl<R: Results> Task<'_, '_, R> {
-    /// What the block of the action's instance makes of it, or what is wrong with it.
-    pub(crate) fn made_object(&self) -> Result<Result<Value, InstanceFault>, AllocError>
+    /// What the block of the action's instance makes of it, or what is wrong with it. `kept` has what names stand for so far.
+    pub(crate) fn made_object(
+        &self,
+        kept: &mut Vec<Standing>,
+    ) -> Result<Result<Value, InstanceFault>, AllocError>
         requires fits { FitsTogether self.now.plan.now }
         requires names { names_in self.now.names.now ≡ names_of (config_of self.now.plan.now.config) }
         requires block { IsOfBlock (names_of (config_of self.now.plan.now.config)) (action_of self.now.action.now) }
+        requires so_far { StandSoFar (plan_of self.now.plan.now) (R.objects self.now.results.now) kept.old.items }
         ensures made { IfOk result (λ made. (requests : Requests) → AreRequests (plan_of self.now.plan.now) requests
             → instance_of made ≡ requests (R.objects self.now.results.now) (action_of self.now.action.now) self.now.schema.now) }
         ensures fully { IfOk result (λ made. IfOk made (λ object. has_attributes self.now.schema.now (tree_of object) ≡ true)) }
         ensures within { IfOk result (λ made. IfOk made (λ object. has_planned_attributes (tree_of object) ≡ true)) }
+        ensures so_far { StandSoFar (plan_of self.now.plan.now) (R.objects self.now.results.now) kept.new.items }
     {
         let action = self.action;
         let declared = Declarations {
@@ -51,6 +57,7 @@ impl<R: Results> Task<'_, '_, R> {
             action.resource,
             &action.key,
             self.results,
+            kept,
         )
     }
 

@@ -4,12 +4,14 @@ ghost use Rattle.std.specs.Prelude.{◌≡◌, true, Some, map, IfOk, IsSomeAnd,
 ghost use Rattle.tf_outcome.specs.Words.{action_of, AreRequests, asked, asked_for, asks_fully, call_with, comes_of, config_of, create_of, destroy_of, FitsTogether, has_planned_attributes, ignored_by, IsDeclared, IsOfBlock, IsServedBy, kept_object, meant_at, names_in, names_of, plan_of, prior_of, Requests, schema_in, tree_of, unless_faulty, update_of};
 ghost use Rattle.tf_protocol.specs.declared.request.Op.TheVariants.{Create, Update};
 ghost use Rattle.tf_asks.specs.AskedBy.{asked_by, asking_of};
+ghost use Rattle.tf_asks.specs.SoFar.{StandSoFar};
 ghost use Rattle.tf_outcome.specs.Asked.{op_of};
 
 use crate::messages::faulted;
 use crate::objects::Task;
 use crate::rooms::{fallback_for, least_room, message_room};
 use std::alloc::{AllocError, Global};
+use tf_environment::Standing;
 use tf_names::Names;
 use tf_outcome::{Asking, Faulted};
 use tf_plan_data::{Action, Plan, Step, address_text};
@@ -21,9 +23,13 @@ use tf_value::Value;
 /// What is asked for an action of a plan by the schema of the first provider that has its type, or what is wrong with
 /// it, where instances stand for these results.
 ///
+/// `kept` has what names stand for by these results so far, by place, none at first, and then also what they stand for that the
+/// action's block names: actions that are asked for by the same results have each local evaluated once, and each resource's
+/// objects laid out once.
+///
 /// # Errors
 ///
-/// Only where memory runs out.
+/// Only where memory runs out. What stands in `kept` is right then too.
 pub fn ask_provider<R: Results>(
     alloc: Global,
     plan: &Plan,
@@ -31,17 +37,20 @@ pub fn ask_provider<R: Results>(
     providers: &[Box<dyn Provider + Sync>],
     action: &Action,
     results: &R,
+    kept: &mut Vec<Standing>,
 ) -> Result<Result<Asking, Faulted>, AllocError>
     requires fits { FitsTogether plan.now }
     requires names { names_in names.now ≡ names_of (config_of plan.now.config) }
     requires declared { IsDeclared (names_of (config_of plan.now.config)) (action_of action.now) }
     requires served { IsServedBy (map (λ b. meaning b) providers.now) (action_of action.now) }
+    requires so_far { StandSoFar (plan_of plan.now) (R.objects results.now) kept.old.items }
     ensures asked { IfOk result (λ made. (requests : Requests) → AreRequests (plan_of plan.now) requests
         → comes_of (map (λ b. meaning b) providers.now) (asked_by made)
         ≡ call_with (map (λ b. meaning b) providers.now) requests (plan_of plan.now) (R.objects results.now) (action_of action.now)) }
     ensures served { IfOk result (λ made. IfOk made (λ asking.
         IsSomeAnd (schema_in (asked asking.request).type_name (map (λ b. meaning b) providers.now)) (λ s. IsTrue (asks_fully (asked asking.request) s)))) }
     ensures op { IfOk result (λ made. IfOk made (λ asking. (asked asking.request).op ≡ op_of (action_of action.now).step)) }
+    ensures so_far { StandSoFar (plan_of plan.now) (R.objects results.now) kept.new.items }
 {
     match schema_for(providers, action.label.type_name.as_str()) {
         Some(schema) => {
@@ -53,7 +62,7 @@ pub fn ask_provider<R: Results>(
                 action,
                 results,
             };
-            task.ask()
+            task.ask(kept)
         }
         None => unreachable!(),
     }
@@ -61,20 +70,22 @@ pub fn ask_provider<R: Results>(
 
 impl<R: Results> Task<'_, '_, R> {
     /// What is asked for the action, or what is wrong with it.
-    fn ask(&self) -> Result<Result<Asking, Faulted>, AllocError>
+    fn ask(&self, kept: &mut Vec<Standing>) -> Result<Result<Asking, Faulted>, AllocError>
         requires fits { FitsTogether self.now.plan.now }
         requires names { names_in self.now.names.now ≡ names_of (config_of self.now.plan.now.config) }
         requires declared { IsDeclared (names_of (config_of self.now.plan.now.config)) (action_of self.now.action.now) }
+        requires so_far { StandSoFar (plan_of self.now.plan.now) (R.objects self.now.results.now) kept.old.items }
         ensures asked { IfOk result (λ made. (requests : Requests) → AreRequests (plan_of self.now.plan.now) requests
             → asked_by made ≡ asked_for (names_of (config_of self.now.plan.now.config)) self.now.schema.now (action_of self.now.action.now)
             (requests (R.objects self.now.results.now) (action_of self.now.action.now) self.now.schema.now)) }
         ensures fully { IfOk result (λ made. IfOk made (λ asking. asks_fully (asked asking.request) self.now.schema.now ≡ true)) }
         ensures type_name { IfOk result (λ made. IfOk made (λ asking. (asked asking.request).type_name ≡ (action_of self.now.action.now).label.type_name)) }
         ensures op { IfOk result (λ made. IfOk made (λ asking. (asked asking.request).op ≡ op_of (action_of self.now.action.now).step)) }
+        ensures so_far { StandSoFar (plan_of self.now.plan.now) (R.objects self.now.results.now) kept.new.items }
     {
         match &self.action.step {
-            Step::Create(_) | Step::Replacement(_, _) => self.ask_create(),
-            Step::Update(prior, _, _) => self.ask_update(prior),
+            Step::Create(_) | Step::Replacement(_, _) => self.ask_create(kept),
+            Step::Update(prior, _, _) => self.ask_update(prior, kept),
             Step::Replaced(prior) | Step::Destroy(prior) => {
                 Ok(Ok(destroying(self.alloc, self.action, None, prior)?))
             }
@@ -88,27 +99,34 @@ impl<R: Results> Task<'_, '_, R> {
     }
 
     /// What is asked for a create, or what is wrong with it.
-    fn ask_create(&self) -> Result<Result<Asking, Faulted>, AllocError>
+    fn ask_create(&self, kept: &mut Vec<Standing>) -> Result<Result<Asking, Faulted>, AllocError>
         requires fits { FitsTogether self.now.plan.now }
         requires names { names_in self.now.names.now ≡ names_of (config_of self.now.plan.now.config) }
         requires block { IsOfBlock (names_of (config_of self.now.plan.now.config)) (action_of self.now.action.now) }
+        requires so_far { StandSoFar (plan_of self.now.plan.now) (R.objects self.now.results.now) kept.old.items }
         ensures asked { IfOk result (λ made. (requests : Requests) → AreRequests (plan_of self.now.plan.now) requests
             → asked_by made ≡ unless_faulty (create_of (action_of self.now.action.now)) (requests (R.objects self.now.results.now) (action_of self.now.action.now) self.now.schema.now)) }
         ensures fully { IfOk result (λ made. IfOk made (λ asking. asks_fully (asked asking.request) self.now.schema.now ≡ true)) }
         ensures type_name { IfOk result (λ made. IfOk made (λ asking. (asked asking.request).type_name ≡ (action_of self.now.action.now).label.type_name)) }
         ensures op { IfOk result (λ made. IfOk made (λ asking. (asked asking.request).op ≡ Create)) }
+        ensures so_far { StandSoFar (plan_of self.now.plan.now) (R.objects self.now.results.now) kept.new.items }
     {
-        match self.made_object()? {
+        match self.made_object(kept)? {
             Ok(object) => Ok(Ok(creating(self.alloc, self.action, object)?)),
             Err(fault) => Ok(Err(faulted(self.alloc, fault)?)),
         }
     }
 
     /// What is asked for an update of an object, or what is wrong with it.
-    fn ask_update(&self, prior: &Object) -> Result<Result<Asking, Faulted>, AllocError>
+    fn ask_update(
+        &self,
+        prior: &Object,
+        kept: &mut Vec<Standing>,
+    ) -> Result<Result<Asking, Faulted>, AllocError>
         requires fits { FitsTogether self.now.plan.now }
         requires names { names_in self.now.names.now ≡ names_of (config_of self.now.plan.now.config) }
         requires block { IsOfBlock (names_of (config_of self.now.plan.now.config)) (action_of self.now.action.now) }
+        requires so_far { StandSoFar (plan_of self.now.plan.now) (R.objects self.now.results.now) kept.old.items }
         ensures asked { IfOk result (λ made. (requests : Requests) → AreRequests (plan_of self.now.plan.now) requests
             → asked_by made ≡ unless_faulty (λ t. update_of (action_of self.now.action.now) (prior_of prior.now)
             (kept_object self.now.schema.now (ignored_by (meant_at (names_of (config_of self.now.plan.now.config)) (action_of self.now.action.now).resource)) (prior_of prior.now) t))
@@ -116,8 +134,9 @@ impl<R: Results> Task<'_, '_, R> {
         ensures fully { IfOk result (λ made. IfOk made (λ asking. asks_fully (asked asking.request) self.now.schema.now ≡ true)) }
         ensures type_name { IfOk result (λ made. IfOk made (λ asking. (asked asking.request).type_name ≡ (action_of self.now.action.now).label.type_name)) }
         ensures op { IfOk result (λ made. IfOk made (λ asking. (asked asking.request).op ≡ Update)) }
+        ensures so_far { StandSoFar (plan_of self.now.plan.now) (R.objects self.now.results.now) kept.new.items }
     {
-        match self.made_object()? {
+        match self.made_object(kept)? {
             Ok(object) => {
                 let wanted = self.kept(&prior.value, &object)?;
                 Ok(Ok(updating(self.alloc, self.action, prior, wanted)?))

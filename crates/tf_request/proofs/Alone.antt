@@ -1,10 +1,9 @@
 -- Resources that are looked at alone.
-use Rattle.std.proofs.Common.{◌≡◌, ◌<◌, ◌≤◌, ◌+◌, ℕ, Bool, true, false, List, [], length, set, take, Contains, Option, None, Some, Result, Ok, Err, IfOk, Vec, Global, refl, sym, ap, subst, ◌∙◌, arith, inl, inr}
-use Rattle.std.specs.declared.alloc.AllocError.{AllocError}
+use Rattle.std.proofs.Common.{◌≡◌, ◌<◌, ◌≤◌, ◌+◌, ℕ, Bool, true, false, not, List, [], length, set, take, Contains, Option, None, Some, is_some, refl, sym, ap, subst, ◌∙◌, arith, inl, inr}
 use Rattle.std.proofs.lemmas.Bool.{cases_eq}
 use Rattle.std.proofs.lemmas.List.{length-set, get_or_default, take_all}
 use Rattle.std.proofs.lemmas.List.Folds.{list_all_at}
-use Rattle.std.specs.Prelude.{slice_index}
+use Rattle.std.specs.Prelude.{slice_index, MatchBool}
 use Rattle.std.specs.List.{AllByRecursion, list_all}
 use Rattle.tf_address.specs.ObjectId.{InstanceKeyView}
 use Rattle.tf_config_data.specs.Names.{NameView, Meant, a_local, a_block, meant_at, directly_before}
@@ -15,12 +14,12 @@ use Rattle.tf_value.specs.Tree.{Tree, Entries}
 use Rattle.tf_environment.proofs.Keeping.{earlier, stand_other, stand_same}
 use Rattle.tf_environment.specs.Shape.{ShapeView}
 use Rattle.tf_environment.specs.Stages.{applying}
-use Rattle.tf_environment.specs.Standing.{StandingView, AreStandings, environment, stands_at}
+use Rattle.tf_environment.specs.Standing.{environment, stands_at}
 use Rattle.tf_environment.specs.Views.{standing_of, standings_of}
 use Rattle.tf_environment.specs.declared.standing.Standing.{Standing}
-use Rattle.tf_request.specs.Requests.{is_resource}
-use Rattle.tf_request.specs.Wanted.{IsWanted, itself, is_local}
-use Rattle.tf_request.proofs.Answering.{next_is}
+use Rattle.tf_request.specs.Requests.{AreStandingsSoFar, is_resource}
+use Rattle.tf_request.specs.Wanted.{is_local}
+use Rattle.tf_request.proofs.Answering.{meant_there, next_is, stands_there}
 
 -- an element of a list is there
 pub element : (xs : List ℕ) (i p : ℕ) → i < length xs → p ≡ slice_index xs i → Contains xs p
@@ -56,55 +55,66 @@ no_local None h l = absurd (cc)
 no_local (Some (a_local e)) h l = absurd (cc)
 no_local (Some (a_block b)) h l = absurd (cc)
 
--- what is kept once the first of some resources are done
-pub record AreAlone (shapes : ℕ → ShapeView) (objects : ℕ → InstanceKeyView → Tree) (variables : Entries) (names : List NameView) (resources : List ℕ) (i : ℕ) (kept : List Standing) : Type 0 where
-  pub inside : AllByRecursion (λ n. n < length kept) resources
-  pub have : (standings : ℕ → StandingView) → AreStandings (applying shapes objects) variables names standings → (n : ℕ) → Contains (take i resources) n → standings_of kept n ≡ standings n
-  pub only : (n : ℕ) → (Contains resources n → ⊥) → standings_of kept n ≡ None
+missing_not : (b : Bool) → true ≡ not b → b ≡ false
+missing_not false h = refl
+missing_not true h = absurd (cc)
 
-module _ (shapes : ℕ → ShapeView) (objects : ℕ → InstanceKeyView → Tree) (variables : Entries) (names : List NameView) (resources : List ℕ) where
-  pub alone_start : (past : ℕ) (kept : List Standing) → length kept ≡ past → AllByRecursion (λ n. n < past) resources → ((n : ℕ) → standings_of kept n ≡ None)
-      → AreAlone shapes objects variables names resources 0 kept
-  alone_start past kept long inside none = record {
-    inside = subst (λ k. AllByRecursion (λ n. n < k) resources) (sym long) inside;
-    have = λ standings solves n held. let front : held.0 < length {A = ℕ} [] = held.1 in absurd (omega (arith, front));
-    only = λ n out. none n;
+there_not : (b : Bool) → false ≡ not b → b ≡ true
+there_not true h = refl
+there_not false h = absurd (cc)
+
+module _ (variables : Entries) (names : List NameView) (shapes : ℕ → ShapeView) (objects : ℕ → InstanceKeyView → Tree) (resources : List ℕ) where
+  -- what stands once the first of some resources are added
+  pub record AreAdded (i : ℕ) (kept : List Standing) : Type 0 where
+    pub room : AllByRecursion (λ n. n < length kept) resources
+    pub answered : AreStandingsSoFar variables names shapes objects (standings_of kept)
+    pub there : (n : ℕ) → Contains (take i resources) n → is_some (standings_of kept n) ≡ true
+
+  pub added_start : (kept : List Standing) → AllByRecursion (λ n. n < length kept) resources → AreStandingsSoFar variables names shapes objects (standings_of kept) → AreAdded 0 kept
+  added_start kept room answered = record {
+    room = room;
+    answered = answered;
+    there = λ n held. let front : held.0 < length {A = ℕ} [] = held.1 in absurd (omega (arith, front));
   }
 
   -- one resource more
-  pub alone_more : (i p : ℕ) (kept now : List Standing) (seen : ℕ → StandingView) (s : Standing) → Ranked (directly_before names) → AllByRecursion (λ n. n < length names) resources
-      → list_all (λ n. is_resource (meant_at names n)) resources ≡ true → i < length resources → p ≡ slice_index resources i → now ≡ set kept p s
-      → standing_of s ≡ stands_at (applying shapes objects) p (meant_at names p) (environment variables names seen)
-      → AreAlone shapes objects variables names resources i kept → AreAlone shapes objects variables names resources (i + 1) now
-  alone_more i p kept now seen s ranked within all h is changed stood k =
+  pub added_more : (i p : ℕ) (missing : Bool) (kept now : List Standing) → Ranked (directly_before names) → AllByRecursion (λ n. n < length names) resources
+      → list_all (λ n. is_resource (meant_at names n)) resources ≡ true → i < length resources → p ≡ slice_index resources i → missing ≡ not (is_some (standings_of kept p))
+      → MatchBool missing ((s : Standing) × (now ≡ set kept p s) × (standing_of s ≡ stands_at (applying shapes objects) p (meant_at names p) (environment variables names (standings_of kept)))) (now ≡ kept)
+      → AreAdded i kept → AreAdded (i + 1) now
+  added_more i p true kept now ranked within all h is missing (s, changed, stood) k =
       let here : Contains resources p = element resources i p h is in
       let below : p < length names = all_by_at (λ n. n < length names) resources p within here in
-      let inside : p < length kept = all_by_at (λ n. n < length kept) resources p k.inside here in
+      let inside : p < length kept = all_by_at (λ n. n < length kept) resources p k.room here in
       let a_resource : is_resource (meant_at names p) ≡ true = ap (λ n. is_resource (meant_at names n)) is ∙ all_at (λ n. is_resource (meant_at names n)) resources i h all in
+      let here_is : standings_of (set kept p s) p ≡ stands_at (applying shapes objects) p (meant_at names p) (environment variables names (standings_of kept)) = stand_same kept p s inside ∙ stood in
       rw changed (record {
-        inside = subst (λ m. AllByRecursion (λ n. n < m) resources) (sym (length-set kept p s)) k.inside;
-        have = λ standings solves n held. elim (cases_eq n p) [
+        room = subst (λ m. AllByRecursion (λ n. n < m) resources) (sym (length-set kept p s)) k.room;
+        answered = λ standings solves n there. elim (cases_eq n p) [
           | inl same ↦
-              ap (standings_of (set kept p s)) same ∙ stand_same kept p s inside ∙ stood
-              ∙ next_is shapes objects variables names ranked seen standings solves p below (λ local. absurd (no_local (meant_at names p) a_resource local)) ∙ ap standings (sym same)
+              ap (standings_of (set kept p s)) same ∙ here_is
+              ∙ next_is shapes objects variables names ranked (standings_of kept) standings solves p below (λ local. absurd (no_local (meant_at names p) a_resource local)) ∙ ap standings (sym same)
           | inr other ↦
-              stand_other kept p n s other ∙ k.have standings solves n (earlier resources i p n h is other held)
+              stand_other kept p n s other ∙ k.answered standings solves n (ap is_some (sym (stand_other kept p n s other)) ∙ there)
         ];
-        only = λ n out. elim (cases_eq n p) [
-          | inl same ↦ absurd (out (subst (Contains resources) (sym same) here))
-          | inr other ↦ stand_other kept p n s other ∙ k.only n out
+        there = λ n held. elim (cases_eq n p) [
+          | inl same ↦
+              ap (λ a. is_some (standings_of (set kept p s) a)) same ∙ ap is_some here_is
+              ∙ stands_there shapes objects p (meant_at names p) (environment variables names (standings_of kept)) (meant_there names p below)
+          | inr other ↦
+              ap is_some (stand_other kept p n s other) ∙ k.there n (earlier resources i p n h is other held)
         ];
       })
+  added_more i p false kept now ranked within all h is missing same k = rw same (record {
+    room = k.room;
+    answered = k.answered;
+    there = λ n held. elim (cases_eq n p) [
+      | inl here ↦ ap (λ a. is_some (standings_of kept a)) here ∙ there_not (is_some (standings_of kept p)) missing
+      | inr other ↦ k.there n (earlier resources i p n h is other held)
+    ];
+  })
 
-  -- all resources are done
-  pub alone_all : (i : ℕ) (kept : List Standing) → length resources ≤ i → AreAlone shapes objects variables names resources i kept
-      → (standings : ℕ → StandingView) → AreStandings (applying shapes objects) variables names standings → AllByRecursion (λ n. standings_of kept n ≡ standings n) resources
-  alone_all i kept whole k = λ standings solves.
-      all_by_contained (λ n. standings_of kept n ≡ standings n) resources
-      (λ n c. k.have standings solves n (subst (λ xs. Contains xs n) (sym (take_all i resources whole)) c))
-
--- nothing stands at a place that isn't wanted
-pub only_wanted : (names : List NameView) (others : List ℕ) (result : Result (Vec Standing Global) AllocError) → IfOk result (λ kept. (n : ℕ) → (Contains others n → ⊥) → standings_of kept.items n ≡ None)
-    → IfOk result (λ kept. (n : ℕ) → (IsWanted names others n → ⊥) → standings_of kept.items n ≡ None)
-only_wanted names others (Ok kept) only = λ n out. only n (λ c. out (itself n c))
-only_wanted names others (Err e) only = only
+  -- all resources are added
+  pub added_all : (i : ℕ) (kept : List Standing) → length resources ≤ i → AreAdded i kept → AllByRecursion (λ n. is_some (standings_of kept n) ≡ true) resources
+  added_all i kept whole k =
+      all_by_contained (λ n. is_some (standings_of kept n) ≡ true) resources (λ n c. k.there n (subst (λ xs. Contains xs n) (sym (take_all i resources whole)) c))

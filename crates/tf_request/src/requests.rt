@@ -1,18 +1,18 @@
 //! What is asked of a provider for an instance.
 
 ghost use Rattle.std.specs.Prelude.{◌≡◌, true, IfOk};
-ghost use Rattle.tf_environment.specs.Words.{entries_view, instance_key_of, IsAcyclic, IsDependence, meant_at, names_in, shapes_of, tree_of};
+ghost use Rattle.tf_environment.specs.Words.{entries_view, instance_key_of, IsAcyclic, IsDependence, meant_at, names_in, shapes_of, standings_of, tree_of};
 ghost use Rattle.tf_change.specs.Bounded.{has_planned_attributes};
 ghost use Rattle.tf_change.specs.Instance.{instance_of};
-ghost use Rattle.tf_request.specs.Requests.{IsRequest, is_resource};
+ghost use Rattle.tf_request.specs.Requests.{AreStandingsSoFar, IsRequest, is_resource};
 
 use crate::named::named_for_instance;
 use crate::results::Results;
-use crate::standing::answered_standings;
+use crate::sharing::add_standings;
 use std::alloc::{AllocError, Global};
 use tf_address::InstanceKey;
 use tf_change::{InstanceFault, plan_instance};
-use tf_environment::{Declarations, NamesScope, Shape};
+use tf_environment::{Declarations, NamesScope, Shape, Standing};
 use tf_names::Named;
 use tf_protocol::Schema;
 use tf_value::Value;
@@ -22,9 +22,12 @@ use tf_value::Value;
 /// place of each name how its instances stand together. No local is evaluated, and no object copied, that the block's
 /// expressions don't name, directly or through locals.
 ///
+/// `kept` has what names stand for so far, by place, none at first, and then also what they stand for that the block names:
+/// requests that share it, by the same answers, have each local evaluated once and each resource's objects laid out once.
+///
 /// # Errors
 ///
-/// Only where memory runs out.
+/// Only where memory runs out. What stands in `kept` is right then too, and may be more than before.
 pub fn request<R: Results>(
     alloc: Global,
     declared: &Declarations,
@@ -33,19 +36,24 @@ pub fn request<R: Results>(
     place: usize,
     key: &InstanceKey,
     results: &R,
+    kept: &mut Vec<Standing>,
 ) -> Result<Result<Value, InstanceFault>, AllocError>
     requires dependence { IsDependence (names_in declared.now.names.now) declared.now.dependence.now }
     requires acyclic { IsAcyclic declared.now.dependence.now }
     requires resource { is_resource (meant_at (names_in declared.now.names.now) place) ≡ true }
+    requires answered { AreStandingsSoFar (entries_view declared.now.variables.now.entries) (names_in declared.now.names.now)
+        (shapes_of shapes.now) (R.objects results.now) (standings_of kept.old.items) }
     ensures request { IfOk result (λ request. IsRequest (entries_view declared.now.variables.now.entries) (names_in declared.now.names.now)
         (shapes_of shapes.now) (R.objects results.now) place (instance_key_of key.now) schema.now (instance_of request)) }
     ensures within { IfOk result (λ request. IfOk request (λ v. has_planned_attributes (tree_of v) ≡ true)) }
+    ensures answered { AreStandingsSoFar (entries_view declared.now.variables.now.entries) (names_in declared.now.names.now)
+        (shapes_of shapes.now) (R.objects results.now) (standings_of kept.new.items) }
 {
     let Named::Resource(_, block) = declared.names.at(place) else {
         unreachable!()
     };
     let named = named_for_instance(alloc, declared.names, block)?;
-    let kept = answered_standings(alloc, declared, shapes, named.as_slice(), results)?;
+    add_standings(alloc, declared, shapes, named.as_slice(), results, kept)?;
     let scope = NamesScope {
         variables: declared.variables,
         names: declared.names,

@@ -5,6 +5,7 @@ ghost use Rattle.std.specs.Prelude.{◌≡◌, ◌<◌, ◌≤◌, ◌&&◌, ℕ
 ghost use Rattle.tf_environment.specs.Words.{entries_view, has, IsAcyclic, IsDependence, names_in, shapes_of, standings_of};
 ghost use Rattle.tf_request.specs.Requests.{AreStandingsSoFar};
 
+use crate::resources::{are_resources, past_last};
 use crate::results::Results;
 use crate::standing::Applied;
 use crate::wanted::wanted_by;
@@ -33,14 +34,18 @@ pub(crate) fn add_standings<R: Results>(
     if all_stand(kept.as_slice(), others) {
         return Ok(());
     }
-    let wanted = wanted_by(alloc, declared, others)?;
-    fill(kept, declared.names.len())?;
     let applied = Applied {
         alloc,
         declared,
         shapes,
         results,
     };
+    if are_resources(declared, others) {
+        fill(kept, past_last(others, declared.names.len()))?;
+        return applied.add_resources(kept, others);
+    }
+    let wanted = wanted_by(alloc, declared, others)?;
+    fill(kept, declared.names.len())?;
     applied.add_wanted(kept, wanted.as_slice())
 }
 
@@ -70,7 +75,7 @@ fn contains(wanted: &[bool], place: usize) -> bool
 }
 
 /// Whether something stands at a place.
-fn stands(kept: &[Standing], place: usize) -> bool
+pub(crate) fn stands(kept: &[Standing], place: usize) -> bool
     ensures { result ≡ is_some (standings_of kept.now place) }
 {
     match kept.get(place) {

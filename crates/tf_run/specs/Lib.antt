@@ -1,4 +1,5 @@
 pub mod Fitting
+pub mod Post
 pub mod Prepared
 pub mod Run
 pub mod Sharing

@@ -1,6 +1,7 @@
 //! One worker of a walk.
 
 ghost use Rattle.std.specs.Prelude.{◌≡◌, ◌<◌, List, map};
+ghost use Rattle.tf_run.specs.Post.{IsPost};
 ghost use Rattle.tf_run.specs.Walk.{HasLetGoFrom, IsOneWalk};
 
 use crate::bound::InPlan;
@@ -10,7 +11,7 @@ use tf_cells::Naming;
 use tf_claim::Seat;
 use tf_hints::{Hints, Thief};
 use tf_provider::Provider;
-use tf_workers::Workshop;
+use tf_workers::{Memo, Workshop};
 
 /// Ends actions, one after another, until all actions have ended. Where there is nothing to do it waits for news.
 pub(crate) fn work<N: Naming, B: Ground<N>, R: Wait>(
@@ -18,13 +19,14 @@ pub(crate) fn work<N: Naming, B: Ground<N>, R: Wait>(
     walk: &Walk<'_, N>,
     ground: &B,
     providers: &[Box<dyn Provider + Sync>],
-    mut desk: Desk<N>,
+    desk: Desk<N>,
 ) -> Seat
     requires walk { IsOneWalk N.plan N.meanings (B.planned ground.now) (B.named ground.now) (B.count ground.now) walk.now.claims.now.graph (map (λ b. meaning b) providers.now) }
     requires seat { desk.seat.table ≡ walk.now.claims.now.table }
     ensures { result.table ≡ walk.now.claims.now.table }
 {
     let worker = Worker { rt, walk, ground };
+    let mut post = Post { desk, memo: None };
     let all = walk.claims.graph().nodes() as u64;
     // What may be claimed is found, though no contract says so. No worker waits before every action was given to one to look
     // at, which claims it if nothing stands before it. At any other action a worker has a hint that ended the last one before
@@ -37,11 +39,12 @@ pub(crate) fn work<N: Naming, B: Ground<N>, R: Wait>(
         if walk.progress.ended() >= all {
             break;
         }
-        if !worker.go_on(providers, &mut desk) {
+        if !worker.go_on(providers, &mut post) {
             walk.progress.wait_for_news(rt, news);
         }
     }
     walk.progress.tell_news(walk.thieves.len());
+    let Post { desk, memo: _ } = post;
     let Desk {
         seat,
         hints: _,
@@ -50,7 +53,14 @@ pub(crate) fn work<N: Naming, B: Ground<N>, R: Wait>(
     seat
 }
 
-/// What a worker works with, beside the providers and its desk.
+/// What one worker has of its own: its desk, and what it saw for the last action that it asked for.
+#[derive(Drop)]
+struct Post<'a, N: Naming> {
+    desk: Desk<N>,
+    memo: Option<Memo<'a, N>>,
+}
+
+/// What a worker works with, beside the providers and its post.
 #[derive(Drop)]
 struct Worker<'a, 'w, N: Naming, B, R> {
     rt: &'a R,
@@ -58,30 +68,30 @@ struct Worker<'a, 'w, N: Naming, B, R> {
     ground: &'a B,
 }
 
-impl<N: Naming, B: Ground<N>, R: Wait> Worker<'_, '_, N, B, R> {
+impl<'a, N: Naming, B: Ground<N>, R: Wait> Worker<'a, '_, N, B, R> {
     /// Ends an action that may be claimed, if there is one: by a hint of its own, or else the first in the list that no
     /// worker has looked at, or else by a hint of another worker.
-    fn go_on(&self, providers: &[Box<dyn Provider + Sync>], desk: &mut Desk<N>) -> bool
+    fn go_on(&self, providers: &[Box<dyn Provider + Sync>], post: &mut Post<'a, N>) -> bool
         requires walk { IsOneWalk N.plan N.meanings (B.planned self.now.ground.now) (B.named self.now.ground.now) (B.count self.now.ground.now) self.now.walk.now.claims.now.graph (map (λ b. meaning b) providers.now) }
-        requires seat { desk.old.seat.table ≡ self.now.walk.now.claims.now.table }
-        ensures { desk.new.seat.table ≡ desk.old.seat.table }
+        requires post { IsPost N.meanings N.plan (B.planned self.now.ground.now) (B.named self.now.ground.now) self.now.walk.now.claims.now post.old }
+        ensures { IsPost N.meanings N.plan (B.planned self.now.ground.now) (B.named self.now.ground.now) self.now.walk.now.claims.now post.new }
     {
-        self.follow_own(providers, desk)
-            || self.look_on(providers, desk)
-            || self.follow_others(providers, desk)
+        self.follow_own(providers, post)
+            || self.look_on(providers, post)
+            || self.follow_others(providers, post)
     }
 
     /// Ends an action by a hint of the worker's own. Hints at actions that can't be claimed are forgotten.
-    fn follow_own(&self, providers: &[Box<dyn Provider + Sync>], desk: &mut Desk<N>) -> bool
+    fn follow_own(&self, providers: &[Box<dyn Provider + Sync>], post: &mut Post<'a, N>) -> bool
         requires walk { IsOneWalk N.plan N.meanings (B.planned self.now.ground.now) (B.named self.now.ground.now) (B.count self.now.ground.now) self.now.walk.now.claims.now.graph (map (λ b. meaning b) providers.now) }
-        requires seat { desk.old.seat.table ≡ self.now.walk.now.claims.now.table }
-        ensures { desk.new.seat.table ≡ desk.old.seat.table }
+        requires post { IsPost N.meanings N.plan (B.planned self.now.ground.now) (B.named self.now.ground.now) self.now.walk.now.claims.now post.old }
+        ensures { IsPost N.meanings N.plan (B.planned self.now.ground.now) (B.named self.now.ground.now) self.now.walk.now.claims.now post.new }
     {
         for _ in self.rt.forever() {
-            let Some(hint) = desk.hints.pop() else {
+            let Some(hint) = post.desk.hints.pop() else {
                 return false;
             };
-            if self.end_if_free(providers, desk, hint) {
+            if self.end_if_free(providers, post, hint) {
                 return true;
             }
         }
@@ -89,29 +99,29 @@ impl<N: Naming, B: Ground<N>, R: Wait> Worker<'_, '_, N, B, R> {
     }
 
     /// Ends an action by a hint that it steals, of the worker behind it first.
-    fn follow_others(&self, providers: &[Box<dyn Provider + Sync>], desk: &mut Desk<N>) -> bool
+    fn follow_others(&self, providers: &[Box<dyn Provider + Sync>], post: &mut Post<'a, N>) -> bool
         requires walk { IsOneWalk N.plan N.meanings (B.planned self.now.ground.now) (B.named self.now.ground.now) (B.count self.now.ground.now) self.now.walk.now.claims.now.graph (map (λ b. meaning b) providers.now) }
-        requires seat { desk.old.seat.table ≡ self.now.walk.now.claims.now.table }
-        ensures { desk.new.seat.table ≡ desk.old.seat.table }
+        requires post { IsPost N.meanings N.plan (B.planned self.now.ground.now) (B.named self.now.ground.now) self.now.walk.now.claims.now post.old }
+        ensures { IsPost N.meanings N.plan (B.planned self.now.ground.now) (B.named self.now.ground.now) self.now.walk.now.claims.now post.new }
     {
-        let own = desk.place.min(self.walk.thieves.len());
+        let own = post.desk.place.min(self.walk.thieves.len());
         let (before, behind) = self.walk.thieves.split_at(own);
-        self.follow_some(providers, desk, behind) || self.follow_some(providers, desk, before)
+        self.follow_some(providers, post, behind) || self.follow_some(providers, post, before)
     }
 
     /// Ends an action by a hint that it steals of some workers, of the first that has one.
     fn follow_some(
         &self,
         providers: &[Box<dyn Provider + Sync>],
-        desk: &mut Desk<N>,
+        post: &mut Post<'a, N>,
         thieves: &[Thief<InPlan<N>>],
     ) -> bool
         requires walk { IsOneWalk N.plan N.meanings (B.planned self.now.ground.now) (B.named self.now.ground.now) (B.count self.now.ground.now) self.now.walk.now.claims.now.graph (map (λ b. meaning b) providers.now) }
-        requires seat { desk.old.seat.table ≡ self.now.walk.now.claims.now.table }
-        ensures { desk.new.seat.table ≡ desk.old.seat.table }
+        requires post { IsPost N.meanings N.plan (B.planned self.now.ground.now) (B.named self.now.ground.now) self.now.walk.now.claims.now post.old }
+        ensures { IsPost N.meanings N.plan (B.planned self.now.ground.now) (B.named self.now.ground.now) self.now.walk.now.claims.now post.new }
     {
         for thief in thieves {
-            if self.follow_one(providers, desk, thief) {
+            if self.follow_one(providers, post, thief) {
                 return true;
             }
         }
@@ -123,18 +133,18 @@ impl<N: Naming, B: Ground<N>, R: Wait> Worker<'_, '_, N, B, R> {
     fn follow_one(
         &self,
         providers: &[Box<dyn Provider + Sync>],
-        desk: &mut Desk<N>,
+        post: &mut Post<'a, N>,
         thief: &Thief<InPlan<N>>,
     ) -> bool
         requires walk { IsOneWalk N.plan N.meanings (B.planned self.now.ground.now) (B.named self.now.ground.now) (B.count self.now.ground.now) self.now.walk.now.claims.now.graph (map (λ b. meaning b) providers.now) }
-        requires seat { desk.old.seat.table ≡ self.now.walk.now.claims.now.table }
-        ensures { desk.new.seat.table ≡ desk.old.seat.table }
+        requires post { IsPost N.meanings N.plan (B.planned self.now.ground.now) (B.named self.now.ground.now) self.now.walk.now.claims.now post.old }
+        ensures { IsPost N.meanings N.plan (B.planned self.now.ground.now) (B.named self.now.ground.now) self.now.walk.now.claims.now post.new }
     {
         for _ in self.rt.forever() {
             let Some(hint) = thief.steal(self.rt) else {
                 return false;
             };
-            if self.end_if_free(providers, desk, hint) {
+            if self.end_if_free(providers, post, hint) {
                 return true;
             }
         }
@@ -144,17 +154,17 @@ impl<N: Naming, B: Ground<N>, R: Wait> Worker<'_, '_, N, B, R> {
     /// Ends an action that can be claimed, of those that no worker has looked at. None is looked at twice, unless a hint is
     /// lost. So a worker that looks at one whose turn hasn't come passes it by: whoever ends the last action before it gives
     /// a hint at it.
-    fn look_on(&self, providers: &[Box<dyn Provider + Sync>], desk: &mut Desk<N>) -> bool
+    fn look_on(&self, providers: &[Box<dyn Provider + Sync>], post: &mut Post<'a, N>) -> bool
         requires walk { IsOneWalk N.plan N.meanings (B.planned self.now.ground.now) (B.named self.now.ground.now) (B.count self.now.ground.now) self.now.walk.now.claims.now.graph (map (λ b. meaning b) providers.now) }
-        requires seat { desk.old.seat.table ≡ self.now.walk.now.claims.now.table }
-        ensures { desk.new.seat.table ≡ desk.old.seat.table }
+        requires post { IsPost N.meanings N.plan (B.planned self.now.ground.now) (B.named self.now.ground.now) self.now.walk.now.claims.now post.old }
+        ensures { IsPost N.meanings N.plan (B.planned self.now.ground.now) (B.named self.now.ground.now) self.now.walk.now.claims.now post.new }
     {
         let all = self.walk.claims.graph().nodes();
         for _ in self.rt.forever() {
             let Some(action) = self.walk.progress.next(all) else {
                 return false;
             };
-            if self.end_if_free(providers, desk, action) {
+            if self.end_if_free(providers, post, action) {
                 return true;
             }
         }
@@ -166,16 +176,16 @@ impl<N: Naming, B: Ground<N>, R: Wait> Worker<'_, '_, N, B, R> {
     fn end_if_free(
         &self,
         providers: &[Box<dyn Provider + Sync>],
-        desk: &mut Desk<N>,
+        post: &mut Post<'a, N>,
         action: usize,
     ) -> bool
         requires walk { IsOneWalk N.plan N.meanings (B.planned self.now.ground.now) (B.named self.now.ground.now) (B.count self.now.ground.now) self.now.walk.now.claims.now.graph (map (λ b. meaning b) providers.now) }
-        requires seat { desk.old.seat.table ≡ self.now.walk.now.claims.now.table }
+        requires post { IsPost N.meanings N.plan (B.planned self.now.ground.now) (B.named self.now.ground.now) self.now.walk.now.claims.now post.old }
         requires action { action < N.plan.order.nodes }
-        ensures { desk.new.seat.table ≡ desk.old.seat.table }
+        ensures { IsPost N.meanings N.plan (B.planned self.now.ground.now) (B.named self.now.ground.now) self.now.walk.now.claims.now post.new }
     {
         let walk = self.walk;
-        let Some(permit) = walk.claims.claim(&mut desk.seat, action) else {
+        let Some(permit) = walk.claims.claim(&mut post.desk.seat, action) else {
             return false;
         };
         let workshop = Workshop {
@@ -187,10 +197,10 @@ impl<N: Naming, B: Ground<N>, R: Wait> Worker<'_, '_, N, B, R> {
             journal: walk.journal,
             stop: walk.stop,
         };
-        let finished = workshop.end_action(providers, permit);
-        walk.claims.finish(&mut desk.seat, finished);
-        walk.claims.let_go_from(&mut desk.seat, action);
-        let free = give_hints(walk, &desk.seat, &mut desk.hints, action);
+        let finished = workshop.end_action(providers, permit, &mut post.memo);
+        walk.claims.finish(&mut post.desk.seat, finished);
+        walk.claims.let_go_from(&mut post.desk.seat, action);
+        let free = give_hints(walk, &post.desk.seat, &mut post.desk.hints, action);
         walk.progress.tell_end(free);
         true
     }

@@ -59,7 +59,9 @@ pub fn end_action(
         seen: plan.order.graph().predecessors(action),
         results,
     };
-    match ask_provider(alloc, plan, names, providers, &actions[action], &seen) {
+    let mut kept = Vec::new(alloc);
+    let action = &actions[action];
+    match ask_provider(alloc, plan, names, providers, action, &seen, &mut kept) {
         Err(AllocError) => Ended::not_asked(permit),
         Ok(Err(faulted)) => Ended::faulted(permit, faulted),
         Ok(Ok(asking)) => serve(providers, journal, permit, asking),

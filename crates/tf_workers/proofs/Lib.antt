@@ -1,2 +1,3 @@
 pub mod Passed
+pub mod Remembered
 pub mod Truth

@@ -1,2 +1,3 @@
+pub mod Memo
 pub mod Seen
 pub mod Shared

@@ -5,8 +5,10 @@
 mod asking;
 mod calls;
 mod log;
+mod memo;
 mod seeing;
 mod steps;
 
 pub use log::{Log, logs_are_shared};
+pub use memo::Memo;
 pub use steps::Workshop;

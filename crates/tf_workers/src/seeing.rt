@@ -1,7 +1,7 @@
 //! What a worker sees of the actions before one.
 
 ghost use Rattle.std.specs.Prelude.{◌≡◌, ◌<◌, All, Contains, IfOk, MatchOption};
-ghost use Rattle.tf_outcome.specs.Words.{predecessors_of};
+ghost use Rattle.tf_outcome.specs.Words.{names_in, predecessors_of};
 ghost use Rattle.tf_cells.specs.Ideal.{IsGoodInEach};
 ghost use Rattle.tf_workers.specs.Seen.{AreSeen};
 
@@ -63,7 +63,7 @@ pub(crate) fn good_before<'a, N: Naming, R: Wait>(
     requires cells { cells.now ≡ plan.now.order.nodes }
     requires within { action < plan.now.order.nodes }
     requires good { All (λ n. IsGoodInEach N.meanings N.plan n) (predecessors_of plan.now.order action) }
-    ensures { IfOk result (AreSeen N.meanings N.plan plan.now names.now action) }
+    ensures { IfOk result (AreSeen N.meanings N.plan plan.now (names_in names.now) action) }
 {
     let actions = plan.actions.as_slice();
     let nodes = plan.order.graph().predecessors(action);

@@ -1,13 +1,14 @@
 //! The end of one action, by a worker.
 
-ghost use Rattle.std.specs.Prelude.{◌≡◌, ◌<◌, map};
+ghost use Rattle.std.specs.Prelude.{◌≡◌, ◌<◌, IfSome, map};
 ghost use Rattle.tf_outcome.specs.Words.{done_of, ended_action, HasCause, names_in};
 ghost use Rattle.tf_cells.specs.Ideal.{IsEndOf, IsTrueTo};
+ghost use Rattle.tf_workers.specs.Memo.{IsTrueMemo};
 ghost use Rattle.tf_workers.specs.Shared.{IsOfWalk};
 
 use crate::calls::serve;
 use crate::log::Log;
-use crate::seeing::first_not_good;
+use crate::memo::Memo;
 use std::alloc::{AllocError, Global};
 use std::sync::{Mutex, Wait};
 use std::thread;
@@ -39,18 +40,26 @@ pub struct Workshop<'a, N: Naming, R> {
     pub stop: &'a Stop,
 }
 
-impl<N: Naming, R: Wait> Workshop<'_, N, R> {
+impl<'a, N: Naming, R: Wait> Workshop<'a, N, R> {
     /// Ends a claimed action, and publishes what came of it: it is skipped where an action directly before it isn't good;
     /// left where the walk is to stop; excused where memory for its request is refused; it has a fault where its request has
     /// one; and else its provider is called, outside the lock, and the call is recorded under it. All actions directly
-    /// before it have ended, and nothing was published for it: where that doesn't hold yet, it waits.
-    pub fn end_action(&self, providers: &[Box<dyn Provider + Sync>], permit: Permit) -> Finished
+    /// before it have ended, and nothing was published for it: where that doesn't hold yet, it waits. `memo` is what the worker
+    /// keeps for its next action, none at first.
+    pub fn end_action(
+        &self,
+        providers: &[Box<dyn Provider + Sync>],
+        permit: Permit,
+        memo: &mut Option<Memo<'a, N>>,
+    ) -> Finished
         requires walk { IsOfWalk N.plan N.meanings self.now.plan.now (names_in self.now.names.now) self.now.cells.now (map (λ b. meaning b) providers.now) }
         requires within { permit < self.now.plan.now.order.nodes }
-        ensures { result ≡ permit }
+        requires memo { IfSome memo.old (IsTrueMemo N.meanings N.plan self.now.plan.now (names_in self.now.names.now)) }
+        ensures finished { result ≡ permit }
+        ensures memo { IfSome memo.new (IsTrueMemo N.meanings N.plan self.now.plan.now (names_in self.now.names.now)) }
     {
         let action = permit.action();
-        let (ended, finished) = self.come_to_end(providers, permit);
+        let (ended, finished) = self.come_to_end(providers, permit, memo);
         publish(self.rt, self.cells, action, ended);
         finished
     }
@@ -60,23 +69,25 @@ impl<N: Naming, R: Wait> Workshop<'_, N, R> {
         &self,
         providers: &[Box<dyn Provider + Sync>],
         permit: Permit,
+        memo: &mut Option<Memo<'a, N>>,
     ) -> (Ended, Finished)
         requires walk { IsOfWalk N.plan N.meanings self.now.plan.now (names_in self.now.names.now) self.now.cells.now (map (λ b. meaning b) providers.now) }
         requires within { permit < self.now.plan.now.order.nodes }
+        requires memo { IfSome memo.old (IsTrueMemo N.meanings N.plan self.now.plan.now (names_in self.now.names.now)) }
         ensures finished { result.1 ≡ permit }
         ensures action { ended_action result.0 ≡ permit }
         ensures cause { HasCause N.plan.order result.0 }
         ensures ended { IsTrueTo N.meanings N.plan permit (done_of result.0) }
+        ensures memo { IfSome memo.new (IsTrueMemo N.meanings N.plan self.now.plan.now (names_in self.now.names.now)) }
     {
         let action = permit.action();
-        let before = self.plan.order.graph().predecessors(action);
-        if let Some(bad) = first_not_good(self.rt, self.cells, before) {
+        if let Some(bad) = self.not_good_before(memo, action) {
             return Ended::skipped(permit, bad);
         }
         if let Some(stopped) = self.stop.look() {
             return Ended::left(permit, stopped);
         }
-        match self.ask(providers, action) {
+        match self.ask(providers, action, memo) {
             Err(AllocError) => Ended::not_asked(permit),
             Ok(Err(faulted)) => Ended::faulted(permit, faulted),
             Ok(Ok(asking)) => serve(self.rt, providers, self.journal, permit, asking),
