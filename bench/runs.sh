@@ -28,9 +28,9 @@ row() {
         }' "$work/times"
 }
 
-for shape in independent chains layers locals pairs indexed; do
+for shape in independent chains layers locals part pairs indexed; do
     # With 447 after 447 there are 199,809 pairs of which one is before the other, of 200,000 that there may be.
-    case "$shape" in pairs | indexed) sizes="224 447 894" ;; *) sizes="500 1000 2000" ;; esac
+    case "$shape" in pairs | indexed) sizes="224 447 894" ;; part) sizes="50 100 200" ;; *) sizes="500 1000 2000" ;; esac
     for blocks in $sizes; do
         row "$shape" "$blocks"
     done

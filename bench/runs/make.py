@@ -7,6 +7,7 @@ layers         eight layers of hosts, each of which names ten of the layer befor
 pairs          half of the hosts after all of the other half, by `depends_on`
 indexed        the same, where each names one of the other half by its index
 locals         hosts that name the last of 64 locals, each of which names the one before it twice
+part           hosts each of which names a part of one local, whose value takes 900 KB in all
 
 nothing        the same twice
 updated        another size of each host
@@ -73,7 +74,13 @@ def locals_that_double(count):
     return of_hosts(hosts, locals={"l0": -1, **doubled})
 
 
-SHAPES = {"independent": independent, "chains": chains, "layers": layers, "pairs": pairs, "indexed": indexed, "locals": locals_that_double}
+def part(count):
+    table = {f"k{i}": [f"part-{i}", "%07d" % i * (900_000 // 7 // count)] for i in range(count)}
+    hosts = {f"h{i}": host(i, net="${local.table.k%d[0]}" % i) for i in range(count)}
+    return of_hosts(hosts, locals={"table": table})
+
+
+SHAPES = {"independent": independent, "chains": chains, "layers": layers, "pairs": pairs, "indexed": indexed, "locals": locals_that_double, "part": part}
 shape, count = SHAPES[sys.argv[1]], int(sys.argv[2])
 json.dump(shape(count), sys.stdout, indent=2)
 if CHANGE:
