@@ -38,26 +38,37 @@ impl<'a, N: Naming, R: Wait> Workshop<'a, N, R> {
             IsSomeAnd (schema_in (asked asking.request).type_name (map (λ b. meaning b) providers.now)) (λ s. IsTrue (asks_fully (asked asking.request) s)))) }
         ensures memo { IfSome memo.new (IsTrueMemo N.meanings N.plan self.now.plan.now (names_in self.now.names.now)) }
     {
-        let Memo {
-            action: own,
-            before,
-            mut kept,
-        } = self.memo_for(memo.take(), action)?;
+        let mut own = self.memo_for(memo.take(), action)?;
+        let made = self.ask_by(providers, action, &mut own)?;
+        *memo = Some(own);
+        Ok(made)
+    }
+
+    /// The same by what is known for it.
+    fn ask_by(
+        &self,
+        providers: &[Box<dyn Provider + Sync>],
+        action: usize,
+        memo: &mut Memo<'a, N>,
+    ) -> Result<Result<Asking, Faulted>, AllocError>
+        requires walk { IsOfWalk N.plan N.meanings self.now.plan.now (names_in self.now.names.now) self.now.cells.now (map (λ b. meaning b) providers.now) }
+        requires within { action < self.now.plan.now.order.nodes }
+        requires memo { IsTrueMemo N.meanings N.plan self.now.plan.now (names_in self.now.names.now) memo.old }
+        requires own { predecessors_of self.now.plan.now.order memo.old.action ≡ predecessors_of self.now.plan.now.order action }
+        ensures asked { IfOk result (λ made. (d : Done) → IsRun (comes_of (map (λ b. meaning b) providers.now) (asked_by made)) d → IsTrueTo N.meanings N.plan action d) }
+        ensures served { IfOk result (λ made. IfOk made (λ asking.
+            IsSomeAnd (schema_in (asked asking.request).type_name (map (λ b. meaning b) providers.now)) (λ s. IsTrue (asks_fully (asked asking.request) s)))) }
+        ensures memo { IsTrueMemo N.meanings N.plan self.now.plan.now (names_in self.now.names.now) memo.new }
+    {
         let actions = self.plan.actions.as_slice();
-        let made = ask_provider(
+        ask_provider(
             self.alloc,
             self.plan,
             self.names,
             providers,
             &actions[action],
-            &before,
-            &mut kept,
-        )?;
-        *memo = Some(Memo {
-            action: own,
-            before,
-            kept,
-        });
-        Ok(made)
+            &memo.before,
+            &mut memo.kept,
+        )
     }
 }

@@ -1,8 +1,7 @@
-use Rattle.std.proofs.Common.{◌≡◌, ◌∙◌, All, ℕ, List, Result, ap, map, refl, sym, subst}
+use Rattle.std.proofs.Common.{ℕ, Result, map, refl, sym, subst}
 use Rattle.tf_asks.specs.AskedBy.{asked_by}
-use Rattle.tf_cells.specs.Ideal.{IsGoodInEach, IsTrueTo}
+use Rattle.tf_cells.specs.Ideal.{IsTrueTo}
 use Rattle.tf_change.specs.Instance.{instance_fault_of}
-use Rattle.tf_graph.specs.Digraph.{Digraph, predecessors_of}
 use Rattle.tf_outcome.specs.Ended.{done_of}
 use Rattle.tf_outcome.specs.Outcome.{faulted, comes_of}
 use Rattle.tf_outcome.specs.Run.{IsRun}
@@ -25,10 +24,3 @@ returns-in-Ok-Ok-clause-ended g c =
     let told = done_of c.serve.result.0 in
     let run : IsRun (comes_of ms (asked_by c.in-Ok-Ok.field-0)) told = subst (λ (made : Result Asking Faulted). IsRun (comes_of ms (asked_by made)) told) (sym c.in-Ok-Ok.field-0-is) c.serve.ensures.ended in
     subst (λ (n : ℕ). IsTrueTo g.N.Naming.meanings g.N.Naming.plan n told) c.action-action.ensures (c.in-Ok-Ok.ensures.asked told run)
-
-pub ask-requires-clause-good : goal.ask-requires-clause-good
-ask-requires-clause-good g c =
-    let order = c.args.self.now.plan.now.order in
-    let nodes : c.predecessors-before.result.now ≡ predecessors_of order c.action-action.result =
-    c.predecessors-before.ensures.nodes ∙ ap (λ (x : Digraph). predecessors_of x c.action-action.result) c.graph.ensures.graph in
-    subst (λ (ns : List ℕ). All (λ n. IsGoodInEach g.N.Naming.meanings g.N.Naming.plan n) ns) nodes c.in_default.ensures

@@ -13,8 +13,9 @@ use Rattle.tf_plan_data.specs.Fits.{IsDeclared}
 use Rattle.tf_plan_data.specs.Plan.{plan_of}
 use Rattle.tf_plan_data.specs.Served.{IsServedBy}
 use Rattle.tf_state_data.specs.State.{state_of}
+use Rattle.tf_workers.proofs.Remembered.{seen_too}
 use Rattle.tf_workers.proofs.Truth.{asked_true, if_ok-onward}
-use Rattle.tf_workers.proofs.steps.Workshop.ask.Goals as goal
+use Rattle.tf_workers.proofs.steps.Workshop.ask_by.Goals as goal
 
 pub ask_provider-requires-clause-declared : goal.ask_provider-requires-clause-declared
 ask_provider-requires-clause-declared g c =
@@ -34,9 +35,9 @@ returns-clause-asked g c =
     let ms = map (λ b. (goal.Provider-dyn g (b.vtable, b.value)).meaning b.value) c.args.providers.now in
     let plan = plan_of c.args.self.now.plan.now in
     let items = c.args.self.now.plan.now.actions.items in
-    let before = c.in_ok-before.before in
-    let seen = c.in_ok-before.ensures in
+    let before = c.args.memo.now.before in
     let n = c.args.action in
+    let seen = seen_too g.N.Naming.meanings g.N.Naming.plan c.args.self.now.plan.now (names_in c.args.self.now.names.now) c.args.memo.now.action n before c.requires.own c.requires.memo.seen in
     let a = action_of c.index-actions-action.result in
     let read = rw c.as_slice-actions.ensures.value at c.index-actions-action.is in
     let below : n < length items = omega (arith, c.requires.within, c.args.self.now.plan.now.counted, c.args.self.now.plan.now.actions.ok.0) in
@@ -45,5 +46,5 @@ returns-clause-asked g c =
     if_ok-onward c.ask_provider.result c.ask_provider.ensures.asked
     (λ made asked d run.
     asked_true g.N.Naming.meanings ms g.N.Naming.plan plan n (names_in before.names.now) (state_of before.prior.now) (map action_of before.actions.now) (sight_of before) a (comes_of ms (asked_by made)) d
-    c.requires.walk.meanings c.requires.walk.plan_is (ap names_in seen.named ∙ c.requires.walk.named) (ap state_of seen.prior) (ap (map action_of) seen.actions)
+    c.requires.walk.meanings c.requires.walk.plan_is (seen.named ∙ c.requires.walk.named) (ap state_of seen.prior) (ap (map action_of) seen.actions)
     within here seen.shows asked run)
