@@ -2,6 +2,7 @@
 //! is recorded and reported.
 #![tactic(auto)]
 
+mod asking;
 mod calls;
 mod claims;
 mod prepared;

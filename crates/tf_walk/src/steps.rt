@@ -6,9 +6,9 @@ ghost use Rattle.tf_outcome.specs.Words.{action_of, AreServed, asked, asks_fully
 ghost use Rattle.tf_outcome.specs.Outcome.{Requests, AreRequests};
 ghost use Rattle.tf_walk.specs.Ends.{Enters, IsEnd, IsSoFar, done_in, end_at};
 
+use crate::asking::ask;
 use crate::calls::{first_not_good, make_call};
 use std::alloc::{AllocError, Global};
-use tf_asks::ask_provider;
 use tf_claim::{Finished, Permit};
 use tf_names::Names;
 use tf_outcome::{Answered, Asking, Ended, NotGood};
@@ -59,9 +59,7 @@ pub fn end_action(
         seen: plan.order.graph().predecessors(action),
         results,
     };
-    let mut kept = Vec::new(alloc);
-    let action = &actions[action];
-    match ask_provider(alloc, plan, names, providers, action, &seen, &mut kept) {
+    match ask(alloc, plan, names, providers, &actions[action], &seen) {
         Err(AllocError) => Ended::not_asked(permit),
         Ok(Err(faulted)) => Ended::faulted(permit, faulted),
         Ok(Ok(asking)) => serve(providers, journal, permit, asking),

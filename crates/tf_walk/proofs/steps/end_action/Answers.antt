@@ -50,13 +50,13 @@ returns-in-Err-clause-ended g c = λ requests are.
     subst (λ (e : Ended). IsEnd ms requests (plan_of c.args.plan.now) c.args.permit (seen_by (done_in ends) (predecessors_of order c.args.permit)) (done_of e)) (sym c.not_asked.ensures.ended)
     (ends_run ms requests (plan_of c.args.plan.now) c.args.permit (done_in ends) (predecessors_of order c.args.permit) (excused before_call) (rw c.action-action.ensures at c.in_default.ensures) tt)
 
-pub ask_provider-requires-clause-declared : goal.ask_provider-requires-clause-declared
-ask_provider-requires-clause-declared g c =
+pub ask-requires-clause-declared : goal.ask-requires-clause-declared
+ask-requires-clause-declared g c =
     let read = rw (c.action-action.ensures, c.as_slice-actions.ensures.value) at c.index-actions-action.is in
     read_at action_of (IsDeclared (names_of (config_of c.args.plan.now.config))) c.args.plan.now.actions.items c.args.permit c.index-actions-action.result c.requires.fits.declared c.requires.within read
 
-pub ask_provider-requires-clause-served : goal.ask_provider-requires-clause-served
-ask_provider-requires-clause-served g c =
+pub ask-requires-clause-served : goal.ask-requires-clause-served
+ask-requires-clause-served g c =
     let ms = map (λ b. (goal.Provider-dyn g (b.vtable, b.value)).meaning b.value) c.args.providers.now in
     let read = rw (c.action-action.ensures, c.as_slice-actions.ensures.value) at c.index-actions-action.is in
     read_at action_of (IsServedBy ms) c.args.plan.now.actions.items c.args.permit c.index-actions-action.result c.requires.served c.requires.within read
