@@ -1,4 +1,4 @@
-use Rattle.std.proofs.Common.{◌≡◌, ◌∙◌, ◌++◌, length, map, take, drop, ap, arith}
+use Rattle.std.proofs.Common.{◌∙◌, ◌++◌, length, map, take, drop, ap, arith}
 use Rattle.std.proofs.lemmas.List.{length-map}
 use Rattle.tf_action_data.specs.Action.{action_of}
 use Rattle.tf_asks.proofs.Asking.{some_requests}

@@ -1,5 +1,5 @@
 -- each thread has one desk less to give away
-use Rattle.std.proofs.Common.{ℕ, ◌+◌, ◌*◌}
+use Rattle.std.proofs.Common.{◌+◌, ◌*◌}
 use Rattle.tf_run.proofs.sharing.+threads.Given as goal
 
 abbrev pub decreases-join+arg2 : goal.decreases-join+arg2
