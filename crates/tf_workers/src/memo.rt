@@ -1,6 +1,6 @@
 //! What a worker keeps of the requests that it made, for the next one.
 
-ghost use Rattle.std.specs.Prelude.{◌≡◌, ◌<◌, All, IfOk, IfSome, IsTrue, MatchOption, Contains};
+ghost use Rattle.std.specs.Prelude.{◌≡◌, ◌<◌, [], All, IfOk, IfSome, IsTrue, MatchOption, Contains};
 ghost use Rattle.tf_outcome.specs.Words.{names_in, predecessors_of};
 ghost use Rattle.tf_cells.specs.Ideal.{IsGoodInEach};
 ghost use Rattle.tf_workers.specs.Memo.{IsTrueMemo};
@@ -78,18 +78,45 @@ impl<'a, N: Naming, R: Wait> Workshop<'a, N, R> {
         ensures memo { IfOk result (IsTrueMemo N.meanings N.plan self.now.plan.now (names_in self.now.names.now)) }
         ensures own { IfOk result (λ memo. predecessors_of self.now.plan.now.order memo.action ≡ predecessors_of self.now.plan.now.order action) }
     {
-        if let Some(memo) = memo {
-            if memo.holds_for(self.plan, action) {
-                return Ok(memo);
-            }
+        let Some(memo) = memo else {
+            return self.new_memo(Vec::new(self.alloc), action);
+        };
+        if memo.holds_for(self.plan, action) {
+            return Ok(memo);
         }
+        self.new_memo(emptied(memo), action)
+    }
+
+    /// What is seen now for an action whose predecessors are all good. The list, in which nothing stands, is for what names stand
+    /// for.
+    fn new_memo(&self, kept: Vec<Standing>, action: usize) -> Result<Memo<'a, N>, AllocError>
+        requires cells { self.now.cells.now ≡ self.now.plan.now.order.nodes }
+        requires within { action < self.now.plan.now.order.nodes }
+        requires good { All (λ n. IsGoodInEach N.meanings N.plan n) (predecessors_of self.now.plan.now.order action) }
+        requires none { kept.items ≡ [] }
+        ensures memo { IfOk result (IsTrueMemo N.meanings N.plan self.now.plan.now (names_in self.now.names.now)) }
+        ensures own { IfOk result (λ memo. memo.action ≡ action) }
+    {
         let before = good_before(
             self.rt, self.alloc, self.plan, self.names, self.cells, action,
         )?;
         Ok(Memo {
             action,
             before,
-            kept: Vec::new(self.alloc),
+            kept,
         })
     }
+}
+
+/// The list of a memo, in which nothing stands any more. What it saw is let go.
+fn emptied<N: Naming>(memo: Memo<'_, N>) -> Vec<Standing>
+    ensures { result.items ≡ [] }
+{
+    let Memo {
+        action: _,
+        before: _,
+        mut kept,
+    } = memo;
+    kept.clear();
+    kept
 }
