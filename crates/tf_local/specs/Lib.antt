@@ -1,0 +1,4 @@
+pub mod Answers
+pub mod Mode
+pub mod Schema
+pub mod Wanted
