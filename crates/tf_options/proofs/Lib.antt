@@ -1,1 +1,2 @@
+mod Flags
 mod Workers

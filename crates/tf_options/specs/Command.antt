@@ -1,7 +1,11 @@
 -- The command line of the programs, as `clap` reads it.
-use Rattle.std.specs.Prelude.{[], ◌∷◌, Some, codes}
+use Rattle.std.specs.Prelude.{◌≡◌, [], ◌∷◌, List, map, Some, codes}
+use Rattle.std.specs.Borrow.{Bor}
 use Rattle.clap.specs.Words.{App, Rule, Text, new_app, new_rule, with_rule}
+use Rattle.clap.specs.declared.builder.action.ArgAction.TheVariants.{SetTrue}
 use Rattle.clap.specs.declared.builder.value_parser.ValueParser.TheVariants as vp
+use Rattle.tf_options.specs.declared.words.Program.{Program}
+use Rattle.tf_options.specs.declared.words.Program.TheVariants.{Plan, Apply}
 
 -- an option `--NAME VALUE`, which needn't be given
 abbrev pub option_rule : Text → Rule
@@ -19,10 +23,31 @@ workers_rule = record (default_rule (codes "parallelism") (codes "10")) { parser
 abbrev pub stop_rule : Rule
 stop_rule = record (option_rule (codes "stop-after")) { parser = Some (vp.Unsigned 0 2000) }
 
--- where the configuration is read, where the variables' values are, where the state is read and written, the
--- lineage of a new state, the number of workers, and after how many calls to stop
-unfoldable pub options_app : App
-options_app =
+-- The words that name the forms of a graph, as they lie in memory.
+abbrev pub Forms : Type 0
+Forms = Bor (List (Bor Text))
+
+-- there is one form, DOT
+abbrev pub AreForms : Forms → Type 0
+AreForms forms = map (λ form. form.now) forms.now ≡ codes "dot" ∷ []
+
+-- in which form the order is printed in place of the plan's text: one of these words, or nothing
+abbrev pub graph_rule : Forms → Rule
+graph_rule forms = record (option_rule (codes "graph")) { parser = Some (vp.Names forms) }
+
+-- a flag `--progress`
+abbrev pub progress_rule : Rule
+progress_rule = record (new_rule (codes "progress")) { long = Some (codes "progress"); action = Some SetTrue }
+
+-- `plan` draws, and `apply` tells how it gets on; neither takes the other's option
+abbrev pub own_rule : Program → Forms → Rule
+own_rule Plan forms = graph_rule forms
+own_rule Apply forms = progress_rule
+
+-- What both programs take: where the configuration is read, where the variables' values are, where the state is read and
+-- written, the lineage of a new state, the number of workers, and after how many calls to stop.
+unfoldable pub shared_app : App
+shared_app =
     with_rule (with_rule (with_rule (with_rule (with_rule (with_rule (new_app (codes "bixundor"))
     (default_rule (codes "config") (codes "main.tf.json")))
     (option_rule (codes "vars")))
@@ -30,3 +55,7 @@ options_app =
     (default_rule (codes "lineage") (codes "00000000-0000-0000-0000-000000000000")))
     workers_rule)
     stop_rule
+
+-- what a program takes
+abbrev pub options_app : Program → Forms → App
+options_app program forms = with_rule shared_app (own_rule program forms)

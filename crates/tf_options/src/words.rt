@@ -1,5 +1,21 @@
 //! What the user asks for on the command line.
 
+/// A program of the engine. Each has options of its own beside those that both have.
+#[derive(Clone, Copy, Debug, PartialEq, Eq)]
+pub enum Program {
+    /// Prints a plan.
+    Plan,
+    /// Carries a plan out.
+    Apply,
+}
+
+/// The language in which the order of a plan is drawn.
+#[derive(Clone, Copy, Debug, PartialEq, Eq)]
+pub enum GraphForm {
+    /// Graphviz's DOT.
+    Dot,
+}
+
 /// The options of the programs.
 #[derive(Debug, Drop)]
 pub struct Options {
@@ -15,4 +31,8 @@ pub struct Options {
     pub parallelism: usize,
     /// After how many calls of providers the walk is to stop, 0 to 2,000; where nothing is said, it doesn't stop.
     pub stop_after: Option<usize>,
+    /// In which language the order of the plan is to be printed in place of its text, where that is asked for. Only `plan` has it.
+    pub graph: Option<GraphForm>,
+    /// Whether it is to be told as calls of providers begin and end, also where nobody looks on at a terminal. Only `apply` has it.
+    pub progress: bool,
 }

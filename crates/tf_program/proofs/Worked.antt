@@ -11,7 +11,7 @@ use Rattle.tf_cli.specs.Applies.{IsApplied, IsPlanText, to_write}
 use Rattle.tf_program.specs.Kept.{EndsKept}
 use Rattle.tf_cli.specs.Refusals.{AreApplyRefusals, AreRefusals}
 use Rattle.tf_cli.specs.Shown.{status_of}
-use Rattle.tf_program.specs.Work.{EndsApply, EndsWith, IsAnswer, IsShown, texts_of}
+use Rattle.tf_program.specs.Work.{EndsApply, EndsWith, IsAnswer, IsGraphText, IsShown, texts_of}
 use Rattle.tf_cli.specs.declared.applied.Applied.{Applied}
 use Rattle.tf_program.specs.declared.given.Given.{Given}
 
@@ -29,6 +29,9 @@ module _ (ms : List Meaning) (given : Given) (config : List ℕ) (vars state : O
   -- what is planned and what is refused of these texts is that of what was given
   pub is_planned : (text : List ℕ) → IsPlanText ms (the_texts config vars state) text → IsPlanText ms (texts_of given) text
   is_planned text planned = subst (λ (t : Texts). IsPlanText ms t text) the_same planned
+
+  pub is_drawn : (text : List ℕ) → IsGraphText ms (the_texts config vars state) text → IsGraphText ms (texts_of given) text
+  is_drawn text drawn = subst (λ (t : Texts). IsGraphText ms t text) the_same drawn
 
   pub is_refused : (refused : Refused) → Tells (AreRefusals ms (the_texts config vars state)) refused → Tells (AreRefusals ms (texts_of given)) refused
   is_refused why refused = subst (λ (t : Texts). Tells (AreRefusals ms t) why) the_same refused

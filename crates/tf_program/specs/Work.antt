@@ -8,7 +8,9 @@ use Rattle.tf_plan.specs.Refused.{Tells}
 use Rattle.tf_plan.specs.declared.refused.Refused.{Refused}
 use Rattle.tf_protocol.specs.Meaning.{Meaning}
 use Rattle.tf_run.specs.Run.{are_workers}
-use Rattle.tf_cli.specs.Applies.{IsApplied, IsPlanText, to_write}
+use Rattle.tf_cli.specs.Applies.{IsApplied, IsPlanOf, IsPlanText, to_write}
+use Rattle.tf_dot.specs.Dot.{IsDrawn}
+use Rattle.tf_plan_data.specs.Plan.{PlanView}
 use Rattle.tf_program.specs.Kept.{EndsKept}
 use Rattle.tf_cli.specs.Refusals.{AreApplyRefusals, AreRefusals}
 use Rattle.tf_cli.specs.Saved.{AppendsStart}
@@ -25,7 +27,19 @@ abbrev pub IsPlanAnswer : List Meaning → Given → Result (List ℕ) Refused �
 IsPlanAnswer ms given (Ok text) = IsPlanText ms (texts_of given) text
 IsPlanAnswer ms given (Err refused) = Tells (AreRefusals ms (texts_of given)) refused
 
--- The plan's text is on standard output, with status 0, or a first part of it, with status 1; or the refusals, or a first part
+-- the text that draws the plan of such texts
+pub record IsGraphText (ms : List Meaning) (texts : Texts) (text : List ℕ) : Type 0 where
+  pub lineage : List ℕ
+  pub plan : PlanView
+  pub planned : IsPlanOf ms texts lineage plan
+  pub drawn : IsDrawn plan text
+
+-- the answer where the plan of what was given is to be drawn: the text that draws it, or what is refused
+abbrev pub IsGraphAnswer : List Meaning → Given → Result (List ℕ) Refused → Type 0
+IsGraphAnswer ms given (Ok text) = IsGraphText ms (texts_of given) text
+IsGraphAnswer ms given (Err refused) = Tells (AreRefusals ms (texts_of given)) refused
+
+-- The text, of the plan or the one that draws it, is on standard output, with status 0, or a first part of it, with status 1; or the refusals, or a first part
 -- of them, are on standard error, with status 1. Nothing else is anywhere.
 abbrev pub EndsPlan : Result (List ℕ) Refused → (result : ℕ) (out out_after err err_after : Option (List ℕ)) → Type 0
 EndsPlan (Ok text) result out out_after err err_after =

@@ -1,6 +1,7 @@
 //! What the programs `plan` and `apply` share: what they read, what they do with it, and how the state stands on the disk.
 #![tactic(auto)]
 
+mod drawing;
 mod given;
 mod keeping;
 mod log_file;
@@ -24,5 +25,5 @@ pub use place::Place;
 pub use program::run;
 pub use replacing::keep_state;
 pub use seeing::{Seen, hold, see};
-pub use tf_options::{Options, options};
-pub use work::{carry_out, print_plan};
+pub use tf_options::{GraphForm, Options, Program, options};
+pub use work::{carry_out, print_graph, print_plan};

@@ -11,9 +11,9 @@ use std::process::ExitCode;
 use std::rt::Env;
 use std::{env, io};
 use tf_cli::{Refused, print_refused};
-use tf_options::{Options, options};
+use tf_options::{Options, Program, options};
 
-/// Runs a program: reads its words, and does its work with what they say. Where the words are refused or help is asked for, that
+/// Runs a program: reads its words, by the options that it has, and does its work with what they say. Where the words are refused or help is asked for, that
 /// is told in place of the work, and so is want of memory, whatever had none of it.
 ///
 /// # Errors
@@ -24,11 +24,11 @@ pub fn run<
     O: Write,
     E: Write,
     W: FnOnce(Options, &mut O, &mut E) -> io::Result<ExitCode>,
->(rt: &R, out: &mut O, err: &mut E, work: W) -> io::Result<ExitCode>
+>(rt: &R, program: Program, out: &mut O, err: &mut E, work: W) -> io::Result<ExitCode>
     requires { W.IsAlwaysCallable work }
     ensures { (answer : _) × Ends (λ e. error_kind e ≡ ErrorKind.OutOfMemory) answer result × (IsEarly answer ⊎ ((options : _) × (o : _) × (e : _) × (o_after : _) × (e_after : _) × W.post work options o e answer o_after e_after)) }
 {
-    end(answer_of(rt, out, err, work), err)
+    end(answer_of(rt, program, out, err, work), err)
 }
 
 fn answer_of<
@@ -36,12 +36,12 @@ fn answer_of<
     O: Write,
     E: Write,
     W: FnOnce(Options, &mut O, &mut E) -> io::Result<ExitCode>,
->(rt: &R, out: &mut O, err: &mut E, work: W) -> io::Result<ExitCode>
+>(rt: &R, program: Program, out: &mut O, err: &mut E, work: W) -> io::Result<ExitCode>
     requires { W.IsAlwaysCallable work }
     ensures { IsEarly result ⊎ ((options : _) × (o : _) × (e : _) × (o_after : _) × (e_after : _) × W.post work options o e result o_after e_after) }
 {
     let words: Vec<String> = env::args(rt)?.collect(rt.alloc())?;
-    match read_options(rt.alloc(), words.as_slice(), out, err) {
+    match read_options(rt.alloc(), program, words.as_slice(), out, err) {
         Ok(options) => work(options, out, err),
         Err(status) => Ok(status),
     }
@@ -50,6 +50,7 @@ fn answer_of<
 /// The options that words say. Where they are refused, or ask for help, that has been told.
 fn read_options<O: Write, E: Write>(
     alloc: Global,
+    program: Program,
     words: &[String],
     out: &mut O,
     err: &mut E,
@@ -57,7 +58,7 @@ fn read_options<O: Write, E: Write>(
     ensures workers { IfOk result (λ o. (1 ≤ o.parallelism) × (o.parallelism ≤ 64)) }
     ensures status { IfErr result (λ status. exit_status status ≤ 1) }
 {
-    match options(alloc, words) {
+    match options(alloc, program, words) {
         Ok(options) => Ok(options),
         Err(error) => {
             if error.use_stderr() {

@@ -3,8 +3,9 @@
 ghost use Rattle.std.specs.Io.KnownBytes.{Appends};
 ghost use Rattle.std.specs.Prelude.{◌≡◌, ◌⊎◌, map};
 ghost use Rattle.tf_cli.specs.Saved.{AppendsStart};
-ghost use Rattle.tf_program.specs.Work.{EndsApply, EndsPlan, IsAnswer, IsPlanAnswer};
+ghost use Rattle.tf_program.specs.Work.{EndsApply, EndsPlan, IsAnswer, IsGraphAnswer, IsPlanAnswer};
 
+use crate::drawing::graph_text;
 use crate::given::Given;
 use crate::place::Place;
 use crate::replacing::keep_state;
@@ -28,6 +29,32 @@ pub fn print_plan<O: Write, E: Write>(
     ensures { (answer : _) × IsPlanAnswer (map (λ b. meaning b) providers.now) given.now answer × EndsPlan answer result (O.contents out.old) (O.contents out.new) (E.contents err.old) (E.contents err.new) }
 {
     match plan_text(
+        alloc,
+        given.config.as_slice(),
+        given.vars_bytes(),
+        given.state_bytes(),
+        providers,
+    ) {
+        Ok(text) => print_text(text.as_str(), out),
+        Err(refused) => {
+            let _ = print_refused(&refused, err);
+            1
+        }
+    }
+}
+
+/// Prints the order of the plan of what `plan` was given, for Graphviz, in place of the plan's text, or what is refused of it. The
+/// answer is the status: 1 where something is refused, and where standard output doesn't take the whole text.
+pub fn print_graph<O: Write, E: Write>(
+    alloc: Global,
+    given: &Given,
+    providers: &[Box<dyn Provider + Sync>],
+    out: &mut O,
+    err: &mut E,
+) -> u8
+    ensures { (answer : _) × IsGraphAnswer (map (λ b. meaning b) providers.now) given.now answer × EndsPlan answer result (O.contents out.old) (O.contents out.new) (E.contents err.old) (E.contents err.new) }
+{
+    match graph_text(
         alloc,
         given.config.as_slice(),
         given.vars_bytes(),

@@ -13,15 +13,11 @@ use std::test::Fail;
 use std::thread::Threads;
 use tf_cli::Stop;
 use tf_logged::OpenLog;
-use tf_program::{LogSink, Options, carry_out_logged, hold, print_plan, run, see};
+use tf_program::{
+    LogSink, Options, Program, carry_out_logged, hold, print_graph, print_plan, run, see,
+};
 use tf_provider::Provider;
 use tf_sim::Sim;
-
-#[derive(Clone, Copy, PartialEq)]
-pub enum Program {
-    Plan,
-    Apply,
-}
 
 // What is told on an output.
 #[derive(Clone, Copy)]
@@ -55,6 +51,9 @@ const HALF: &str = r#"{"resource": {"sim_net": {"a": {"cidr": "x"}, "b": {"cidr"
 
 const PLANNED: &str =
     "+ sim_net.a\n    cidr = \"x\"\n    id = (known after apply)\nPlan: 1 to add, 0 to change, 0 to destroy.\n";
+
+const DRAWN: &str =
+    "digraph plan {\n    rankdir = LR\n    node [shape = box]\n    0 [label = \"+ sim_net.a\"]\n}\n";
 
 const APPLIED: &str =
     "+ sim_net.a\n    cidr = \"x\"\n    id = (known after apply)\nPlan: 1 to add, 0 to change, 0 to destroy.\nApply complete! Resources: 1 added, 0 changed, 0 destroyed.\n";
@@ -98,7 +97,7 @@ const TWO_REFUSED: &str =
 
 const HALF_UNWRITTEN: &str = "error 21 at sim_net.b create: refused\nerror: state not written\n";
 
-pub static ROWS: [Row; 26] = [
+pub static ROWS: [Row; 29] = [
     Row {
         program: Program::Apply,
         words: WORDS,
@@ -443,6 +442,39 @@ pub static ROWS: [Row; 26] = [
         calls: &["read c\nread s\nread s.log\n"],
         state: None,
     },
+    Row {
+        program: Program::Plan,
+        words: &["plan", "--config", "c", "--state", "s", "--graph", "dot"],
+        files: &[("c", Kind::File, NET)],
+        fault: Fault::None,
+        status: 0,
+        out: Told::Is(DRAWN),
+        err: Told::Is(""),
+        calls: &["read c\nread s\nread s.log\n"],
+        state: None,
+    },
+    Row {
+        program: Program::Plan,
+        words: &["plan", "--config", "c", "--state", "s", "--graph", "dot"],
+        files: &[("c", Kind::File, "[")],
+        fault: Fault::None,
+        status: 1,
+        out: Told::Is(""),
+        err: Told::Is("error 1 at configuration: NotJson\n"),
+        calls: &["read c\nread s\nread s.log\n"],
+        state: None,
+    },
+    Row {
+        program: Program::Apply,
+        words: &["apply", "--config", "c", "--state", "s", "--graph", "dot"],
+        files: &[("c", Kind::File, NET)],
+        fault: Fault::None,
+        status: 1,
+        out: Told::Is(""),
+        err: Told::Something,
+        calls: &[],
+        state: None,
+    },
 ];
 
 // What came of a run.
@@ -479,7 +511,10 @@ fn plan<O: Write, E: Write>(
     err: &mut E,
 ) -> ExitCode {
     match see(disk, options, err) {
-        Ok(seen) => ExitCode::from(print_plan(alloc, &seen.given, providers, out, err)),
+        Ok(seen) => ExitCode::from(match seen.given.options.graph {
+            Some(_) => print_graph(alloc, &seen.given, providers, out, err),
+            None => print_plan(alloc, &seen.given, providers, out, err),
+        }),
         Err(status) => status,
     }
 }
@@ -529,7 +564,7 @@ pub fn run_on<T: Threads + Wait + Sync, O: Write>(
         },
         alloc,
     );
-    run(&disk, out, err, |options, out, err| {
+    run(&disk, row.program, out, err, |options, out, err| {
         work(rt, alloc, &disk, row.program, options, out, err)
     })
 }

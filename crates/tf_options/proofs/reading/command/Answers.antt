@@ -1,18 +1,10 @@
--- Each argument that is added adds its rule.
+-- The option that is added adds its rule to what both programs have.
 use Rattle.std.proofs.Common.{◌∙◌, ap₂}
 use Rattle.std.proofs.lemmas.Result.{IfOk-weaker}
 use Rattle.clap.specs.Words.{with_rule}
-use Rattle.tf_options.specs.Command.{options_app}
 use Rattle.tf_options.proofs.reading.command.Goals as goal
 
 pub returns : goal.returns
-unfolding options_app
-returns c = IfOk-weaker c.arg-6.result _ _
-    (λ r adds. adds.shape c.stop_option.ensures.local
-    ∙ ap₂ with_rule (c.in_ok-arg-5.ensures.shape c.workers_option.ensures.local
-    ∙ ap₂ with_rule (c.in_ok-arg-4.ensures.shape c.default_option-3.ensures.local
-    ∙ ap₂ with_rule (c.in_ok-arg-3.ensures.shape c.default_option-2.ensures.local
-    ∙ ap₂ with_rule (c.in_ok-arg-2.ensures.shape c.option.ensures.local
-    ∙ ap₂ with_rule (c.in_ok-arg.ensures.shape c.default_option.ensures.local
-    ∙ ap₂ with_rule c.new.ensures.app c.default_option.ensures.rule) c.option.ensures.rule) c.default_option-2.ensures.rule) c.default_option-3.ensures.rule) c.workers_option.ensures.rule) c.stop_option.ensures.rule)
-    c.arg-6.ensures
+returns c = IfOk-weaker c.arg.result _ _
+    (λ r adds. adds.shape c.own_option.ensures.local ∙ ap₂ with_rule c.in_ok-shared_command.ensures c.own_option.ensures.rule)
+    c.arg.ensures

@@ -1,0 +1,30 @@
+//! How long a call takes.
+
+use std::rt::Clock;
+use std::time::Instant;
+
+/// When a call began, where the clock could be read.
+#[derive(Clone, Copy)]
+pub(crate) struct Watch {
+    began: Option<Instant>,
+}
+
+impl Watch {
+    /// A call begins.
+    pub(crate) fn start<C: Clock>(clock: &C) -> Watch {
+        Watch {
+            began: Instant::now(clock).ok(),
+        }
+    }
+
+    /// How many whole seconds have passed since, where the clock could be read both times.
+    pub(crate) fn seconds<C: Clock>(&self, clock: &C) -> Option<u64> {
+        match self.began {
+            Some(began) => match began.elapsed(clock) {
+                Ok(elapsed) => Some(elapsed.as_secs()),
+                Err(_) => None,
+            },
+            None => None,
+        }
+    }
+}

@@ -1,0 +1,12 @@
+//! Telling as calls of a provider begin and end.
+#![tactic(auto)]
+
+mod elapsed;
+mod lines;
+mod progress;
+mod screen;
+mod shared;
+
+pub use progress::Progress;
+pub use screen::Screen;
+pub use shared::progress_is_shared;

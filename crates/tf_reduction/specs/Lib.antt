@@ -1,0 +1,2 @@
+pub mod Beyond
+pub mod Reduction
