@@ -4,22 +4,27 @@
 mod stopping;
 mod taking_up;
 
-use crate::stopping::Stopping;
+use crate::stopping::{Countdown, Stopping};
 use crate::taking_up::take_up;
+use std::alloc::Global;
 use std::fs::File;
 use std::io;
-use std::io::Write;
+use std::io::{IsTerminal, Stderr, Write};
 use std::process::ExitCode;
 use std::sync::{Arc, Wait};
 use std::thread::Threads;
 use tf_cli::Stop;
+use tf_local::LocalFile;
 use tf_logged::{Logged, OpenLog};
-use tf_program::{Given, LogSink, Options, Place, Seen, carry_out_logged, hold, run};
+use tf_program::{Given, LogSink, Options, Place, Program, Seen, carry_out_logged, hold, run};
+use tf_progress::Progress;
 use tf_provider::Provider;
+use tf_sim::Sim;
 
 fn main(rt: HostRuntime) -> io::Result<ExitCode> {
     run(
         &rt,
+        Program::Apply,
         &mut rt.stdout(),
         &mut rt.stderr(),
         |options, out, err| apply(&rt, &rt, options, out, err),
@@ -55,7 +60,7 @@ fn apply<T: Threads + Wait + Sync, O: Write, E: Write>(
     apply_by(rt, threads, &place, &file, &given, out, err)
 }
 
-/// Carries the plan out by the provider and with the flag that the words ask for.
+/// Carries the plan out by the providers and with the flag that the words ask for.
 fn apply_by<T: Threads + Wait + Sync, O: Write, E: Write>(
     rt: &HostRuntime,
     threads: &T,
@@ -67,42 +72,53 @@ fn apply_by<T: Threads + Wait + Sync, O: Write, E: Write>(
 ) -> io::Result<ExitCode> {
     let alloc = rt.alloc();
     let stop = Arc::new(alloc, Stop::new())?;
-    if given.options.stop_after == Some(0) {
+    let last = given.options.stop_after;
+    if last == Some(0) {
         stop.set();
     }
     let log = Arc::new(alloc, OpenLog::new(LogSink::new(Arc::try_clone(file)?)))?;
-    let sim = Stopping::new(alloc, given.options.stop_after, Arc::try_clone(&stop)?)?;
-    let logged = Box::new(alloc, Logged::new(alloc, Arc::try_clone(&log)?, sim))?;
-    carry_out_by(
-        rt, threads, place, file, &log, given, logged, &stop, out, err,
-    )
-}
-
-/// Carries the plan out by one provider, whose calls are logged.
-fn carry_out_by<T: Threads + Wait + Sync, O: Write, E: Write>(
-    rt: &HostRuntime,
-    threads: &T,
-    place: &Place,
-    file: &File,
-    log: &OpenLog<LogSink<File>>,
-    given: &Given,
-    provider: Box<dyn Provider + Sync>,
-    stop: &Stop,
-    out: &mut O,
-    err: &mut E,
-) -> io::Result<ExitCode> {
-    let mut providers = Vec::new(rt.alloc());
-    providers.push(provider)?;
+    let countdown = Arc::new(alloc, Countdown::new(last, Arc::try_clone(&stop)?))?;
+    let sim = logged(alloc, &log, &countdown, Sim::new(alloc)?)?;
+    let local_file = logged(alloc, &log, &countdown, LocalFile::new(alloc, *rt)?)?;
+    let mut providers: Vec<Box<dyn Provider + Sync>> = Vec::new(alloc);
+    providers.push(Box::new(alloc, told(rt, given, sim))?)?;
+    providers.push(Box::new(alloc, told(rt, given, local_file))?)?;
     Ok(carry_out_logged(
         rt,
         threads,
         place,
         file,
-        log,
+        &log,
         given,
         providers.as_slice(),
-        stop,
+        &stop,
         out,
         err,
     ))
+}
+
+/// A provider whose calls are counted and logged.
+fn logged<P: Provider>(
+    alloc: Global,
+    log: &Arc<OpenLog<LogSink<File>>>,
+    countdown: &Arc<Countdown>,
+    provider: P,
+) -> io::Result<Logged<Stopping<P>, LogSink<File>>> {
+    let stopping = Stopping::new(provider, Arc::try_clone(countdown)?);
+    Ok(Logged::new(alloc, Arc::try_clone(log)?, stopping))
+}
+
+/// A provider of whose calls it is told, on standard error, where that is a terminal or the words ask for it.
+fn told<P: Provider>(
+    rt: &HostRuntime,
+    given: &Given,
+    provider: P,
+) -> Progress<P, Stderr, HostRuntime> {
+    let err = rt.stderr();
+    let screen = if given.options.progress || err.is_terminal() {
+        Some(err)
+    } else {
+        None
+    };
+    Progress::new(rt.alloc(), screen, *rt, provider)
 }

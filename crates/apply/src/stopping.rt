@@ -1,56 +1,77 @@
-//! A provider that stops the walk.
+//! Providers that stop the walk.
 
-use std::alloc::{AllocError, Global};
+ghost use Rattle.std.specs.Prelude.{◌≡◌};
+
 use std::sync::Arc;
 use std::sync::atomic::{AtomicUsize, Ordering};
 use tf_cli::Stop;
 use tf_provider::{Provider, Reply, Request, Schema};
-use tf_sim::Sim;
 
-/// The provider `sim`, which stops the walk before a call of it returns, by the call's number; with no number it never does.
+/// After how many calls the walk is to stop; several providers share one.
 #[derive(Drop)]
-pub struct Stopping {
-    sim: Sim,
-    /// The number of the call; the first is 1.
+pub struct Countdown {
+    /// The number of the call before whose return the walk is stopped; the first is 1. With no number it never is.
     last: Option<usize>,
     /// How many calls were made.
     calls: AtomicUsize,
     stop: Arc<Stop>,
 }
 
-impl Stopping {
-    /// The provider, of which no call was made yet, with the number of the call at which it sets the flag.
-    pub fn new(
-        alloc: Global,
-        last: Option<usize>,
-        stop: Arc<Stop>,
-    ) -> Result<Stopping, AllocError> {
-        Ok(Stopping {
-            sim: Sim::new(alloc)?,
+impl Countdown {
+    /// Of no call yet, with the number of the call at which the flag is set.
+    pub fn new(last: Option<usize>, stop: Arc<Stop>) -> Countdown {
+        Countdown {
             last,
             calls: AtomicUsize::new(0),
             stop,
-        })
-    }
-}
-
-impl Provider for Stopping {
-    ghost use Rattle.tf_sim.specs.Table.{sim_meaning};
-
-    ghost meaning = { λ _. sim_meaning };
-
-    fn schema(&self, type_name: &str) -> Option<&Schema> {
-        self.sim.schema(type_name)
+        }
     }
 
-    fn apply(&self, request: &Request) -> Reply {
-        let before = self.calls.fetch_add(1, Ordering::SeqCst);
-        let reply = self.sim.apply(request);
+    /// Counts a call, and answers how many were made before it.
+    fn begin(&self) -> usize {
+        self.calls.fetch_add(1, Ordering::SeqCst)
+    }
+
+    /// Sets the flag where this is the last call.
+    fn end(&self, before: usize) {
         if let Some(last) = self.last
             && last.checked_sub(1) == Some(before)
         {
             self.stop.set();
         }
+    }
+}
+
+/// A provider whose calls are counted.
+#[derive(Drop)]
+pub struct Stopping<P: Provider> {
+    provider: P,
+    countdown: Arc<Countdown>,
+}
+
+impl<P: Provider> Stopping<P> {
+    /// A provider whose calls are counted from here on.
+    pub fn new(provider: P, countdown: Arc<Countdown>) -> Stopping<P>
+        ensures { ⟦<Stopping<P> as Provider>⟧.meaning result ≡ P.meaning provider }
+    {
+        Stopping {
+            provider,
+            countdown,
+        }
+    }
+}
+
+impl<P: Provider> Provider for Stopping<P> {
+    ghost meaning = { λ s. P.meaning s.provider };
+
+    fn schema(&self, type_name: &str) -> Option<&Schema> {
+        self.provider.schema(type_name)
+    }
+
+    fn apply(&self, request: &Request) -> Reply {
+        let before = self.countdown.begin();
+        let reply = self.provider.apply(request);
+        self.countdown.end(before);
         reply
     }
 }

@@ -6,13 +6,14 @@ use std::io::Write;
 use std::process::ExitCode;
 use std::sync::Wait;
 use std::thread::Threads;
+use tf_local::LocalFile;
 use tf_log::Entry;
 use tf_logged::{Replayed, split};
 use tf_program::{Given, Past, Place, settle};
 use tf_provider::Provider;
 use tf_sim::Sim;
 
-/// Settles what an apply left that did not end, by a provider that answers from the entries of its log. Where the program isn't to
+/// Settles what an apply left that did not end, by providers that answer from the entries of its log. Where the program isn't to
 /// go on, that has been told, and this is its status.
 pub fn take_up<T: Threads + Wait + Sync, O: Write, E: Write>(
     rt: &HostRuntime,
@@ -26,33 +27,14 @@ pub fn take_up<T: Threads + Wait + Sync, O: Write, E: Write>(
     err: &mut E,
 ) -> io::Result<Result<(), ExitCode>> {
     let alloc = rt.alloc();
-    let own = own_entries(rt, entries)?;
-    let replayed = Box::new(alloc, Replayed::new(alloc, own, Sim::new(alloc)?))?;
-    settle_by(rt, threads, place, file, given, past, replayed, out, err)
-}
-
-/// The entries of the one provider that there is.
-fn own_entries(rt: &HostRuntime, entries: Vec<Entry>) -> io::Result<Vec<Entry>> {
-    let alloc = rt.alloc();
+    let mut own = own_entries(rt, entries)?;
+    let of_files = own.pop().unwrap_or(Vec::new(alloc));
+    let of_sim = own.pop().unwrap_or(Vec::new(alloc));
+    let sim = Box::new(alloc, Replayed::new(alloc, of_sim, Sim::new(alloc)?))?;
+    let files = Replayed::new(alloc, of_files, LocalFile::new(alloc, *rt)?);
     let mut providers: Vec<Box<dyn Provider + Sync>> = Vec::new(alloc);
-    providers.push(Box::new(alloc, Sim::new(alloc)?)?)?;
-    let mut lists = split(alloc, entries, &providers)?;
-    Ok(lists.pop().unwrap_or(Vec::new(alloc)))
-}
-
-fn settle_by<T: Threads + Wait + Sync, O: Write, E: Write>(
-    rt: &HostRuntime,
-    threads: &T,
-    place: &Place,
-    file: &File,
-    given: &mut Given,
-    past: &Past,
-    provider: Box<dyn Provider + Sync>,
-    out: &mut O,
-    err: &mut E,
-) -> io::Result<Result<(), ExitCode>> {
-    let mut providers = Vec::new(rt.alloc());
-    providers.push(provider)?;
+    providers.push(sim)?;
+    providers.push(Box::new(alloc, files)?)?;
     Ok(settle(
         rt,
         threads,
@@ -64,4 +46,13 @@ fn settle_by<T: Threads + Wait + Sync, O: Write, E: Write>(
         out,
         err,
     ))
+}
+
+/// The entries of each of the providers that there are.
+fn own_entries(rt: &HostRuntime, entries: Vec<Entry>) -> io::Result<Vec<Vec<Entry>>> {
+    let alloc = rt.alloc();
+    let mut providers: Vec<Box<dyn Provider + Sync>> = Vec::new(alloc);
+    providers.push(Box::new(alloc, Sim::new(alloc)?)?)?;
+    providers.push(Box::new(alloc, LocalFile::new(alloc, *rt)?)?)?;
+    Ok(split(alloc, entries, &providers)?)
 }

@@ -14,12 +14,13 @@ use std::sync::{Arc, Wait};
 use std::thread::Threads;
 use tf_cli::Stop;
 use tf_logged::{Logged, OpenLog};
-use tf_program::{Given, LogSink, Options, Place, Seen, carry_out_logged, hold, run};
+use tf_program::{Given, LogSink, Options, Place, Program, Seen, carry_out_logged, hold, run};
 use tf_provider::Provider;
 
 fn main(rt: HostRuntime) -> io::Result<ExitCode> {
     run(
         &rt,
+        Program::Apply,
         &mut rt.stdout(),
         &mut rt.stderr(),
         |options, out, err| apply(&rt, &rt, options, out, err),

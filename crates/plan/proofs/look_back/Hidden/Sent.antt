@@ -1,4 +1,4 @@
--- A provider that answers from entries, which hold values, may be shared.
+-- Providers that answer from entries, which hold values, may be shared.
 use denote.Param.Send.{sendable}
 use denote.Param.Sent.{Syncs}
 use Rattle.std.proofs.Crossing.{crosses}
@@ -8,3 +8,6 @@ use Rattle.plan.proofs.look_back.OwnLists as lists
 
 pub syncs-part-1-1 : Syncs lists.part-1-1
 syncs-part-1-1 = search (value.crosses, maps.crosses, crosses, sendable) depth 60 fits 20000
+
+pub syncs-part-1-2 : Syncs lists.part-1-2
+syncs-part-1-2 = search (value.crosses, maps.crosses, crosses, sendable) depth 60 fits 20000
