@@ -97,7 +97,7 @@ const TWO_REFUSED: &str =
 
 const HALF_UNWRITTEN: &str = "error 21 at sim_net.b create: refused\nerror: state not written\n";
 
-pub static ROWS: [Row; 29] = [
+pub static ROWS: [Row; 26] = [
     Row {
         program: Program::Apply,
         words: WORDS,
@@ -442,6 +442,10 @@ pub static ROWS: [Row; 29] = [
         calls: &["read c\nread s\nread s.log\n"],
         state: None,
     },
+];
+
+// Plans that are to be drawn.
+static DRAWN_ROWS: [Row; 3] = [
     Row {
         program: Program::Plan,
         words: &["plan", "--config", "c", "--state", "s", "--graph", "dot"],
@@ -645,6 +649,15 @@ fn check_row<R: Abort + Threads + Wait + Sync>(
     let Some(row) = ROWS.get(at) else {
         return Ok(());
     };
+    check(rt, alloc, row, at)
+}
+
+fn check<R: Abort + Threads + Wait + Sync>(
+    rt: &R,
+    alloc: Global,
+    row: &Row,
+    at: usize,
+) -> Result<(), Fail> {
     let store = RefCell::new(store_of(alloc, row)?);
     let ran = run_row(rt, alloc, row, &store);
     let wrong = amiss(&ran, row, &store.into_inner());
@@ -656,6 +669,14 @@ fn check_row<R: Abort + Threads + Wait + Sync>(
 fn runs_as_the_rows_say(rt: HostRuntime) -> Result<(), Fail> {
     for at in 0..ROWS.len() {
         check_row(&rt, rt.alloc(), at)?;
+    }
+    Ok(())
+}
+
+#[test]
+fn draws_as_the_rows_say(rt: HostRuntime) -> Result<(), Fail> {
+    for (at, row) in DRAWN_ROWS.iter().enumerate() {
+        check(&rt, rt.alloc(), row, at)?;
     }
     Ok(())
 }
