@@ -1,6 +1,6 @@
 //! A finite directed graph, kept as the list of its edges and each node's neighbours.
 
-ghost use Rattle.std.specs.Prelude.{◌≡◌, ◌<◌, ◌≤◌, ◌↔◌, ◌==◌, ◌++◌, ◌∷◌, [], ℕ, length, All, Some, IfOk, OnOk, IsErrOf, MatchBool, if◌then◌else◌};
+ghost use Rattle.std.specs.Prelude.{◌≡◌, ◌<◌, ◌≤◌, ◌↔◌, ◌==◌, ◌++◌, ◌∷◌, [], ℕ, length, map, All, Some, IfOk, OnOk, IsErrOf, MatchBool, if◌then◌else◌};
 ghost use Rattle.tf_graph.specs.Digraph.{Digraph, IsWithin, HasOutside, sources_into, targets_from, predecessors_of, successors_of};
 ghost use Rattle.tf_graph.specs.Lists.{row};
 
@@ -82,7 +82,12 @@ impl Graph {
     pub fn copy(&self, alloc: Global) -> Result<Graph, AllocError>
         ensures { IfOk result (λ copy. copy ≡ self.now) }
     {
-        Graph::of(alloc, self.nodes(), self.edges())
+        Ok(Graph {
+            nodes: self.nodes,
+            edges: Vec::from_slice(alloc, self.edges.as_slice())?,
+            before: copied(alloc, &self.before)?,
+            after: copied(alloc, &self.after)?,
+        })
     }
 
     /// How many nodes there are.
@@ -154,8 +159,7 @@ fn neighbours(
     ensures targets_length { IfOk result (λ both. length both.1.items ≡ nodes) }
     ensures targets { IfOk result (λ both. (n : ℕ) → row both.1.items n ≡ targets_from edges.now n) }
 {
-    let mut before = empty_lists(alloc, nodes)?;
-    let mut after = empty_lists(alloc, nodes)?;
+    let (mut before, mut after) = empty_neighbours(alloc, nodes, edges)?;
     for (from, to) in edges {
         add(&mut before, *to, *from)?;
         add(&mut after, *from, *to)?;
@@ -163,16 +167,58 @@ fn neighbours(
     Ok((before, after))
 }
 
-/// An empty list for each node.
-fn empty_lists(alloc: Global, nodes: usize) -> Result<Vec<Vec<usize>>, AllocError>
-    ensures length { IfOk result (λ lists. length lists.items ≡ nodes) }
+/// Two empty lists for each node, with room for its neighbours on either side.
+fn empty_neighbours(
+    alloc: Global,
+    nodes: usize,
+    edges: &[(usize, usize)],
+) -> Result<(Vec<Vec<usize>>, Vec<Vec<usize>>), AllocError>
+    requires { IsWithin nodes edges.now }
+    ensures sources_length { IfOk result (λ both. length both.0.items ≡ nodes) }
+    ensures sources { IfOk result (λ both. (n : ℕ) → row both.0.items n ≡ []) }
+    ensures targets_length { IfOk result (λ both. length both.1.items ≡ nodes) }
+    ensures targets { IfOk result (λ both. (n : ℕ) → row both.1.items n ≡ []) }
+{
+    let mut into = vec![in alloc; 0usize; nodes]?;
+    let mut out_of = vec![in alloc; 0usize; nodes]?;
+    for (from, to) in edges {
+        count_one(&mut into, *to);
+        count_one(&mut out_of, *from);
+    }
+    Ok((empty_lists(alloc, &into)?, empty_lists(alloc, &out_of)?))
+}
+
+/// Counts one more at a place. A count stays at the most there is.
+fn count_one(counts: &mut [usize], at: usize)
+    requires { at < length counts.old }
+    ensures { length counts.new ≡ length counts.old }
+{
+    counts[at] = counts[at].saturating_add(1);
+}
+
+/// An empty list for each count, with room for so many.
+fn empty_lists(alloc: Global, counts: &[usize]) -> Result<Vec<Vec<usize>>, AllocError>
+    ensures length { IfOk result (λ lists. length lists.items ≡ length counts.now) }
     ensures rows { IfOk result (λ lists. (n : ℕ) → row lists.items n ≡ []) }
 {
-    let mut lists = Vec::with_capacity(alloc, nodes)?;
-    for _ in 0..nodes {
-        lists.push(Vec::new(alloc))?;
+    let mut lists = Vec::with_capacity(alloc, counts.len())?;
+    for count in counts {
+        let list = Vec::with_capacity(alloc, *count)?;
+        lists.push(list)?;
     }
     Ok(lists)
+}
+
+/// The same lists once more.
+fn copied(alloc: Global, lists: &[Vec<usize>]) -> Result<Vec<Vec<usize>>, AllocError>
+    ensures { IfOk result (λ copy. map (λ list. list.items) copy.items ≡ map (λ list. list.items) lists.now) }
+{
+    let mut copy = Vec::with_capacity(alloc, lists.len())?;
+    for list in lists {
+        let same = Vec::from_slice(alloc, list)?;
+        copy.push(same)?;
+    }
+    Ok(copy)
 }
 
 /// Adds a node at the end of one list.
