@@ -25,28 +25,30 @@ fn layers(alloc: Global, count: usize, size: usize) -> Result<Graph, Fail>
 
 #[test]
 fn a_walk_takes_each_step_once(rt: HostRuntime) -> Result<(), Fail> {
-    for (name, nodes, edges, steps) in [
+    for (name, nodes, edges, steps, freed) in [
         (
             "diamond",
             4,
             [(0, 1), (0, 2), (0, 3), (1, 3), (2, 3)].as_slice(),
             13,
+            3,
         ),
-        ("replaced", 3, [(1, 0), (2, 1)].as_slice(), 8),
-        ("replaced late", 3, [(1, 0), (1, 2), (0, 2)].as_slice(), 9),
+        ("replaced", 3, [(1, 0), (2, 1)].as_slice(), 8, 2),
+        ("replaced late", 3, [(1, 0), (1, 2), (0, 2)].as_slice(), 9, 2),
         (
             "both late",
             4,
             [(2, 0), (0, 1), (2, 3), (0, 3), (1, 3)].as_slice(),
             13,
+            3,
         ),
     ] {
         let graph = Graph::new(rt.alloc(), nodes, edges)?;
         for threads in [1, 2, 64] {
             let walked = walk_by(&rt, rt.alloc(), &graph, threads)?;
             assert_eq!(rt;
-                (walked.steps, walked.whole),
-                (steps, true),
+                (walked.steps, walked.freed, walked.whole),
+                (steps, freed, true),
                 "{name} by {threads}"
             );
         }
@@ -63,8 +65,8 @@ fn a_large_walk_takes_each_step_once(rt: HostRuntime) -> Result<(), Fail> {
     for threads in [1, 2, 64] {
         let walked = walk_by(&rt, rt.alloc(), &graph, threads)?;
         assert_eq!(rt;
-            (walked.steps, walked.whole),
-            (194_000, true),
+            (walked.steps, walked.freed, walked.whole),
+            (194_000, 1_900, true),
             "by {threads}"
         );
     }
@@ -80,6 +82,7 @@ fn threads_have_each_permit_once(rt: HostRuntime) -> Result<(), Fail> {
         Walked {
             by_threads: 2000,
             steps: 2000,
+            freed: 0,
             whole: true
         }
     );
@@ -93,10 +96,10 @@ fn a_seat_sees_what_another_did(rt: HostRuntime) -> Result<(), Fail> {
     let mut second = claims.split_seat(&mut first)?;
     let mut third = claims.split_seat(&mut first)?;
     assert!(rt; !claims.see(&mut third, 0));
-    assert!(rt; !perform(&claims, &mut second, 1), "the edge is held");
-    assert!(rt; perform(&claims, &mut first, 0));
-    assert!(rt; !perform(&claims, &mut second, 0), "0 is done");
-    assert!(rt; perform(&claims, &mut second, 1), "the edge was let go of");
+    assert_eq!(rt; perform(&claims, &mut second, 1), None, "the edge is held");
+    assert_eq!(rt; perform(&claims, &mut first, 0), Some(1), "it was the last into 1");
+    assert_eq!(rt; perform(&claims, &mut second, 0), None, "0 is done");
+    assert_eq!(rt; perform(&claims, &mut second, 1), Some(0), "the edge was let go of");
     assert!(rt; claims.see(&mut third, 0));
     assert!(rt; claims.see(&mut third, 1));
     Ok(())

@@ -1,5 +1,5 @@
 -- What the rule says of several seats at once.
-use Rattle.std.proofs.Common.{◌≡◌, ◌≢◌, ◌<◌, ◌≤◌, ◌+◌, ◌^◌, ◌⊎◌, ◌↔◌, ℕ, zero, suc, min, List, [], ◌∷◌, length, set, refl, sym, ap, subst, ◌∙◌, arith, inl, inr}
+use Rattle.std.proofs.Common.{◌≡◌, ◌≢◌, ◌<◌, ◌≤◌, ℕ, List, [], ◌∷◌, length, set, refl, sym, ap, subst, ◌∙◌, arith, inl, inr}
 use Rattle.std.proofs.lemmas.Bool.{cases_eq}
 use Rattle.std.proofs.lemmas.List.{get_or_default}
 use mathlib.Core.Option.{some}
@@ -8,10 +8,10 @@ use Rattle.atomic_table.proofs.Lists.{at_set}
 use Rattle.tf_graph.specs.Digraph.{Digraph, source, predecessors_of}
 use Rattle.tf_graph.specs.Path.{HasEdge, Reaches, direct, onward}
 use Rattle.tf_claim.specs.declared.seat.View.{View}
-use Rattle.tf_claim.specs.Views.{times, nothing, first_view, both, part_in, IsSole, OwnsWayTo}
-use Rattle.tf_claim.specs.Claims.{IsKept, IsTrueOf, Stands, total, claims_of, ends_of, releases_of, parts_in}
+use Rattle.tf_claim.specs.Views.{times, nothing, first_view, both, IsSole}
+use Rattle.tf_claim.specs.Claims.{IsKept, IsTrueOf, total, claims_of, ends_of, releases_of, parts_in}
 use Rattle.tf_claim.specs.Moments.{StandsWhere, IsFresh}
-use Rattle.tf_claim.specs.Seats.{AreTwo, IsOnce, IsClaimedBySome, AreApart, ClaimsAreApart, EndsAreApart, ReleasesAreApart, SeatsActOnce, SeenIsDone, BeforeClaimedIsDone, TakenIsClaimed, HeldBackIsFree, JoinedAreApart, IsAllOf, SoleIsAll, IsKnown, SoleKnows, PartsOf, PartsAddUp}
+use Rattle.tf_claim.specs.Seats.{ClaimsAreApart, EndsAreApart, ReleasesAreApart, SeatsActOnce, SeenIsDone, BeforeClaimedIsDone, TakenIsClaimed, HeldBackIsFree, JoinedAreApart, IsAllOf, SoleIsAll, SoleKnows, PartsAddUp}
 use Rattle.tf_claim.proofs.Counting.{times-append, total-set, total-none, member-le-total, two-le-total, total-le, some-has}
 use Rattle.tf_claim.proofs.Parts.{whole_finer, no_part, part_same, part_append}
 use Rattle.tf_claim.proofs.Keeping as keeping

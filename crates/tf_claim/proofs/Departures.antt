@@ -6,6 +6,8 @@ use Rattle.std.proofs.lemmas.List.{take_all}
 use Rattle.std.proofs.Math.Seq.{take-suc}
 use Rattle.tf_graph.specs.Digraph.{Digraph, edge_at, targets_from, source, target, successors_of}
 use Rattle.tf_claim.specs.declared.seat.View.{View}
+use Rattle.tf_claim.specs.Moments.{WasHeldBack, WasLetThrough}
+use Rattle.tf_claim.specs.Told.{Frees}
 use Rattle.tf_claim.specs.Views.{times, went, went_all, edges_from, MayLetGo}
 use Rattle.tf_claim.proofs.Counting.{times-cons_other}
 
@@ -143,6 +145,28 @@ finished-went_all : (es : List ℕ) (v : View) → (went_all es v).finished ≡ 
 finished-went_all [] v = refl
 finished-went_all (e ∷ es) v = finished-went_all es (went e v)
 
+-- one edge more is let go of: it was not the last into the action behind it, or it was
+pub frees_held : (g : Digraph) (es : List ℕ) (e count : ℕ) (v : View) → Frees g es v count → WasHeldBack g (target g e) (went e (went_all es v)) → Frees g (es ++ e ∷ []) v count
+frees_held g [] e count v none held = inl (held, none)
+frees_held g (x ∷ xs) e count v (inl h) held = inl (h.0, frees_held g xs e count (went x v) h.1 held)
+frees_held g (x ∷ xs) e count v (inr h) held = inr (h.0, h.1, h.2, frees_held g xs e h.0 (went x v) h.3 held)
+
+pub frees_through : (g : Digraph) (es : List ℕ) (e count : ℕ) (v : View) → Frees g es v count → WasLetThrough g (target g e) (went e (went_all es v)) → Frees g (es ++ e ∷ []) v (suc count)
+frees_through g [] e count v none through = inr (count, refl, through, none)
+frees_through g (x ∷ xs) e count v (inl h) through = inl (h.0, frees_through g xs e count (went x v) h.1 through)
+frees_through g (x ∷ xs) e count v (inr h) through = inr (suc h.0, ap suc h.1, h.2, frees_through g xs e h.0 (went x v) h.3 through)
+
+pub take_few : (k : ℕ) (xs : List ℕ) → length (take k xs) ≤ k
+take_few zero xs = omega arith
+take_few (suc k) [] = omega arith
+take_few (suc k) (x ∷ xs) = let r = take_few k xs in omega arith
+
+-- no more of them than there are edges
+pub frees_few : (g : Digraph) (es : List ℕ) (count : ℕ) (v : View) → Frees g es v count → count ≤ length es
+frees_few g [] count v none = omega arith
+frees_few g (x ∷ xs) count v (inl h) = let r = frees_few g xs count (went x v) h.1 in omega arith
+frees_few g (x ∷ xs) count v (inr h) = let r = frees_few g xs h.0 (went x v) h.3 in let is = h.1 in omega arith
+
 module _ (g : Digraph) (n k : ℕ) (v : View) (lt : k < length (edges_from g n)) where
   -- after the first k, the next may be let go of
   pub may_next : ((e : ℕ) → e < length g.edges → source g e ≡ n → MayLetGo g e v) → MayLetGo g (get_or (edges_from g n) k 0) (went_all (take k (edges_from g n)) v)
@@ -163,6 +187,23 @@ module _ (g : Digraph) (n k : ℕ) (v : View) (lt : k < length (edges_from g n))
       more : take (k + 1) (edges_from g n) ≡ take (suc k) (edges_from g n)
       more = (let e : k + 1 ≡ suc k = omega arith in ap (λ (i : ℕ). take i (edges_from g n)) e)
 
+  one_more : take (k + 1) (edges_from g n) ≡ take k (edges_from g n) ++ get_or (edges_from g n) k 0 ∷ []
+  one_more =
+      let e : k + 1 ≡ suc k = omega arith in
+      ap (λ (i : ℕ). take i (edges_from g n)) e ∙ take-suc (edges_from g n) k 0 lt
+
+  -- what was heard of up to the next edge, where the step about it left this view
+  pub heard_none : (count : ℕ) (w : View) → w ≡ went (get_or (edges_from g n) k 0) (went_all (take k (edges_from g n)) v) → Frees g (take k (edges_from g n)) v count → WasHeldBack g (target g (get_or (edges_from g n) k 0)) w → Frees g (take (k + 1) (edges_from g n)) v count
+  heard_none count w is so_far held =
+      subst (λ (es : List ℕ). Frees g es v count) (sym one_more)
+      (frees_held g (take k (edges_from g n)) (get_or (edges_from g n) k 0) count v so_far (subst (λ (z : View). WasHeldBack g (target g (get_or (edges_from g n) k 0)) z) is held))
+
+  pub heard_one : (count : ℕ) (w : View) → w ≡ went (get_or (edges_from g n) k 0) (went_all (take k (edges_from g n)) v) → Frees g (take k (edges_from g n)) v count → WasLetThrough g (target g (get_or (edges_from g n) k 0)) w → Frees g (take (k + 1) (edges_from g n)) v (count + 1)
+  heard_one count w is so_far through =
+      let e : suc count ≡ count + 1 = omega arith in
+      subst (λ (z : List ℕ × ℕ). Frees g z.0 v z.1) (λ i. (sym one_more i, e i))
+      (frees_through g (take k (edges_from g n)) (get_or (edges_from g n) k 0) count v so_far (subst (λ (z : View). WasLetThrough g (target g (get_or (edges_from g n) k 0)) z) is through))
+
 pub went_whole : (g : Digraph) (n k : ℕ) (v : View) → length (edges_from g n) ≤ k → went_all (take k (edges_from g n)) v ≡ went_all (edges_from g n) v
 went_whole g n k v le =
     ap (λ (l : List ℕ). went_all l v) (take_all k (edges_from g n) le)
@@ -173,3 +214,7 @@ length-out g h n l is same =
     ap (λ (m : List ℕ). length m) is
     ∙ ap (λ (z : Digraph). length (successors_of z n)) same
     ∙ sym (length-edges_from g n)
+
+pub heard_whole : (g : Digraph) (n k count : ℕ) (v : View) → length (edges_from g n) ≤ k → Frees g (take k (edges_from g n)) v count → Frees g (edges_from g n) v count
+heard_whole g n k count v le =
+    subst (λ (es : List ℕ). Frees g es v count) (take_all k (edges_from g n) le)

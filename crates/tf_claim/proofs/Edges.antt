@@ -4,7 +4,7 @@ use Rattle.std.proofs.lemmas.Bool.{cases_eq, eq-eqb, ne_eqb}
 use Rattle.tf_graph.specs.Digraph.{edge_at, sources_into}
 use Rattle.tf_claim.specs.Views.{times}
 use Rattle.tf_claim.specs.Claims.{how_many}
-use Rattle.tf_claim.proofs.Counting.{times-cons_same, times-cons_other}
+use Rattle.tf_claim.proofs.Counting.{times-cons_other}
 
 sources-cons_into : (x : ℕ × ℕ) (xs : List (ℕ × ℕ)) (n : ℕ) → x.1 ≡ n → sources_into (x ∷ xs) n ≡ x.0 ∷ sources_into xs n
 sources-cons_into x xs n e = rw (eq-eqb x.1 n e) refl

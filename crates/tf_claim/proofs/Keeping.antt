@@ -3,7 +3,7 @@ use Rattle.std.proofs.Common.{◌≡◌, ◌≢◌, ◌<◌, ◌≤◌, ◌+◌,
 use Rattle.std.proofs.lemmas.Bool.{cases_eq, eq-eqb, ne_eqb, eqb-true, true≢false, false≢true}
 use mathlib.Core.Option.{some, some-injective, some-ne-none}
 use lib.ListN.{get_elem?}
-use Rattle.atomic_table.proofs.Lists.{at_set, at_snoc, set_again}
+use Rattle.atomic_table.proofs.Lists.{at_set, at_snoc}
 use Rattle.tf_graph.specs.Digraph.{Digraph, source, target, predecessors_of}
 use Rattle.tf_claim.specs.declared.seat.View.{View}
 use Rattle.tf_claim.specs.Views.{times, nothing, first_view, halved, split_off, part_in, saw, saw_through, knew, took, ended, went, both, steps_of, Owes, MayLetGo, OwnsWayTo, IsWhole}

@@ -5,7 +5,7 @@ use mathlib.Core.Option.{some, none, some-ne-none}
 use lib.ListN.{get_elem?}
 use prog.Atomic.{either}
 use Rattle.atomic_table.specs.Table.{State, keeps, step, stepped, opening, Allows, Splits, Joins, Seen}
-use Rattle.tf_graph.specs.Digraph.{Digraph, target, predecessors_of}
+use Rattle.tf_graph.specs.Digraph.{Digraph, target}
 use Rattle.tf_claim.specs.declared.seat.View.{View}
 use Rattle.tf_claim.specs.Views.{nothing, first_view, halved, split_off, saw, saw_through, knew, took, ended, went, both, steps_of, Owes, MayLetGo, times}
 use Rattle.tf_claim.specs.Claims.{Holds, Begins, IsSmall, Stands, IsKept, IsTrueOf, IsLetThrough, stage_in, count_in}
@@ -152,7 +152,23 @@ module _ (g : Digraph) (slots id : ℕ) (me : Sat) (live : 0 < length me.0.part)
       let less : new ≡ x - 1 = omega arith in
       let rule = keeping.releases g (stage_in s.words) stage' (count_in s.words) count' s.views id me.0 h.rule at e may below (λ m. word_else s.words i new (m * 8) (λ is. omega arith)) (word_here s.words i new (omega arith) ∙ less) (λ m ne. word_else s.words i new (m * 8 + 1) (λ is. ne (omega arith))) live in
       let after = holds_after g s id me h at i new w rule in
-      (w, keeps, tt, after, leaves g s id me h at i new w refl after)
+      let views' : List View = set s.views id w in
+      let at' : get_elem? views' id ≡ some w = at_again s.views id me.0 w at in
+      let left : count' (target g e) ≡ x - 1 = word_here s.words i new (omega arith) ∙ less in
+      elim (cases_eq x 1) [
+        | inl is ↦
+            let zero_left : count' (target g e) ≡ 0 = omega arith in
+            (w, keeps, tt, after, (leaves g s id me h at i new w refl after, rw (eq-eqb x 1 is) (record {
+              stage = stage'; count = count'; views = views'; seat = id; rule = rule; at = at';
+              so = (zero_left, keeping.let_through g stage' stage' count' count' views' id w rule at' (target g e) below zero_left);
+            })))
+        | inr ne ↦
+            let some_left : 0 < count' (target g e) = omega arith in
+            (w, keeps, tt, after, (leaves g s id me h at i new w refl after, rw (ne_eqb x 1 ne) (record {
+              stage = stage'; count = count'; views = views'; seat = id; rule = rule; at = at';
+              so = (some_left, keeping.held_back g stage' stage' count' count' views' id w rule at' (target g e) below some_left);
+            })))
+      ]
 
   pub rests : (i : ℕ) → Allows (Holds g) slots id me i (λ x. x) (Rests g (step slots i 0 0 none) me)
   rests i s h homes at fits =

@@ -2,7 +2,7 @@
 -- holds, and what was so in the state that the step met, in which the seat had its view before.
 use Rattle.std.specs.Prelude.{◌≡◌, ◌<◌, ◌==◌, ◌⊎◌, ℕ, MatchBool, if◌then◌else◌}
 use Rattle.atomic_table.specs.Table.{Me, Step}
-use Rattle.tf_graph.specs.Digraph.{Digraph, source}
+use Rattle.tf_graph.specs.Digraph.{Digraph, source, target}
 use Rattle.tf_claim.specs.declared.seat.View.{View}
 use Rattle.tf_claim.specs.Views.{times, saw, saw_through, knew, took, ended, went, OwnsWayTo}
 use Rattle.tf_claim.specs.Claims.{Stands, free, done}
@@ -44,9 +44,12 @@ Ends g n st before found after =
     Leaves g before (ended n before.0) after
     × ((e : ℕ) → source g e ≡ n → times e before.0.let_go ≡ 0)
 
--- one was taken from the count of the action that an edge leads into
+-- One was taken from the count of the action that an edge leads into. Where it was the last, each edge into that action was
+-- let go of then, in the state that the step left; else one of them was still held.
 abbrev pub Releases : Digraph → ℕ → Step (Unit {0}) → Sat → ℕ → Sat → Type 0
-Releases g e st before found after = Leaves g before (went e before.0) after
+Releases g e st before found after =
+    Leaves g before (went e before.0) after
+    × MatchBool (found == 1) (WasLetThrough g (target g e) (went e before.0)) (WasHeldBack g (target g e) (went e before.0))
 
 -- some word was read
 abbrev pub Rests : Digraph → Step (Unit {0}) → Sat → ℕ → Sat → Type 0

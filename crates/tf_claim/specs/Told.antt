@@ -1,8 +1,9 @@
 -- What a step of a seat at the shared claims tells it.
-use Rattle.std.specs.Prelude.{◌≡◌, ◌<◌, ◌⊎◌, ℕ, Bool, Option, IsTrue, MatchBool, MatchOption, length}
-use Rattle.tf_graph.specs.Digraph.{Digraph, source}
+use Rattle.std.specs.Prelude.{◌≡◌, ◌<◌, ◌⊎◌, ℕ, suc, List, [], ◌∷◌, Bool, Option, IsTrue, MatchBool, MatchOption, length}
+use Rattle.tf_graph.specs.Digraph.{Digraph, source, target}
 use Rattle.tf_claim.specs.Claims.{Stands}
 use Rattle.tf_claim.specs.Moments.{WasDone, WasNotDone, WasFree, WasNotFree, WasHeldBack, WasLetThrough}
+use Rattle.tf_claim.specs.declared.seat.View.{View}
 use Rattle.tf_claim.specs.Views.{Seated, times, saw, saw_through, knew, took, ended, went, Owes, MayLetGo, OwnsWayTo}
 
 -- whether an action was found done
@@ -34,8 +35,16 @@ pub record Finishes (g : Digraph) (n : ℕ) (old new : Seated) : Type 0 where
   pub free : (e : ℕ) → e < length g.edges → source g e ≡ n → MayLetGo g e new.view
   pub kept : Stands g new.view
 
--- an edge out of an action that the seat finished is let go of
-pub record LetsGo (g : Digraph) (e : ℕ) (old new : Seated) : Type 0 where
+-- an edge out of an action that the seat finished is let go of, and whether it was the last that held the action behind it
+pub record LetsGo (g : Digraph) (e : ℕ) (old new : Seated) (last : Bool) : Type 0 where
   pub table : new.table ≡ old.table
   pub went_is : new.view ≡ went e old.view
+  pub moment : MatchBool last (WasLetThrough g (target g e) new.view) (WasHeldBack g (target g e) new.view)
   pub kept : Stands g new.view
+
+-- Edges are let go of one after another, from this view on, and so many of them were the last that held the action behind them.
+abbrev pub Frees : Digraph → List ℕ → View → ℕ → Type 0
+Frees g [] v count = count ≡ 0
+Frees g (e ∷ es) v count =
+    (WasHeldBack g (target g e) (went e v) × Frees g es (went e v) count)
+    ⊎ ((others : ℕ) × (count ≡ suc others) × WasLetThrough g (target g e) (went e v) × Frees g es (went e v) others)

@@ -1,13 +1,14 @@
 //! The shared form of the book of claims: any number of workers claim and finish actions, each by single
 //! atomic steps on words, without a lock and without waiting.
 
-ghost use Rattle.std.specs.Prelude.{◌≡◌, ◌<◌, ◌+◌, ◌*◌, ◌⊎◌, ◌↔◌, ℕ, false, length, IsTrue, IsOk, IfOk, IfSome, MatchBool, MatchOption, slice_index};
+ghost use Rattle.std.specs.Prelude.{◌≡◌, ◌<◌, ◌≤◌, ◌+◌, ◌*◌, ◌⊎◌, ◌↔◌, ℕ, false, length, IsTrue, IsOk, IfOk, IfSome, MatchBool, MatchOption, slice_index};
 ghost use Rattle.tf_graph.specs.Digraph.{Digraph, source, target};
 ghost use Rattle.tf_claim.specs.Views.{first_view, halved, split_off, times, saw, saw_through, knew, took, ended, went, went_all, edges_from, both, steps_of, Owes, MayLetGo, OwnsWayTo, IsWhole};
 ghost use Rattle.tf_claim.specs.Claims.{Begins, Stands};
 ghost use Rattle.tf_claim.specs.Moments.{IsFresh, WasDone, WasNotDone, WasFree, WasNotFree, WasHeldBack, WasLetThrough};
-ghost use Rattle.tf_claim.specs.Told.{Sees, Tries, Finishes, LetsGo};
+ghost use Rattle.tf_claim.specs.Told.{Frees, Sees, Tries, Finishes, LetsGo};
 
+use crate::listener::Listener;
 use crate::permit::{Finished, Permit};
 use crate::rule::{About, Another, Count, End, Law, Look, Release, Rest, Take, Together};
 use crate::seat::{Seat, View};
@@ -233,70 +234,82 @@ impl Claims {
     }
 
     /// Lets go of an edge, named by its place in the graph's list, whose source this seat finished and
-    /// which it hasn't let go of, by one `fetch_sub` on the count of the action that the edge leads into.
-    pub fn let_go(&self, seat: &mut Seat, edge: usize)
+    /// which it hasn't let go of, by one `fetch_sub` on the count of the action that the edge leads into. Says
+    /// whether it was the last edge into that action that somebody held.
+    pub fn let_go(&self, seat: &mut Seat, edge: usize) -> bool
         requires seat { seat.old.table ≡ self.now.table }
         requires may { MayLetGo self.now.graph edge seat.old.view }
         ensures table { seat.new.table ≡ seat.old.table }
         ensures went { seat.new.view ≡ went edge seat.old.view }
+        ensures moment { MatchBool result
+            (WasLetThrough self.now.graph (target self.now.graph edge) seat.new.view)
+            (WasHeldBack self.now.graph (target self.now.graph edge) seat.new.view) }
         ensures kept { Stands self.now.graph seat.new.view }
     {
         self.let_go_as::<Brand>(seat, edge)
     }
 
     /// Lets go of each edge out of an action that this seat finished, in the order of the graph's list, none
-    /// of which it has let go of. It takes time linear in their number.
-    pub fn let_go_from(&self, seat: &mut Seat, action: usize)
+    /// of which it has let go of. The listener, which heard of nothing yet, hears of each action behind one of
+    /// them that was the last into it. It takes time linear in their number.
+    pub fn let_go_from<L: Listener>(&self, seat: &mut Seat, action: usize, listener: &mut L)
+        requires bound { self.now.graph.nodes ≤ L.bound }
+        requires none { L.heard listener.old ≡ 0 }
         requires seat { seat.old.table ≡ self.now.table }
         requires action { action < self.now.graph.nodes }
         requires may { (e : ℕ) → e < length self.now.graph.edges → source self.now.graph e ≡ action
             → MayLetGo self.now.graph e seat.old.view }
         ensures table { seat.new.table ≡ seat.old.table }
         ensures went { seat.new.view ≡ went_all (edges_from self.now.graph action) seat.old.view }
+        ensures heard { Frees self.now.graph (edges_from self.now.graph action) seat.old.view (L.heard listener.new) }
     {
-        for place in 0..self.graph.successors(action).len() {
-            self.let_go_out_as::<Brand>(seat, action, place);
+        let next = self.graph.successors(action);
+        for place in 0..next.len() {
+            if self.let_go_out_as::<Brand>(seat, action, place) {
+                listener.hear(next[place]);
+            }
         }
     }
 
     /// Lets go of an edge that the step is about.
-    fn let_go_as<B: About>(&self, seat: &mut Seat, edge: usize)
+    fn let_go_as<B: About>(&self, seat: &mut Seat, edge: usize) -> bool
         requires about { (B.graph ≡ self.now.graph) × (B.number ≡ edge) }
         requires seat { seat.old.table ≡ self.now.table }
         requires may { MayLetGo self.now.graph edge seat.old.view }
-        ensures { LetsGo self.now.graph edge seat.old seat.new }
+        ensures { LetsGo self.now.graph edge seat.old seat.new result }
     {
         let (_, action) = self.graph.edges()[edge];
-        self.release::<B>(seat, action);
+        self.release::<B>(seat, action)
     }
 
     /// Lets go of the edge at a place among those out of an action.
-    fn let_go_out_as<B: About>(&self, seat: &mut Seat, action: usize, place: usize)
+    fn let_go_out_as<B: About>(&self, seat: &mut Seat, action: usize, place: usize) -> bool
         requires about { (B.graph ≡ self.now.graph)
             × (B.number ≡ slice_index (edges_from self.now.graph action) place) }
         requires seat { seat.old.table ≡ self.now.table }
         requires action { action < self.now.graph.nodes }
         requires place { place < length (edges_from self.now.graph action) }
         requires may { MayLetGo self.now.graph (slice_index (edges_from self.now.graph action) place) seat.old.view }
-        ensures table { seat.new.table ≡ seat.old.table }
-        ensures went { seat.new.view ≡ went (slice_index (edges_from self.now.graph action) place) seat.old.view }
+        ensures { LetsGo self.now.graph (slice_index (edges_from self.now.graph action) place) seat.old seat.new result }
     {
         let next = self.graph.successors(action)[place];
-        self.release::<B>(seat, next);
+        self.release::<B>(seat, next)
     }
 
-    /// Takes one from the count of the action that an edge leads into.
-    fn release<B: About>(&self, seat: &mut Seat, action: usize)
+    /// Takes one from the count of the action that an edge leads into, and says whether it was the last.
+    fn release<B: About>(&self, seat: &mut Seat, action: usize) -> bool
         requires about { (B.graph ≡ self.now.graph) × (target self.now.graph B.number ≡ action) }
         requires seat { seat.old.table ≡ self.now.table }
         requires action { action < self.now.graph.nodes }
         requires may { MayLetGo self.now.graph B.number seat.old.view }
-        ensures { LetsGo self.now.graph B.number seat.old seat.new }
+        ensures { LetsGo self.now.graph B.number seat.old seat.new result }
     {
-        self.table
+        let found = self
+            .table
             .shared
             .fetch_sub::<Release<B>>(&mut seat.place, action * WORDS_EACH + 1, 1);
         seat.steps += 1;
+        found == 1
     }
 
     /// Puts what another seat has seen and done to this one's, and its part.

@@ -8,11 +8,13 @@
 pub mod book;
 pub mod claims;
 pub mod laws;
+pub mod listener;
 pub mod permit;
 mod rule;
 pub mod seat;
 
 pub use book::{Book, Stage};
 pub use claims::Claims;
+pub use listener::Listener;
 pub use permit::{Finished, Permit, waive};
 pub use seat::Seat;
