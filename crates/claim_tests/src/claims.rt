@@ -34,7 +34,13 @@ fn a_walk_takes_each_step_once(rt: HostRuntime) -> Result<(), Fail> {
             3,
         ),
         ("replaced", 3, [(1, 0), (2, 1)].as_slice(), 8, 2),
-        ("replaced late", 3, [(1, 0), (1, 2), (0, 2)].as_slice(), 9, 2),
+        (
+            "replaced late",
+            3,
+            [(1, 0), (1, 2), (0, 2)].as_slice(),
+            9,
+            2,
+        ),
         (
             "both late",
             4,
@@ -97,9 +103,17 @@ fn a_seat_sees_what_another_did(rt: HostRuntime) -> Result<(), Fail> {
     let mut third = claims.split_seat(&mut first)?;
     assert!(rt; !claims.see(&mut third, 0));
     assert_eq!(rt; perform(&claims, &mut second, 1), None, "the edge is held");
-    assert_eq!(rt; perform(&claims, &mut first, 0), Some(1), "it was the last into 1");
+    assert_eq!(rt;
+        perform(&claims, &mut first, 0),
+        Some(1),
+        "it was the last into 1"
+    );
     assert_eq!(rt; perform(&claims, &mut second, 0), None, "0 is done");
-    assert_eq!(rt; perform(&claims, &mut second, 1), Some(0), "the edge was let go of");
+    assert_eq!(rt;
+        perform(&claims, &mut second, 1),
+        Some(0),
+        "the edge was let go of"
+    );
     assert!(rt; claims.see(&mut third, 0));
     assert!(rt; claims.see(&mut third, 1));
     Ok(())

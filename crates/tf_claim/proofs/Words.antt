@@ -157,17 +157,43 @@ module _ (g : Digraph) (slots id : ℕ) (me : Sat) (live : 0 < length me.0.part)
       let left : count' (target g e) ≡ x - 1 = word_here s.words i new (omega arith) ∙ less in
       elim (cases_eq x 1) [
         | inl is ↦
-            let zero_left : count' (target g e) ≡ 0 = omega arith in
-            (w, keeps, tt, after, (leaves g s id me h at i new w refl after, rw (eq-eqb x 1 is) (record {
-              stage = stage'; count = count'; views = views'; seat = id; rule = rule; at = at';
-              so = (zero_left, keeping.let_through g stage' stage' count' count' views' id w rule at' (target g e) below zero_left);
-            })))
+            let zero_left : count' (target g e) ≡ 0 = omega arith in (
+              w,
+              keeps,
+              tt,
+              after,
+              (
+                leaves g s id me h at i new w refl after,
+                rw (eq-eqb x 1 is) (record {
+                  stage = stage';
+                  count = count';
+                  views = views';
+                  seat = id;
+                  rule = rule;
+                  at = at';
+                  so = (zero_left, keeping.let_through g stage' stage' count' count' views' id w rule at' (target g e) below zero_left);
+                }),
+              ),
+            )
         | inr ne ↦
-            let some_left : 0 < count' (target g e) = omega arith in
-            (w, keeps, tt, after, (leaves g s id me h at i new w refl after, rw (ne_eqb x 1 ne) (record {
-              stage = stage'; count = count'; views = views'; seat = id; rule = rule; at = at';
-              so = (some_left, keeping.held_back g stage' stage' count' count' views' id w rule at' (target g e) below some_left);
-            })))
+            let some_left : 0 < count' (target g e) = omega arith in (
+              w,
+              keeps,
+              tt,
+              after,
+              (
+                leaves g s id me h at i new w refl after,
+                rw (ne_eqb x 1 ne) (record {
+                  stage = stage';
+                  count = count';
+                  views = views';
+                  seat = id;
+                  rule = rule;
+                  at = at';
+                  so = (some_left, keeping.held_back g stage' stage' count' count' views' id w rule at' (target g e) below some_left);
+                }),
+              ),
+            )
       ]
 
   pub rests : (i : ℕ) → Allows (Holds g) slots id me i (λ x. x) (Rests g (step slots i 0 0 none) me)
