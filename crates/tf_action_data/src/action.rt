@@ -10,9 +10,9 @@ use tf_address::{InstanceKey, Label};
 /// An action of a plan from any prior state.
 #[derive(Debug, Drop)]
 pub struct Action {
-    /// The number of its resource, over configuration and state together (`tf_resources`).
+    /// The number of its resource, over configuration and state together (`tf_plan_resources`).
     pub resource: usize,
-    /// The number of its instance, among the members of the resource (`tf_members`).
+    /// The number of its instance, among the members of the resource (`tf_plan_resources`).
     pub instance: usize,
     /// The resource.
     pub label: Label,

@@ -21,7 +21,7 @@ use Rattle.tf_decision.specs.Decision.{DecisionView, change, current}
 use Rattle.tf_environment.proofs.Refining.{followed}
 use Rattle.tf_graph.specs.Digraph.{predecessors_of}
 use Rattle.tf_graph.specs.Solutions.{seen_by}
-use Rattle.tf_members.specs.Members.{is_among, is_of, records_of}
+use Rattle.tf_plan_resources.specs.Members.{is_among, is_of, records_of}
 use Rattle.tf_next_state.proofs.Changing.{found_label}
 use Rattle.tf_next_state.specs.Events.{ApplyView, apply_of_instance, as_apply, left_of_deposed, left_of_object, nothing_given}
 use Rattle.tf_outcome.specs.Objects.{object_of}

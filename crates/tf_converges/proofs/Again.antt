@@ -14,7 +14,7 @@ use Rattle.tf_environment.specs.Shape.{ShapeView}
 use Rattle.tf_environment.specs.Stages.{applying}
 use Rattle.tf_environment.specs.Standing.{StandingView, AreStandings, environment}
 use Rattle.tf_eval.specs.ExprMeaning.{meaning}
-use Rattle.tf_members.specs.Members.{is_among}
+use Rattle.tf_plan_resources.specs.Members.{is_among}
 use Rattle.tf_operators.specs.Answer.{Answer}
 use Rattle.tf_outcome.specs.Objects.{object_of}
 use Rattle.tf_outcome.specs.Outcome.{done_at}

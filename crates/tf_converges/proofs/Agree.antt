@@ -27,8 +27,8 @@ use Rattle.tf_precedence.specs.declared.action.Action.{Action as Ordered}
 use Rattle.tf_precedence.specs.declared.action.Kind.TheVariants.{Apply}
 use Rattle.tf_protocol.specs.Meaning.{Meaning}
 use Rattle.tf_report.proofs.Apart.{apply_is_current}
-use Rattle.tf_resources.proofs.Standing.{places-differ}
-use Rattle.tf_resources.specs.Numbering.{numbered}
+use Rattle.tf_plan_resources.proofs.Standing.{places-differ}
+use Rattle.tf_plan_resources.specs.Numbering.{numbered}
 use Rattle.tf_state_data.specs.Resource.{ResourceView}
 use Rattle.tf_state_data.specs.State.{StateView}
 use Rattle.tf_value.proofs.Conjunction.{and-both, and-first, and-second}

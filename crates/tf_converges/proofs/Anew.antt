@@ -19,9 +19,9 @@ use Rattle.tf_plan_data.specs.Plan.{PlanView, plan_names}
 use Rattle.tf_protocol.specs.Meaning.{Meaning}
 use Rattle.tf_report.specs.Events.{events, renewals}
 use Rattle.tf_report.specs.Report.{IsStateOf}
-use Rattle.tf_resources.proofs.Standing.{each-placed, resources-apart}
-use Rattle.tf_resources.specs.Laws as resources_laws
-use Rattle.tf_resources.specs.Numbering.{a_name, numbered, place_in}
+use Rattle.tf_plan_resources.proofs.Standing.{each-placed, resources-apart}
+use Rattle.tf_plan_resources.specs.Laws as resources_laws
+use Rattle.tf_plan_resources.specs.Numbering.{a_name, numbered, place_in}
 use Rattle.tf_state_after.proofs.Places.{found_id}
 use Rattle.tf_state_after.specs.After.{current_after, object_at, renewed}
 use Rattle.tf_state_after.specs.Ends.{AppliedView, unwanted}

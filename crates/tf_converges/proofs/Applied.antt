@@ -19,8 +19,8 @@ use Rattle.tf_plan_data.specs.Plan.{PlanView, plan_names}
 use Rattle.tf_protocol.specs.Meaning.{Meaning, schema_in}
 use Rattle.tf_protocol.specs.Schema.{SchemaView, IsSchema}
 use Rattle.tf_report.specs.Events.{events}
-use Rattle.tf_resources.specs.Laws as resources_laws
-use Rattle.tf_resources.specs.Numbering.{a_name}
+use Rattle.tf_plan_resources.specs.Laws as resources_laws
+use Rattle.tf_plan_resources.specs.Numbering.{a_name}
 use Rattle.tf_state.specs.Valid.{IsValid}
 use Rattle.tf_state_data.specs.Addresses.{AreByAddress}
 use Rattle.tf_state_data.specs.Ids.{AreById}

@@ -21,7 +21,7 @@ use Rattle.tf_environment.specs.Shape.{ShapeView, instance_keys}
 use Rattle.tf_environment.specs.Standing.{StandingView, AreStandings, environment}
 use Rattle.tf_eval.specs.Environment.{Environment}
 use Rattle.tf_graph.specs.Solutions.{Ranked}
-use Rattle.tf_members.specs.Members.{MemberView, is_among, is_of, member, members, records_of}
+use Rattle.tf_plan_resources.specs.Members.{MemberView, is_among, is_of, member, members, records_of}
 use Rattle.tf_next_state.proofs.Changing.{found_label}
 use Rattle.tf_next_state.proofs.Finding.{all_found, found_holds}
 use Rattle.tf_plan.proofs.Distinct.{to_map}
@@ -32,9 +32,9 @@ use Rattle.tf_plan.specs.Planned.{IsPlanned, unrefused}
 use Rattle.tf_plan_data.specs.Fits.{deposed_key, is_apply}
 use Rattle.tf_protocol.specs.Meaning.{Meaning, schema_in}
 use Rattle.tf_protocol.specs.Schema.{SchemaView}
-use Rattle.tf_resources.proofs.Standing.{each-placed, places-true}
-use Rattle.tf_resources.specs.Laws as resources_laws
-use Rattle.tf_resources.specs.Numbering.{NumberedView, a_name, an_orphan, address_of, block_address, has_block, is_address, is_at, numbered}
+use Rattle.tf_plan_resources.proofs.Standing.{each-placed, places-true}
+use Rattle.tf_plan_resources.specs.Laws as resources_laws
+use Rattle.tf_plan_resources.specs.Numbering.{NumberedView, a_name, an_orphan, address_of, block_address, has_block, is_address, is_at, numbered}
 use Rattle.tf_state_after.proofs.Places.{found_id}
 use Rattle.tf_state_data.specs.Addresses.{AreByAddress}
 use Rattle.tf_state_data.specs.Ids.{AreById}

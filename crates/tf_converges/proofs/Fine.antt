@@ -11,14 +11,14 @@ use Rattle.tf_deciding.specs.Whole.{decided, nothing_decided}
 use Rattle.tf_environment.specs.Shape.{ShapeView}
 use Rattle.tf_environment.specs.Standing.{StandingView, AreStandings}
 use Rattle.tf_graph.specs.Solutions.{Ranked}
-use Rattle.tf_members.specs.Members.{members}
+use Rattle.tf_plan_resources.specs.Members.{members}
 use Rattle.tf_plan.proofs.Listing.{decided-actions, place_actions}
 use Rattle.tf_plan.proofs.Solved.{planned-by}
 use Rattle.tf_plan.specs.Outputs.{output_refusals}
 use Rattle.tf_plan.specs.Planned.{IsPlanned, PlannedView, planned_in, unrefused}
 use Rattle.tf_plan.specs.Told.{instance_told}
 use Rattle.tf_protocol.specs.Meaning.{Meaning, schema_in}
-use Rattle.tf_resources.specs.Numbering.{NumberedView, a_name, an_orphan, numbered}
+use Rattle.tf_plan_resources.specs.Numbering.{NumberedView, a_name, an_orphan, numbered}
 use Rattle.tf_state_data.specs.Resource.{ResourceView}
 use Rattle.tf_syntax.specs.ExprTree as expr
 use Rattle.tf_value.specs.Tree.{Entries}

@@ -32,7 +32,7 @@ use Rattle.tf_eval.specs.Environment.{RefinesTo}
 use Rattle.tf_eval.specs.Locality.{AgreeOn}
 use Rattle.tf_graph.specs.Digraph.{predecessors_of}
 use Rattle.tf_graph.specs.Solutions.{seen_by}
-use Rattle.tf_members.specs.Members.{is_among}
+use Rattle.tf_plan_resources.specs.Members.{is_among}
 use Rattle.tf_outcome.specs.Asked.{asked_by_step, create_of, ignored_by, update_of}
 use Rattle.tf_outcome.specs.Objects.{object_of as answered_of}
 use Rattle.tf_outcome.specs.Outcome.{done_at, objects_by}

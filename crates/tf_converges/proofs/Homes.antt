@@ -18,7 +18,7 @@ use Rattle.tf_environment.specs.Standing.{rule}
 use Rattle.tf_graph.proofs.Edges.{contains_cases}
 use Rattle.tf_graph.proofs.Solving.{solution-exists}
 use Rattle.tf_graph.specs.Solutions.{Ranked}
-use Rattle.tf_members.specs.Members.{is_among, is_of, records_of}
+use Rattle.tf_plan_resources.specs.Members.{is_among, is_of, records_of}
 use Rattle.tf_next_state.proofs.Changing.{found_label}
 use Rattle.tf_next_state.specs.Laws.{IsInOrder}
 use Rattle.tf_next_state.specs.StateAfter.{has_records}
@@ -33,8 +33,8 @@ use Rattle.tf_plan_data.specs.Plan.{PlanView}
 use Rattle.tf_precedence.specs.Ties.{TiesView}
 use Rattle.tf_protocol.specs.Meaning.{Meaning}
 use Rattle.tf_report.specs.Report.{objects_after}
-use Rattle.tf_resources.specs.Laws as resources_laws
-use Rattle.tf_resources.specs.Numbering.{a_name, has_block}
+use Rattle.tf_plan_resources.specs.Laws as resources_laws
+use Rattle.tf_plan_resources.specs.Numbering.{a_name, has_block}
 use Rattle.tf_state_after.proofs.Places.{found_id}
 use Rattle.tf_state_after.specs.After.{object_at, renewed}
 use Rattle.tf_state_data.specs.Record.{RecordView}

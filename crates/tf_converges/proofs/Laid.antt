@@ -18,7 +18,7 @@ use Rattle.tf_environment.specs.Shape.{ShapeView, one, many, named, instance_key
 use Rattle.tf_environment.specs.Stages.{applying}
 use Rattle.tf_environment.specs.Standing.{StandingView, AreStandings, all_stand, answer_at, environment, or_missing, result_in, stands_at, together, where_all}
 use Rattle.tf_graph.specs.Solutions.{Ranked, seen_by}
-use Rattle.tf_members.specs.Members.{is_among}
+use Rattle.tf_plan_resources.specs.Members.{is_among}
 use Rattle.tf_operators.specs.Answer.{Answer, limited, present_value}
 use Rattle.tf_value.proofs.Conjunction.{and-both, and-first, and-second}
 use Rattle.tf_value.specs.Known.{known, known_entries, known_items}

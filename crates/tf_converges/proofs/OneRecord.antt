@@ -10,7 +10,7 @@ use Rattle.tf_address.specs.ObjectId.{InstanceKeyView, ObjectIdView, object_id_c
 use Rattle.tf_address.specs.Same.{same_instance_key}
 use Rattle.tf_deciding.specs.Stage.{records_at}
 use Rattle.tf_decision.specs.Decision.{current}
-use Rattle.tf_members.specs.Members.{is_of, records_of}
+use Rattle.tf_plan_resources.specs.Members.{is_of, records_of}
 use Rattle.tf_next_state.proofs.Finding.{filtered_ordered, first, found_filtered, same_lists}
 use Rattle.tf_next_state.proofs.One.{id_one}
 use Rattle.tf_plan.proofs.Objects.{one_key}

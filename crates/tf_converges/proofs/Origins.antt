@@ -13,12 +13,12 @@ use Rattle.tf_environment.specs.Shape.{ShapeView}
 use Rattle.tf_environment.specs.Standing.{StandingView, AreStandings, all_stand, environment}
 use Rattle.tf_graph.proofs.Edges.{contains_cases, contains_head, contains_tail}
 use Rattle.tf_graph.specs.Solutions.{Ranked, seen_by}
-use Rattle.tf_members.specs.Members.{MemberView, members}
+use Rattle.tf_plan_resources.specs.Members.{MemberView, members}
 use Rattle.tf_plan.proofs.Distinct.{in_flat_map, in_map, to_map}
 use Rattle.tf_plan.proofs.Listing.{block_actions, member_actions, meant_actions, of_at, outcome_actions, place_actions}
 use Rattle.tf_plan.specs.Planned.{IsPlanned, unrefused}
 use Rattle.tf_protocol.specs.Meaning.{Meaning, schema_in}
-use Rattle.tf_resources.specs.Numbering.{NumberedView, a_name, an_orphan, numbered}
+use Rattle.tf_plan_resources.specs.Numbering.{NumberedView, a_name, an_orphan, numbered}
 use Rattle.tf_state_data.specs.Resource.{ResourceView}
 use Rattle.tf_syntax.specs.ExprTree as expr
 use Rattle.tf_value.specs.Tree.{Entries}

@@ -16,9 +16,9 @@ use Rattle.tf_next_state.specs.Events.{ApplyView, RenewalView, apply_of_instance
 use Rattle.tf_plan.proofs.Distinct.{in_map, in_flat_map, to_map}
 use Rattle.tf_plan_data.specs.Plan.{PlanView, plan_names}
 use Rattle.tf_report.specs.Events.{is_about, is_none, renewal_of_record, renewals, renewals_at, renewals_of, stays}
-use Rattle.tf_resources.proofs.Standing.{places-true}
-use Rattle.tf_resources.specs.Laws as resources_laws
-use Rattle.tf_resources.specs.Numbering.{a_name, block_address, numbered, place_in}
+use Rattle.tf_plan_resources.proofs.Standing.{places-true}
+use Rattle.tf_plan_resources.specs.Laws as resources_laws
+use Rattle.tf_plan_resources.specs.Numbering.{a_name, block_address, numbered, place_in}
 use Rattle.tf_state_after.specs.Ends.{unplanned}
 use Rattle.tf_state_data.specs.Record.{RecordView}
 use Rattle.tf_state_data.specs.Resource.{ResourceView}

@@ -15,7 +15,7 @@ use Rattle.tf_environment.proofs.Refining.{followed}
 use Rattle.tf_environment.specs.Laws.{StandingsGrow}
 use Rattle.tf_environment.specs.Stages.{applying}
 use Rattle.tf_environment.specs.Standing.{StandingView, AreStandings, environment}
-use Rattle.tf_members.specs.Members.{is_among, records_of}
+use Rattle.tf_plan_resources.specs.Members.{is_among, records_of}
 use Rattle.tf_next_state.proofs.One.{some_known}
 use Rattle.tf_next_state.specs.StateAfter.{has_records}
 use Rattle.tf_outcome.specs.Asked.{asked_by_step}
@@ -24,7 +24,7 @@ use Rattle.tf_protocol.specs.Meaning.{schema_in}
 use Rattle.tf_protocol.specs.Schema.{SchemaView}
 use Rattle.tf_protocol.specs.Verdict.{is_good_verdict, verdict_on_object}
 use Rattle.tf_report.specs.Report.{objects_after}
-use Rattle.tf_resources.specs.Numbering.{has_block}
+use Rattle.tf_plan_resources.specs.Numbering.{has_block}
 use Rattle.tf_state_after.proofs.Places.{found_id}
 use Rattle.tf_state_after.specs.After.{object_at}
 use Rattle.tf_state_data.specs.Ids.{AreById}

@@ -20,7 +20,7 @@ use Rattle.tf_environment.specs.Standing.{StandingView, AreStandings, all_stand,
 use Rattle.tf_eval.proofs.Locality.{expressions_local}
 use Rattle.tf_eval.specs.Environment.{Environment}
 use Rattle.tf_graph.specs.Solutions.{Ranked, seen_by}
-use Rattle.tf_members.specs.Members.{MemberView, is_among, member, members, records_of}
+use Rattle.tf_plan_resources.specs.Members.{MemberView, is_among, member, members, records_of}
 use Rattle.tf_operators.specs.Answer.{limited}
 use Rattle.tf_plan.specs.Planned.{IsPlanned, unrefused}
 use Rattle.tf_protocol.specs.Meaning.{Meaning, schema_in}

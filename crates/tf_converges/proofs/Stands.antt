@@ -8,7 +8,7 @@ use Rattle.tf_config_data.specs.Names.{a_block, meant_at}
 use Rattle.tf_decision.specs.Decision.{DecisionView}
 use Rattle.tf_graph.specs.Digraph.{predecessors_of}
 use Rattle.tf_graph.specs.Solutions.{seen_by}
-use Rattle.tf_members.specs.Members.{is_among}
+use Rattle.tf_plan_resources.specs.Members.{is_among}
 use Rattle.tf_outcome.specs.Objects.{object_of, prior_object}
 use Rattle.tf_outcome.specs.Outcome.{done_at, objects_by}
 use Rattle.tf_plan.proofs.Distinct.{at-contained}

@@ -8,9 +8,9 @@ use Rattle.tf_deciding.specs.Stage.{records_at}
 use Rattle.tf_decision.specs.Decision.{change}
 use Rattle.tf_environment.specs.Shape.{ShapeView, instance_keys}
 use Rattle.tf_eval.specs.Environment.{Environment}
-use Rattle.tf_members.specs.Members.{is_among, records_of}
+use Rattle.tf_plan_resources.specs.Members.{is_among, records_of}
 use Rattle.tf_protocol.specs.Meaning.{Meaning}
-use Rattle.tf_resources.specs.Numbering.{has_block}
+use Rattle.tf_plan_resources.specs.Numbering.{has_block}
 use Rattle.tf_state_data.specs.Record.{RecordView}
 use Rattle.tf_state_data.specs.Resource.{ResourceView}
 use Rattle.tf_value.specs.Tree.{Tree, Entries}

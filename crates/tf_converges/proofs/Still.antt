@@ -26,13 +26,13 @@ use Rattle.tf_eval.specs.Environment.{Environment}
 use Rattle.tf_eval.specs.Locality.{AgreeOn}
 use Rattle.tf_graph.proofs.Solving.{all_by_weaker, solution-exists}
 use Rattle.tf_graph.specs.Solutions.{Ranked, seen_by}
-use Rattle.tf_members.specs.Members.{MemberView, is_among, member, members, records_of}
+use Rattle.tf_plan_resources.specs.Members.{MemberView, is_among, member, members, records_of}
 use Rattle.tf_operators.specs.Answer.{limited}
 use Rattle.tf_plan.proofs.Listing.{member_actions, meant_actions, of_at, place_actions}
 use Rattle.tf_protocol.specs.Meaning.{Meaning, schema_in}
 use Rattle.tf_protocol.specs.Schema.{SchemaView}
 use Rattle.tf_request.proofs.Answering.{next_is}
-use Rattle.tf_resources.specs.Numbering.{NumberedView, a_name, an_orphan, numbered}
+use Rattle.tf_plan_resources.specs.Numbering.{NumberedView, a_name, an_orphan, numbered}
 use Rattle.tf_state_data.specs.Record.{RecordView}
 use Rattle.tf_state_data.specs.Resource.{ResourceView}
 use Rattle.tf_value.proofs.Conjunction.{and-both}

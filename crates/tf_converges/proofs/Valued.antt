@@ -13,7 +13,7 @@ use Rattle.tf_environment.specs.Standing.{StandingView, AreStandings, all_stand,
 use Rattle.tf_eval.specs.Environment.{Environment}
 use Rattle.tf_graph.proofs.Solving.{solution-exists}
 use Rattle.tf_graph.specs.Solutions.{seen_by}
-use Rattle.tf_members.specs.Members.{is_among}
+use Rattle.tf_plan_resources.specs.Members.{is_among}
 use Rattle.tf_outcome.specs.Objects.{objects_seen, prior_object}
 use Rattle.tf_outcome.specs.Outcome.{Done, done_at}
 use Rattle.tf_outputs.specs.Outputs.{AreOutputsDone, IsOutputDone, OutputDone, excused, faulted, not_evaluated, valued}

@@ -18,7 +18,7 @@ use Rattle.tf_eval.specs.Environment.{Environment}
 use Rattle.tf_graph.proofs.Solving.{solution-exists}
 use Rattle.tf_graph.specs.Digraph.{Digraph}
 use Rattle.tf_graph.specs.Solutions.{Ranked, seen_by}
-use Rattle.tf_members.specs.Members.{is_among}
+use Rattle.tf_plan_resources.specs.Members.{is_among}
 use Rattle.tf_names.specs.Needs.{IsAcyclic}
 use Rattle.tf_outcome.specs.Outcome.{AreRequests, Done, Requests, called, excused, faulted, is_good, is_good_verdict, skipped}
 use Rattle.tf_outcome.specs.declared.excuse.Outcome.TheVariants.{Judged}

@@ -5,14 +5,14 @@ use Rattle.std.specs.List.Sorted.{IsStrictlySortedBy}
 use Rattle.tf_action_data.specs.Action.{ActionView}
 use Rattle.tf_address.specs.Label.{label_cmp}
 use Rattle.tf_address.specs.ObjectId.{InstanceKeyView}
-use Rattle.tf_address_order.specs.Order.{AreInAddressOrder}
+use Rattle.tf_plan_resources.specs.Order.{AreInAddressOrder}
 use Rattle.tf_change.specs.Instance.{instance_object}
 use Rattle.tf_config_data.specs.Config.{BlockView, ConfigView}
 use Rattle.tf_config_data.specs.Names.{a_block, meant_at}
 use Rattle.tf_environment.specs.Shape.{instance_keys}
 use Rattle.tf_environment.specs.Stages.{applying}
 use Rattle.tf_environment.specs.Standing.{StandingView, AreStandings, environment}
-use Rattle.tf_members.specs.Members.{is_among}
+use Rattle.tf_plan_resources.specs.Members.{is_among}
 use Rattle.tf_next_state.specs.Laws.{IsInOrder}
 use Rattle.tf_outcome.specs.Outcome.{AreOutcomes, AreRequests, Done, Requests, is_good}
 use Rattle.tf_outcome.specs.declared.excuse.Excuse.{Excuse}
@@ -27,7 +27,7 @@ use Rattle.tf_protocol.specs.Schema.{SchemaView, IsSchema}
 use Rattle.tf_protocol.specs.declared.verdict.Verdict.TheVariants.{Good}
 use Rattle.tf_report.specs.Report.{AreOutputsOf, IsReport, IsStateOf, objects_after}
 use Rattle.tf_report.specs.declared.report.Report.{Report}
-use Rattle.tf_resources.specs.Numbering.{numbered}
+use Rattle.tf_plan_resources.specs.Numbering.{numbered}
 use Rattle.tf_state.specs.Valid.{IsValid}
 use Rattle.tf_state_data.specs.State.{StateView, state_of}
 use Rattle.tf_value.specs.Known.{known_entries}

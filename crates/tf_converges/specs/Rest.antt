@@ -3,7 +3,7 @@ use Rattle.std.specs.Prelude.{◌≡◌, ℕ, true, List, [], ◌∷◌, Some, N
 use Rattle.std.specs.List.{AllByRecursion}
 use Rattle.tf_action_data.specs.Action.{ActionView}
 use Rattle.tf_address.specs.ObjectId.{InstanceKeyView}
-use Rattle.tf_address_order.specs.Order.{AreInAddressOrder}
+use Rattle.tf_plan_resources.specs.Order.{AreInAddressOrder}
 use Rattle.tf_change.specs.Instance.{instance_object}
 use Rattle.tf_config_data.specs.Config.{BlockView}
 use Rattle.tf_config_data.specs.Names.{NameView, a_block, meant_at, directly_before}
@@ -17,11 +17,11 @@ use Rattle.tf_environment.specs.Standing.{StandingView, AreStandings, environmen
 use Rattle.tf_eval.specs.Environment.{Environment}
 use Rattle.tf_eval.specs.ExprMeaning.{meaning}
 use Rattle.tf_graph.specs.Solutions.{Ranked}
-use Rattle.tf_members.specs.Members.{is_among, records_of}
+use Rattle.tf_plan_resources.specs.Members.{is_among, records_of}
 use Rattle.tf_plan.specs.Planned.{IsPlanned, unrefused}
 use Rattle.tf_protocol.specs.Meaning.{Meaning, schema_in}
 use Rattle.tf_protocol.specs.Schema.{SchemaView}
-use Rattle.tf_resources.specs.Numbering.{has_block, numbered}
+use Rattle.tf_plan_resources.specs.Numbering.{has_block, numbered}
 use Rattle.tf_state_data.specs.Record.{RecordView}
 use Rattle.tf_state_data.specs.Resource.{ResourceView}
 use Rattle.tf_syntax.specs.ExprTree as expr

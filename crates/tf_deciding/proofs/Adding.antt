@@ -3,7 +3,7 @@ use Rattle.std.proofs.Common.{◌≡◌, ℕ, List, Option, Result, Ok, Err, OnO
 use Rattle.tf_address.specs.Label.{LabelView}
 use Rattle.tf_deciding.specs.Deciding.{DecidedView, OfView, version_of, with_members}
 use Rattle.tf_deciding.specs.Outcome.{orphan_outcome}
-use Rattle.tf_members.specs.Members.{MemberView}
+use Rattle.tf_plan_resources.specs.Members.{MemberView}
 use Rattle.tf_protocol.specs.Schema.{SchemaView}
 
 module _ (n : ℕ) (own label : LabelView) (version : ℕ) (schema found : Option SchemaView) (named : own ≡ label) (versioned : version ≡ version_of schema) (same : schema ≡ found) where

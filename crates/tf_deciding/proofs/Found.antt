@@ -6,7 +6,7 @@ use Rattle.tf_change.specs.Instance.{InstanceFaultView}
 use Rattle.tf_config_data.specs.Config.{LifecycleView}
 use Rattle.tf_deciding.specs.Stage.{object_beside, object_unless_refused, stays_or_goes}
 use Rattle.tf_decision.specs.Decision.{DecisionView, RefusalView, current, decision}
-use Rattle.tf_members.specs.Members.{MemberView}
+use Rattle.tf_plan_resources.specs.Members.{MemberView}
 use Rattle.tf_protocol.specs.Schema.{SchemaView}
 use Rattle.tf_state_data.specs.Record.{RecordView}
 use Rattle.tf_value.specs.Tree.{Tree, tree_of}

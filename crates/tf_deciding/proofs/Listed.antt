@@ -1,10 +1,10 @@
 -- The members that were listed are those of the definition.
 use Rattle.std.proofs.Common.{◌≡◌, List, map, Result, Ok, Err, IfOk, Vec, Global, ap₂, ◌∙◌}
 use Rattle.tf_address.specs.ObjectId.{InstanceKeyView}
-use Rattle.tf_members.proofs.Listing.{those_members}
-use Rattle.tf_members.specs.Members.{AreMembers, members}
-use Rattle.tf_members.specs.Views.{member_of}
-use Rattle.tf_members.specs.declared.member.Member.{Member}
+use Rattle.tf_plan_resources.proofs.Listing.{those_members}
+use Rattle.tf_plan_resources.specs.Members.{AreMembers, members}
+use Rattle.tf_plan_resources.specs.MemberViews.{member_of}
+use Rattle.tf_plan_resources.specs.declared.member.Member.{Member}
 use Rattle.tf_state_data.specs.Record.{RecordView}
 
 pub listed : {E : Type 0} (keys own : List InstanceKeyView) (records kept : List RecordView) (result : Result (Vec Member Global) E) → keys ≡ own → records ≡ kept

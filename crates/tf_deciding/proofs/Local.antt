@@ -12,7 +12,7 @@ use Rattle.tf_environment.proofs.Locals.{together_same}
 use Rattle.tf_eval.proofs.Locality.{expressions_local}
 use Rattle.tf_eval.specs.Environment.{Environment}
 use Rattle.tf_eval.specs.Locality.{AgreeOn}
-use Rattle.tf_members.specs.Members.{records_of}
+use Rattle.tf_plan_resources.specs.Members.{records_of}
 use Rattle.tf_protocol.specs.Meaning.{schema_in}
 use Rattle.tf_protocol.specs.Schema.{SchemaView}
 use Rattle.tf_state_data.specs.Record.{RecordView}

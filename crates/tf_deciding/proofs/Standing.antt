@@ -2,7 +2,7 @@
 use Rattle.std.proofs.Common.{◌≡◌, ◌<◌, ◌++◌, ℕ, zero, suc, List, [], ◌∷◌, Some, map, length, sym, ap, ◌∙◌, arith}
 use Rattle.std.specs.Prelude.{slice_get}
 use Rattle.tf_config_data.specs.Names.{NameView}
-use Rattle.tf_resources.specs.Numbering.{NumberedView, a_name, an_orphan, numbered, orphans}
+use Rattle.tf_plan_resources.specs.Numbering.{NumberedView, a_name, an_orphan, numbered, orphans}
 use Rattle.tf_state_data.specs.Resource.{ResourceView}
 
 no_name : (rs : List ResourceView) (n : ℕ) (x : NameView) → slice_get (map an_orphan rs) n ≡ Some (a_name x) → ⊥

@@ -13,7 +13,7 @@ use Rattle.tf_deciding.specs.declared.collecting.Of.{Of}
 use Rattle.tf_deciding.specs.declared.collecting.Refused.{Refused}
 use Rattle.tf_environment.specs.Shape.{ShapeView}
 use Rattle.tf_eval.specs.Environment.{Environment}
-use Rattle.tf_members.specs.Members.{MemberView, members}
+use Rattle.tf_plan_resources.specs.Members.{MemberView, members}
 use Rattle.tf_protocol.specs.Meaning.{Meaning, schema_in}
 use Rattle.tf_protocol.specs.Schema.{SchemaView}
 use Rattle.tf_state_data.specs.Resource.{ResourceView}

@@ -6,7 +6,7 @@ use Rattle.tf_config_data.specs.Config.{BlockView, LifecycleView}
 use Rattle.tf_decision.specs.Decision.{DecisionView, RefusalView, decision, removal_refusal}
 use Rattle.tf_deciding.specs.Steps.{decided_steps, removal_steps}
 use Rattle.tf_eval.specs.Environment.{Environment}
-use Rattle.tf_members.specs.Members.{MemberView}
+use Rattle.tf_plan_resources.specs.Members.{MemberView}
 use Rattle.tf_protocol.specs.Schema.{SchemaView}
 use Rattle.tf_state_data.specs.Record.{RecordView}
 

@@ -10,7 +10,7 @@ use Rattle.tf_decision.specs.Decision.{DecisionView, RefusalView, nothing, creat
 use Rattle.tf_environment.specs.Shape.{ShapeView, instance_keys}
 use Rattle.tf_environment.specs.Standing.{StageView}
 use Rattle.tf_eval.specs.Environment.{Environment}
-use Rattle.tf_members.specs.Members.{MemberView, members, records_of}
+use Rattle.tf_plan_resources.specs.Members.{MemberView, members, records_of}
 use Rattle.tf_protocol.specs.Meaning.{Meaning, schema_in}
 use Rattle.tf_protocol.specs.Schema.{SchemaView}
 use Rattle.tf_state_data.specs.Record.{RecordView}

@@ -6,7 +6,7 @@ use Rattle.tf_environment.specs.Shape.{ShapeView}
 use Rattle.tf_environment.specs.Standing.{StandingView, all_stand, environment}
 use Rattle.tf_graph.specs.Solutions.{seen_by}
 use Rattle.tf_protocol.specs.Meaning.{Meaning}
-use Rattle.tf_resources.specs.Numbering.{NumberedView, a_name, an_orphan}
+use Rattle.tf_plan_resources.specs.Numbering.{NumberedView, a_name, an_orphan}
 use Rattle.tf_state_data.specs.Resource.{ResourceView}
 use Rattle.tf_value.specs.Tree.{Entries}
 

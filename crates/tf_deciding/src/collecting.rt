@@ -6,8 +6,8 @@ ghost use Rattle.tf_environment.specs.Words.{block_at, instance_key_of, label_of
 ghost use Rattle.tf_deciding.specs.Deciding.{action, decided_of, of_view, version_of, with_block, with_members, with_orphan, with_outcome};
 ghost use Rattle.tf_deciding.specs.Outcome.{member_outcome, orphan_outcome};
 ghost use Rattle.tf_deciding.specs.Views.{outcome_of, steps_of};
-ghost use Rattle.tf_members.specs.Views.{member_of};
-ghost use Rattle.tf_resources.specs.Words.{resource_of, state_of};
+ghost use Rattle.tf_plan_resources.specs.MemberViews.{member_of};
+ghost use Rattle.tf_plan_resources.specs.Words.{resource_of, state_of};
 
 use crate::outcome::{Why, member_outcome, orphan_outcome};
 use crate::stage::block_members;
@@ -17,7 +17,7 @@ use tf_address::{InstanceKey, Label};
 use tf_config_data::Block;
 use tf_environment::{Resource, Shape};
 use tf_eval::Scope;
-use tf_members::{Member, members};
+use tf_plan_resources::{Member, members};
 use tf_protocol::{Provider, Schema, schema_for};
 use tf_state_data::State;
 

@@ -15,7 +15,7 @@ use tf_config_data::Block;
 use tf_decision::{Decision, current, decide};
 use tf_environment::{Objects, Resource};
 use tf_eval::Scope;
-use tf_members::records_of;
+use tf_plan_resources::records_of;
 use tf_protocol::{Provider, Schema, schema_for};
 use tf_state_data::{Record, State};
 use tf_value::Value;

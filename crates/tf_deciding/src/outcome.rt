@@ -5,7 +5,7 @@ ghost use Rattle.tf_address.specs.Label.{LabelView};
 ghost use Rattle.tf_config_data.specs.Config.{block_at, lifecycle_of};
 ghost use Rattle.tf_deciding.specs.Outcome.{declared_outcome, member_outcome, orphan_outcome, removal_outcome};
 ghost use Rattle.tf_deciding.specs.Views.{outcome_of};
-ghost use Rattle.tf_members.specs.Views.{member_of};
+ghost use Rattle.tf_plan_resources.specs.MemberViews.{member_of};
 
 use crate::steps::{decided_steps, removal_steps};
 use std::alloc::{AllocError, Global};
@@ -14,7 +14,7 @@ use tf_change::plan_instance;
 use tf_config_data::{Block, Lifecycle};
 use tf_decision::{Refusal, decide, refuse_removal};
 use tf_eval::Scope;
-use tf_members::Member;
+use tf_plan_resources::Member;
 use tf_protocol::Schema;
 
 /// Why an instance is refused.

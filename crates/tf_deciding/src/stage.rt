@@ -4,7 +4,7 @@ ghost use Rattle.std.specs.Prelude.{◌≡◌, IfOk, map, option_map};
 ghost use Rattle.std.specs.List.{list_all};
 ghost use Rattle.tf_environment.specs.Words.{block_at, label_of, LabelView, lifecycle_of, shape_of, shapes_of};
 ghost use Rattle.tf_deciding.specs.Stage.{all_can_go, block_members, deciding, stays_or_goes};
-ghost use Rattle.tf_members.specs.Views.{member_of};
+ghost use Rattle.tf_plan_resources.specs.MemberViews.{member_of};
 ghost use Rattle.tf_state_data.specs.State.{state_of};
 
 use crate::objects::{DecidedObjects, records_at};
@@ -14,7 +14,7 @@ use tf_config_data::{Block, Lifecycle};
 use tf_decision::refuse_removal;
 use tf_environment::{Instanced, Resource, Shape, Stage, Standing};
 use tf_eval::Scope;
-use tf_members::{Member, members};
+use tf_plan_resources::{Member, members};
 use tf_protocol::{Provider, Schema, schema_for};
 use tf_state_data::State;
 

@@ -5,8 +5,8 @@ ghost use Rattle.tf_deciding.specs.Deciding.{decided_of};
 ghost use Rattle.tf_deciding.specs.Whole.{decided, with_numbered, with_meant};
 ghost use Rattle.tf_environment.specs.Words.{entries_view, IsDependence, names_in, shapes_of, standings_of};
 ghost use Rattle.tf_names.specs.Named.{named_view};
-ghost use Rattle.tf_resources.specs.Numbering.{numbered};
-ghost use Rattle.tf_resources.specs.Table.{numbered_in, resources_in};
+ghost use Rattle.tf_plan_resources.specs.Numbering.{numbered};
+ghost use Rattle.tf_plan_resources.specs.Table.{numbered_in, resources_in};
 ghost use Rattle.tf_state_data.specs.State.{state_of};
 
 use crate::collecting::Decided;
@@ -14,10 +14,10 @@ use crate::stage::Deciding;
 use std::alloc::{AllocError, Global};
 use tf_environment::{Declarations, NamesScope, Resource, Shape, Standing, all_stand};
 use tf_names::Named;
-use tf_resources::{Numbered, Numbering};
+use tf_plan_resources::{Numbered, Numbering};
 
 /// Decides all instances of a configuration and a prior state together, in the order of the places that are handed in
-/// (`tf_address_order`), where names stand for these standings, which are those of the stage. A block is looked at only where
+/// (`tf_plan_resources`), where names stand for these standings, which are those of the stage. A block is looked at only where
 /// nothing that it needs was refused.
 ///
 /// # Errors

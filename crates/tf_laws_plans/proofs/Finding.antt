@@ -25,9 +25,9 @@ use Rattle.tf_precedence.specs.Stored.{Needed}
 use Rattle.tf_precedence.specs.Ties.{TiesView}
 use Rattle.tf_protocol.specs.Meaning.{Meaning}
 use Rattle.tf_refusal.specs.Refusal.{Told}
-use Rattle.tf_resources.specs.Dependencies.{dependencies}
-use Rattle.tf_resources.specs.Marks.{is_marked}
-use Rattle.tf_resources.specs.Numbering.{numbered}
+use Rattle.tf_plan_resources.specs.Dependencies.{dependencies}
+use Rattle.tf_plan_resources.specs.Marks.{is_marked}
+use Rattle.tf_plan_resources.specs.Numbering.{numbered}
 use Rattle.tf_state_data.specs.Resource.{ResourceView}
 use Rattle.tf_state_data.specs.State.{StateView}
 use Rattle.tf_value.specs.Tree.{Entries}

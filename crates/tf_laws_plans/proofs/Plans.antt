@@ -23,9 +23,9 @@ use Rattle.tf_plan_text.specs.Text.{plan_text}
 use Rattle.tf_precedence.specs.Ties.{TiesView}
 use Rattle.tf_protocol.specs.Meaning.{Meaning}
 use Rattle.tf_refusal.specs.Refusal.{Told}
-use Rattle.tf_resources.proofs.Standing.{resources-apart}
-use Rattle.tf_resources.specs.Laws.{AreApart}
-use Rattle.tf_resources.specs.Numbering.{a_name, numbered}
+use Rattle.tf_plan_resources.proofs.Standing.{resources-apart}
+use Rattle.tf_plan_resources.specs.Laws.{AreApart}
+use Rattle.tf_plan_resources.specs.Numbering.{a_name, numbered}
 use Rattle.tf_state_data.specs.State.{StateView}
 use Rattle.tf_syntax.specs.TemplateNames.{Pair}
 use Rattle.tf_value.specs.Tree.{Entries}

@@ -13,8 +13,8 @@ use Rattle.tf_graph.specs.Solutions.{Ranked, seen_by}
 use Rattle.tf_plan.proofs.Solved.{planned-by}
 use Rattle.tf_plan.specs.Planned.{IsPlanned, PlannedView, planned_in, with_outputs}
 use Rattle.tf_protocol.specs.Meaning.{Meaning}
-use Rattle.tf_resources.specs.Laws.{AreApart}
-use Rattle.tf_resources.specs.Numbering.{NumberedView, a_name, an_orphan, numbered}
+use Rattle.tf_plan_resources.specs.Laws.{AreApart}
+use Rattle.tf_plan_resources.specs.Numbering.{NumberedView, a_name, an_orphan, numbered}
 use Rattle.tf_state_data.specs.Resource.{ResourceView}
 use Rattle.tf_syntax.specs.ExprTree as expr
 use Rattle.tf_value.specs.Tree.{Entries}

@@ -24,9 +24,9 @@ use Rattle.tf_precedence.specs.Order.{IsOrder}
 use Rattle.tf_precedence.specs.Stored.{Needed, turned}
 use Rattle.tf_precedence.specs.Ties.{AreSound, TiesView}
 use Rattle.tf_protocol.specs.Meaning.{Meaning}
-use Rattle.tf_resources.specs.Dependencies.{dependencies}
-use Rattle.tf_resources.specs.Marks.{is_marked}
-use Rattle.tf_resources.specs.Numbering.{numbered}
+use Rattle.tf_plan_resources.specs.Dependencies.{dependencies}
+use Rattle.tf_plan_resources.specs.Marks.{is_marked}
+use Rattle.tf_plan_resources.specs.Numbering.{numbered}
 use Rattle.tf_state.specs.Valid.{IsPresent, IsValid}
 use Rattle.tf_state_data.specs.Ids.{AreById}
 use Rattle.tf_state_data.specs.State.{StateView}

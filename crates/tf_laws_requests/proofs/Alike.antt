@@ -18,7 +18,7 @@ use Rattle.tf_eval.proofs.Locality.{expressions_local}
 use Rattle.tf_eval.specs.Environment.{Environment}
 use Rattle.tf_graph.proofs.Edges.{all_by_contained}
 use Rattle.tf_graph.proofs.Solving.{all_by_at, solution-exists}
-use Rattle.tf_members.specs.Members.{is_among}
+use Rattle.tf_plan_resources.specs.Members.{is_among}
 use Rattle.tf_outcome.specs.Asked.{AreRequests, Requests}
 use Rattle.tf_plan_data.specs.Plan.{plan_names}
 use Rattle.tf_protocol.specs.Schema.{SchemaView}

@@ -25,7 +25,7 @@ use Rattle.tf_environment.specs.Standing.{environment, environment_at, result_in
 use Rattle.tf_eval.proofs.Locality.{expressions_local}
 use Rattle.tf_eval.specs.Locality.{AgreeOn}
 use Rattle.tf_graph.specs.Solutions.{seen_by}
-use Rattle.tf_members.specs.Members.{is_among}
+use Rattle.tf_plan_resources.specs.Members.{is_among}
 use Rattle.tf_outcome.specs.Objects.{prior_object}
 use Rattle.tf_plan_data.specs.Fits.{IsDeclared, is_apply}
 use Rattle.tf_plan_data.specs.Plan.{plan_names}

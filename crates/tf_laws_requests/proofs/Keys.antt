@@ -35,7 +35,7 @@ use Rattle.tf_expand.specs.Laws.{AllStandWhereNoneIsRefused}
 use Rattle.tf_graph.proofs.Edges.{all_by_contained}
 use Rattle.tf_graph.proofs.Solving.{all_by_at}
 use Rattle.tf_graph.specs.Solutions.{seen_by}
-use Rattle.tf_members.specs.Members.{is_among}
+use Rattle.tf_plan_resources.specs.Members.{is_among}
 use Rattle.tf_operators.specs.Answer.{Answer}
 use Rattle.tf_operators.specs.declared.fault.EvalFault.{EvalFault}
 use Rattle.tf_outcome.specs.Asked.{AreRequests, Requests, asked_for, ignored_by}

@@ -8,7 +8,7 @@ use Rattle.tf_address.specs.Label.{LabelView}
 use Rattle.tf_address.specs.ObjectId.{InstanceKeyView}
 use Rattle.tf_deciding.specs.Deciding.{OfView, action}
 use Rattle.tf_deciding.specs.Outcome.{OutcomeView}
-use Rattle.tf_members.specs.Members.{MemberView, all_keys, member, members}
+use Rattle.tf_plan_resources.specs.Members.{MemberView, all_keys, member, members}
 use Rattle.tf_plan.proofs.Distinct.{AreDistinct, distinct-flat, distinct-told, in_flat_map, in_map}
 use Rattle.tf_plan.proofs.Listing.{member_actions, outcome_actions}
 use Rattle.tf_plan.proofs.Objects.{keys-distinct}

@@ -10,7 +10,7 @@ use Rattle.std.specs.Option.{option_map_or}
 use Rattle.std.specs.Prelude.{Contains, find, option_and_then, slice_get}
 use Rattle.tf_action_data.specs.Action.{ActionView}
 use Rattle.tf_address.specs.Label.{LabelView, label_cmp}
-use Rattle.tf_address_order.specs.Order.{is_resource}
+use Rattle.tf_plan_resources.specs.Order.{is_resource}
 use Rattle.tf_config_data.specs.Names.{NameView, Meant, a_local, a_block, meant_at, directly_before}
 use Rattle.tf_deciding.proofs.Standing.{named_within}
 use Rattle.tf_deciding.specs.Outcome.{member_outcome, orphan_outcome}
@@ -21,7 +21,7 @@ use Rattle.tf_environment.specs.Standing.{StandingView, all_stand, environment}
 use Rattle.tf_expand.specs.Expanding.{instances_before}
 use Rattle.tf_graph.specs.Digraph.{Digraph}
 use Rattle.tf_graph.specs.Solutions.{seen_by}
-use Rattle.tf_members.specs.Members.{member, members}
+use Rattle.tf_plan_resources.specs.Members.{member, members}
 use Rattle.tf_plan.proofs.About.{resource-about, resource-distinct}
 use Rattle.tf_plan.proofs.Blocks.{placed-at}
 use Rattle.tf_plan.proofs.Counting.{instances-numbered}
@@ -35,9 +35,9 @@ use Rattle.tf_plan.specs.Planned.{AreInstances, IsPlanned, PlannedView, unrefuse
 use Rattle.tf_plan_data.specs.Fits.{AboutView, about, AreApart, IsDeclared, IsPlaced}
 use Rattle.tf_plan_data.specs.Served.{AreServed, IsServedBy}
 use Rattle.tf_protocol.specs.Meaning.{Meaning, schema_in}
-use Rattle.tf_resources.proofs.Standing.{numbers-in_order, resources-apart}
-use Rattle.tf_resources.specs.Laws as resources_laws
-use Rattle.tf_resources.specs.Numbering.{NumberedView, a_name, an_orphan, address_of, block_address, has_block, numbered, orphans, place_in}
+use Rattle.tf_plan_resources.proofs.Standing.{numbers-in_order, resources-apart}
+use Rattle.tf_plan_resources.specs.Laws as resources_laws
+use Rattle.tf_plan_resources.specs.Numbering.{NumberedView, a_name, an_orphan, address_of, block_address, has_block, numbered, orphans, place_in}
 use Rattle.tf_state_data.specs.Addresses.{AreByAddress}
 use Rattle.tf_state_data.specs.Ids.{AreById}
 use Rattle.tf_state_data.specs.Resource.{ResourceView, resource_of}

@@ -15,9 +15,9 @@ use Rattle.tf_environment.specs.Shape.{ShapeView}
 use Rattle.tf_environment.specs.Standing.{StandingView, all_stand, environment}
 use Rattle.tf_eval.specs.Environment.{Environment}
 use Rattle.tf_graph.specs.Solutions.{seen_by}
-use Rattle.tf_members.specs.Members.{MemberView, members}
+use Rattle.tf_plan_resources.specs.Members.{MemberView, members}
 use Rattle.tf_protocol.specs.Meaning.{Meaning, schema_in}
-use Rattle.tf_resources.specs.Numbering.{NumberedView, a_name, an_orphan}
+use Rattle.tf_plan_resources.specs.Numbering.{NumberedView, a_name, an_orphan}
 use Rattle.tf_state_data.specs.Resource.{ResourceView}
 use Rattle.tf_value.specs.Tree.{Entries}
 

@@ -3,7 +3,7 @@ use Rattle.std.proofs.Common.{◌≡◌, ◌∙◌, ◌++◌, ℕ, true, Option,
 use Rattle.std.specs.List.{AllByRecursion}
 use Rattle.std.specs.Prelude.{fold, slice_get}
 use Rattle.std.specs.declared.alloc.AllocError.{AllocError}
-use Rattle.tf_address_order.specs.Order.{AreInAddressOrder}
+use Rattle.tf_plan_resources.specs.Order.{AreInAddressOrder}
 use Rattle.tf_change.proofs.Locals.{instances_local}
 use Rattle.tf_config_data.specs.Config.{BlockView}
 use Rattle.tf_config_data.specs.Names.{NameView, Meant, a_local, a_block, block_refers, meant_at, refers_at, directly_before, places}
@@ -23,7 +23,7 @@ use Rattle.tf_expand.specs.Needed.{is_resource}
 use Rattle.tf_graph.proofs.Edges.{all_by_contained}
 use Rattle.tf_graph.proofs.Solving.{seen_by-same}
 use Rattle.tf_graph.specs.Solutions.{seen_by}
-use Rattle.tf_members.specs.Members.{MemberView}
+use Rattle.tf_plan_resources.specs.Members.{MemberView}
 use Rattle.tf_names.proofs.Tables.{places-append}
 use Rattle.tf_names.specs.Needs.{IsAcyclic, IsDependence}
 use Rattle.tf_names.specs.declared.dependence.Dependence.{Dependence}
@@ -36,7 +36,7 @@ use Rattle.tf_plan.specs.Wanted.{IsWanted}
 use Rattle.tf_plan.specs.declared.deciding.Planned.{Planned}
 use Rattle.tf_protocol.specs.Meaning.{Meaning, schema_in}
 use Rattle.tf_protocol.specs.Schema.{SchemaView}
-use Rattle.tf_resources.specs.Numbering.{NumberedView, a_name, an_orphan, numbered}
+use Rattle.tf_plan_resources.specs.Numbering.{NumberedView, a_name, an_orphan, numbered}
 use Rattle.tf_state_data.specs.Resource.{ResourceView}
 use Rattle.tf_syntax.specs.ExprNames.{named_below, named_by}
 use Rattle.tf_syntax.specs.ExprTree as expr

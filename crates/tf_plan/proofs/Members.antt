@@ -15,7 +15,7 @@ use Rattle.tf_deciding.specs.Outcome.{by_decision, by_removal, declared_outcome,
 use Rattle.tf_deciding.specs.Steps.{decided_steps, removal_steps}
 use Rattle.tf_decision.specs.Decision.{DecisionView, RefusalView, decision, removal_refusal}
 use Rattle.tf_eval.specs.Environment.{Environment}
-use Rattle.tf_members.specs.Members.{MemberView, is_among, member, members, all_keys}
+use Rattle.tf_plan_resources.specs.Members.{MemberView, is_among, member, members, all_keys}
 use Rattle.tf_plan.proofs.Distinct.{AreDistinct}
 use Rattle.tf_plan.proofs.Listing.{member_actions, of_at, outcome_actions}
 use Rattle.tf_plan.proofs.Objects.{one_key}

@@ -17,10 +17,10 @@ use Rattle.tf_plan.specs.Ordered.{AreTied, stored_graph}
 use Rattle.tf_precedence.specs.Late.{IsLate, Leads}
 use Rattle.tf_precedence.specs.Stored.{turned}
 use Rattle.tf_precedence.specs.Ties.{TiesView}
-use Rattle.tf_resources.specs.Dependencies.{dependencies}
-use Rattle.tf_resources.specs.Marks.{is_marked}
-use Rattle.tf_resources.specs.Laws.{AreApart}
-use Rattle.tf_resources.specs.Numbering.{NumberedView, a_name, address_of, block_address, numbered}
+use Rattle.tf_plan_resources.specs.Dependencies.{dependencies}
+use Rattle.tf_plan_resources.specs.Marks.{is_marked}
+use Rattle.tf_plan_resources.specs.Laws.{AreApart}
+use Rattle.tf_plan_resources.specs.Numbering.{NumberedView, a_name, address_of, block_address, numbered}
 use Rattle.tf_state_data.specs.Resource.{ResourceView}
 use Rattle.tf_syntax.specs.ExprTree as expr
 use Rattle.tf_syntax.specs.TemplateNames.{Pair}

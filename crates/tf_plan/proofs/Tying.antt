@@ -15,9 +15,9 @@ use Rattle.tf_precedence.specs.Late.{AreLate, IsLate, Leads}
 use Rattle.tf_precedence.specs.Stored.{IsStored, Needed}
 use Rattle.tf_precedence.specs.Ties.{AreSound}
 use Rattle.tf_precedence.specs.declared.stored.Stored.{Stored}
-use Rattle.tf_resources.specs.Dependencies.{dependencies}
-use Rattle.tf_resources.specs.Marks.{is_marked}
-use Rattle.tf_resources.specs.Numbering.{NumberedView, numbered}
+use Rattle.tf_plan_resources.specs.Dependencies.{dependencies}
+use Rattle.tf_plan_resources.specs.Marks.{is_marked}
+use Rattle.tf_plan_resources.specs.Numbering.{NumberedView, numbered}
 use Rattle.tf_state_data.specs.Resource.{ResourceView}
 
 late-onward : (needs needed : Digraph) (marked : List Bool) (a b : ℕ) → IsLate needs needed marked a → Leads needs needed a b → IsLate needs needed marked b

@@ -4,8 +4,8 @@ use Rattle.tf_config_data.specs.Names.{NameView}
 use Rattle.tf_names.specs.Needs.{IsAcyclic, IsDependence}
 use Rattle.tf_names.specs.Table.{names_in}
 use Rattle.tf_plan.specs.declared.deciding.Given.{Given}
-use Rattle.tf_resources.specs.Numbering.{numbered}
-use Rattle.tf_resources.specs.Table.{numbered_in, resources_in}
+use Rattle.tf_plan_resources.specs.Numbering.{numbered}
+use Rattle.tf_plan_resources.specs.Table.{numbered_in, resources_in}
 use Rattle.tf_state_data.specs.Resource.{ResourceView}
 use Rattle.tf_state_data.specs.State.{state_of}
 use Rattle.tf_syntax.specs.ExprTree as expr

@@ -12,9 +12,9 @@ use Rattle.tf_precedence.specs.Order.{pairs}
 use Rattle.tf_precedence.specs.Stored.{Needed, turned}
 use Rattle.tf_precedence.specs.Ties.{TiesView}
 use Rattle.tf_precedence.specs.declared.stored.Stored.{Stored}
-use Rattle.tf_resources.specs.Dependencies.{dependencies}
-use Rattle.tf_resources.specs.Marks.{is_marked}
-use Rattle.tf_resources.specs.Numbering.{NumberedView, numbered}
+use Rattle.tf_plan_resources.specs.Dependencies.{dependencies}
+use Rattle.tf_plan_resources.specs.Marks.{is_marked}
+use Rattle.tf_plan_resources.specs.Numbering.{NumberedView, numbered}
 use Rattle.tf_state_data.specs.Resource.{ResourceView}
 
 -- the most pairs of actions of which one is before the other that a plan may have

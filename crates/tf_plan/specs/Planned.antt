@@ -1,7 +1,7 @@
 -- What is planned of a configuration beside a prior state, and what is refused.
 use Rattle.std.specs.Prelude.{◌≡◌, ℕ, List, [], ◌++◌, map}
 use Rattle.tf_action_data.specs.Action.{ActionView, action_of}
-use Rattle.tf_address_order.specs.Order.{AreInAddressOrder}
+use Rattle.tf_plan_resources.specs.Order.{AreInAddressOrder}
 use Rattle.tf_config_data.specs.Names.{NameView}
 use Rattle.tf_deciding.specs.Deciding.{DecidedView}
 use Rattle.tf_deciding.specs.Stage.{deciding}
@@ -15,7 +15,7 @@ use Rattle.tf_plan.specs.Told.{instance_told}
 use Rattle.tf_plan.specs.declared.deciding.Planned.{Planned}
 use Rattle.tf_protocol.specs.Meaning.{Meaning}
 use Rattle.tf_refusal.specs.Refusal.{Told, told}
-use Rattle.tf_resources.specs.Numbering.{numbered}
+use Rattle.tf_plan_resources.specs.Numbering.{numbered}
 use Rattle.tf_state_data.specs.Resource.{ResourceView}
 use Rattle.tf_syntax.specs.ExprTree as expr
 use Rattle.tf_value.specs.Tree.{Entries}

@@ -13,12 +13,11 @@ use crate::wanted::wanted_names;
 use std::alloc::{AllocError, Global};
 use std::collections::BTreeMap;
 use tf_action_data::Action;
-use tf_address_order::address_order;
 use tf_deciding::{Decided, DecidedObjects, Deciding, decide_all};
 use tf_environment::{Declarations, Shape, Standing, standings};
+use tf_plan_resources::{Numbering, address_order};
 use tf_protocol::Provider;
 use tf_refusal::Refusal;
-use tf_resources::Numbering;
 use tf_state_data::State;
 use tf_syntax::Expr;
 

@@ -12,8 +12,8 @@ use tf_action_data::Action;
 use tf_environment::Declarations;
 use tf_graph::MAX_NODES;
 use tf_names::Dependence;
+use tf_plan_resources::Numbering;
 use tf_precedence::{Order, OrderFault, Stored, Ties, lateness};
-use tf_resources::Numbering;
 
 /// The order of a plan's actions.
 #[derive(Drop)]

@@ -20,9 +20,9 @@ use tf_expand::expand;
 use tf_graph::MAX_NODES;
 use tf_names::{Dependence, Names};
 use tf_plan_data::Plan;
+use tf_plan_resources::Numbering;
 use tf_precedence::Order;
 use tf_protocol::Provider;
-use tf_resources::Numbering;
 use tf_state_data::State;
 use tf_value::Value;
 

@@ -7,7 +7,7 @@ use Rattle.tf_address.specs.ObjectId.{InstanceKeyView, single, number, name}
 use Rattle.tf_config_data.specs.Config.{BlockView, config_of}
 use Rattle.tf_config_data.specs.Names.{NameView, a_block, meant_at, names_of}
 use Rattle.tf_names.specs.Needs.{IsAcyclic, IsDependence}
-use Rattle.tf_resources.specs.Numbering.{NumberedView, numbered, place_in}
+use Rattle.tf_plan_resources.specs.Numbering.{NumberedView, numbered, place_in}
 use Rattle.tf_state_data.specs.State.{state_of}
 use Rattle.tf_plan_data.specs.declared.plan.Plan.{Plan}
 

@@ -10,8 +10,8 @@ pub use Rattle.tf_plan_data.specs.Fits.{deposed_key, FitsTogether, is_apply, IsD
 pub use Rattle.tf_plan_data.specs.Plan.{plan_names, plan_of}
 pub use Rattle.tf_plan_data.specs.Served.{AreServed, IsServedBy}
 pub use Rattle.tf_precedence.specs.Ties.{AreSound}
-pub use Rattle.tf_resources.specs.Laws.{AreApart}
-pub use Rattle.tf_resources.specs.Numbering.{a_name, numbered}
-pub use Rattle.tf_resources.specs.Table.{numbered_in, resources_in}
+pub use Rattle.tf_plan_resources.specs.Laws.{AreApart}
+pub use Rattle.tf_plan_resources.specs.Numbering.{a_name, numbered}
+pub use Rattle.tf_plan_resources.specs.Table.{numbered_in, resources_in}
 pub use Rattle.tf_state_data.specs.State.{state_of}
 pub use Rattle.tf_value.specs.Tree.{boolean, items_view, null, texts_view}

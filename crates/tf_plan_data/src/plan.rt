@@ -25,7 +25,7 @@ pub struct Plan {
     pub dependence: Dependence,
     /// How the instances of each resource stand together, by the place of its name.
     pub shapes: Vec<Shape>,
-    /// For each resource of configuration and prior state together, by its number (`tf_resources`), whether it is late:
+    /// For each resource of configuration and prior state together, by its number (`tf_plan_resources`), whether it is late:
     /// what replaces an object of it is created before that object is destroyed.
     pub late: Vec<bool>,
     /// The actions, in address order.

@@ -19,7 +19,7 @@ use Rattle.tf_outcome.specs.Outcome.{Done}
 use Rattle.tf_plan_data.specs.Fits.{AreApart, IsPlaced, about, is_apply, deposed_key}
 use Rattle.tf_plan_data.specs.Plan.{PlanView, plan_names}
 use Rattle.tf_protocol.specs.Meaning.{Meaning}
-use Rattle.tf_resources.specs.Numbering.{NumberedView, numbered, place_in}
+use Rattle.tf_plan_resources.specs.Numbering.{NumberedView, numbered, place_in}
 use Rattle.tf_state_after.specs.After.{object_at}
 use Rattle.tf_state_after.specs.Ends.{AppliedView, LeftView, GivenView}
 use Rattle.tf_state_data.specs.Addresses.{AreByAddress}

@@ -13,7 +13,7 @@ use Rattle.tf_outcome.specs.Outcome.{Done}
 use Rattle.tf_plan_data.specs.Fits.{deposed_key}
 use Rattle.tf_plan_data.specs.Plan.{PlanView, plan_names}
 use Rattle.tf_protocol.specs.Meaning.{Meaning}
-use Rattle.tf_resources.specs.Numbering.{numbered, place_in}
+use Rattle.tf_plan_resources.specs.Numbering.{numbered, place_in}
 use Rattle.tf_state_data.specs.Record.{RecordView}
 use Rattle.tf_state_data.specs.Resource.{ResourceView}
 

@@ -12,7 +12,7 @@ use tf_address::{InstanceKey, Label};
 use tf_names::Names;
 use tf_next_state::Renewal;
 use tf_plan_data::{Action, Plan, Step};
-use tf_resources::Numbering;
+use tf_plan_resources::Numbering;
 use tf_state_after::Given;
 use tf_state_data::{Record, Resource};
 

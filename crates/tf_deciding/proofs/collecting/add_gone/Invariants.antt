@@ -2,7 +2,7 @@ use Rattle.std.proofs.Common.{◌≡◌, drop, map, option_map}
 use Rattle.tf_deciding.proofs.collecting.add_gone.Given as goal
 use Rattle.tf_deciding.specs.Deciding.{decided_of, of_view, with_members}
 use Rattle.tf_deciding.specs.Outcome.{orphan_outcome}
-use Rattle.tf_members.specs.Views.{member_of}
+use Rattle.tf_plan_resources.specs.MemberViews.{member_of}
 
 abbrev pub invariant-loop-index : goal.invariant-loop-index
 invariant-loop-index l =

@@ -6,7 +6,7 @@ use Rattle.tf_config_data.specs.Config.{block_at}
 use Rattle.tf_deciding.proofs.collecting.add_members.Goals as goal
 use Rattle.tf_deciding.specs.Deciding.{decided_of, of_view, with_members, with_outcome}
 use Rattle.tf_deciding.specs.Outcome.{member_outcome}
-use Rattle.tf_members.specs.Views.{member_of}
+use Rattle.tf_plan_resources.specs.MemberViews.{member_of}
 
 pub loop-index-preserved : goal.loop-index-preserved
 loop-index-preserved g c =

@@ -4,7 +4,7 @@ use Rattle.tf_config_data.specs.Config.{block_at, lifecycle_of}
 use Rattle.tf_deciding.proofs.Found.{all_free}
 use Rattle.tf_deciding.specs.Stage.{block_members}
 use Rattle.tf_environment.specs.Views.{shape_of}
-use Rattle.tf_members.specs.Views.{member_of}
+use Rattle.tf_plan_resources.specs.MemberViews.{member_of}
 use Rattle.tf_deciding.proofs.stage.all_can_go.Goals as goal
 use Rattle.tf_state_data.specs.State.{state_of}
 

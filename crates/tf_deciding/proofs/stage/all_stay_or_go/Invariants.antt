@@ -3,7 +3,7 @@ use Rattle.std.specs.List.{list_all}
 use Rattle.tf_config_data.specs.Config.{lifecycle_of}
 use Rattle.tf_deciding.proofs.stage.all_stay_or_go.Given as goal
 use Rattle.tf_deciding.specs.Stage.{stays_or_goes}
-use Rattle.tf_members.specs.Views.{member_of}
+use Rattle.tf_plan_resources.specs.MemberViews.{member_of}
 
 abbrev pub invariant-loop-member : goal.invariant-loop-member
 invariant-loop-member l =

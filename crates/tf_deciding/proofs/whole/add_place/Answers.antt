@@ -2,7 +2,7 @@ use Rattle.tf_deciding.proofs.Standing.{named_within}
 use Rattle.tf_deciding.proofs.whole.add_place.Goals as goal
 use Rattle.tf_names.specs.Named.{named_view}
 use Rattle.tf_names.specs.Table.{names_in}
-use Rattle.tf_resources.specs.Table.{numbered_in, resources_in}
+use Rattle.tf_plan_resources.specs.Table.{numbered_in, resources_in}
 
 pub add_named-requires-clause-place : goal.add_named-requires-clause-place
 add_named-requires-clause-place g c =

@@ -4,7 +4,7 @@ use Rattle.tf_deciding.specs.Deciding.{decided_of}
 use Rattle.tf_deciding.specs.Whole.{decided}
 use Rattle.tf_environment.specs.Views.{shapes_of, standings_of}
 use Rattle.tf_names.specs.Table.{names_in}
-use Rattle.tf_resources.specs.Table.{numbered_in}
+use Rattle.tf_plan_resources.specs.Table.{numbered_in}
 use Rattle.tf_state_data.specs.State.{state_of}
 use Rattle.tf_value.specs.Tree.{entries_view}
 

@@ -1,9 +1,9 @@
 use Rattle.std.proofs.Common.{map}
-use Rattle.tf_address_order.specs.Order.{AreInAddressOrder}
+use Rattle.tf_plan_resources.specs.Order.{AreInAddressOrder}
 use Rattle.tf_environment.specs.Views.{shapes_of, standings_of}
 use Rattle.tf_plan.proofs.Looking.{planned-is}
 use Rattle.tf_plan.specs.Given.{names_given, outputs_given, resources_given, variables_given}
-use Rattle.tf_resources.specs.Numbering.{numbered}
+use Rattle.tf_plan_resources.specs.Numbering.{numbered}
 use Rattle.tf_plan.proofs.deciding.plan_instances.Goals as goal
 
 pub returns : goal.returns

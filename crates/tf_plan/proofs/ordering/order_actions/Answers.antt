@@ -5,8 +5,8 @@ use Rattle.tf_action_data.specs.Action.{action_of}
 use Rattle.tf_names.specs.Table.{names_in}
 use Rattle.tf_plan.proofs.Tying.{order-is, pairs-refused, ties-sound}
 use Rattle.tf_precedence.specs.Late.{AreLate}
-use Rattle.tf_resources.specs.Marks.{is_marked}
-use Rattle.tf_resources.specs.Table.{numbered_in, resources_in}
+use Rattle.tf_plan_resources.specs.Marks.{is_marked}
+use Rattle.tf_plan_resources.specs.Table.{numbered_in, resources_in}
 use Rattle.tf_plan.proofs.ordering.order_actions.Goals as goal
 
 pub order_by-requires-clause-sound : goal.order_by-requires-clause-sound

@@ -3,9 +3,9 @@ use Rattle.tf_address.specs.Label.{label_of}
 use Rattle.tf_deciding.proofs.Adding.{orphan_added}
 use Rattle.tf_deciding.proofs.collecting.Decided.add_orphan.Goals as goal
 use Rattle.tf_deciding.specs.Deciding.{decided_of}
-use Rattle.tf_members.proofs.Listing.{those_members}
-use Rattle.tf_members.specs.Members.{members}
-use Rattle.tf_members.specs.Views.{member_of}
+use Rattle.tf_plan_resources.proofs.Listing.{those_members}
+use Rattle.tf_plan_resources.specs.Members.{members}
+use Rattle.tf_plan_resources.specs.MemberViews.{member_of}
 use Rattle.tf_protocol.specs.Meaning.{schema_in}
 use Rattle.tf_state_data.specs.Record.{record_of}
 use Rattle.tf_state_data.specs.Resource.{resource_of}

@@ -4,7 +4,7 @@ use Rattle.tf_address.specs.ObjectId.{instance_key_of}
 use Rattle.tf_config_data.specs.Config.{block_at}
 use Rattle.tf_deciding.proofs.Found.{found_object}
 use Rattle.tf_deciding.specs.Stage.{object_of, records_at}
-use Rattle.tf_members.specs.Members.{records_of}
+use Rattle.tf_plan_resources.specs.Members.{records_of}
 use Rattle.tf_deciding.proofs.objects.DecidedObjectsObjects.object.Goals as goal
 use Rattle.tf_state_data.specs.Record.{record_of}
 use Rattle.tf_state_data.specs.State.{state_of}

@@ -1,4 +1,0 @@
-pub mod Order
-pub mod Known
-pub mod Parting
-pub mod Listing

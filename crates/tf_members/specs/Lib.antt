@@ -1,3 +1,0 @@
-pub mod Members
-pub mod Views
-pub mod Laws

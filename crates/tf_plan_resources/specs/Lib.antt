@@ -1,0 +1,11 @@
+pub mod Numbering
+pub mod Dependencies
+pub mod Marks
+pub mod Numbered
+pub mod Table
+pub mod Laws
+pub mod Words
+pub mod Order
+pub mod Members
+pub mod MemberViews
+pub mod MemberLaws
