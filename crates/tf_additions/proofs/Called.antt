@@ -1,6 +1,6 @@
 -- What a called action changes, where the schema of its type is known.
 use Rattle.tf_address.specs.Label.{LabelView}
-use Rattle.tf_state_after.specs.Ends.{AppliedView, LeftView}
+use Rattle.tf_state_next.specs.Ends.{AppliedView, LeftView}
 use Rattle.tf_additions.specs.Change.{MayBeLeft, MayBeSaved, MayBeStored, change_by}
 use Rattle.tf_additions.specs.Head.{Target, an_instance, an_object, HasVersion}
 

@@ -3,7 +3,7 @@ use Rattle.std.proofs.Common.{◌≡◌, ◌≤◌, suc, length, List, [], ◌�
 use Rattle.std.proofs.lemmas.List.{length-append}
 use Rattle.tf_additions.specs.Addition.{listed}
 use Rattle.tf_additions.specs.Diagnostics.{DiagnosticView, diagnostic_of}
-use Rattle.tf_next_state.specs.Events.{ApplyView, DestroyView}
+use Rattle.tf_state_next.specs.Events.{ApplyView, DestroyView}
 use Rattle.tf_additions.specs.Change.{ChangeView, an_apply, a_destroy, applies_in, destroys_in}
 use Rattle.tf_additions.specs.declared.diagnostic.Diagnostic.{Diagnostic}
 

@@ -10,8 +10,8 @@ use Rattle.tf_protocol.specs.declared.request.Op.TheVariants.{Create, Update, De
 use Rattle.tf_protocol.specs.declared.verdict.Verdict.{Verdict}
 use Rattle.tf_protocol.specs.declared.verdict.Verdict.TheVariants as verdict
 use Rattle.tf_state.specs.Valid.{IsAttributes}
-use Rattle.tf_state_after.specs.Ends.{changed, unchanged}
-use Rattle.tf_state_after.specs.Saved.{as_saved, formed_in, left_by_destroy, object_replied, object_there}
+use Rattle.tf_state_next.specs.Ends.{changed, unchanged}
+use Rattle.tf_state_next.specs.Saved.{as_saved, formed_in, left_by_destroy, object_replied, object_there}
 use Rattle.tf_value.specs.Nulls.{with_nulls}
 use Rattle.tf_state_data.specs.declared.object.Object.{Object}
 use Rattle.tf_outcome.specs.Fallback.{has_stored_attributes}

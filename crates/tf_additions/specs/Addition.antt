@@ -1,6 +1,6 @@
 -- What one action adds to the report.
 use Rattle.std.specs.Prelude.{◌≡◌, List, [], ◌∷◌, ◌++◌, Option, Some, None, option_map}
-use Rattle.tf_next_state.specs.Events.{apply_of, destroy_of}
+use Rattle.tf_state_next.specs.Events.{apply_of, destroy_of}
 use Rattle.tf_outcome.specs.Outcome.{Done, called, call_of}
 use Rattle.tf_protocol.specs.Meaning.{Meaning}
 use Rattle.tf_protocol.specs.declared.request.Op.{Op}

@@ -3,7 +3,7 @@ use Rattle.std.specs.Option.{option_map_or}
 use Rattle.std.specs.List.{filter_map}
 use Rattle.std.specs.Prelude.{◌<◌, ◌^◌, List, [], ◌∷◌, Option, Some, None, ⊤}
 use Rattle.tf_address.specs.Label.{LabelView}
-use Rattle.tf_next_state.specs.Events.{ApplyView, DestroyView}
+use Rattle.tf_state_next.specs.Events.{ApplyView, DestroyView}
 use Rattle.tf_outcome.specs.Outcome.{Done, called}
 use Rattle.tf_protocol.specs.Meaning.{Asked, Answer, Meaning, schema_in}
 use Rattle.tf_protocol.specs.Schema.{SchemaView}
@@ -11,8 +11,8 @@ use Rattle.tf_protocol.specs.declared.request.Op.{Op}
 use Rattle.tf_protocol.specs.declared.request.Op.TheVariants.{Create, Update, Destroy}
 use Rattle.tf_protocol.specs.declared.verdict.Verdict.{Verdict}
 use Rattle.tf_state.specs.Valid.{IsAttributes}
-use Rattle.tf_state_after.specs.Ends.{SavedView, LeftView, gone, changed, unchanged, AppliedView, unwanted, unplanned, nothing, saved}
-use Rattle.tf_state_after.specs.Saved.{saved_by_create, saved_by_update, left_by_destroy}
+use Rattle.tf_state_next.specs.Ends.{SavedView, LeftView, gone, changed, unchanged, AppliedView, unwanted, unplanned, nothing, saved}
+use Rattle.tf_state_next.specs.Saved.{saved_by_create, saved_by_update, left_by_destroy}
 use Rattle.tf_additions.specs.Head.{Head, Target, an_instance, an_object}
 
 -- What a call saves: a create saves as creates do, also of what takes the place of an object; an update as updates do.

@@ -8,9 +8,9 @@ use Rattle.tf_outcome.specs.Outcome.{op_of}
 use Rattle.tf_plan_data.specs.Fits.{is_apply, deposed_key}
 use Rattle.tf_plan_data.specs.Plan.{PlanView, plan_names}
 use Rattle.tf_protocol.specs.declared.request.Op.{Op}
-use Rattle.tf_state_after.specs.After.{object_at}
-use Rattle.tf_state_after.specs.DeposedKey.{IsDeposedKey}
-use Rattle.tf_state_after.specs.Ends.{GivenView}
+use Rattle.tf_state_next.specs.After.{object_at}
+use Rattle.tf_state_next.specs.DeposedKey.{IsDeposedKey}
+use Rattle.tf_state_next.specs.Ends.{GivenView}
 use Rattle.tf_state_data.specs.Record.{RecordView}
 use Rattle.tf_state_data.specs.State.{StateView, resource_at}
 use Rattle.tf_additions.specs.Dependencies.{dependencies}

@@ -2,7 +2,7 @@
 use Rattle.std.specs.Prelude.{string_bytes}
 use Rattle.tf_address.specs.Label.{label_of}
 use Rattle.tf_address.specs.ObjectId.{object_id_of}
-use Rattle.tf_state_after.specs.Ends.{given_of}
+use Rattle.tf_state_next.specs.Ends.{given_of}
 use Rattle.tf_additions.specs.Head.{Head, Target, an_instance, an_object}
 use Rattle.tf_additions.specs.declared.rooms.Room.{Room}
 use Rattle.tf_additions.specs.declared.rooms.Target.{Target as Aim}

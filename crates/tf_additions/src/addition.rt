@@ -1,7 +1,7 @@
 //! What an action adds to the report.
 
 use crate::diagnostic::Diagnostic;
-use tf_next_state::{Apply, Destroy};
+use tf_state_next::{Apply, Destroy};
 
 /// What an action changes of what is known. As it may hold what a provider made, it can be neither copied nor let go.
 pub enum Change<'p> {

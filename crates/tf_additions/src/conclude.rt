@@ -4,8 +4,8 @@ ghost use Rattle.std.specs.Prelude.{◌≡◌, ◌≤◌, true, None, Option, So
 ghost use Rattle.tf_outcome.specs.Words.{Answer, answered, Asked, asked, done_or_skipped, fault_message, has_stored_attributes, instance_fault_of, label_of, SchemaView, tree_of, verdict_on, with_nulls};
 ghost use Rattle.tf_protocol.specs.declared.request.Op.TheVariants.{Create};
 ghost use Rattle.tf_state.specs.Valid.{IsAttributes};
-ghost use Rattle.tf_state_after.specs.Ends.{applied_of, nothing, saved_of, unchanged};
-ghost use Rattle.tf_state_after.specs.Saved.{formed_in, left_by_destroy};
+ghost use Rattle.tf_state_next.specs.Ends.{applied_of, nothing, saved_of, unchanged};
+ghost use Rattle.tf_state_next.specs.Saved.{formed_in, left_by_destroy};
 ghost use Rattle.tf_additions.specs.Addition.{IsAdditionOf, IsJudged, change_of, listed};
 ghost use Rattle.tf_additions.specs.Change.{MayBeStored, as_applied, change_by, saved_by};
 ghost use Rattle.tf_additions.specs.Diagnostics.{diagnostic_of, diagnostics_of_verdict};
@@ -18,11 +18,12 @@ use crate::replied::{Replied, has_stored_attributes, open_reply};
 use crate::rooms::{Room, Target};
 use crate::telling::telling;
 use tf_address::Label;
-use tf_next_state::{Apply, Destroy};
 use tf_outcome::{Ended, Faulted, Served};
 use tf_provider::{Op, Provider, Schema, Verdict, schema_for};
-use tf_state_after::{Applied, Left, Saved, left_by_destroy, saved_by_create, saved_by_update};
 use tf_state_data::Object;
+use tf_state_next::{
+    Applied, Apply, Destroy, Left, Saved, left_by_destroy, saved_by_create, saved_by_update,
+};
 
 /// What an action adds to the report.
 pub fn conclude<'p>(

@@ -2,7 +2,7 @@
 
 ghost use Rattle.std.specs.List.{AllByRecursion};
 ghost use Rattle.std.specs.Prelude.{◌≡◌, ◌+◌, ◌++◌, ◌∷◌, ◌<◌, ◌≤◌, [], length, map, vec_capacity};
-ghost use Rattle.tf_next_state.specs.Events.{apply_of, destroy_of};
+ghost use Rattle.tf_state_next.specs.Events.{apply_of, destroy_of};
 ghost use Rattle.tf_outcome.specs.Ended.{dones_of};
 ghost use Rattle.tf_additions.specs.Addition.{AreJudged, change_of, listed, told_in};
 ghost use Rattle.tf_additions.specs.Change.{MayBeStored, applies_in, changes_in, destroys_in};
@@ -13,9 +13,9 @@ use crate::addition::{Addition, Change};
 use crate::conclude::conclude;
 use crate::diagnostic::Diagnostic;
 use crate::rooms::Room;
-use tf_next_state::{Apply, Destroy};
 use tf_outcome::Ended;
 use tf_provider::Provider;
+use tf_state_next::{Apply, Destroy};
 
 /// What actions change. As it may hold what providers made, it can be neither copied nor let go.
 pub struct Changes<'p> {

@@ -4,7 +4,7 @@ ghost use Rattle.std.specs.Bool.{OnTrue};
 ghost use Rattle.std.specs.Prelude.{◌≡◌, option_and_then, option_map, string_bytes, IfSome};
 ghost use Rattle.tf_outcome.specs.Words.{answered, has_stored_attributes, tree_of};
 ghost use Rattle.tf_state.specs.Valid.{IsAttributes};
-ghost use Rattle.tf_state_after.specs.Saved.{formed_in, if_formed};
+ghost use Rattle.tf_state_next.specs.Saved.{formed_in, if_formed};
 ghost use Rattle.tf_additions.specs.Replied.{failure_in};
 
 use tf_provider::{Reply, Schema, well_formed};

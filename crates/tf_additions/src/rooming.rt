@@ -3,8 +3,8 @@
 ghost use Rattle.std.specs.Prelude.{◌≡◌, ◌+◌, ◌<◌, ◌^◌, ◌++◌, true, IfOk, codes, length, map, option_map, string_bytes};
 ghost use Rattle.std.specs.List.{AllByRecursion};
 ghost use Rattle.tf_outcome.specs.Words.{action_of, IsDeclared, IsDependence, names_in, op_of, plan_names, plan_of, record_of, step_of};
-ghost use Rattle.tf_state_after.specs.DeposedKey.{IsDeposedKey};
-ghost use Rattle.tf_state_after.specs.Ends.{given_of};
+ghost use Rattle.tf_state_next.specs.DeposedKey.{IsDeposedKey};
+ghost use Rattle.tf_state_next.specs.Ends.{given_of};
 ghost use Rattle.tf_additions.specs.Head.{AreHeads, IsHeadOf, IsKeyFor, IsTargetOf, given_with, is_replacement};
 ghost use Rattle.tf_additions.specs.Place.{place_of};
 ghost use Rattle.tf_additions.specs.RoomHead.{room_head, target_of};
@@ -16,8 +16,8 @@ use tf_address::ObjectId;
 use tf_names::Names;
 use tf_plan_data::{Action, Plan, Step, address_text};
 use tf_provider::Op;
-use tf_state_after::{Given, deposed_key};
 use tf_state_data::Record;
+use tf_state_next::{Given, deposed_key};
 
 /// Room for the report on each action of a plan, in action order, by the names of the plan's configuration.
 ///

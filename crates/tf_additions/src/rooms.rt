@@ -4,7 +4,7 @@ ghost use Rattle.std.specs.Prelude.{◌≡◌, ◌≤◌, [], string_bytes, stri
 
 use tf_address::{Label, ObjectId};
 use tf_provider::Op;
-use tf_state_after::Given;
+use tf_state_next::Given;
 
 /// What an action is about.
 #[derive(Drop)]

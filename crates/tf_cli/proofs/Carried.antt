@@ -1,7 +1,7 @@
 -- What is answered of a plan that was carried out.
 use Rattle.std.proofs.Common.{◌≡◌, ◌∙◌, ℕ, Bool, true, false, not, if◌then◌else◌, List, refl, sym, ap, subst, string_bytes, arith}
 use Rattle.std.specs.Prelude.{◌==◌, ◌+◌, ◌↔◌, IfOk}
-use Rattle.tf_next_state.specs.StateAfter.{is_same, next_serial}
+use Rattle.tf_state_next.specs.StateAfter.{is_same, next_serial}
 use Rattle.tf_plan_data.specs.Plan.{PlanView}
 use Rattle.tf_plan_text.specs.Text.{plan_text}
 use Rattle.tf_protocol.specs.Meaning.{Meaning}

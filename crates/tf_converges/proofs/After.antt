@@ -22,8 +22,8 @@ use Rattle.tf_environment.proofs.Refining.{followed}
 use Rattle.tf_graph.specs.Digraph.{predecessors_of}
 use Rattle.tf_graph.specs.Solutions.{seen_by}
 use Rattle.tf_plan_resources.specs.Members.{is_among, is_of, records_of}
-use Rattle.tf_next_state.proofs.Changing.{found_label}
-use Rattle.tf_next_state.specs.Events.{ApplyView, apply_of_instance, as_apply, left_of_deposed, left_of_object, nothing_given}
+use Rattle.tf_state_next.proofs.Changing.{found_label}
+use Rattle.tf_state_next.specs.Events.{ApplyView, apply_of_instance, as_apply, left_of_deposed, left_of_object, nothing_given}
 use Rattle.tf_outcome.specs.Objects.{object_of}
 use Rattle.tf_outcome.specs.Outcome.{Done, done_at, is_good, objects_by}
 use Rattle.tf_plan.proofs.Distinct.{at-contained, in_flat_map}
@@ -32,9 +32,9 @@ use Rattle.tf_plan_data.specs.Plan.{plan_names}
 use Rattle.tf_protocol.specs.Meaning.{Meaning}
 use Rattle.tf_protocol.specs.Schema.{SchemaView}
 use Rattle.tf_report.specs.Events.{renewals}
-use Rattle.tf_state_after.proofs.Places.{found_id}
-use Rattle.tf_state_after.specs.After.{after_destroy, current_after, deposed_anew, destroy_under, object_at, record_of_saved, renewed}
-use Rattle.tf_state_after.specs.Ends.{AppliedView, GivenView, LeftView, gone, saved, unplanned, unwanted}
+use Rattle.tf_state_next.proofs.Places.{found_id}
+use Rattle.tf_state_next.specs.After.{after_destroy, current_after, deposed_anew, destroy_under, object_at, record_of_saved, renewed}
+use Rattle.tf_state_next.specs.Ends.{AppliedView, GivenView, LeftView, gone, saved, unplanned, unwanted}
 use Rattle.tf_state_data.specs.Record.{RecordView}
 use Rattle.tf_state_data.specs.Resource.{ResourceView, record_at}
 use Rattle.tf_state_data.specs.State.{record_in, resource_at}

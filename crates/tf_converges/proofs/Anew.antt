@@ -11,9 +11,9 @@ use Rattle.tf_address.specs.ObjectId.{InstanceKeyView, ObjectIdView}
 use Rattle.tf_config_data.specs.Config.{BlockView}
 use Rattle.tf_config_data.specs.Names.{a_block, meant_at}
 use Rattle.tf_environment.proofs.Refining.{followed}
-use Rattle.tf_next_state.proofs.Changing.{found_label}
-use Rattle.tf_next_state.specs.Events.{ApplyView, apply_of_instance, as_apply, ends_in, given_in, nothing_given}
-use Rattle.tf_next_state.specs.StateAfter.{IsStateAfter}
+use Rattle.tf_state_next.proofs.Changing.{found_label}
+use Rattle.tf_state_next.specs.Events.{ApplyView, apply_of_instance, as_apply, ends_in, given_in, nothing_given}
+use Rattle.tf_state_next.specs.StateAfter.{IsStateAfter}
 use Rattle.tf_outcome.specs.Outcome.{Done}
 use Rattle.tf_plan_data.specs.Plan.{PlanView, plan_names}
 use Rattle.tf_protocol.specs.Meaning.{Meaning}
@@ -22,9 +22,9 @@ use Rattle.tf_report.specs.Report.{IsStateOf}
 use Rattle.tf_plan_resources.proofs.Standing.{each-placed, resources-apart}
 use Rattle.tf_plan_resources.specs.Laws as resources_laws
 use Rattle.tf_plan_resources.specs.Numbering.{a_name, numbered, place_in}
-use Rattle.tf_state_after.proofs.Places.{found_id}
-use Rattle.tf_state_after.specs.After.{current_after, object_at, renewed}
-use Rattle.tf_state_after.specs.Ends.{AppliedView, unwanted}
+use Rattle.tf_state_next.proofs.Places.{found_id}
+use Rattle.tf_state_next.specs.After.{current_after, object_at, renewed}
+use Rattle.tf_state_next.specs.Ends.{AppliedView, unwanted}
 use Rattle.tf_state_data.specs.Addresses.{AreByAddress}
 use Rattle.tf_state_data.specs.Record.{RecordView}
 use Rattle.tf_state_data.specs.Resource.{ResourceView, record_at}

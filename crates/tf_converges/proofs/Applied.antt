@@ -6,9 +6,9 @@ use Rattle.tf_config_data.specs.Names.{directly_before}
 use Rattle.tf_deciding.specs.Stage.{deciding}
 use Rattle.tf_environment.specs.Standing.{StandingView, AreStandings}
 use Rattle.tf_graph.specs.Solutions.{Ranked}
-use Rattle.tf_next_state.specs.Events.{ends_in, given_in}
-use Rattle.tf_next_state.specs.Laws.{IsInOrder}
-use Rattle.tf_next_state.specs.StateAfter.{IsStateAfter}
+use Rattle.tf_state_next.specs.Events.{ends_in, given_in}
+use Rattle.tf_state_next.specs.Laws.{IsInOrder}
+use Rattle.tf_state_next.specs.StateAfter.{IsStateAfter}
 use Rattle.tf_outcome.specs.Asked.{AreRequests, Requests}
 use Rattle.tf_outcome.specs.Outcome.{AreOutcomes, Done, is_good}
 use Rattle.tf_outcome.specs.declared.excuse.Excuse.{Excuse}

@@ -22,8 +22,8 @@ use Rattle.tf_environment.specs.Standing.{StandingView, AreStandings, environmen
 use Rattle.tf_eval.specs.Environment.{Environment}
 use Rattle.tf_graph.specs.Solutions.{Ranked}
 use Rattle.tf_plan_resources.specs.Members.{MemberView, is_among, is_of, member, members, records_of}
-use Rattle.tf_next_state.proofs.Changing.{found_label}
-use Rattle.tf_next_state.proofs.Finding.{all_found, found_holds}
+use Rattle.tf_state_next.proofs.Changing.{found_label}
+use Rattle.tf_state_next.proofs.Finding.{all_found, found_holds}
 use Rattle.tf_plan.proofs.Distinct.{to_map}
 use Rattle.tf_plan.proofs.Listing.{of_at}
 use Rattle.tf_plan.proofs.Steps.{removal-destroys}
@@ -35,7 +35,7 @@ use Rattle.tf_protocol.specs.Schema.{SchemaView}
 use Rattle.tf_plan_resources.proofs.Standing.{each-placed, places-true}
 use Rattle.tf_plan_resources.specs.Laws as resources_laws
 use Rattle.tf_plan_resources.specs.Numbering.{NumberedView, a_name, an_orphan, address_of, block_address, has_block, is_address, is_at, numbered}
-use Rattle.tf_state_after.proofs.Places.{found_id}
+use Rattle.tf_state_next.proofs.Places.{found_id}
 use Rattle.tf_state_data.specs.Addresses.{AreByAddress}
 use Rattle.tf_state_data.specs.Ids.{AreById}
 use Rattle.tf_state_data.specs.Record.{RecordView}

@@ -14,8 +14,8 @@ use Rattle.tf_config_data.specs.Names.{a_block, meant_at}
 use Rattle.tf_deciding.specs.Steps.{decided_steps}
 use Rattle.tf_decision.specs.Decision.{DecisionView}
 use Rattle.tf_environment.proofs.Refining.{followed}
-use Rattle.tf_next_state.proofs.Changing.{found_label}
-use Rattle.tf_next_state.specs.Events.{ApplyView, apply_of_instance, as_apply, nothing_given}
+use Rattle.tf_state_next.proofs.Changing.{found_label}
+use Rattle.tf_state_next.specs.Events.{ApplyView, apply_of_instance, as_apply, nothing_given}
 use Rattle.tf_outcome.specs.Objects.{object_of}
 use Rattle.tf_outcome.specs.Outcome.{done_at}
 use Rattle.tf_plan.proofs.Distinct.{at-contained}
@@ -25,9 +25,9 @@ use Rattle.tf_plan_data.specs.Plan.{plan_names}
 use Rattle.tf_report.specs.Events.{is_about, is_none, renewals}
 use Rattle.tf_plan_resources.proofs.Standing.{each-placed, places-differ, resources-apart}
 use Rattle.tf_plan_resources.specs.Numbering.{numbered, place_in}
-use Rattle.tf_state_after.proofs.Places.{found_id}
-use Rattle.tf_state_after.specs.After.{current_after, object_at, record_of_saved, renewed}
-use Rattle.tf_state_after.specs.Ends.{AppliedView, unwanted}
+use Rattle.tf_state_next.proofs.Places.{found_id}
+use Rattle.tf_state_next.specs.After.{current_after, object_at, record_of_saved, renewed}
+use Rattle.tf_state_next.specs.Ends.{AppliedView, unwanted}
 use Rattle.tf_state_data.specs.Record.{RecordView}
 use Rattle.tf_state_data.specs.Resource.{ResourceView, record_at}
 use Rattle.tf_state_data.specs.State.{record_in, resource_at}

@@ -11,16 +11,16 @@ use Rattle.tf_address.specs.Label.{LabelView}
 use Rattle.tf_address.specs.ObjectId.{InstanceKeyView, ObjectIdView}
 use Rattle.tf_address.specs.Same.{label_Decides, object_id_Decides, same_instance_key, same_label, same_object_id}
 use Rattle.tf_graph.proofs.Edges.{contains_cases, contains_head, contains_tail}
-use Rattle.tf_next_state.proofs.Finding.{found_holds, found_joined}
-use Rattle.tf_next_state.specs.Events.{ApplyView, DestroyView, RenewalView, apply_of_instance, as_apply, is_instance, left_of_deposed, left_of_object}
+use Rattle.tf_state_next.proofs.Finding.{found_holds, found_joined}
+use Rattle.tf_state_next.specs.Events.{ApplyView, DestroyView, RenewalView, apply_of_instance, as_apply, is_instance, left_of_deposed, left_of_object}
 use Rattle.tf_outcome.specs.Objects.{object_of}
 use Rattle.tf_outcome.specs.Outcome.{Done, done_at}
 use Rattle.tf_plan.proofs.Objects.{one_key}
 use Rattle.tf_plan_data.specs.Fits.{deposed_key, is_apply}
 use Rattle.tf_plan_data.specs.Plan.{PlanView}
 use Rattle.tf_protocol.specs.Meaning.{Meaning}
-use Rattle.tf_state_after.specs.After.{destroy_under, object_at}
-use Rattle.tf_state_after.specs.Ends.{AppliedView, GivenView, LeftView, gone, saved, unplanned}
+use Rattle.tf_state_next.specs.After.{destroy_under, object_at}
+use Rattle.tf_state_next.specs.Ends.{AppliedView, GivenView, LeftView, gone, saved, unplanned}
 use Rattle.tf_value.proofs.Conjunction.{and-both, and-first, and-second}
 use Rattle.tf_converges.proofs.Lists.{nothing_in}
 use Rattle.tf_converges.proofs.Members.{same_key}

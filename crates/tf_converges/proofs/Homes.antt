@@ -19,9 +19,9 @@ use Rattle.tf_graph.proofs.Edges.{contains_cases}
 use Rattle.tf_graph.proofs.Solving.{solution-exists}
 use Rattle.tf_graph.specs.Solutions.{Ranked}
 use Rattle.tf_plan_resources.specs.Members.{is_among, is_of, records_of}
-use Rattle.tf_next_state.proofs.Changing.{found_label}
-use Rattle.tf_next_state.specs.Laws.{IsInOrder}
-use Rattle.tf_next_state.specs.StateAfter.{has_records}
+use Rattle.tf_state_next.proofs.Changing.{found_label}
+use Rattle.tf_state_next.specs.Laws.{IsInOrder}
+use Rattle.tf_state_next.specs.StateAfter.{has_records}
 use Rattle.tf_outcome.specs.Outcome.{Done}
 use Rattle.tf_plan.proofs.Blocks.{names-apart}
 use Rattle.tf_plan.specs.Ordered.{AreTied}
@@ -35,8 +35,8 @@ use Rattle.tf_protocol.specs.Meaning.{Meaning}
 use Rattle.tf_report.specs.Report.{objects_after}
 use Rattle.tf_plan_resources.specs.Laws as resources_laws
 use Rattle.tf_plan_resources.specs.Numbering.{a_name, has_block}
-use Rattle.tf_state_after.proofs.Places.{found_id}
-use Rattle.tf_state_after.specs.After.{object_at, renewed}
+use Rattle.tf_state_next.proofs.Places.{found_id}
+use Rattle.tf_state_next.specs.After.{object_at, renewed}
 use Rattle.tf_state_data.specs.Record.{RecordView}
 use Rattle.tf_state_data.specs.Resource.{ResourceView, record_at}
 use Rattle.tf_state_data.specs.State.{StateView, record_in, resource_at}

@@ -11,11 +11,11 @@ use Rattle.tf_address.specs.Same.{same_instance_key}
 use Rattle.tf_deciding.specs.Stage.{records_at}
 use Rattle.tf_decision.specs.Decision.{current}
 use Rattle.tf_plan_resources.specs.Members.{is_of, records_of}
-use Rattle.tf_next_state.proofs.Finding.{filtered_ordered, first, found_filtered, same_lists}
-use Rattle.tf_next_state.proofs.One.{id_one}
+use Rattle.tf_state_next.proofs.Finding.{filtered_ordered, first, found_filtered, same_lists}
+use Rattle.tf_state_next.proofs.One.{id_one}
 use Rattle.tf_plan.proofs.Objects.{one_key}
-use Rattle.tf_state_after.proofs.Places.{apart, found_id, objects_tied}
-use Rattle.tf_state_after.specs.After.{object_at}
+use Rattle.tf_state_next.proofs.Places.{apart, found_id, objects_tied}
+use Rattle.tf_state_next.specs.After.{object_at}
 use Rattle.tf_state_data.specs.Ids.{AreById}
 use Rattle.tf_state_data.specs.Record.{RecordView}
 use Rattle.tf_state_data.specs.Resource.{ResourceView, record_at}

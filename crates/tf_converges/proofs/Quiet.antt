@@ -6,14 +6,14 @@ use Rattle.tf_additions.specs.Change.{applies_in, changes_in}
 use Rattle.tf_additions.specs.Head.{AreHeads, Head}
 use Rattle.tf_address.specs.Label.{LabelView}
 use Rattle.tf_address.specs.ObjectId.{InstanceKeyView}
-use Rattle.tf_next_state.specs.Events.{ApplyView, apply_of_instance, as_apply, ends_in, given_in, nothing_given}
-use Rattle.tf_next_state.specs.StateAfter.{IsStateAfter}
+use Rattle.tf_state_next.specs.Events.{ApplyView, apply_of_instance, as_apply, ends_in, given_in, nothing_given}
+use Rattle.tf_state_next.specs.StateAfter.{IsStateAfter}
 use Rattle.tf_outcome.specs.Outcome.{Done}
 use Rattle.tf_plan_data.specs.Plan.{PlanView}
 use Rattle.tf_protocol.specs.Meaning.{Meaning}
 use Rattle.tf_report.specs.Events.{events, renewals}
-use Rattle.tf_state_after.specs.After.{current_after, deposed_anew, object_at, renewed}
-use Rattle.tf_state_after.specs.Ends.{AppliedView, unplanned, unwanted}
+use Rattle.tf_state_next.specs.After.{current_after, deposed_anew, object_at, renewed}
+use Rattle.tf_state_next.specs.Ends.{AppliedView, unplanned, unwanted}
 use Rattle.tf_state_data.specs.Record.{RecordView}
 use Rattle.tf_state_data.specs.State.{StateView, record_in}
 use Rattle.tf_value.specs.Tree.{Entries}

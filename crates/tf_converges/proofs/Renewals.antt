@@ -11,15 +11,15 @@ use Rattle.tf_address.specs.Same.{label_Decides, same_instance_key, same_label}
 use Rattle.tf_config_data.specs.Config.{BlockView}
 use Rattle.tf_config_data.specs.Names.{NameView, a_block, meant_at}
 use Rattle.tf_graph.proofs.Edges.{contains_cases, contains_head, contains_tail}
-use Rattle.tf_next_state.proofs.Finding.{found_passes}
-use Rattle.tf_next_state.specs.Events.{ApplyView, RenewalView, apply_of_instance, as_apply, is_instance}
+use Rattle.tf_state_next.proofs.Finding.{found_passes}
+use Rattle.tf_state_next.specs.Events.{ApplyView, RenewalView, apply_of_instance, as_apply, is_instance}
 use Rattle.tf_plan.proofs.Distinct.{in_map, in_flat_map, to_map}
 use Rattle.tf_plan_data.specs.Plan.{PlanView, plan_names}
 use Rattle.tf_report.specs.Events.{is_about, is_none, renewal_of_record, renewals, renewals_at, renewals_of, stays}
 use Rattle.tf_plan_resources.proofs.Standing.{places-true}
 use Rattle.tf_plan_resources.specs.Laws as resources_laws
 use Rattle.tf_plan_resources.specs.Numbering.{a_name, block_address, numbered, place_in}
-use Rattle.tf_state_after.specs.Ends.{unplanned}
+use Rattle.tf_state_next.specs.Ends.{unplanned}
 use Rattle.tf_state_data.specs.Record.{RecordView}
 use Rattle.tf_state_data.specs.Resource.{ResourceView}
 use Rattle.tf_value.proofs.Conjunction.{and-both, and-first}

@@ -16,8 +16,8 @@ use Rattle.tf_environment.specs.Laws.{StandingsGrow}
 use Rattle.tf_environment.specs.Stages.{applying}
 use Rattle.tf_environment.specs.Standing.{StandingView, AreStandings, environment}
 use Rattle.tf_plan_resources.specs.Members.{is_among, records_of}
-use Rattle.tf_next_state.proofs.One.{some_known}
-use Rattle.tf_next_state.specs.StateAfter.{has_records}
+use Rattle.tf_state_next.proofs.One.{some_known}
+use Rattle.tf_state_next.specs.StateAfter.{has_records}
 use Rattle.tf_outcome.specs.Asked.{asked_by_step}
 use Rattle.tf_plan_data.specs.Plan.{plan_names}
 use Rattle.tf_protocol.specs.Meaning.{schema_in}
@@ -25,8 +25,8 @@ use Rattle.tf_protocol.specs.Schema.{SchemaView}
 use Rattle.tf_protocol.specs.Verdict.{is_good_verdict, verdict_on_object}
 use Rattle.tf_report.specs.Report.{objects_after}
 use Rattle.tf_plan_resources.specs.Numbering.{has_block}
-use Rattle.tf_state_after.proofs.Places.{found_id}
-use Rattle.tf_state_after.specs.After.{object_at}
+use Rattle.tf_state_next.proofs.Places.{found_id}
+use Rattle.tf_state_next.specs.After.{object_at}
 use Rattle.tf_state_data.specs.Ids.{AreById}
 use Rattle.tf_state_data.specs.Record.{RecordView}
 use Rattle.tf_state_data.specs.Resource.{ResourceView, record_at}

@@ -3,7 +3,7 @@ use Rattle.std.proofs.Common.{◌≡◌, ◌∙◌, ◌+◌, inl, inr, ℕ, Bool
 use Rattle.tf_change.specs.Laws.{InstancesGrow}
 use Rattle.tf_config_data.specs.Config.{ConfigView}
 use Rattle.tf_environment.specs.Laws.{StandingsGrow}
-use Rattle.tf_next_state.proofs.Composed.{state_is}
+use Rattle.tf_state_next.proofs.Composed.{state_is}
 use Rattle.tf_outputs.specs.Outputs.{OutputDone, outputs_after}
 use Rattle.tf_outcome.specs.Outcome.{Done}
 use Rattle.tf_plan.proofs.Fitting.{all-by_id}

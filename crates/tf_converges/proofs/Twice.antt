@@ -9,9 +9,9 @@ use Rattle.tf_change.specs.Laws.{InstancesGrow}
 use Rattle.tf_config_data.specs.Config.{BlockView, ConfigView}
 use Rattle.tf_config_data.specs.Names.{NameView, a_block, meant_at, names_of}
 use Rattle.tf_environment.specs.Laws.{StandingsGrow}
-use Rattle.tf_next_state.proofs.One.{state_after_one}
-use Rattle.tf_next_state.specs.Events.{ends_in, given_in}
-use Rattle.tf_next_state.specs.StateAfter.{IsStateAfter, next_serial}
+use Rattle.tf_state_next.proofs.One.{state_after_one}
+use Rattle.tf_state_next.specs.Events.{ends_in, given_in}
+use Rattle.tf_state_next.specs.StateAfter.{IsStateAfter, next_serial}
 use Rattle.tf_outcome.specs.Outcome.{Done}
 use Rattle.tf_outputs.specs.Outputs.{outputs_after}
 use Rattle.tf_plan_data.specs.Plan.{PlanView}
@@ -20,7 +20,7 @@ use Rattle.tf_protocol.specs.Meaning.{Meaning}
 use Rattle.tf_report.specs.Events.{events}
 use Rattle.tf_plan_resources.specs.Dependencies.{dependencies}
 use Rattle.tf_plan_resources.specs.Numbering.{NumberedView, a_name, an_orphan, has_block, numbered, orphans}
-use Rattle.tf_state_after.specs.After.{renewed}
+use Rattle.tf_state_next.specs.After.{renewed}
 use Rattle.tf_state_data.specs.Equality.{state_Decides}
 use Rattle.tf_state_data.specs.Provider.{provider_text}
 use Rattle.tf_state_data.specs.Record.{RecordView}

@@ -23,7 +23,7 @@ use Rattle.tf_plan.specs.Planned.{AreInstances}
 use Rattle.tf_plan_data.specs.Plan.{PlanView}
 use Rattle.tf_protocol.specs.Meaning.{Meaning}
 use Rattle.tf_report.specs.Report.{AreOutputsOf, objects_after}
-use Rattle.tf_state_after.specs.After.{object_at}
+use Rattle.tf_state_next.specs.After.{object_at}
 use Rattle.tf_state_data.specs.Record.{RecordView}
 use Rattle.tf_state_data.specs.State.{StateView, record_in}
 use Rattle.tf_syntax.specs.ExprTree as expr

@@ -24,9 +24,9 @@ use Rattle.tf_protocol.specs.declared.request.Op.{Op}
 use Rattle.tf_protocol.specs.declared.request.Op.TheVariants.{Create, Update, Destroy}
 use Rattle.tf_protocol.specs.declared.verdict.Verdict.{Verdict}
 use Rattle.tf_protocol.specs.declared.verdict.Verdict.TheVariants as verdict
-use Rattle.tf_state_after.specs.Ends.{AppliedView, LeftView, SavedView, saved, unchanged}
-use Rattle.tf_state_after.specs.Ends as ends
-use Rattle.tf_state_after.specs.Saved.{left_by_destroy}
+use Rattle.tf_state_next.specs.Ends.{AppliedView, LeftView, SavedView, saved, unchanged}
+use Rattle.tf_state_next.specs.Ends as ends
+use Rattle.tf_state_next.specs.Saved.{left_by_destroy}
 use Rattle.tf_value.specs.Tree.{Tree}
 
 -- ---- the rule

@@ -35,7 +35,7 @@ use Rattle.tf_report.specs.Report.{IsReport, objects_after}
 use Rattle.tf_report.specs.declared.report.Report.{Report}
 use Rattle.tf_state.specs.Valid.{IsPresent, IsValid}
 use Rattle.tf_state_data.specs.Ids.{AreById}
-use Rattle.tf_state_after.specs.After.{object_at}
+use Rattle.tf_state_next.specs.After.{object_at}
 use Rattle.tf_state_data.specs.Record.{RecordView}
 use Rattle.tf_state_data.specs.Resource.{ResourceView}
 use Rattle.tf_state_data.specs.State.{StateView, record_in, state_of}

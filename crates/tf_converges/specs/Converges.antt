@@ -13,7 +13,7 @@ use Rattle.tf_environment.specs.Shape.{instance_keys}
 use Rattle.tf_environment.specs.Stages.{applying}
 use Rattle.tf_environment.specs.Standing.{StandingView, AreStandings, environment}
 use Rattle.tf_plan_resources.specs.Members.{is_among}
-use Rattle.tf_next_state.specs.Laws.{IsInOrder}
+use Rattle.tf_state_next.specs.Laws.{IsInOrder}
 use Rattle.tf_outcome.specs.Outcome.{AreOutcomes, AreRequests, Done, Requests, is_good}
 use Rattle.tf_outcome.specs.declared.excuse.Excuse.{Excuse}
 use Rattle.tf_outcome.specs.declared.excuse.Outcome.TheVariants.{Judged}

@@ -6,7 +6,7 @@ use Rattle.std.specs.List.Sorted.{IsStrictlySortedBy}
 use Rattle.std.specs.Ordering.{nat_cmp}
 use Rattle.tf_config.specs.Config.{names_in}
 use Rattle.tf_config_data.specs.Config.{ConfigView}
-use Rattle.tf_next_state.specs.Laws.{IsInOrder}
+use Rattle.tf_state_next.specs.Laws.{IsInOrder}
 use Rattle.tf_outcome.specs.Outcome.{AreRequests, Done, Requests}
 use Rattle.tf_outcome.specs.declared.excuse.Outcome.TheVariants.{Judged}
 use Rattle.tf_outputs.specs.Outputs.{OutputDone, outputs_after}

@@ -4,7 +4,7 @@ use Rattle.std.proofs.lemmas.Bool.{true≢false}
 use Rattle.tf_action_data.specs.Action.{ActionView}
 use Rattle.tf_additions.specs.Head.{AreHeads, Head, IsHeadOf, IsKeyFor, IsTargetOf, Target, key_in, records_at, target_with}
 use Rattle.tf_plan_data.specs.Plan.{PlanView}
-use Rattle.tf_state_after.specs.Laws.{KeyIsOne}
+use Rattle.tf_state_next.specs.ObjectLaws.{KeyIsOne}
 
 module _ (law : KeyIsOne) (plan : PlanView) where
   key_one : (a : ActionView) (k l : Option (List ℕ)) → IsKeyFor plan a k → IsKeyFor plan a l → k ≡ l

@@ -4,9 +4,9 @@ use Rattle.std.proofs.lemmas.List.{append_cancel_left}
 use Rattle.tf_additions.specs.Head.{Head}
 use Rattle.tf_config_data.specs.Names.{directly_before}
 use Rattle.tf_graph.specs.Solutions.{Ranked}
-use Rattle.tf_next_state.specs.Events.{ends_in, given_in}
-use Rattle.tf_next_state.specs.Laws.{IsInOrder, StateAfterIsOne}
-use Rattle.tf_next_state.specs.StateAfter.{IsStateAfter}
+use Rattle.tf_state_next.specs.Events.{ends_in, given_in}
+use Rattle.tf_state_next.specs.Laws.{IsInOrder, StateAfterIsOne}
+use Rattle.tf_state_next.specs.StateAfter.{IsStateAfter}
 use Rattle.tf_outcome.specs.Outcome.{Done}
 use Rattle.tf_outputs.specs.Laws.{OutputsAreOne, SettledAreOne}
 use Rattle.tf_outputs.specs.Outputs.{OutputDone, end_of, outputs_after}
@@ -19,7 +19,7 @@ use Rattle.tf_report.specs.Outcomes.{excuses_from}
 use Rattle.tf_report.specs.OutputsTold.{output_excuses}
 use Rattle.tf_report.specs.Report.{AreOutputsOf, IsStateOf, IsTold, objects_after}
 use Rattle.tf_report.specs.declared.report.Report.{Report}
-use Rattle.tf_state_after.specs.Laws.{KeyIsOne}
+use Rattle.tf_state_next.specs.ObjectLaws.{KeyIsOne}
 use Rattle.tf_state_data.specs.State.{StateView, state_of}
 use Rattle.tf_state_data.specs.declared.state.State.{State}
 use Rattle.tf_value.specs.Tree.{Entries}

@@ -1,12 +1,12 @@
 -- Reports of one plan that excuse the same are one.
 use Rattle.std.proofs.Common.{◌≡◌, List, sym, subst}
-use Rattle.tf_next_state.specs.Laws.{StateAfterIsOne}
+use Rattle.tf_state_next.specs.Laws.{StateAfterIsOne}
 use Rattle.tf_outcome.specs.Laws.{RequestsAreOne}
 use Rattle.tf_outcome.specs.Outcome.{AreOutcomes, Done}
 use Rattle.tf_outcome.specs.declared.excuse.Excuse.{Excuse}
 use Rattle.tf_outputs.specs.Laws.{OutputsAreOne, SettledAreOne}
 use Rattle.tf_report.specs.Report.{IsTold}
-use Rattle.tf_state_after.specs.Laws.{KeyIsOne}
+use Rattle.tf_state_next.specs.ObjectLaws.{KeyIsOne}
 use Rattle.tf_laws_reports.proofs.Ended.{outcomes_one}
 use Rattle.tf_laws_reports.proofs.Told.{told_one}
 use Rattle.tf_laws_reports.specs.One.{ReportsAreOne}

@@ -18,8 +18,8 @@ use Rattle.tf_environment.specs.Standing.{AreStandings, StandingView, all_stand,
 use Rattle.tf_eval.specs.Environment.{Environment}
 use Rattle.tf_graph.specs.Solutions.{seen_by}
 use Rattle.tf_laws_plans.specs.Plans.{AreOne, AreOrderly}
-use Rattle.tf_next_state.specs.Events.{EventsView, RenewalView, ends_in, given_in}
-use Rattle.tf_next_state.specs.StateAfter.{IsStateAfter}
+use Rattle.tf_state_next.specs.Events.{EventsView, RenewalView, ends_in, given_in}
+use Rattle.tf_state_next.specs.StateAfter.{IsStateAfter}
 use Rattle.tf_outcome.specs.Outcome.{AreOutcomes, AreRequests, Done, Requests}
 use Rattle.tf_outcome.specs.declared.excuse.Excuse.{Excuse}
 use Rattle.tf_outputs.specs.Outputs as outputs
@@ -36,8 +36,8 @@ use Rattle.tf_report.specs.declared.report.Report.{Report}
 use Rattle.tf_plan_resources.proofs.Standing.{blocks-first, resources-apart}
 use Rattle.tf_plan_resources.specs.Laws as resources_laws
 use Rattle.tf_plan_resources.specs.Numbering.{a_name, numbered, place_in}
-use Rattle.tf_state_after.specs.After.{object_at}
-use Rattle.tf_state_after.specs.Ends.{GivenView}
+use Rattle.tf_state_next.specs.After.{object_at}
+use Rattle.tf_state_next.specs.Ends.{GivenView}
 use Rattle.tf_state_data.specs.Record.{RecordView}
 use Rattle.tf_state_data.specs.Resource.{ResourceView}
 use Rattle.tf_state_data.specs.State.{StateView}

@@ -14,14 +14,14 @@ use Rattle.tf_address.proofs.Totals.{label_total, object_id_total}
 use Rattle.tf_address.specs.Label.{LabelView, label_cmp}
 use Rattle.tf_address.specs.ObjectId.{InstanceKeyView, single, number, name, ObjectIdView, object_id_cmp}
 use Rattle.tf_address.specs.Same.{same_instance_key}
-use Rattle.tf_next_state.specs.Events.{AreApart as AreAllApart, AreEachAboutOne, RenewalView, as_apply, instance_of, object_of}
+use Rattle.tf_state_next.specs.Events.{AreApart as AreAllApart, AreEachAboutOne, RenewalView, as_apply, instance_of, object_of}
 use Rattle.tf_outcome.specs.Outcome.{Done}
 use Rattle.tf_plan_data.specs.Fits.{AreApart, IsPlaced, about, is_apply, deposed_key}
 use Rattle.tf_plan_data.specs.Plan.{PlanView, plan_names}
 use Rattle.tf_protocol.specs.Meaning.{Meaning}
 use Rattle.tf_plan_resources.specs.Numbering.{NumberedView, numbered, place_in}
-use Rattle.tf_state_after.specs.After.{object_at}
-use Rattle.tf_state_after.specs.Ends.{AppliedView, LeftView, GivenView}
+use Rattle.tf_state_next.specs.After.{object_at}
+use Rattle.tf_state_next.specs.Ends.{AppliedView, LeftView, GivenView}
 use Rattle.tf_state_data.specs.Addresses.{AreByAddress}
 use Rattle.tf_state_data.specs.Ids.{AreById}
 use Rattle.tf_state_data.specs.Record.{RecordView}

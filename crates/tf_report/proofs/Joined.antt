@@ -1,7 +1,7 @@
 -- What comes of the actions of a plan, as the code has it.
 use Rattle.std.proofs.Common.{◌≡◌, List, [], ◌∷◌, map, sym, subst}
 use Rattle.std.specs.List.{AllByRecursion}
-use Rattle.tf_next_state.specs.Events.{ApplyView, DestroyView, EventsView, RenewalView}
+use Rattle.tf_state_next.specs.Events.{ApplyView, DestroyView, EventsView, RenewalView}
 use Rattle.tf_state_data.specs.Ids.{AreById}
 use Rattle.tf_state_data.specs.Resource.{resource_of}
 use Rattle.tf_state_data.specs.declared.resource.Resource.{Resource}

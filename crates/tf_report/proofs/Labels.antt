@@ -6,13 +6,13 @@ use Rattle.tf_additions.specs.Change.{ChangeView, applies_in, change_by, changes
 use Rattle.tf_additions.specs.Head.{AreHeads, Head, Target, an_instance, an_object, given_with, key_in}
 use Rattle.tf_address.specs.Label.{LabelView}
 use Rattle.tf_address.specs.ObjectId.{ObjectIdView}
-use Rattle.tf_next_state.specs.Events.{ApplyView}
+use Rattle.tf_state_next.specs.Events.{ApplyView}
 use Rattle.tf_outcome.specs.Outcome.{Done}
 use Rattle.tf_plan_data.specs.Fits.{is_apply, deposed_key}
 use Rattle.tf_plan_data.specs.Plan.{PlanView}
 use Rattle.tf_protocol.specs.Meaning.{Meaning}
-use Rattle.tf_state_after.specs.After.{object_at}
-use Rattle.tf_state_after.specs.Ends.{AppliedView, LeftView, GivenView}
+use Rattle.tf_state_next.specs.After.{object_at}
+use Rattle.tf_state_next.specs.Ends.{AppliedView, LeftView, GivenView}
 use Rattle.tf_report.specs.Furnished.{applied_labels}
 
 abbrev pub labels_in : List ApplyView → List LabelView

@@ -8,16 +8,16 @@ use Rattle.tf_additions.specs.Head.{AreHeads, Head, IsKeyFor, Target, an_instanc
 use Rattle.tf_address.specs.Label.{LabelView}
 use Rattle.tf_address.specs.Name.{is_name}
 use Rattle.tf_address.specs.ObjectId.{ObjectIdView}
-use Rattle.tf_next_state.specs.Events.{RenewalView, as_apply}
-use Rattle.tf_next_state.specs.Sound.{AreSound, IsSoundApply, IsSoundDestroy, IsSoundLeft}
+use Rattle.tf_state_next.specs.Events.{RenewalView, as_apply}
+use Rattle.tf_state_next.specs.Sound.{AreSound, IsSoundApply, IsSoundDestroy, IsSoundLeft}
 use Rattle.tf_outcome.specs.Outcome.{Done}
 use Rattle.tf_plan_data.specs.Fits.{IsDeclared, is_apply, deposed_key}
 use Rattle.tf_plan_data.specs.Plan.{PlanView, plan_names}
 use Rattle.tf_protocol.specs.Meaning.{Meaning}
 use Rattle.tf_state.specs.Valid.{AreAddresses, IsDeposed, IsKey}
-use Rattle.tf_state_after.proofs.Keys.{key_hex}
-use Rattle.tf_state_after.specs.After.{object_at}
-use Rattle.tf_state_after.specs.Ends.{LeftView, gone, changed, unchanged, AppliedView, unwanted, unplanned, nothing, saved, GivenView}
+use Rattle.tf_state_next.proofs.Keys.{key_hex}
+use Rattle.tf_state_next.specs.After.{object_at}
+use Rattle.tf_state_next.specs.Ends.{LeftView, gone, changed, unchanged, AppliedView, unwanted, unplanned, nothing, saved, GivenView}
 use Rattle.tf_state_data.specs.Resource.{ResourceView}
 use Rattle.tf_report.proofs.Addresses.{NameFits, block_named, dependencies-addresses, names_fit, numbered-key}
 use Rattle.tf_report.proofs.Apart.{IsOfEach, renewals-all}

@@ -8,7 +8,7 @@ use Rattle.tf_additions.specs.Head.{Head}
 use Rattle.tf_address.specs.Label.{LabelView}
 use Rattle.tf_address.specs.ObjectId.{InstanceKeyView}
 use Rattle.tf_address.specs.Same.{same_instance_key}
-use Rattle.tf_next_state.specs.Events.{EventsView, RenewalView}
+use Rattle.tf_state_next.specs.Events.{EventsView, RenewalView}
 use Rattle.tf_outcome.specs.Outcome.{Done}
 use Rattle.tf_plan_data.specs.Fits.{deposed_key}
 use Rattle.tf_plan_data.specs.Plan.{PlanView, plan_names}

@@ -5,8 +5,8 @@ use Rattle.tf_action_data.specs.Action.{ActionView}
 use Rattle.tf_additions.specs.Head.{AreHeads}
 use Rattle.tf_additions.specs.RoomHead.{room_head}
 use Rattle.tf_address.specs.Label.{LabelView}
-use Rattle.tf_next_state.specs.Events.{renewal_of}
-use Rattle.tf_next_state.specs.Homes.{AreHomes}
+use Rattle.tf_state_next.specs.Events.{renewal_of}
+use Rattle.tf_state_next.specs.Homes.{AreHomes}
 use Rattle.tf_outputs.specs.Outputs.{kept_entries}
 use Rattle.tf_outputs.specs.Rooms.{outputs_in}
 use Rattle.tf_plan_data.specs.Fits.{is_apply}

@@ -6,8 +6,8 @@ use Rattle.tf_additions.specs.Head.{AreHeads, Head}
 use Rattle.tf_address.specs.ObjectId.{InstanceKeyView}
 use Rattle.tf_graph.specs.Digraph.{predecessors_of}
 use Rattle.tf_graph.specs.Solutions.{seen_by}
-use Rattle.tf_next_state.specs.Events.{ends_in, given_in}
-use Rattle.tf_next_state.specs.StateAfter.{IsStateAfter}
+use Rattle.tf_state_next.specs.Events.{ends_in, given_in}
+use Rattle.tf_state_next.specs.StateAfter.{IsStateAfter}
 use Rattle.tf_outcome.specs.Excuse.{during_call}
 use Rattle.tf_outcome.specs.Journal.{IsJournal}
 use Rattle.tf_outcome.specs.Outcome.{Done, Requests, AreOutcomes, AreRequests, call_at, done_at, excused, is_faulted, objects_by}

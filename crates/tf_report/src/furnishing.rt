@@ -3,7 +3,7 @@
 ghost use Rattle.std.specs.Prelude.{◌≡◌, ◌+◌, ◌≤◌, ◌++◌, ◌∷◌, [], IfOk, OnOk, if◌then◌else◌, length, map, vec_capacity, vec_len};
 ghost use Rattle.std.specs.List.{range_with_len};
 ghost use Rattle.tf_outcome.specs.Words.{action_of, FitsTogether, is_apply, IsTable, label_of, names_in, outputs_of, plan_names, plan_of};
-ghost use Rattle.tf_next_state.specs.Homes.{AreHomes};
+ghost use Rattle.tf_state_next.specs.Homes.{AreHomes};
 ghost use Rattle.tf_outputs.specs.Outputs.{kept_entries};
 ghost use Rattle.tf_outputs.specs.Rooms.{outputs_in};
 ghost use Rattle.tf_report.specs.Furnished.{IsBlank, IsFurnished, applied_labels};
@@ -18,10 +18,10 @@ use std::alloc::{AllocError, Global};
 use tf_additions::{Changes, Diagnostic, Room, rooms_for};
 use tf_address::Label;
 use tf_names::Names;
-use tf_next_state::{Homes, Renewal, homes_for};
 use tf_outcome::{Excuse, Outcome};
 use tf_outputs::{kept_outputs, rooms_for_outputs};
 use tf_plan_data::{Action, Plan};
+use tf_state_next::{Homes, Renewal, homes_for};
 
 /// All that the report on a plan needs memory for. What actions change may not be let go, so neither may the lists that are
 /// for it.

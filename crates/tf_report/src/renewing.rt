@@ -3,18 +3,17 @@
 ghost use Rattle.std.specs.Prelude.{◌≡◌, ◌<◌, ◌++◌, ◌∷◌, [], None, if◌then◌else◌, IfOk, OnOk, filter, length, map};
 ghost use Rattle.std.specs.List.{flat_map, list_any};
 ghost use Rattle.tf_outcome.specs.Words.{action_of, deposed_key, instance_key_of, IsDependence, label_of, names_in, plan_names, plan_of, record_of, resource_of, step_of};
-ghost use Rattle.tf_next_state.specs.Events.{renewal_of};
+ghost use Rattle.tf_state_next.specs.Events.{renewal_of};
 ghost use Rattle.tf_report.specs.Events.{is_about, is_none, renewal_of_record, renewals, renewals_at, stays};
 
 use std::alloc::{AllocError, Global};
 use tf_additions::{dependencies_of, is_late};
 use tf_address::{InstanceKey, Label};
 use tf_names::Names;
-use tf_next_state::Renewal;
 use tf_plan_data::{Action, Plan, Step};
 use tf_plan_resources::Numbering;
-use tf_state_after::Given;
 use tf_state_data::{Record, Resource};
+use tf_state_next::{Given, Renewal};
 
 /// What is given anew, by the names of the plan's configuration: the records of the objects without an action whose blocks
 /// stand.

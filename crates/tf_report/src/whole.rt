@@ -1,10 +1,10 @@
 //! The report on a plan that was carried out.
 
 ghost use Rattle.std.specs.Prelude.{◌≡◌, ◌+◌, ◌<◌, ◌^◌, List, length, map};
-ghost use Rattle.tf_next_state.specs.Events.{AreEachAboutOne, EventsView, apply_of, destroy_of, ends_in, given_in, renewal_of};
-ghost use Rattle.tf_next_state.specs.Homes.{AreHomes};
-ghost use Rattle.tf_next_state.specs.Sound.{AreSound};
-ghost use Rattle.tf_next_state.specs.StateAfter.{IsStateAfter};
+ghost use Rattle.tf_state_next.specs.Events.{AreEachAboutOne, EventsView, apply_of, destroy_of, ends_in, given_in, renewal_of};
+ghost use Rattle.tf_state_next.specs.Homes.{AreHomes};
+ghost use Rattle.tf_state_next.specs.Sound.{AreSound};
+ghost use Rattle.tf_state_next.specs.StateAfter.{IsStateAfter};
 ghost use Rattle.tf_state.specs.Valid.{IsValid};
 ghost use Rattle.tf_outcome.specs.Words.{dones_of, entries_view, FitsTogether, IsTable, names_in, op_of, outputs_of, plan_names, plan_of, state_of};
 ghost use Rattle.tf_outputs.specs.Outputs.{OutputDone};
@@ -21,11 +21,11 @@ use std::alloc::Global;
 use std::collections::BTreeMap;
 use tf_additions::{Changes, conclude_all};
 use tf_environment::Declarations;
-use tf_next_state::{Events, Homes, Renewal, state_after};
 use tf_outcome::Ended;
 use tf_plan_data::Plan;
 use tf_provider::{Journal, Provider};
 use tf_state_data::{Object, State};
+use tf_state_next::{Events, Homes, Renewal, state_after};
 
 /// The report on a plan, by what came of each of its actions, in action order. It has no answer that says that there was
 /// no memory: none is taken, but for the values of outputs, and where that is refused it is told of the output.

@@ -1,6 +1,6 @@
 use Rattle.std.proofs.Common.{◌∙◌, sym, ap, option_map}
 use Rattle.tf_additions.specs.Change.{as_applied}
-use Rattle.tf_state_after.specs.Ends.{saved_of}
+use Rattle.tf_state_next.specs.Ends.{saved_of}
 use Rattle.tf_additions.proofs.conclude.applied.Goals as goal
 
 pub returns-in-Some : goal.returns-in-Some

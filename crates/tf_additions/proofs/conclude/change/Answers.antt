@@ -1,7 +1,7 @@
 use Rattle.std.proofs.Common.{◌∙◌, sym, ap}
 use Rattle.tf_address.specs.Label.{label_of}
-use Rattle.tf_state_after.specs.Ends.{AppliedView, given_of}
-use Rattle.tf_state_after.specs.Saved.{left_by_destroy}
+use Rattle.tf_state_next.specs.Ends.{AppliedView, given_of}
+use Rattle.tf_state_next.specs.Saved.{left_by_destroy}
 use Rattle.tf_additions.specs.Change.{an_apply, as_applied, change_by, saved_by}
 use Rattle.tf_additions.specs.RoomHead.{target_of}
 use Rattle.tf_additions.proofs.conclude.change.Goals as goal

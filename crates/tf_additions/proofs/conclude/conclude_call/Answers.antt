@@ -6,7 +6,7 @@ use Rattle.tf_protocol.specs.Meaning.{asked, answered}
 use Rattle.tf_protocol.specs.declared.request.Reply.{Reply}
 use Rattle.tf_protocol.specs.declared.verdict.Verdict.{Verdict}
 use Rattle.tf_state.specs.Valid.{IsAttributes}
-use Rattle.tf_state_after.specs.Saved.{formed_in, left_by_destroy}
+use Rattle.tf_state_next.specs.Saved.{formed_in, left_by_destroy}
 use Rattle.tf_value.specs.Tree.{Tree, tree_of}
 use Rattle.tf_additions.specs.Addition.{change_of}
 use Rattle.tf_additions.specs.Change.{MayBeStored, as_applied, change_by, saved_by}

@@ -1,7 +1,7 @@
 use Rattle.std.proofs.Common.{◌≡◌, ◌++◌, ◌∷◌, ◌∙◌, sym, ap, ap₂, subst, map, arith}
 use Rattle.std.specs.List.{AllByRecursion}
 use Rattle.std.specs.Vec.Iter.{into_iter_items}
-use Rattle.tf_next_state.specs.Events.{apply_of, destroy_of}
+use Rattle.tf_state_next.specs.Events.{apply_of, destroy_of}
 use Rattle.tf_outcome.specs.Ended.{done_or_skipped, dones_of}
 use Rattle.tf_additions.specs.Addition.{AreJudged, change_of, told_in}
 use Rattle.tf_additions.specs.Change.{MayBeStored, applies_in, change_at, changes_in, destroys_in}

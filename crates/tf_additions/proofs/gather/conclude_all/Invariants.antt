@@ -3,7 +3,7 @@ use Rattle.std.proofs.Common.{◌≡◌, ◌≤◌, ◌+◌, ◌++◌, length, m
 use Rattle.std.specs.List.{AllByRecursion}
 use Rattle.std.specs.Prelude.{vec_capacity}
 use Rattle.std.specs.Vec.Iter.{into_iter_items}
-use Rattle.tf_next_state.specs.Events.{apply_of, destroy_of}
+use Rattle.tf_state_next.specs.Events.{apply_of, destroy_of}
 use Rattle.tf_outcome.specs.Ended.{dones_of}
 use Rattle.tf_additions.specs.Addition.{AreJudged, told_in}
 use Rattle.tf_additions.specs.Change.{MayBeStored, applies_in, changes_in, destroys_in}

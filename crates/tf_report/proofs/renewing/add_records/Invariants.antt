@@ -1,7 +1,7 @@
 -- the renewals of the records so far
 use Rattle.std.proofs.Common.{◌≡◌, ◌++◌, filter, map, take}
 use Rattle.tf_address.specs.Label.{label_of}
-use Rattle.tf_next_state.specs.Events.{renewal_of}
+use Rattle.tf_state_next.specs.Events.{renewal_of}
 use Rattle.tf_plan_data.specs.Plan.{plan_of}
 use Rattle.tf_state_data.specs.Record.{record_of}
 use Rattle.tf_report.specs.Events.{renewal_of_record, stays}

@@ -1,7 +1,7 @@
 -- the renewals of the resources so far
 use Rattle.std.proofs.Common.{◌≡◌, map, take}
 use Rattle.std.specs.List.{flat_map}
-use Rattle.tf_next_state.specs.Events.{renewal_of}
+use Rattle.tf_state_next.specs.Events.{renewal_of}
 use Rattle.tf_plan_data.specs.Plan.{plan_of}
 use Rattle.tf_state_data.specs.Resource.{resource_of}
 use Rattle.tf_report.specs.Events.{renewals_of}

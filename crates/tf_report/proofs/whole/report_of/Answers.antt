@@ -8,9 +8,9 @@ use Rattle.tf_additions.specs.Diagnostics.{action_diagnostics, diagnostic_of}
 use Rattle.tf_additions.specs.RoomHead.{room_head}
 use Rattle.tf_address.specs.Label.{LabelView}
 use Rattle.tf_graph.specs.Solutions.{seen_by}
-use Rattle.tf_next_state.specs.Events.{AreEachAboutOne, ApplyView, EventsView, apply_of, ends_in, given_in}
-use Rattle.tf_next_state.specs.Homes.{AreHomes}
-use Rattle.tf_next_state.specs.StateAfter.{IsStateAfter}
+use Rattle.tf_state_next.specs.Events.{AreEachAboutOne, ApplyView, EventsView, apply_of, ends_in, given_in}
+use Rattle.tf_state_next.specs.Homes.{AreHomes}
+use Rattle.tf_state_next.specs.StateAfter.{IsStateAfter}
 use Rattle.tf_outcome.specs.Ended.{dones_of}
 use Rattle.tf_outcome.specs.Outcome.{done_at, objects_seen}
 use Rattle.tf_outputs.specs.Outputs.{AreOutputsDone, end_of, outputs_after, with_outputs}

@@ -1,5 +1,0 @@
-use Rattle.tf_next_state.proofs.One.{state_after_one}
-use Rattle.tf_next_state.proofs.laws.state_after_is_one.Goals as goal
-
-pub returns : goal.returns
-returns c = state_after_one

@@ -1,5 +1,0 @@
-use Rattle.tf_next_state.proofs.Validity.{state_after_valid}
-use Rattle.tf_next_state.proofs.laws.state_after_is_valid.Goals as goal
-
-pub returns : goal.returns
-returns c = state_after_valid

@@ -1,9 +1,0 @@
-pub mod Afterwards
-pub mod Counted
-pub mod Crowded
-pub mod Hex
-pub mod Kept
-pub mod Keys
-pub mod OneAfter
-pub mod Places
-pub mod Rooms

@@ -1,5 +1,0 @@
-use Rattle.tf_state_after.proofs.OneAfter.{after_one}
-use Rattle.tf_state_after.proofs.laws.after_is_one.Goals as goal
-
-pub returns-clause-one : goal.returns-clause-one
-returns-clause-one c = after_one

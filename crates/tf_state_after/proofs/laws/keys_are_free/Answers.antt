@@ -1,6 +1,0 @@
-use Rattle.std.proofs.Common.{rules}
-use Rattle.tf_state_after.proofs.Keys.{key_exists, key_free, key_hex}
-use Rattle.tf_state_after.proofs.laws.keys_are_free.Goals as goal
-
-pub returns : goal.returns
-returns c = record { exists = key_exists; free = key_free; hex = key_hex; one = search rules }

@@ -1,5 +1,0 @@
-use Rattle.tf_state_after.proofs.Kept.{none_forgotten}
-use Rattle.tf_state_after.proofs.laws.nothing_is_forgotten.Goals as goal
-
-pub returns-clause-forgotten : goal.returns-clause-forgotten
-returns-clause-forgotten c = none_forgotten

@@ -1,0 +1,84 @@
+-- What is known of an instance's objects once its actions have ended.
+use Rattle.std.specs.Option.{option_eq, option_or}
+use Rattle.std.specs.Prelude.{◌≡◌, ℕ, Bool, List, Option, Some, None, find, option_map, option_and_then, if◌then◌else◌}
+use Rattle.std.specs.Str.{bytes_eq}
+use Rattle.tf_address.specs.ObjectId.{InstanceKeyView, ObjectIdView}
+use Rattle.tf_state_next.specs.Ends.{SavedView, LeftView, gone, changed, unchanged, AppliedView, unwanted, unplanned, nothing, saved, EndsView, GivenView}
+use Rattle.tf_state_data.specs.Record.{RecordView}
+use Rattle.tf_state_data.specs.Resource.{ResourceView, record_at}
+
+-- What is known of the objects of one instance: the record of its current object, and of each deposed one by its key.
+abbrev pub Places : Type 0
+Places = Option (List ℕ) → Option RecordView
+
+-- an object of an instance: the current one, or a deposed one
+abbrev pub object_at : InstanceKeyView → Option (List ℕ) → ObjectIdView
+object_at key deposed = record { key = key; deposed = deposed }
+
+-- what a resource's records say of an instance
+abbrev pub places_in : InstanceKeyView → List RecordView → Places
+places_in key records deposed = record_at (object_at key deposed) records
+
+-- The record of an object that a create or an update saved: it is the current one, with what the record is given.
+abbrev pub record_of_saved : GivenView → SavedView → RecordView
+record_of_saved g s =
+    record {
+      id = object_at g.key None;
+      attributes = s.0;
+      schema_version = g.schema_version;
+      tainted = s.1;
+      dependencies = g.dependencies;
+      create_before_destroy = g.create_before_destroy;
+    }
+
+-- the record of an object for which nothing was planned: what it depends on and whether it is late are given anew
+abbrev pub renewed : List (List ℕ) → Bool → RecordView → RecordView
+renewed dependencies late r = record r { dependencies = dependencies; create_before_destroy = late }
+
+-- the record of an object that became deposed: all else stays
+abbrev pub as_deposed : List ℕ → RecordView → RecordView
+as_deposed key r = record r { id = object_at r.id.key (Some key) }
+
+-- what a destroy leaves of a record: none, the record with other attributes, or the record as it is
+abbrev pub left_of_record : LeftView → RecordView → Option RecordView
+left_of_record gone r = None
+left_of_record (changed t) r = Some (record r { attributes = t })
+left_of_record unchanged r = Some r
+
+-- the same where there may have been no destroy, and no record
+abbrev pub after_destroy : Option LeftView → Option RecordView → Option RecordView
+after_destroy None before = before
+after_destroy (Some left) before = option_and_then (left_of_record left) before
+
+-- The current object is the one that was saved. Where none was, it is what the destroy left of the one that was there; and
+-- where nothing was planned, that one with what it is given anew.
+abbrev pub current_after : GivenView → AppliedView → Option RecordView → Option RecordView
+current_after g (saved s) left = Some (record_of_saved g s)
+current_after g unplanned left = option_map (renewed g.dependencies g.create_before_destroy) left
+current_after g nothing left = left
+current_after g unwanted left = left
+
+-- The object that was current becomes deposed under a key where that is the one given for it and an object was saved in its
+-- place, unless its destroy left nothing of it.
+abbrev pub deposed_anew : GivenView → AppliedView → Option RecordView → List ℕ → Option RecordView
+deposed_anew g (saved s) left key = if option_eq bytes_eq g.deposed_key (Some key) then option_map (as_deposed key) left else None
+deposed_anew g _ left key = None
+
+-- what came of the destroy of the object that is deposed under a key, where there was one
+abbrev pub destroy_under : List ℕ → List (List ℕ × LeftView) → Option LeftView
+destroy_under key destroyed = option_map (λ d. d.1) (find (λ d. bytes_eq d.0 key) destroyed)
+
+-- What is known of an instance's objects after its actions: of the current object, as above; under the key of a deposed one
+-- the object that became deposed, or else what its destroy left of the one that was there.
+abbrev pub instance_after : GivenView → EndsView → Places → Places
+instance_after g ends before None = current_after g ends.applied (after_destroy ends.destroyed (before None))
+instance_after g ends before (Some key) =
+    option_or (deposed_anew g ends.applied (after_destroy ends.destroyed (before None)) key) (after_destroy (destroy_under key ends.deposed) (before (Some key)))
+
+-- A resource after the actions of one of its instances: what is known of that one's objects is as above, of those of other
+-- instances what was known before, and its address and its provider stay.
+pub record IsAfter (g : GivenView) (ends : EndsView) (before after : ResourceView) : Type 0 where
+  pub own : (deposed : Option (List ℕ)) → places_in g.key after.records deposed ≡ instance_after g ends (places_in g.key before.records) deposed
+  pub others : (id : ObjectIdView) → ¬ (id.key ≡ g.key) → record_at id after.records ≡ record_at id before.records
+  pub label : after.label ≡ before.label
+  pub provider : after.provider ≡ before.provider

@@ -1,0 +1,12 @@
+pub mod After
+pub mod DeposedKey
+pub mod Ends
+pub mod ObjectLaws
+pub mod Room
+pub mod Saved
+pub mod Events
+pub mod Homes
+pub mod Laws
+pub mod Recorded
+pub mod Sound
+pub mod StateAfter

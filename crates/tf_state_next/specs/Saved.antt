@@ -1,0 +1,61 @@
+-- What an action saves of an object, and what it leaves of one, by the reply and its verdict.
+use Rattle.std.specs.Prelude.{Bool, true, false, if◌then◌else◌, Option, Some, None, option_map}
+use Rattle.std.specs.Option.{option_map_or}
+use Rattle.tf_protocol.specs.Meaning.{Asked, Answer, object, failed}
+use Rattle.tf_protocol.specs.Schema.{SchemaView}
+use Rattle.tf_protocol.specs.Verdict.{well_formed}
+use Rattle.tf_protocol.specs.declared.verdict.Verdict.{Verdict}
+use Rattle.tf_protocol.specs.declared.verdict.Verdict.TheVariants as verdict
+use Rattle.tf_state_next.specs.Ends.{SavedView, LeftView, gone, changed, unchanged}
+use Rattle.tf_value.specs.Nulls.{with_nulls}
+use Rattle.tf_value.specs.Tree.{Tree}
+
+-- the object that was replied
+abbrev pub object_replied : Option Answer → Option Tree
+object_replied (Some (object t)) = Some t
+object_replied _ = None
+
+-- an object, where it is well formed
+abbrev pub if_formed : SchemaView → Tree → Option Tree
+if_formed schema t = if well_formed schema t then Some t else None
+
+-- the object that is there in spite of a failure, where it is well formed
+abbrev pub object_there : SchemaView → Option Answer → Option Tree
+object_there schema (Some (failed message (Some t))) = if_formed schema t
+object_there schema _ = None
+
+-- the object in an answer, replied or there in spite of a failure, where it is well formed
+abbrev pub formed_in : SchemaView → Option Answer → Option Tree
+formed_in schema (Some (object t)) = if_formed schema t
+formed_in schema (Some (failed message (Some t))) = if_formed schema t
+formed_in schema _ = None
+
+-- an object that is saved as tainted, or not
+abbrev pub as_saved : Bool → Option Tree → Option SavedView
+as_saved tainted = option_map (λ t. (t, tainted))
+
+-- What a create saves: a good reply; a reply that contradicts the plan, as tainted; after a malformed reply the
+-- object that was asked for, as tainted, with null for what isn't known; after a failure an object that is
+-- there and well formed, as tainted; otherwise nothing.
+abbrev pub saved_by_create : SchemaView → Asked → Option Answer → Verdict → Option SavedView
+saved_by_create schema asked answer verdict.Good = as_saved false (object_replied answer)
+saved_by_create schema asked answer (verdict.Contradicted place) = as_saved true (object_replied answer)
+saved_by_create schema asked answer verdict.Malformed = as_saved true (option_map with_nulls asked.object)
+saved_by_create schema asked answer verdict.Failed = as_saved true (object_there schema answer)
+saved_by_create schema asked answer verdict.Excused = None
+
+-- What an update saves, never as tainted: a reply that is good or contradicts the plan; after a failure an object that is
+-- there and well formed; otherwise nothing.
+abbrev pub saved_by_update : SchemaView → Option Answer → Verdict → Option SavedView
+saved_by_update schema answer verdict.Good = as_saved false (object_replied answer)
+saved_by_update schema answer (verdict.Contradicted place) = as_saved false (object_replied answer)
+saved_by_update schema answer verdict.Failed = as_saved false (object_there schema answer)
+saved_by_update schema answer verdict.Malformed = None
+saved_by_update schema answer verdict.Excused = None
+
+-- What a destroy leaves: nothing, where it is good; after a failure an object that is there and well formed; otherwise what
+-- is known of the object stays.
+abbrev pub left_by_destroy : SchemaView → Option Answer → Verdict → LeftView
+left_by_destroy schema answer verdict.Good = gone
+left_by_destroy schema answer verdict.Failed = option_map_or changed (object_there schema answer) unchanged
+left_by_destroy schema answer _ = unchanged

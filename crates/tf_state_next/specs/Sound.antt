@@ -1,0 +1,42 @@
+-- What is recorded may be part of a valid state.
+use Rattle.std.specs.Prelude.{◌≡◌, ◌<◌, ◌^◌, true, ⊤}
+use Rattle.std.specs.List.{AllByRecursion}
+use Rattle.tf_address.specs.Name.{is_name}
+use Rattle.tf_state_next.specs.Events.{ApplyView, DestroyView, EventsView, wanted}
+use Rattle.tf_state.specs.Valid.{AreAddresses, IsAttributes, IsDeposed, IsKey}
+use Rattle.tf_state_next.specs.Ends.{LeftView, gone, changed, unchanged, SavedView, AppliedView, unwanted, unplanned, nothing, saved}
+
+-- An object that was saved: its address is of names, its instance and what it is given are such as a valid state has, and its
+-- attributes may be stored.
+pub record IsSoundObject (a : ApplyView) (s : SavedView) : Type 0 where
+  pub type_name : is_name a.label.type_name ≡ true
+  pub name : is_name a.label.name ≡ true
+  pub key : IsKey a.given.key
+  pub version : a.given.schema_version < 2 ^ 32
+  pub dependencies : AreAddresses a.given.dependencies
+  pub deposed_key : IsDeposed a.given.deposed_key
+  pub attributes : IsAttributes s.0
+
+-- What came of a create or an update: an object is as above, and what a record is given anew are addresses.
+abbrev pub IsSoundBy : ApplyView → AppliedView → Type 0
+IsSoundBy a (saved s) = IsSoundObject a s
+IsSoundBy a unplanned = AreAddresses a.given.dependencies
+IsSoundBy a nothing = ⊤
+IsSoundBy a unwanted = ⊤
+
+abbrev pub IsSoundApply : ApplyView → Type 0
+IsSoundApply a = IsSoundBy a a.applied
+
+-- attributes that a destroy left may be stored
+abbrev pub IsSoundLeft : LeftView → Type 0
+IsSoundLeft gone = ⊤
+IsSoundLeft (changed t) = IsAttributes t
+IsSoundLeft unchanged = ⊤
+
+abbrev pub IsSoundDestroy : DestroyView → Type 0
+IsSoundDestroy d = IsSoundLeft d.left
+
+-- all that is recorded is sound
+pub record AreSound (e : EventsView) : Type 0 where
+  pub destroys : AllByRecursion IsSoundDestroy e.destroys
+  pub wanted : AllByRecursion IsSoundApply (wanted e)

@@ -1,0 +1,34 @@
+// Laws on what is known of an instance's objects after its actions, proved for all of them: each function's contract is a
+// law, and its body does nothing.
+ghost use Rattle.tf_state_next.specs.ObjectLaws.{AfterIsOne, DeposedStay, DestroysCombine, KeyExists, KeyIsFree, KeyIsHex, KeyIsOne, NothingIsForgotten, OldIsDeposed, OldStays, RoomsSuffice, SavedIsCurrent};
+
+/// What comes of an instance's actions is one resource, and the destroys of its deposed objects may come before the rest
+/// or after it.
+pub fn after_is_one()
+    ensures one { AfterIsOne }
+    ensures combined { DestroysCombine }
+{}
+
+/// Each object keeps a record unless a good destroy took it, each one that was saved has one, and no deposed object is
+/// overwritten. The old object becomes deposed where another was saved, and stays current where none was.
+pub fn nothing_is_forgotten()
+    ensures forgotten { NothingIsForgotten }
+    ensures saved { SavedIsCurrent }
+    ensures stay { DeposedStay }
+    ensures deposed { OldIsDeposed }
+    ensures current { OldStays }
+{}
+
+/// There is one key for an object that becomes deposed, where records are fewer than serials, and it is the only one. It is
+/// eight lower-case hex digits, and no object is deposed under it.
+pub fn keys_are_free()
+    ensures one { KeyIsOne }
+    ensures exists { KeyExists }
+    ensures free { KeyIsFree }
+    ensures hex { KeyIsHex }
+{}
+
+/// Room for one record of each create or update of a resource is enough.
+pub fn rooms_suffice()
+    ensures { RoomsSuffice }
+{}

@@ -1,0 +1,145 @@
+//! What came of an instance's actions is recorded, without memory.
+
+ghost use Rattle.std.specs.Prelude.{◌≡◌, ◌+◌, ℕ, IfNone, IfSome, IsSome, map, option_and_then, option_map, string_bytes};
+ghost use Rattle.tf_address.specs.ObjectId.{object_id_of};
+ghost use Rattle.tf_state_next.specs.After.{IsAfter, after_destroy, left_of_record, renewed};
+ghost use Rattle.tf_state_next.specs.Ends.{GivenView, applied_of, destroy_of, ends_of, given_of, left_of};
+ghost use Rattle.tf_state_next.specs.Room.{deposed_by, records_more, with_any};
+ghost use Rattle.tf_state_data.specs.Record.{record_of};
+ghost use Rattle.tf_state_data.specs.Resource.{HasRoomForRecords, record_at, resource_of, without_record};
+
+use crate::ends::{Applied, Ends, Given, Left, Saved};
+use std::collections::BTreeSet;
+use tf_address::ObjectId;
+use tf_state_data::{Record, Resource};
+
+/// Records what came of the actions on the current object of an instance. It takes no memory: where an object was saved
+/// there has to be room for one record more.
+pub fn record_current(resource: &mut Resource, given: Given, ends: Ends)
+    requires { HasRoomForRecords (records_more (applied_of ends.applied)) resource.old }
+    ensures after { IsAfter (given_of given) (ends_of ends) (resource_of resource.old) (resource_of resource.new) }
+    ensures room { (n : ℕ) → HasRoomForRecords (n + records_more (applied_of ends.applied)) resource.old → HasRoomForRecords n resource.new }
+{
+    let Given {
+        key,
+        schema_version,
+        dependencies,
+        create_before_destroy,
+        deposed_key,
+    } = given;
+    let Ends { applied, destroyed } = ends;
+    let id = ObjectId { key, deposed: None };
+    let left = take_left(resource, &id, destroyed);
+    match applied {
+        Applied::Unwanted | Applied::Nothing => put_any(resource, left),
+        Applied::Unplanned => {
+            let left = renew(left, dependencies, create_before_destroy);
+            put_any(resource, left);
+        }
+        Applied::Saved(
+            Saved {
+                attributes,
+                tainted,
+            },
+        ) => {
+            drop(resource.put(Record {
+                id,
+                attributes,
+                schema_version,
+                tainted,
+                dependencies,
+                create_before_destroy,
+            }));
+            let left = depose(left, deposed_key);
+            put_any(resource, left);
+        }
+    }
+}
+
+/// Records what the destroy of an object left of it, of the current object of an instance or of a deposed one. It takes no
+/// memory.
+pub fn record_destroy(resource: &mut Resource, id: &ObjectId, left: Left)
+    ensures after { (g : GivenView) → g.key ≡ (object_id_of id.now).key
+        → IsAfter g (destroy_of (object_id_of id.now).deposed (left_of left)) (resource_of resource.old) (resource_of resource.new) }
+    ensures room { (n : ℕ) → HasRoomForRecords n resource.old → HasRoomForRecords n resource.new }
+{
+    let left = take_left(resource, id, Some(left));
+    put_any(resource, left);
+}
+
+/// Takes out the record of an object, and gives what the destroy left of it.
+fn take_left(resource: &mut Resource, id: &ObjectId, destroyed: Option<Left>) -> Option<Record>
+    ensures left { option_map record_of result
+        ≡ after_destroy (option_map left_of destroyed) (record_at (object_id_of id.now) (resource_of resource.old).records) }
+    ensures taken { resource_of resource.new ≡ without_record (object_id_of id.now) (resource_of resource.old) }
+    ensures room { (n : ℕ) → HasRoomForRecords n resource.old → HasRoomForRecords n resource.new }
+    ensures freed { IfSome result (λ _. (n : ℕ) → HasRoomForRecords n resource.old → HasRoomForRecords (n + 1) resource.new) }
+{
+    let there = resource.remove(id);
+    match destroyed {
+        Some(left) => leave(there, left),
+        None => there,
+    }
+}
+
+/// What a destroy left of a record, where there is one.
+fn leave(there: Option<Record>, left: Left) -> Option<Record>
+    ensures left { option_map record_of result ≡ option_and_then (left_of_record (left_of left)) (option_map record_of there) }
+    ensures there { IfSome result (λ _. IsSome there) }
+{
+    match (left, there) {
+        (Left::Gone, _) => None,
+        (Left::Changed(attributes), Some(mut there)) => {
+            there.attributes = attributes;
+            Some(there)
+        }
+        (Left::Changed(_), None) => None,
+        (Left::Unchanged, there) => there,
+    }
+}
+
+/// Puts in a record, where there is one.
+fn put_any(resource: &mut Resource, kept: Option<Record>)
+    requires { IfSome kept (λ _. HasRoomForRecords 1 resource.old) }
+    ensures put { resource_of resource.new ≡ with_any (option_map record_of kept) (resource_of resource.old) }
+    ensures none { IfNone kept ((n : ℕ) → HasRoomForRecords n resource.old → HasRoomForRecords n resource.new) }
+    ensures some { IfSome kept (λ _. (n : ℕ) → HasRoomForRecords (n + 1) resource.old → HasRoomForRecords n resource.new) }
+{
+    if let Some(kept) = kept {
+        drop(resource.put(kept));
+    }
+}
+
+/// The record of an object for which nothing was planned, with what it is given anew.
+fn renew(
+    kept: Option<Record>,
+    dependencies: BTreeSet<String>,
+    create_before_destroy: bool,
+) -> Option<Record>
+    ensures renewed { option_map record_of result
+        ≡ option_map (renewed (map string_bytes dependencies.keys) create_before_destroy) (option_map record_of kept) }
+    ensures there { IfSome result (λ _. IsSome kept) }
+{
+    match kept {
+        Some(mut kept) => {
+            kept.dependencies = dependencies;
+            kept.create_before_destroy = create_before_destroy;
+            Some(kept)
+        }
+        None => None,
+    }
+}
+
+/// The record of an object that becomes deposed, where a key is given for it.
+fn depose(kept: Option<Record>, key: Option<String>) -> Option<Record>
+    ensures deposed { option_map record_of result ≡ deposed_by (option_map string_bytes key) (option_map record_of kept) }
+    ensures there { IfSome result (λ _. IsSome kept) }
+{
+    match (kept, key) {
+        (Some(mut kept), Some(key)) => {
+            kept.id.deposed = Some(key);
+            Some(kept)
+        }
+        _ => None,
+    }
+}

@@ -1,0 +1,124 @@
+//! What came of the actions is recorded in the resources, without taking memory.
+
+ghost use Rattle.std.specs.Prelude.{◌≡◌, ℕ, List, [], ◌∷◌, ◌++◌, IfErr, IfOk, map};
+ghost use Rattle.tf_address.specs.Label.{LabelView, label_cmp, label_of};
+ghost use Rattle.tf_state_next.specs.Events.{AreApart, apply_of, as_apply, destroy_of, instance_of, object_of, renewal_of};
+ghost use Rattle.tf_state_next.specs.Homes.{HaveRoom, count_of};
+ghost use Rattle.tf_state_next.specs.Recorded.{AreApplied, AreDestroyed, AreThere};
+ghost use Rattle.tf_state_data.specs.Addresses.{AreByAddress};
+ghost use Rattle.tf_state_data.specs.Order.{IsAt, IsGapFor};
+ghost use Rattle.tf_state_data.specs.Resource.{resource_of};
+
+use crate::ends::{Applied, Ends, Left};
+use crate::events::{Apply, Destroy, Renewal};
+use crate::record_ends::{record_current, record_destroy};
+use tf_address::Label;
+use tf_state_data::Resource;
+
+/// Where the resource at an address stands among resources in the order of their addresses, or where it would stand.
+pub(crate) fn search(resources: &[Resource], label: &Label) -> Result<usize, usize>
+    requires { AreByAddress (map resource_of resources.now) }
+    ensures found { IfOk result (IsAt (λ r. r.label) label_cmp (label_of label.now) (map resource_of resources.now)) }
+    ensures absent { IfErr result (IsGapFor (λ r. r.label) label_cmp (label_of label.now) (map resource_of resources.now)) }
+{
+    resources.binary_search_by(|resource| resource.label().cmp(label))
+}
+
+/// Records what each destroy left of its object.
+pub(crate) fn destroy_all(resources: &mut [Resource], mut destroys: Vec<Destroy<'_>>)
+    requires ordered { AreByAddress (map resource_of resources.old) }
+    requires apart { AreApart object_of (map destroy_of destroys.items) }
+    ensures recorded { AreDestroyed (map destroy_of destroys.entry.items) (map resource_of resources.old) (map resource_of resources.new) }
+    ensures room { (count : LabelView → ℕ) → HaveRoom count resources.old → HaveRoom count resources.new }
+{
+    while let Some(event) = destroys.pop() {
+        destroy(resources, event);
+    }
+    destroys.destroy_empty();
+}
+
+/// Records what a destroy left of its object.
+fn destroy(resources: &mut [Resource], event: Destroy<'_>)
+    requires ordered { AreByAddress (map resource_of resources.old) }
+    ensures recorded { AreDestroyed (destroy_of event.entry ∷ []) (map resource_of resources.old) (map resource_of resources.new) }
+    ensures room { (count : LabelView → ℕ) → HaveRoom count resources.old → HaveRoom count resources.new }
+{
+    let Destroy { label, id, left } = event;
+    match search(resources, label) {
+        Ok(index) => record_destroy(&mut resources[index], &id, left),
+        Err(_) => leave_nothing(left),
+    }
+}
+
+/// Nothing is left of an object of which nothing is known.
+fn leave_nothing(left: Left) {
+    match left {
+        Left::Gone | Left::Unchanged => {}
+        Left::Changed(attributes) => drop(attributes),
+    }
+}
+
+/// Gives each object for which nothing was planned anew what it is given.
+pub(crate) fn renew_all(resources: &mut [Resource], mut renewals: Vec<Renewal<'_>>)
+    requires ordered { AreByAddress (map resource_of resources.old) }
+    requires apart { AreApart instance_of (map as_apply (map renewal_of renewals.items)) }
+    ensures recorded { AreApplied (map as_apply (map renewal_of renewals.entry.items)) (map resource_of resources.old) (map resource_of resources.new) }
+    ensures room { (count : LabelView → ℕ) → HaveRoom count resources.old → HaveRoom count resources.new }
+{
+    while let Some(event) = renewals.pop() {
+        renew(resources, event);
+    }
+}
+
+/// Gives an object for which nothing was planned anew what it is given.
+fn renew(resources: &mut [Resource], event: Renewal<'_>)
+    requires ordered { AreByAddress (map resource_of resources.old) }
+    ensures recorded { AreApplied (as_apply (renewal_of event.entry) ∷ []) (map resource_of resources.old) (map resource_of resources.new) }
+    ensures room { (count : LabelView → ℕ) → HaveRoom count resources.old → HaveRoom count resources.new }
+{
+    let Renewal { label, given } = event;
+    if let Ok(index) = search(resources, label) {
+        let ends = Ends {
+            applied: Applied::Unplanned,
+            destroyed: None,
+        };
+        record_current(&mut resources[index], given, ends);
+    }
+}
+
+/// Records what came of each create and update.
+pub(crate) fn apply_all(resources: &mut [Resource], mut applies: Vec<Apply<'_>>)
+    requires ordered { AreByAddress (map resource_of resources.old) }
+    requires apart { AreApart instance_of (map apply_of applies.items) }
+    requires there { AreThere (map (λ a. a.label) (map apply_of applies.items)) (map resource_of resources.old) }
+    requires room { HaveRoom (count_of (map (λ a. a.label) (map apply_of applies.items))) resources.old }
+    ensures { AreApplied (map apply_of applies.entry.items) (map resource_of resources.old) (map resource_of resources.new) }
+{
+    while let Some(event) = applies.pop() {
+        apply(resources, event);
+    }
+    applies.destroy_empty();
+}
+
+/// Records what came of a create or an update.
+fn apply(resources: &mut [Resource], event: Apply<'_>)
+    requires ordered { AreByAddress (map resource_of resources.old) }
+    requires there { AreThere (label_of event.label.now ∷ []) (map resource_of resources.old) }
+    requires room { HaveRoom (count_of (label_of event.label.now ∷ [])) resources.old }
+    ensures recorded { AreApplied (apply_of event.entry ∷ []) (map resource_of resources.old) (map resource_of resources.new) }
+    ensures room { (labels : List LabelView) → HaveRoom (count_of (labels ++ label_of event.entry.label.now ∷ [])) resources.old → HaveRoom (count_of labels) resources.new }
+{
+    let Apply {
+        label,
+        given,
+        applied,
+    } = event;
+    let Ok(index) = search(resources, label) else {
+        unreachable!()
+    };
+    let ends = Ends {
+        applied,
+        destroyed: None,
+    };
+    record_current(&mut resources[index], given, ends);
+}
