@@ -1,7 +1,7 @@
 -- What is known of one action more.
 use Rattle.std.proofs.Common.{◌≡◌, ◌∙◌, ◌<◌, ◌+◌, ◌++◌, ◌∷◌, [], ℕ, zero, suc, true, Some, List, length, map, get_or, take, sym, ap, subst, arith}
 use Rattle.std.proofs.lemmas.List.{map-append}
-use Rattle.tf_action_data.specs.Action.{ActionView}
+use Rattle.tf_plan_data.specs.Action.{ActionView}
 use Rattle.tf_config_data.specs.Names.{NameView, Meant, a_block, meant_at}
 use Rattle.tf_plan_data.specs.Fits.{IsDeclared, is_apply}
 use Rattle.tf_plan_data.specs.Plan.{PlanView}

@@ -1,6 +1,6 @@
 -- What an apply tells of actions that aren't good.
 use Rattle.std.specs.Prelude.{ℕ, nat_lt, if◌then◌else◌, List, [], ◌∷◌, ◌++◌, map, codes, Option, Some, string_bytes, slice_index_or}
-use Rattle.tf_action_data.specs.Action.{ActionView}
+use Rattle.tf_plan_data.specs.Action.{ActionView}
 use Rattle.tf_outcome.specs.Excuse.{Moment, by_stop}
 use Rattle.tf_outcome.specs.Message.{fault_message}
 use Rattle.tf_outcome.specs.Outcome.{Done, skipped, excused, faulted, called, op_of}

@@ -1,7 +1,7 @@
 -- What is known of an action before its call, so that what comes of it is reported without taking memory.
 use Rattle.std.specs.Prelude.{◌≡◌, ◌+◌, ◌<◌, ◌^◌, ℕ, Bool, true, false, ◌&&◌, if◌then◌else◌, List, [], ◌∷◌, Option, Some, None, ⊤}
 use Rattle.std.specs.Option.{option_map_or}
-use Rattle.tf_action_data.specs.Action.{ActionView, StepView, replacement}
+use Rattle.tf_plan_data.specs.Action.{ActionView, StepView, replacement}
 use Rattle.tf_address.specs.Label.{LabelView}
 use Rattle.tf_address.specs.ObjectId.{ObjectIdView}
 use Rattle.tf_outcome.specs.Outcome.{op_of}

@@ -1,6 +1,6 @@
 -- Where a diagnostic of an action stands.
 use Rattle.std.specs.Prelude.{ℕ, List, ◌++◌, codes, Option, Some, None}
-use Rattle.tf_action_data.specs.Action.{ActionView}
+use Rattle.tf_plan_data.specs.Action.{ActionView}
 use Rattle.tf_plan_data.specs.Address.{address_text}
 use Rattle.tf_plan_data.specs.Fits.{deposed_key}
 

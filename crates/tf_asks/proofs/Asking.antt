@@ -14,7 +14,7 @@ use Rattle.tf_environment.specs.Stages.{applying}
 use Rattle.tf_environment.specs.Standing.{environment, rule}
 use Rattle.tf_graph.proofs.Solving.{solution-exists, solution-unique}
 use Rattle.tf_graph.specs.Solutions.{Ranked}
-use Rattle.tf_action_data.specs.Action.{ActionView}
+use Rattle.tf_plan_data.specs.Action.{ActionView}
 use Rattle.tf_plan_data.specs.Fits.{IsOfBlock}
 use Rattle.tf_plan_data.specs.Plan.{PlanView, plan_names}
 use Rattle.tf_protocol.specs.Meaning.{Asked, Meaning, schema_in}

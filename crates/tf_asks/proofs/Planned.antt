@@ -1,7 +1,7 @@
 -- What would be asked by the plan is what was planned.
 use Rattle.std.proofs.Common.{◌≡◌, ◌<◌, ◌∙◌, ℕ, zero, suc, Bool, true, false, List, [], ◌∷◌, ◌++◌, length, get_or, Option, Some, None, Result, Ok, Err, refl, sym, ap, subst, arith}
 use Rattle.std.specs.List.{AllByRecursion, flat_map}
-use Rattle.tf_action_data.specs.Action.{ActionView, StepView}
+use Rattle.tf_plan_data.specs.Action.{ActionView, StepView}
 use Rattle.tf_change.specs.Instance.{InstanceFaultView, for_each_fault, argument_fault, instance_object}
 use Rattle.tf_config_data.specs.Config.{LifecycleView}
 use Rattle.tf_config_data.specs.Names.{meant_at}

@@ -1,6 +1,6 @@
 -- What is had before a call, or what is wrong with its request.
 use Rattle.std.specs.Prelude.{ℕ, List, Option, Result, Ok, Err}
-use Rattle.tf_action_data.specs.Action.{ActionView}
+use Rattle.tf_plan_data.specs.Action.{ActionView}
 use Rattle.tf_change.specs.Instance.{InstanceFaultView, instance_fault_of}
 use Rattle.tf_plan_data.specs.Address.{address_text}
 use Rattle.tf_protocol.specs.Meaning.{Asked, asked}

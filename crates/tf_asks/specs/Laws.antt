@@ -1,6 +1,6 @@
 -- What holds of what is asked, by what was planned.
 use Rattle.std.specs.Prelude.{◌≡◌, ℕ, true, List, Option, Some, None, option_and_then, Result, Ok, Contains, ⊤}
-use Rattle.tf_action_data.specs.Action.{ActionView, StepView, create, update, replacement}
+use Rattle.tf_plan_data.specs.Action.{ActionView, StepView, create, update, replacement}
 use Rattle.tf_address.specs.ObjectId.{InstanceKeyView}
 use Rattle.tf_change.specs.Instance.{InstanceFaultView, instance_object}
 use Rattle.tf_config_data.specs.Config.{BlockView}

@@ -7,7 +7,7 @@ use Rattle.std.specs.List.{AllByRecursion, filter_map, flat_map}
 use Rattle.std.specs.Option.{option_eq, option_map_or, option_or}
 use Rattle.std.specs.Prelude.{Contains, slice_get}
 use Rattle.std.specs.Str.{bytes_eq}
-use Rattle.tf_action_data.specs.Action.{ActionView, StepView, create, update, replacement, replaced, deposed_destroyed}
+use Rattle.tf_plan_data.specs.Action.{ActionView, StepView, create, update, replacement, replaced, deposed_destroyed}
 use Rattle.tf_additions.specs.Change.{applies_in, changes_in, destroys_in}
 use Rattle.tf_additions.specs.Head.{IsKeyFor, given_with, is_replacement}
 use Rattle.tf_address.specs.Label.{LabelView}

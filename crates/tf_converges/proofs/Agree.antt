@@ -4,8 +4,8 @@ use Rattle.std.proofs.lemmas.Bool.{eqb-true, eq-eqb}
 use Rattle.std.proofs.lemmas.List.{length-map}
 use Rattle.std.specs.List.{range_with_len}
 use Rattle.std.specs.Prelude.{Contains, slice_get, slice_index_or}
-use Rattle.tf_action_data.specs.Action.{ActionView, StepView, create, update, replacement}
-use Rattle.tf_action_data.specs.Precedence.{kind_of, ordered}
+use Rattle.tf_plan_data.specs.Action.{ActionView, StepView, create, update, replacement}
+use Rattle.tf_plan_data.specs.Precedence.{kind_of, ordered}
 use Rattle.tf_address.specs.ObjectId.{InstanceKeyView}
 use Rattle.tf_address.specs.Same.{same_instance_key}
 use Rattle.tf_config_data.specs.Names.{NameView, meant_at}

@@ -3,7 +3,7 @@
 use Rattle.std.proofs.Common.{◌≡◌, ◌∙◌, ℕ, Bool, List, [], Option, Some, None, map, option_map, refl, sym, ap, subst}
 use Rattle.std.specs.Option.{option_map_or}
 use Rattle.std.specs.Prelude.{Contains}
-use Rattle.tf_action_data.specs.Action.{ActionView}
+use Rattle.tf_plan_data.specs.Action.{ActionView}
 use Rattle.tf_additions.specs.Dependencies.{dependencies}
 use Rattle.tf_additions.specs.Head.{AreHeads, Head}
 use Rattle.tf_address.specs.Label.{LabelView}

@@ -3,7 +3,7 @@ use Rattle.std.proofs.Common.{◌≡◌, ◌∙◌, ◌&&◌, ◌==◌, inl, inr
 use Rattle.std.proofs.lemmas.Bool.{eqb-true}
 use Rattle.std.specs.Option.{option_map_or}
 use Rattle.std.specs.Prelude.{Contains, slice_get}
-use Rattle.tf_action_data.specs.Action.{ActionView}
+use Rattle.tf_plan_data.specs.Action.{ActionView}
 use Rattle.tf_additions.specs.Dependencies.{dependencies}
 use Rattle.tf_additions.specs.Head.{given_with}
 use Rattle.tf_address.specs.Label.{LabelView}

@@ -1,7 +1,7 @@
 -- An apply without an action keeps each object.
 use Rattle.std.proofs.Common.{◌≡◌, ◌∙◌, ◌⊎◌, inl, inr, ℕ, Bool, List, [], ◌∷◌, ◌++◌, Option, Some, None, map, option_map, refl, sym, ap, subst}
 use Rattle.std.specs.Option.{option_map_or, option_or}
-use Rattle.tf_action_data.specs.Action.{ActionView}
+use Rattle.tf_plan_data.specs.Action.{ActionView}
 use Rattle.tf_additions.specs.Change.{applies_in, changes_in}
 use Rattle.tf_additions.specs.Head.{AreHeads, Head}
 use Rattle.tf_address.specs.Label.{LabelView}

@@ -1,7 +1,7 @@
 -- Which instances have nothing left to do, by what was planned for them and what came of it.
 use Rattle.std.specs.Prelude.{◌≡◌, ℕ, true, false, List, Some, Ok}
 use Rattle.std.specs.List.{list_all}
-use Rattle.tf_action_data.specs.Action.{ActionView, StepView}
+use Rattle.tf_plan_data.specs.Action.{ActionView, StepView}
 use Rattle.tf_address.specs.ObjectId.{InstanceKeyView}
 use Rattle.tf_change.specs.Instance.{instance_object}
 use Rattle.tf_config_data.specs.Config.{BlockView}

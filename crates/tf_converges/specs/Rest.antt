@@ -1,7 +1,7 @@
 -- States beside which a configuration has nothing left to do.
 use Rattle.std.specs.Prelude.{◌≡◌, ℕ, true, List, [], ◌∷◌, Some, None, Ok, ⊤}
 use Rattle.std.specs.List.{AllByRecursion}
-use Rattle.tf_action_data.specs.Action.{ActionView}
+use Rattle.tf_plan_data.specs.Action.{ActionView}
 use Rattle.tf_address.specs.ObjectId.{InstanceKeyView}
 use Rattle.tf_plan_resources.specs.Order.{AreInAddressOrder}
 use Rattle.tf_change.specs.Instance.{instance_object}

@@ -1,6 +1,6 @@
 -- What becomes of an instance that the configuration has, by what is planned for it.
 use Rattle.std.proofs.Common.{◌≡◌, List, Result, Ok, Err, ap, ◌∙◌}
-use Rattle.tf_action_data.specs.Action.{StepView}
+use Rattle.tf_plan_data.specs.Action.{StepView}
 use Rattle.tf_change.specs.Instance.{InstanceFaultView}
 use Rattle.tf_config_data.specs.Config.{LifecycleView}
 use Rattle.tf_deciding.specs.Outcome.{OutcomeView, by_decision, refused}

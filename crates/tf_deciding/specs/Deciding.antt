@@ -1,7 +1,7 @@
 -- What is decided about all members of resources: what is done, and what is refused, each in order.
 use Rattle.std.specs.Prelude.{ℕ, ◌+◌, List, [], ◌∷◌, ◌++◌, map, Option, Ok, Err}
 use Rattle.std.specs.Option.{option_map_or}
-use Rattle.tf_action_data.specs.Action.{ActionView, StepView, action_of}
+use Rattle.tf_plan_data.specs.Action.{ActionView, StepView, action_of}
 use Rattle.tf_address.specs.Label.{LabelView, label_of}
 use Rattle.tf_address.specs.ObjectId.{InstanceKeyView, instance_key_of}
 use Rattle.tf_config_data.specs.Config.{BlockView}

@@ -1,6 +1,6 @@
 -- What becomes of a member of a resource in the plan.
 use Rattle.std.specs.Prelude.{if◌then◌else◌, List, Option, Some, None, Result, Ok, Err}
-use Rattle.tf_action_data.specs.Action.{StepView}
+use Rattle.tf_plan_data.specs.Action.{StepView}
 use Rattle.tf_change.specs.Instance.{instance_object}
 use Rattle.tf_config_data.specs.Config.{BlockView, LifecycleView}
 use Rattle.tf_decision.specs.Decision.{DecisionView, RefusalView, decision, removal_refusal}

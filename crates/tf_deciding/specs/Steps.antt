@@ -1,7 +1,7 @@
 -- What is done to the objects of an instance, step by step.
 use Rattle.std.specs.Prelude.{ℕ, List, [], ◌∷◌, ◌++◌, map, Option, Some, None}
 use Rattle.std.specs.List.{flat_map}
-use Rattle.tf_action_data.specs.Action.{StepView, create, update, replacement, replaced, destroyed, deposed_destroyed}
+use Rattle.tf_plan_data.specs.Action.{StepView, create, update, replacement, replaced, destroyed, deposed_destroyed}
 use Rattle.tf_decision.specs.Decision.{DecisionView, current}
 use Rattle.tf_decision.specs.Decision as decision
 use Rattle.tf_state_data.specs.Record.{RecordView}

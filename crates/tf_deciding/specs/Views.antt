@@ -1,8 +1,8 @@
 -- Outcomes without where they lie in memory.
 use Rattle.std.specs.Prelude.{List, map, Result, Ok, Err, Vec}
 use Rattle.std.specs.declared.alloc.Global.{Global}
-use Rattle.tf_action_data.specs.Action.{StepView, step_of}
-use Rattle.tf_action_data.specs.declared.step.Step.{Step}
+use Rattle.tf_plan_data.specs.Action.{StepView, step_of}
+use Rattle.tf_plan_data.specs.declared.step.Step.{Step}
 use Rattle.tf_decision.specs.Answer.{refusal_of}
 use Rattle.tf_deciding.specs.Outcome.{OutcomeView, WhyView, no_provider, refused}
 use Rattle.tf_deciding.specs.declared.outcome.Why.{Why}

@@ -1,7 +1,7 @@
 //! What is done and what is refused, one member after another.
 
 ghost use Rattle.std.specs.Prelude.{◌≡◌, ◌++◌, IfOk, OnOk, map, option_map};
-ghost use Rattle.tf_action_data.specs.Action.{action_of};
+ghost use Rattle.tf_plan_data.specs.Action.{action_of};
 ghost use Rattle.tf_environment.specs.Words.{block_at, instance_key_of, label_of, shape_of};
 ghost use Rattle.tf_deciding.specs.Deciding.{action, decided_of, of_view, version_of, with_block, with_members, with_orphan, with_outcome};
 ghost use Rattle.tf_deciding.specs.Outcome.{member_outcome, orphan_outcome};
@@ -12,11 +12,11 @@ ghost use Rattle.tf_plan_resources.specs.Words.{resource_of, state_of};
 use crate::outcome::{Why, member_outcome, orphan_outcome};
 use crate::stage::block_members;
 use std::alloc::{AllocError, Global};
-use tf_action_data::{Action, Step};
 use tf_address::{InstanceKey, Label};
 use tf_config_data::Block;
 use tf_environment::{Resource, Shape};
 use tf_eval::Scope;
+use tf_plan_data::{Action, Step};
 use tf_plan_resources::{Member, members};
 use tf_protocol::{Provider, Schema, schema_for};
 use tf_state_data::State;

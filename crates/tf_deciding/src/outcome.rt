@@ -9,11 +9,11 @@ ghost use Rattle.tf_plan_resources.specs.MemberViews.{member_of};
 
 use crate::steps::{decided_steps, removal_steps};
 use std::alloc::{AllocError, Global};
-use tf_action_data::Step;
 use tf_change::plan_instance;
 use tf_config_data::{Block, Lifecycle};
 use tf_decision::{Refusal, decide, refuse_removal};
 use tf_eval::Scope;
+use tf_plan_data::Step;
 use tf_plan_resources::Member;
 use tf_protocol::Schema;
 

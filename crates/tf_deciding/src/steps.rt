@@ -2,7 +2,7 @@
 
 ghost use Rattle.std.specs.Prelude.{◌≡◌, ◌++◌, IfOk, OnOk, map, option_map};
 ghost use Rattle.std.specs.List.{flat_map};
-ghost use Rattle.tf_action_data.specs.Action.{step_of};
+ghost use Rattle.tf_plan_data.specs.Action.{step_of};
 ghost use Rattle.tf_decision.specs.Answer.{decision_of};
 ghost use Rattle.tf_decision.specs.Decision.{current};
 ghost use Rattle.tf_deciding.specs.Steps.{current_steps, decided_steps, deposed_step, destroy_of, removal_steps};
@@ -10,8 +10,8 @@ ghost use Rattle.tf_deciding.specs.Views.{steps_of};
 ghost use Rattle.tf_state_data.specs.Record.{record_of};
 
 use std::alloc::{AllocError, Global};
-use tf_action_data::Step;
 use tf_decision::{Decision, current};
+use tf_plan_data::Step;
 use tf_state_data::Record;
 
 /// What a decision about an instance does to its objects: to the current one what is decided, and each deposed one is

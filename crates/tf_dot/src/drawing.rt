@@ -2,7 +2,7 @@
 
 ghost use Rattle.std.specs.Prelude.{◌≡◌, ◌++◌, ◌∷◌, [], IfOk, OnOk, map, slice_index_or, string_bytes, false};
 ghost use Rattle.std.specs.List.{flat_map};
-ghost use Rattle.tf_action_data.specs.Action.{action_of, step_of};
+ghost use Rattle.tf_plan_data.specs.Action.{action_of, step_of};
 ghost use Rattle.tf_plan_data.specs.Plan.{plan_of};
 ghost use Rattle.tf_plan_text.specs.Text.{replace_symbol};
 ghost use Rattle.tf_dot.specs.Dot.{IsDrawn, edge_line, label, node_label, node_line, node_lines, node_opening};

@@ -1,7 +1,7 @@
 -- A plan whose parts fit together is founded.
 use Rattle.std.proofs.Common.{◌≡◌, ℕ, length, map, subst, arith}
 use Rattle.std.proofs.lemmas.List.{length-map}
-use Rattle.tf_action_data.specs.Action.{action_of}
+use Rattle.tf_plan_data.specs.Action.{action_of}
 use Rattle.tf_graph.specs.Digraph.{predecessors_of}
 use Rattle.tf_graph.specs.Solutions.{StaysBelow}
 use Rattle.tf_laws_reports.specs.Founded.{FittingPlansAreFounded}

@@ -3,7 +3,7 @@ use Rattle.std.proofs.Common.{◌≡◌, ◌≢◌, ◌∙◌, ◌<◌, ◌==◌
 use Rattle.std.proofs.lemmas.Bool.{cases_eq}
 use Rattle.std.specs.List.{AllByRecursion}
 use Rattle.std.specs.Prelude.{Contains, slice_get, slice_index}
-use Rattle.tf_action_data.specs.Action.{ActionView}
+use Rattle.tf_plan_data.specs.Action.{ActionView}
 use Rattle.tf_outcome.specs.Journal.{IsOfAction, entered_verdict, op_at, verdict_in}
 use Rattle.tf_outcome.specs.Outcome.{Done, done_at}
 use Rattle.tf_protocol.specs.declared.verdict.Verdict.{Verdict}

@@ -1,7 +1,7 @@
 -- What is asked for an instance depends on what the instances of its resource's needs stand for alone.
 use Rattle.std.proofs.Common.{◌≡◌, ◌∙◌, ◌<◌, ℕ, Bool, true, Option, Some, None, Contains, length, refl, sym, ap, subst}
 use Rattle.std.specs.List.{AllByRecursion}
-use Rattle.tf_action_data.specs.Action.{ActionView}
+use Rattle.tf_plan_data.specs.Action.{ActionView}
 use Rattle.tf_address.specs.ObjectId.{InstanceKeyView}
 use Rattle.tf_change.proofs.Locals.{instances_local}
 use Rattle.tf_change.specs.Instance.{instance_object}

@@ -4,7 +4,7 @@ use Rattle.std.proofs.Common.{◌≡◌, ◌∙◌, ◌&&◌, ◌++◌, ◌⊎�
 use Rattle.std.proofs.lemmas.List.Elements.{Contains-append_left}
 use Rattle.std.specs.List.{AllByRecursion, flat_map}
 use Rattle.std.specs.Option.{option_and_then, option_map_or, unwrap_or}
-use Rattle.tf_action_data.specs.Action.{ActionView, StepView, create, update, replacement}
+use Rattle.tf_plan_data.specs.Action.{ActionView, StepView, create, update, replacement}
 use Rattle.tf_address.specs.ObjectId.{InstanceKeyView}
 use Rattle.tf_asks.specs.Laws.{IsAnsweredPlan, planned_object}
 use Rattle.tf_change.proofs.Locals.{instances_local}

@@ -2,7 +2,7 @@
 use Rattle.std.proofs.Common.{◌≡◌, ◌∙◌, ◌<◌, ◌+◌, inl, inr, ℕ, zero, suc, Bool, true, false, List, Option, Some, None, Contains, filter, length, refl, sym, ap, subst, arith}
 use Rattle.std.specs.List.{AllByRecursion, range_with_len}
 use Rattle.std.specs.Prelude.{slice_get}
-use Rattle.tf_action_data.specs.Action.{ActionView}
+use Rattle.tf_plan_data.specs.Action.{ActionView}
 use Rattle.tf_asks.specs.Laws.{RefinesWhere, planned_object}
 use Rattle.tf_change.proofs.Named.{instances_named}
 use Rattle.tf_config_data.specs.Names.{a_block, directly_before, meant_at}

@@ -1,6 +1,6 @@
 -- The instance that an action makes or changes, and what is decided about it.
 use Rattle.std.proofs.Common.{◌≡◌, ◌∙◌, ℕ, true, Some, Contains, refl, sym, ap}
-use Rattle.tf_action_data.specs.Action.{ActionView}
+use Rattle.tf_plan_data.specs.Action.{ActionView}
 use Rattle.tf_config_data.specs.Config.{BlockView}
 use Rattle.tf_config_data.specs.Names.{a_block, meant_at}
 use Rattle.tf_converges.proofs.Declared.{IsPlannedAt, apply_declared, keys_at, planned_at, records_in}

@@ -1,7 +1,7 @@
 -- What an action asks is as planned.
 use Rattle.std.proofs.Common.{◌≡◌, ◌∙◌, ℕ, Bool, true, false, List, Option, Some, None, Result, Ok, Contains, refl, sym, ap, subst}
 use Rattle.std.specs.Prelude.{option_and_then}
-use Rattle.tf_action_data.specs.Action.{ActionView}
+use Rattle.tf_plan_data.specs.Action.{ActionView}
 use Rattle.tf_address.specs.Label.{LabelView}
 use Rattle.tf_address.specs.ObjectId.{InstanceKeyView}
 use Rattle.tf_asks.specs.Laws.{KnownAttributesStay, PlannedObjectsAreAsked, RefinesWhere, RequestsRefine, asked_in_plan, planned_object}

@@ -1,6 +1,6 @@
 -- What the steps of actions ask.
 use Rattle.std.proofs.Common.{◌≡◌, ◌∙◌, ℕ, true, false, List, Some, None, Result, Ok, Err, refl, sym, ap, subst}
-use Rattle.tf_action_data.specs.Action.{ActionView, StepView, create, update, replacement, replaced, destroyed, deposed_destroyed}
+use Rattle.tf_plan_data.specs.Action.{ActionView, StepView, create, update, replacement, replaced, destroyed, deposed_destroyed}
 use Rattle.tf_asks.specs.Laws.{planned_object}
 use Rattle.tf_change.specs.Instance.{InstanceFaultView}
 use Rattle.tf_decision.proofs.Keeping.{updates_named}

@@ -1,6 +1,6 @@
 -- The instances that a plan has of each resource are those that its `count` or `for_each` comes to, at each stage.
 use Rattle.std.specs.Prelude.{◌≡◌, ℕ, true, List, Some, Ok, Contains}
-use Rattle.tf_action_data.specs.Action.{ActionView}
+use Rattle.tf_plan_data.specs.Action.{ActionView}
 use Rattle.tf_address.specs.ObjectId.{InstanceKeyView}
 use Rattle.tf_config_data.specs.Config.{BlockView, ConfigView, for_each}
 use Rattle.tf_config_data.specs.Names.{a_block, meant_at}

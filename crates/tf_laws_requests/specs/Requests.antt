@@ -1,6 +1,6 @@
 -- What an apply asks of providers keeps to its plan.
 use Rattle.std.specs.Prelude.{◌≡◌, ℕ, true, false, List, Option, Some, None, option_and_then, slice_get, Ok, Contains}
-use Rattle.tf_action_data.specs.Action.{ActionView, StepView, update, replaced, destroyed, deposed_destroyed}
+use Rattle.tf_plan_data.specs.Action.{ActionView, StepView, update, replaced, destroyed, deposed_destroyed}
 use Rattle.tf_address.specs.ObjectId.{InstanceKeyView}
 use Rattle.tf_asks.specs.Laws.{RefinesWhere, planned_object}
 use Rattle.tf_config_data.specs.Config.{ConfigView}

@@ -3,7 +3,7 @@ use Rattle.std.proofs.Common.{◌≡◌, ◌∙◌, ◌<◌, ◌++◌, ℕ, Bool
 use Rattle.std.proofs.lemmas.Bool.{ltb-true}
 use Rattle.std.specs.List.{AllByRecursion, flat_map, range_with_len}
 use Rattle.std.specs.Prelude.{nat_lt}
-use Rattle.tf_action_data.specs.Action.{ActionView}
+use Rattle.tf_plan_data.specs.Action.{ActionView}
 use Rattle.tf_additions.specs.Dependencies.{address_of, dependencies, with_address}
 use Rattle.tf_additions.specs.Head.{AreHeads, Head, IsHeadOf, IsKeyFor, Target, an_instance, an_object, key_in, target_with}
 use Rattle.tf_address.specs.Label.{LabelView}

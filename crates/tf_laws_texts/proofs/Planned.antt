@@ -1,7 +1,7 @@
 -- What texts plan over the state that an apply left.
 use Rattle.std.proofs.Common.{◌≡◌, ◌∙◌, ℕ, Bool, false, List, [], ◌∷◌, Option, Some, None, refl, sym, ap, subst}
 use Rattle.std.specs.List.{AllByRecursion}
-use Rattle.tf_action_data.specs.Action.{ActionView}
+use Rattle.tf_plan_data.specs.Action.{ActionView}
 use Rattle.tf_cli.specs.Applies.{IsApplied, IsPlanOf, state_in}
 use Rattle.tf_cli.specs.Shown.{is_torn}
 use Rattle.tf_cli.specs.declared.applied.Applied.{Applied}

@@ -1,6 +1,6 @@
 -- What the actions of a plan ask of their providers.
 use Rattle.std.specs.Prelude.{ℕ, List, [], Option, Some, None, Result, Ok, Err}
-use Rattle.tf_action_data.specs.Action.{ActionView, StepView, create, update, replacement, replaced, destroyed, deposed_destroyed}
+use Rattle.tf_plan_data.specs.Action.{ActionView, StepView, create, update, replacement, replaced, destroyed, deposed_destroyed}
 use Rattle.tf_address.specs.ObjectId.{InstanceKeyView}
 use Rattle.tf_change.specs.Instance.{InstanceFaultView}
 use Rattle.tf_config_data.specs.Names.{NameView, Meant, a_block, meant_at}

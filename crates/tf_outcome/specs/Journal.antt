@@ -1,7 +1,7 @@
 -- What a journal says of a plan that was carried out.
 use Rattle.std.specs.Prelude.{◌≡◌, ℕ, List, find, ◌==◌, Option, Some, None, option_map, slice_get}
 use Rattle.std.specs.List.{AllByRecursion}
-use Rattle.tf_action_data.specs.Action.{ActionView}
+use Rattle.tf_plan_data.specs.Action.{ActionView}
 use Rattle.tf_graph.specs.Digraph.{predecessors_of}
 use Rattle.tf_graph.specs.Order.{IsInOrder}
 use Rattle.tf_provider.specs.declared.journal.Entry.{Entry}

@@ -1,6 +1,6 @@
 -- What holds of what is asked in an apply.
 use Rattle.std.specs.Prelude.{◌≡◌, ℕ, true}
-use Rattle.tf_action_data.specs.Action.{ActionView}
+use Rattle.tf_plan_data.specs.Action.{ActionView}
 use Rattle.tf_address.specs.ObjectId.{InstanceKeyView}
 use Rattle.tf_config_data.specs.Names.{meant_at, directly_before}
 use Rattle.tf_graph.specs.Solutions.{Ranked}

@@ -2,7 +2,7 @@
 pub use Rattle.tf_config_data.specs.Words.{config_of, instance_key_of, label_of, meant_at, names_of}
 pub use Rattle.tf_environment.specs.Words.{entries_view, has, IsAcyclic, IsDependence, IsTable, names_in, seen_by, tree_of, with_nulls}
 pub use Rattle.tf_plan_data.specs.Words.{action_of, AreServed, deposed_key, FitsTogether, is_apply, IsDeclared, IsOfBlock, IsServedBy, needs_in, plan_names, plan_of, state_of, step_of}
-pub use Rattle.tf_action_data.specs.Action.{prior_of}
+pub use Rattle.tf_plan_data.specs.Action.{prior_of}
 pub use Rattle.tf_address.specs.Label.{label_text}
 pub use Rattle.tf_change.specs.Bounded.{has_planned_attributes}
 pub use Rattle.tf_change.specs.Instance.{instance_fault_of, instance_of}

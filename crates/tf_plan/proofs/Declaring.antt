@@ -1,6 +1,6 @@
 -- What is refused of names, outputs and resources, by the stage that refuses it.
 use Rattle.std.proofs.Common.{◌≡◌, ◌≤◌, inl, inr, ℕ, List, [], length, subst}
-use Rattle.tf_action_data.specs.Action.{ActionView}
+use Rattle.tf_plan_data.specs.Action.{ActionView}
 use Rattle.tf_config_data.specs.Names.{NameView}
 use Rattle.tf_environment.specs.Shape.{ShapeView}
 use Rattle.tf_plan.proofs.Refusing.{tells-weaker}

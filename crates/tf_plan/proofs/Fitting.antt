@@ -8,7 +8,7 @@ use Rattle.std.specs.List.{AllByRecursion, flat_map}
 use Rattle.std.specs.List.Sorted.{IsStrictlySortedBy}
 use Rattle.std.specs.Option.{option_map_or}
 use Rattle.std.specs.Prelude.{Contains, find, option_and_then, slice_get}
-use Rattle.tf_action_data.specs.Action.{ActionView}
+use Rattle.tf_plan_data.specs.Action.{ActionView}
 use Rattle.tf_address.specs.Label.{LabelView, label_cmp}
 use Rattle.tf_plan_resources.specs.Order.{is_resource}
 use Rattle.tf_config_data.specs.Names.{NameView, Meant, a_local, a_block, meant_at, directly_before}

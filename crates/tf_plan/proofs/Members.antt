@@ -3,7 +3,7 @@
 use Rattle.std.proofs.Common.{◌≡◌, ◌+◌, ◌++◌, ◌||◌, Bool, true, false, cond, ℕ, List, [], ◌∷◌, Option, Some, None, is_some, Result, Ok, Err, map, refl, sym, ap, subst}
 use Rattle.std.proofs.lemmas.Bool.{both_ways}
 use Rattle.std.specs.List.{AllByRecursion}
-use Rattle.tf_action_data.specs.Action.{ActionView, StepView}
+use Rattle.tf_plan_data.specs.Action.{ActionView, StepView}
 use Rattle.tf_address.specs.Label.{LabelView}
 use Rattle.tf_address.specs.ObjectId.{InstanceKeyView}
 use Rattle.tf_address.specs.Same.{same_instance_key}

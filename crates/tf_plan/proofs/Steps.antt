@@ -3,7 +3,7 @@ use Rattle.std.proofs.Common.{◌≡◌, ◌∙◌, ◌++◌, Bool, false, ℕ, 
 use Rattle.std.proofs.lemmas.List.{map-append}
 use Rattle.std.specs.List.{AllByRecursion, flat_map}
 use Rattle.std.specs.Prelude.{Contains}
-use Rattle.tf_action_data.specs.Action.{StepView, replacement, replaced}
+use Rattle.tf_plan_data.specs.Action.{StepView, replacement, replaced}
 use Rattle.tf_deciding.specs.Steps.{current_steps, decided_steps, deposed_step, destroy_if_deposed, destroy_of, removal_steps}
 use Rattle.tf_decision.specs.Decision as decision
 use Rattle.tf_decision.specs.Decision.{DecisionView, current}

@@ -1,6 +1,6 @@
 -- What ties resources together is sound, and what the definition says.
 use Rattle.std.proofs.Common.{◌≡◌, ◌≤◌, ◌↔◌, ℕ, Bool, true, false, List, length, map, slice_index_or, refl, sym, subst, inl, inr}
-use Rattle.tf_action_data.specs.Action.{ActionView}
+use Rattle.tf_plan_data.specs.Action.{ActionView}
 use Rattle.tf_config_data.specs.Names.{NameView}
 use Rattle.tf_graph.specs.Closure.{reaches}
 use Rattle.tf_graph.specs.Digraph.{Digraph}

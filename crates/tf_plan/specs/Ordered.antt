@@ -1,7 +1,7 @@
 -- The order of a plan's actions.
 use Rattle.std.specs.Prelude.{◌≡◌, ◌≤◌, ◌↔◌, ℕ, Bool, true, false, List, length, map, slice_index_or}
-use Rattle.tf_action_data.specs.Action.{ActionView}
-use Rattle.tf_action_data.specs.Precedence.{ordered}
+use Rattle.tf_plan_data.specs.Action.{ActionView}
+use Rattle.tf_plan_data.specs.Precedence.{ordered}
 use Rattle.tf_config_data.specs.Names.{NameView}
 use Rattle.tf_graph.specs.Closure.{reaches}
 use Rattle.tf_graph.specs.Digraph.{Digraph}

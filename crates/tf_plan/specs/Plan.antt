@@ -1,6 +1,6 @@
 -- Which plan is made of a configuration and a prior state.
 use Rattle.std.specs.Prelude.{◌≡◌, ◌≤◌, ℕ, Bool, List, length}
-use Rattle.tf_action_data.specs.Action.{ActionView}
+use Rattle.tf_plan_data.specs.Action.{ActionView}
 use Rattle.tf_config_data.specs.Config.{ConfigView}
 use Rattle.tf_config_data.specs.Names.{NameView, names_of}
 use Rattle.tf_environment.specs.Shape.{ShapeView}

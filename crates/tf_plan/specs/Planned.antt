@@ -1,6 +1,6 @@
 -- What is planned of a configuration beside a prior state, and what is refused.
 use Rattle.std.specs.Prelude.{◌≡◌, ℕ, List, [], ◌++◌, map}
-use Rattle.tf_action_data.specs.Action.{ActionView, action_of}
+use Rattle.tf_plan_data.specs.Action.{ActionView, action_of}
 use Rattle.tf_plan_resources.specs.Order.{AreInAddressOrder}
 use Rattle.tf_config_data.specs.Names.{NameView}
 use Rattle.tf_deciding.specs.Deciding.{DecidedView}

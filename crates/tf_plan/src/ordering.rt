@@ -8,10 +8,10 @@ ghost use Rattle.tf_plan.specs.Refused.{AreManyPairsBy, HasManyPairs, Tells};
 use crate::faults::{alone, limit_refusal};
 use crate::refused::Refused;
 use std::alloc::{AllocError, Global};
-use tf_action_data::Action;
 use tf_environment::Declarations;
 use tf_graph::MAX_NODES;
 use tf_names::Dependence;
+use tf_plan_data::Action;
 use tf_plan_resources::Numbering;
 use tf_precedence::{Order, OrderFault, Stored, Ties, lateness};
 

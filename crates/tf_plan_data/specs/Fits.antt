@@ -1,7 +1,7 @@
 -- What each plan that is made of a configuration and a prior state keeps to.
 use Rattle.std.specs.Prelude.{◌≡◌, ◌+◌, ◌<◌, ◌^◌, ℕ, Bool, true, false, List, Option, None, Some, map, slice_get, ⊤}
 use Rattle.std.specs.List.{AllByRecursion}
-use Rattle.tf_action_data.specs.Action.{ActionView, StepView, replaced, destroyed, deposed_destroyed, action_of}
+use Rattle.tf_plan_data.specs.Action.{ActionView, StepView, replaced, destroyed, deposed_destroyed, action_of}
 use Rattle.tf_address.specs.Label.{LabelView}
 use Rattle.tf_address.specs.ObjectId.{InstanceKeyView, single, number, name}
 use Rattle.tf_config_data.specs.Config.{BlockView, config_of}

@@ -1,3 +1,5 @@
+pub mod Action
+pub mod Precedence
 pub mod Address
 pub mod Fits
 pub mod Plan

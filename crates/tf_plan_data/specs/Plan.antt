@@ -1,6 +1,6 @@
 -- A plan from any prior state, as plain data.
 use Rattle.std.specs.Prelude.{ℕ, Bool, false, List, map, slice_index_or}
-use Rattle.tf_action_data.specs.Action.{ActionView, action_of}
+use Rattle.tf_plan_data.specs.Action.{ActionView, action_of}
 use Rattle.tf_config_data.specs.Config.{ConfigView, config_of}
 use Rattle.tf_config_data.specs.Names.{NameView, names_of}
 use Rattle.tf_environment.specs.Shape.{ShapeView}

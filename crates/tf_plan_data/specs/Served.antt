@@ -2,7 +2,7 @@
 use Rattle.std.specs.Prelude.{◌≡◌, true, is_some, List}
 use Rattle.std.specs.List.{AllByRecursion}
 use Rattle.tf_protocol.specs.Meaning.{Meaning, schema_in}
-use Rattle.tf_action_data.specs.Action.{ActionView}
+use Rattle.tf_plan_data.specs.Action.{ActionView}
 
 -- some provider in the list has an action's type
 abbrev pub IsServedBy : List Meaning → ActionView → Type 0

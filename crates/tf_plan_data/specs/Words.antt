@@ -3,8 +3,8 @@ pub use Rattle.tf_config_data.specs.Words.{config_of, instance_key_of, label_of,
 pub use Rattle.tf_environment.specs.Words.{AreStandings, entries_view, IsAcyclic, IsDependence, names_in, seen_by, shapes_of, standings_of, StandingView, tree_of}
 pub use Rattle.json.specs.Print.{quoted}
 pub use Rattle.serde_json.specs.Written.{comma_if}
-pub use Rattle.tf_action_data.specs.Action.{action_of, step_of}
-pub use Rattle.tf_action_data.specs.Precedence.{ordered}
+pub use Rattle.tf_plan_data.specs.Action.{action_of, step_of}
+pub use Rattle.tf_plan_data.specs.Precedence.{ordered}
 pub use Rattle.tf_names.specs.Needs.{needs_in}
 pub use Rattle.tf_plan_data.specs.Fits.{deposed_key, FitsTogether, is_apply, IsDeclared, IsOfBlock}
 pub use Rattle.tf_plan_data.specs.Plan.{plan_names, plan_of}

@@ -1,9 +1,12 @@
 //! Plans from any prior state as data: the actions, what they are planned from, and their order.
 #![tactic(auto)]
 
+mod action;
 mod addresses;
 mod plan;
+mod step;
 
+pub use action::Action;
 pub use addresses::address_text;
 pub use plan::Plan;
-pub use tf_action_data::{Action, Step};
+pub use step::Step;

@@ -2,8 +2,8 @@
 
 ghost use Rattle.std.specs.Prelude.{◌≡◌, vec_len};
 
+use crate::action::Action;
 use std::collections::BTreeMap;
-use tf_action_data::Action;
 use tf_config_data::Config;
 use tf_environment::Shape;
 use tf_names::Dependence;

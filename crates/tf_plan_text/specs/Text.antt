@@ -1,7 +1,7 @@
 -- The text of a plan.
 use Rattle.std.specs.Prelude.{ℕ, Bool, true, false, if◌then◌else◌, List, [], ◌∷◌, ◌++◌, codes, decimal, count_by, Option, Some, None}
 use Rattle.std.specs.List.{flat_map}
-use Rattle.tf_action_data.specs.Action.{ActionView, StepView, create, update, replacement, replaced, destroyed, deposed_destroyed}
+use Rattle.tf_plan_data.specs.Action.{ActionView, StepView, create, update, replacement, replaced, destroyed, deposed_destroyed}
 use Rattle.tf_value.specs.Tree as tree
 use Rattle.tf_value.specs.Tree.{part_at}
 use Rattle.tf_plan_data.specs.Address.{address_text}

@@ -2,7 +2,7 @@
 
 ghost use Rattle.std.specs.Prelude.{◌≡◌, ◌++◌, false, map, count_by, OnOk, IfOk, slice_index_or, string_bytes};
 ghost use Rattle.std.specs.List.{flat_map};
-ghost use Rattle.tf_action_data.specs.Action.{action_of, names_of, step_of};
+ghost use Rattle.tf_plan_data.specs.Action.{action_of, names_of, step_of};
 ghost use Rattle.tf_value.specs.Tree.{tree_of, entries_view};
 ghost use Rattle.tf_plan_text.specs.Text.{action_lines, adds, attribute_line, attribute_lines, changed_line, changes, count_of, destroys, object_lines, plan_text, replace_symbol, step_lines, summary_line, value_line};
 

@@ -7,7 +7,7 @@ use Rattle.tf_environment.specs.Shape.{ShapeView}
 use Rattle.tf_outcome.specs.Outcome.{Done}
 use Rattle.tf_outputs.specs.Outputs.{AreOutputsDone, AreOutputsEnded, OutputDone, end_of}
 use Rattle.tf_outputs.specs.declared.ends.OutputEnd.{OutputEnd}
-use Rattle.tf_action_data.specs.Action.{ActionView}
+use Rattle.tf_plan_data.specs.Action.{ActionView}
 use Rattle.tf_state_data.specs.State.{StateView}
 use Rattle.tf_syntax.specs.ExprTree as expr
 use Rattle.tf_value.specs.Tree.{Entries, Tree}

@@ -1,6 +1,6 @@
 -- A report is put together of its parts.
 use Rattle.std.proofs.Common.{◌≡◌, ◌∙◌, ◌<◌, ◌++◌, ℕ, suc, Bool, List, [], ◌∷◌, length, map, refl, ap, ap₂}
-use Rattle.tf_action_data.specs.Action.{ActionView}
+use Rattle.tf_plan_data.specs.Action.{ActionView}
 use Rattle.tf_additions.specs.Addition.{told_in}
 use Rattle.tf_additions.specs.Diagnostics.{action_diagnostics, diagnostics_at}
 use Rattle.tf_additions.specs.Head.{AreHeads, Head}

@@ -2,8 +2,8 @@
 use Rattle.std.proofs.Common.{ℕ, Bool, List, map, drop, Option}
 use Rattle.tf_outcome.specs.Ended.{dones_of}
 use Rattle.tf_outcome.specs.declared.ended.Ended.{Ended}
-use Rattle.tf_action_data.specs.Action.{action_of}
-use Rattle.tf_action_data.specs.declared.action.Action.{Action}
+use Rattle.tf_plan_data.specs.Action.{action_of}
+use Rattle.tf_plan_data.specs.declared.action.Action.{Action}
 use Rattle.tf_report.specs.Good.{are_good_at}
 
 abbrev pub rest_good : List Action → List (Option Ended) → ℕ → ℕ → Bool

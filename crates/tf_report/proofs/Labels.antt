@@ -1,7 +1,7 @@
 -- The resources of creates and updates.
 use Rattle.std.proofs.Common.{◌≡◌, ◌∙◌, Bool, true, false, cond, List, [], ◌∷◌, length, map, filter, refl, sym, ap₂, subst, arith}
 use Rattle.std.specs.Prelude.{if◌then◌else◌}
-use Rattle.tf_action_data.specs.Action.{ActionView}
+use Rattle.tf_plan_data.specs.Action.{ActionView}
 use Rattle.tf_additions.specs.Change.{ChangeView, applies_in, change_by, changes_in, applied_of_done, left_of_done}
 use Rattle.tf_additions.specs.Head.{AreHeads, Head, Target, an_instance, an_object, given_with, key_in}
 use Rattle.tf_address.specs.Label.{LabelView}

@@ -2,7 +2,7 @@
 use Rattle.std.proofs.Common.{◌≡◌, ◌∙◌, ◌+◌, ◌++◌, ℕ, Bool, true, false, List, [], ◌∷◌, map, refl, sym, subst}
 use Rattle.std.specs.List.{AllByRecursion}
 use Rattle.std.specs.Prelude.{Option, Some, None, if◌then◌else◌}
-use Rattle.tf_action_data.specs.Action.{ActionView}
+use Rattle.tf_plan_data.specs.Action.{ActionView}
 use Rattle.tf_additions.specs.Change.{ChangeView, an_apply, a_destroy, MayBeLeft, MayBeStored, applied_of_done, applies_in, change_by, changes_in, destroys_in, left_of_done}
 use Rattle.tf_additions.specs.Head.{AreHeads, Head, IsKeyFor, Target, an_instance, an_object, given_with, key_in, records_at}
 use Rattle.tf_address.specs.Label.{LabelView}

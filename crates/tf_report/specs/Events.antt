@@ -1,7 +1,7 @@
 -- What comes of the actions of a plan, and what is given anew.
 use Rattle.std.specs.Prelude.{ℕ, ◌==◌, ◌&&◌, Bool, true, false, not, nat_lt, if◌then◌else◌, List, [], map, filter, length, Option, Some, None}
 use Rattle.std.specs.List.{flat_map, list_any}
-use Rattle.tf_action_data.specs.Action.{ActionView}
+use Rattle.tf_plan_data.specs.Action.{ActionView}
 use Rattle.tf_additions.specs.Change.{applies_in, changes_in, destroys_in}
 use Rattle.tf_additions.specs.Dependencies.{dependencies}
 use Rattle.tf_additions.specs.Head.{Head}

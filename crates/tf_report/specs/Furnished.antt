@@ -1,7 +1,7 @@
 -- What the report on a plan is made of: nothing stands in it, and there is room for what is added.
 use Rattle.std.specs.Prelude.{◌≡◌, ◌≤◌, ◌+◌, ℕ, List, [], filter, map, vec_len, vec_capacity}
 use Rattle.std.specs.List.{range_with_len}
-use Rattle.tf_action_data.specs.Action.{ActionView}
+use Rattle.tf_plan_data.specs.Action.{ActionView}
 use Rattle.tf_additions.specs.Head.{AreHeads}
 use Rattle.tf_additions.specs.RoomHead.{room_head}
 use Rattle.tf_address.specs.Label.{LabelView}

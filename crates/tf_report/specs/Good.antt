@@ -1,6 +1,6 @@
 -- Of which resources all creates and updates are good.
 use Rattle.std.specs.Prelude.{ℕ, ◌==◌, ◌&&◌, ◌||◌, Bool, true, not, List, ◌∷◌}
-use Rattle.tf_action_data.specs.Action.{ActionView}
+use Rattle.tf_plan_data.specs.Action.{ActionView}
 use Rattle.tf_outcome.specs.Outcome.{Done, is_good}
 use Rattle.tf_plan_data.specs.Fits.{is_apply}
 

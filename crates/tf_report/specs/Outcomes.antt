@@ -1,6 +1,6 @@
 -- How actions ended, and which of them are excused.
 use Rattle.std.specs.Prelude.{ℕ, ◌+◌, Bool, true, false, List, [], ◌∷◌, ◌++◌}
-use Rattle.tf_action_data.specs.Action.{ActionView}
+use Rattle.tf_plan_data.specs.Action.{ActionView}
 use Rattle.tf_outcome.specs.Excuse.{before_call, during_call, by_stop}
 use Rattle.tf_outcome.specs.Outcome.{Done, skipped, excused, faulted, called, is_good, op_of}
 use Rattle.tf_outcome.specs.declared.excuse.Excuse.{Excuse}

@@ -7,7 +7,7 @@ use Rattle.tf_outcome.specs.Outcome.{Done, done_at, objects_seen}
 use Rattle.tf_outputs.specs.Outputs.{AreOutputsEnded}
 use Rattle.tf_outputs.specs.Rooms.{HavePlaces, outputs_in}
 use Rattle.tf_outputs.specs.Settled.{AreSettled}
-use Rattle.tf_action_data.specs.Action.{ActionView}
+use Rattle.tf_plan_data.specs.Action.{ActionView}
 use Rattle.tf_state_data.specs.State.{StateView, outputs_of}
 use Rattle.tf_value.specs.Stored.{IsTable}
 use Rattle.tf_value.specs.Tree.{Entries}

@@ -1,7 +1,7 @@
 -- What a report that was compared with its journal is.
 use Rattle.std.proofs.Common.{◌≡◌, ◌∙◌, ℕ, zero, suc, List, [], ◌∷◌, map, Option, Some, refl, sym, subst}
 use Rattle.std.specs.Prelude.{slice_get}
-use Rattle.tf_action_data.specs.Action.{ActionView}
+use Rattle.tf_plan_data.specs.Action.{ActionView}
 use Rattle.tf_graph.specs.Digraph.{Digraph}
 use Rattle.tf_outcome.specs.Excuse.{Moment, before_call, during_call, by_stop}
 use Rattle.tf_outcome.specs.Journal.{IsJournal, entered_verdict}

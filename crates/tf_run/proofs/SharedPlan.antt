@@ -8,8 +8,8 @@ use denote.Struct.Struct.{Struct}
 use denote.Struct.Declared.{shape}
 use Rattle.std.proofs.Crossing.{crosses}
 use Rattle.std.proofs.MapsCrossing as maps
-use Rattle.tf_action_data.specs.contracts.action.Action as action
-use Rattle.tf_action_data.specs.contracts.step.Step as step
+use Rattle.tf_plan_data.specs.contracts.action.Action as action
+use Rattle.tf_plan_data.specs.contracts.step.Step as step
 use Rattle.tf_address.specs.contracts.label.Label as label
 use Rattle.tf_address.specs.contracts.object_id.InstanceKey as key
 use Rattle.tf_cells.proofs.SharedCells.{cells_sync}

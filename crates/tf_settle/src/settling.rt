@@ -1,7 +1,7 @@
 //! Whether the journal of a report is the one that the report tells of.
 
 ghost use Rattle.std.specs.Prelude.{◌≡◌, IsTrue, false, map};
-ghost use Rattle.tf_action_data.specs.Action.{action_of};
+ghost use Rattle.tf_plan_data.specs.Action.{action_of};
 ghost use Rattle.tf_settle.specs.Settled.{AreCallsTold, IsJournalTold, IsSettled};
 
 use crate::calls_told::{are_told, count_told};

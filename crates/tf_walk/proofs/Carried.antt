@@ -1,7 +1,7 @@
 -- Results that were lent to a walk.
 use Rattle.std.proofs.Common.{◌≡◌, ◌∙◌, ℕ, List, [], ◌∷◌, ◌++◌, Option, None, option_map, replicate, length, map, take, drop, refl, sym, ap, subst}
 use Rattle.std.proofs.lemmas.List.{length-map, length-replicate}
-use Rattle.tf_action_data.specs.Action.{ActionView}
+use Rattle.tf_plan_data.specs.Action.{ActionView}
 use Rattle.tf_outcome.specs.Ended.{done_of}
 use Rattle.tf_outcome.specs.declared.ended.Ended.{Ended}
 

@@ -12,7 +12,7 @@ use Rattle.tf_graph.specs.Digraph.{Digraph, predecessors_of}
 use Rattle.tf_graph.proofs.Solving.{seen_by-same, all_done}
 use Rattle.tf_graph.specs.Solutions.{seen_by, Ranked, StaysBelow}
 use Rattle.tf_provider.specs.declared.journal.Entry.{Entry}
-use Rattle.tf_action_data.specs.Action.{ActionView}
+use Rattle.tf_plan_data.specs.Action.{ActionView}
 use Rattle.tf_plan_data.specs.Plan.{PlanView}
 use Rattle.tf_protocol.specs.Meaning.{Meaning}
 use Rattle.tf_protocol.specs.declared.request.Op.{Op}

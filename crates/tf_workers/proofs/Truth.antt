@@ -1,7 +1,7 @@
 -- What came of an action whose predecessors are seen is true.
 use Rattle.std.proofs.Common.{◌≡◌, ◌<◌, ◌∙◌, ℕ, List, length, Some, Result, Ok, Err, IfOk, refl, sym, ap, subst}
 use Rattle.std.specs.Prelude.{slice_get}
-use Rattle.tf_action_data.specs.Action.{ActionView}
+use Rattle.tf_plan_data.specs.Action.{ActionView}
 use Rattle.tf_address.specs.ObjectId.{InstanceKeyView}
 use Rattle.tf_cells.proofs.Calls.{calls_true, excuses_true}
 use Rattle.tf_cells.specs.Ideal.{IsTrueTo}

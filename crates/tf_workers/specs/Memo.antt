@@ -1,6 +1,6 @@
 -- What a worker keeps of the requests that it made.
 use Rattle.std.specs.Prelude.{◌<◌, List, map}
-use Rattle.tf_action_data.specs.Action.{action_of}
+use Rattle.tf_plan_data.specs.Action.{action_of}
 use Rattle.tf_asks.specs.SoFar.{StandSoFar}
 use Rattle.tf_cells.specs.Sight.{sight_of}
 use Rattle.tf_config_data.specs.Names.{NameView}

@@ -1,6 +1,6 @@
 -- What workers share is of one walk.
 use Rattle.std.specs.Prelude.{◌≡◌, ℕ, List, map}
-use Rattle.tf_action_data.specs.Action.{action_of}
+use Rattle.tf_plan_data.specs.Action.{action_of}
 use Rattle.tf_config_data.specs.Config.{config_of}
 use Rattle.tf_config_data.specs.Names.{NameView, names_of}
 use Rattle.tf_plan_data.specs.Fits.{FitsTogether}

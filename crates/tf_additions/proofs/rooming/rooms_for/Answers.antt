@@ -1,6 +1,6 @@
 use Rattle.std.proofs.Common.{◌∙◌, ◌<◌, ◌+◌, List, length, map, get_or, ap, sym, take, subst}
-use Rattle.tf_action_data.specs.Action.{action_of}
-use Rattle.tf_action_data.specs.declared.action.Action.{Action}
+use Rattle.tf_plan_data.specs.Action.{action_of}
+use Rattle.tf_plan_data.specs.declared.action.Action.{Action}
 use Rattle.tf_plan_data.specs.Fits.{IsDeclared}
 use Rattle.tf_plan_data.specs.Plan.{plan_names, plan_of}
 use Rattle.tf_additions.specs.Head.{AreHeads}

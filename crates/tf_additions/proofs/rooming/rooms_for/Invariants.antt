@@ -1,6 +1,6 @@
 -- what is known of the actions so far
 use Rattle.std.proofs.Common.{map, take}
-use Rattle.tf_action_data.specs.Action.{action_of}
+use Rattle.tf_plan_data.specs.Action.{action_of}
 use Rattle.tf_plan_data.specs.Plan.{plan_of}
 use Rattle.tf_additions.specs.Head.{AreHeads}
 use Rattle.tf_additions.specs.RoomHead.{room_head}

@@ -1,5 +1,5 @@
 use Rattle.std.proofs.Common.{ap}
-use Rattle.tf_action_data.specs.Action.{action_of, step_of}
+use Rattle.tf_plan_data.specs.Action.{action_of, step_of}
 use Rattle.tf_plan_data.specs.Fits.{is_apply}
 use Rattle.tf_plan_data.specs.Plan.{plan_names, plan_of}
 use Rattle.tf_additions.proofs.Heads.{declared-within}

@@ -1,7 +1,7 @@
 use Rattle.std.proofs.Common.{rules, ◌∙◌, ℕ, false, not, map, option_map, ap, ap₂, sym, subst, string_bytes, slice_index_or}
 use Rattle.std.specs.List.{AllByRecursion}
 use Rattle.std.specs.Prelude.{◌==◌, IfErr}
-use Rattle.tf_action_data.specs.Action.{action_of}
+use Rattle.tf_plan_data.specs.Action.{action_of}
 use Rattle.tf_config_data.specs.Config.{ConfigView}
 use Rattle.tf_plan_data.specs.Plan.{plan_of}
 use Rattle.tf_plan_text.specs.Text.{plan_text}

@@ -1,5 +1,5 @@
 use Rattle.std.proofs.Common.{◌∙◌, map, ap₂, false, slice_index_or}
-use Rattle.tf_action_data.specs.Action.{action_of}
+use Rattle.tf_plan_data.specs.Action.{action_of}
 use Rattle.tf_plan_data.specs.Plan.{plan_of}
 use Rattle.tf_plan_text.specs.Text.{plan_text}
 use Rattle.tf_cli.proofs.planning.plan_text.Goals as goal

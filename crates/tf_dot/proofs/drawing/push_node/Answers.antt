@@ -1,6 +1,6 @@
 use Rattle.std.proofs.Common.{codes, false, slice_index_or, string_bytes}
 use Rattle.std.proofs.lemmas.Result.{on_ok_weaker}
-use Rattle.tf_action_data.specs.Action.{action_of}
+use Rattle.tf_plan_data.specs.Action.{action_of}
 use Rattle.tf_dot.proofs.Pushed.{pushed_thrice, when_pushed}
 use Rattle.tf_dot.specs.Dot.{node_label, node_opening}
 use Rattle.tf_dot.specs.Quoted.{escaped}

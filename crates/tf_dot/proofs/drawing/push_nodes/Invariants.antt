@@ -1,6 +1,6 @@
 -- the text so far, with the lines of the actions that are left
 use Rattle.std.proofs.Common.{◌≡◌, ◌++◌, false, map, drop, slice_index_or, string_bytes}
-use Rattle.tf_action_data.specs.Action.{action_of}
+use Rattle.tf_plan_data.specs.Action.{action_of}
 use Rattle.tf_dot.specs.Dot.{node_lines}
 use Rattle.tf_dot.proofs.drawing.push_nodes.Given as goal
 

@@ -1,7 +1,7 @@
 use Rattle.std.proofs.Common.{◌∙◌, map, sym}
 use Rattle.std.proofs.lemmas.List.{length-map}
 use Rattle.std.proofs.lemmas.Result.{err_from_is_err_and}
-use Rattle.tf_action_data.specs.Action.{action_of}
+use Rattle.tf_plan_data.specs.Action.{action_of}
 use Rattle.tf_names.specs.Table.{names_in}
 use Rattle.tf_plan.proofs.Tying.{order-is, pairs-refused, ties-sound}
 use Rattle.tf_precedence.specs.Late.{AreLate}

@@ -1,5 +1,5 @@
 use Rattle.std.proofs.Common.{◌≡◌, ◌∙◌, ◌∷◌, [], ◌<◌, Err, List, ap, map, length}
-use Rattle.tf_action_data.specs.Action.{action_of}
+use Rattle.tf_plan_data.specs.Action.{action_of}
 use Rattle.tf_plan.proofs.Refusing.{tells-weaker}
 use Rattle.tf_plan.specs.Ordered.{action_pairs, max_pairs, ties_by}
 use Rattle.tf_plan.specs.Refused.{AreManyPairsBy}

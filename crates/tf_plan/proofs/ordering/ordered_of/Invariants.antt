@@ -1,7 +1,7 @@
 -- what the order sees of the actions so far
 use Rattle.std.proofs.Common.{◌≡◌, map, take}
-use Rattle.tf_action_data.specs.Action.{action_of}
-use Rattle.tf_action_data.specs.Precedence.{ordered}
+use Rattle.tf_plan_data.specs.Action.{action_of}
+use Rattle.tf_plan_data.specs.Precedence.{ordered}
 use Rattle.tf_plan.proofs.ordering.ordered_of.Given as goal
 
 abbrev pub invariant-loop-action : goal.invariant-loop-action

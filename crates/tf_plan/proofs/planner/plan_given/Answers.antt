@@ -1,7 +1,7 @@
 use Rattle.std.proofs.Common.{◌≡◌, ◌≤◌, List, map, length, sym, subst, arith}
 use Rattle.std.proofs.lemmas.List.{length-map}
 use Rattle.std.proofs.lemmas.Result.{err_from_is_err_and}
-use Rattle.tf_action_data.specs.Action.{action_of}
+use Rattle.tf_plan_data.specs.Action.{action_of}
 use Rattle.tf_environment.specs.Views.{shapes_of}
 use Rattle.tf_environment.specs.declared.shape.Shape.{Shape}
 use Rattle.tf_plan.proofs.Declaring.{unplanned, many_pairs}

@@ -1,7 +1,7 @@
 use Rattle.std.proofs.Common.{◌≡◌, take}
 use Rattle.std.specs.List.{count_by}
-use Rattle.tf_action_data.specs.Action.{step_of}
-use Rattle.tf_action_data.specs.declared.action.Action.{Action}
+use Rattle.tf_plan_data.specs.Action.{step_of}
+use Rattle.tf_plan_data.specs.declared.action.Action.{Action}
 use Rattle.tf_plan_text.specs.Text.{adds, changes, destroys}
 use Rattle.tf_plan_text.proofs.text.counts.Given as goal
 

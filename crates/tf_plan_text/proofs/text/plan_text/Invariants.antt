@@ -1,7 +1,7 @@
 -- the lines of the actions so far
 use Rattle.std.proofs.Common.{◌≡◌, false, map, take, slice_index_or, string_bytes}
 use Rattle.std.specs.List.{flat_map}
-use Rattle.tf_action_data.specs.Action.{action_of}
+use Rattle.tf_plan_data.specs.Action.{action_of}
 use Rattle.tf_plan_text.specs.Text.{action_lines}
 use Rattle.tf_plan_text.proofs.text.plan_text.Given as goal
 

@@ -1,7 +1,7 @@
 -- the text so far, with the lines of the names that are left
 use Rattle.std.proofs.Common.{◌≡◌, ◌++◌, drop, string_bytes}
 use Rattle.std.specs.List.{flat_map}
-use Rattle.tf_action_data.specs.Action.{names_of}
+use Rattle.tf_plan_data.specs.Action.{names_of}
 use Rattle.tf_value.specs.Tree.{tree_of}
 use Rattle.tf_plan_text.specs.Text.{changed_line}
 use Rattle.tf_plan_text.proofs.text.show_changes.Given as goal

@@ -1,5 +1,5 @@
 use Rattle.std.proofs.Common.{◌∙◌, sym}
-use Rattle.tf_action_data.specs.Action.{ActionView, action_of}
+use Rattle.tf_plan_data.specs.Action.{ActionView, action_of}
 use Rattle.tf_plan_text.proofs.Counting.{count-mapped}
 use Rattle.tf_plan_text.specs.Text.{adds, changes, destroys}
 use Rattle.tf_plan_text.proofs.text.show_summary.Goals as goal

@@ -1,6 +1,6 @@
 -- the resources of the actions so far
 use Rattle.std.proofs.Common.{◌≡◌, map, take}
-use Rattle.tf_action_data.specs.Action.{action_of}
+use Rattle.tf_plan_data.specs.Action.{action_of}
 use Rattle.tf_address.specs.Label.{label_of}
 use Rattle.tf_report.specs.Furnished.{applied_labels}
 use Rattle.tf_report.proofs.furnishing.labels_of.Given as goal

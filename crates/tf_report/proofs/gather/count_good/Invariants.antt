@@ -1,6 +1,6 @@
 -- how many of those from this one on are good
 use Rattle.std.proofs.Common.{◌≡◌, ◌≤◌, ◌+◌, length, map, drop}
-use Rattle.tf_action_data.specs.Action.{action_of}
+use Rattle.tf_plan_data.specs.Action.{action_of}
 use Rattle.tf_outcome.specs.Ended.{dones_of}
 use Rattle.tf_report.specs.Outcomes.{good_totals}
 use Rattle.tf_report.proofs.gather.count_good.Given as goal

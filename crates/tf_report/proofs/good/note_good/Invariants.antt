@@ -2,7 +2,7 @@
 use Rattle.std.proofs.Common.{◌≡◌, ◌<◌, ◌&&◌, ℕ, length, map}
 use Rattle.tf_graph.specs.NodeSet.{has}
 use Rattle.tf_outcome.specs.Ended.{dones_of}
-use Rattle.tf_action_data.specs.Action.{action_of}
+use Rattle.tf_plan_data.specs.Action.{action_of}
 use Rattle.tf_report.specs.Good.{are_good_at}
 use Rattle.tf_report.proofs.Fine.{rest_good}
 use Rattle.tf_report.proofs.good.note_good.Given as goal

@@ -1,7 +1,7 @@
 -- some action is about it where one of those that are left is
 use Rattle.std.proofs.Common.{◌≡◌, map, drop}
 use Rattle.std.specs.List.{list_any}
-use Rattle.tf_action_data.specs.Action.{action_of}
+use Rattle.tf_plan_data.specs.Action.{action_of}
 use Rattle.tf_address.specs.ObjectId.{instance_key_of}
 use Rattle.tf_report.specs.Events.{is_about}
 use Rattle.tf_report.proofs.renewing.is_any_about.Given as goal

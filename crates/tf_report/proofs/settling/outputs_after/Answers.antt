@@ -1,6 +1,6 @@
 use Rattle.std.proofs.Common.{◌∙◌, ◌<◌, ℕ, Bool, List, map, sym, ap, subst}
-use Rattle.tf_action_data.specs.Action.{action_of}
-use Rattle.tf_action_data.specs.declared.action.Action.{Action}
+use Rattle.tf_plan_data.specs.Action.{action_of}
+use Rattle.tf_plan_data.specs.declared.action.Action.{Action}
 use Rattle.tf_environment.specs.Views.{shapes_of}
 use Rattle.tf_environment.specs.declared.shape.Shape.{Shape}
 use Rattle.tf_graph.specs.NodeSet.{has}

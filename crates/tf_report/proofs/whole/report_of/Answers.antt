@@ -1,8 +1,8 @@
 use Rattle.std.proofs.Common.{◌≡◌, ◌∙◌, ◌++◌, ℕ, List, length, map, sym, ap, ap₂, subst, arith}
 use Rattle.std.proofs.lemmas.List.{length-map}
 use Rattle.std.specs.List.{range_with_len}
-use Rattle.tf_action_data.specs.Action.{action_of}
-use Rattle.tf_action_data.specs.declared.action.Action.{Action}
+use Rattle.tf_plan_data.specs.Action.{action_of}
+use Rattle.tf_plan_data.specs.declared.action.Action.{Action}
 use Rattle.tf_additions.specs.Addition.{AreJudged, told_in}
 use Rattle.tf_additions.specs.Diagnostics.{action_diagnostics, diagnostic_of}
 use Rattle.tf_additions.specs.RoomHead.{room_head}

@@ -1,7 +1,7 @@
 -- all say so exactly where those that are left do
 use Rattle.std.proofs.Common.{map, drop}
 use Rattle.std.specs.List.{AllByRecursion}
-use Rattle.tf_action_data.specs.Action.{action_of}
+use Rattle.tf_plan_data.specs.Action.{action_of}
 use Rattle.tf_outcome.specs.Journal.{IsOfAction}
 use Rattle.tf_settle.proofs.operations.are_of_actions.Given as goal
 

@@ -4,7 +4,7 @@ use Rattle.std.specs.List.{AllByRecursion}
 use Rattle.tf_graph.specs.Digraph.{Digraph, predecessors_of}
 use Rattle.tf_graph.specs.Order.{IsInOrder}
 use Rattle.tf_provider.specs.Entries.{Log, actions_of}
-use Rattle.tf_action_data.specs.Action.{action_of}
+use Rattle.tf_plan_data.specs.Action.{action_of}
 use Rattle.tf_plan_data.specs.Plan.{plan_of}
 use Rattle.tf_outcome.specs.Ended.{done_of, done_or_skipped, dones_of}
 use Rattle.tf_outcome.specs.Excuse.{excuse_of}

@@ -2,7 +2,7 @@ use Rattle.std.proofs.Common.{◌≡◌, ◌∙◌, Option, Some, Result, Ok, Er
 use Rattle.tf_config_data.specs.Config.{config_of}
 use Rattle.tf_config_data.specs.Names.{names_of}
 use Rattle.tf_graph.specs.Digraph.{predecessors_of}
-use Rattle.tf_action_data.specs.Action.{ActionView, action_of}
+use Rattle.tf_plan_data.specs.Action.{ActionView, action_of}
 use Rattle.tf_plan_data.specs.Fits.{IsDeclared}
 use Rattle.tf_plan_data.specs.Plan.{plan_of}
 use Rattle.tf_plan_data.specs.Served.{IsServedBy}

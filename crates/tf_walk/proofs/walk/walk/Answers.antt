@@ -5,7 +5,7 @@ use Rattle.tf_value.proofs.Conjunction.{and-first}
 use Rattle.tf_claim.specs.Ledger.{Ledger, is_free, stage_in, moved}
 use Rattle.tf_claim.specs.declared.book.Stage.TheVariants as stage
 use Rattle.tf_graph.specs.Digraph.{Digraph}
-use Rattle.tf_action_data.specs.Action.{action_of}
+use Rattle.tf_plan_data.specs.Action.{action_of}
 use Rattle.tf_plan_data.specs.Plan.{plan_of}
 use Rattle.tf_outcome.specs.Ended.{done_of}
 use Rattle.tf_walk.proofs.SoFar.{so_far-more, staged-more, claimable_is, all_ended}

@@ -1,6 +1,6 @@
 use Rattle.std.proofs.Common.{◌≡◌, ◌∙◌, Result, sym, ap}
-use Rattle.tf_action_data.specs.Action.{action_of, prior_of, step_of}
-use Rattle.tf_action_data.specs.declared.step.Step.{Step}
+use Rattle.tf_plan_data.specs.Action.{action_of, prior_of, step_of}
+use Rattle.tf_plan_data.specs.declared.step.Step.{Step}
 use Rattle.tf_config_data.specs.Config.{config_of}
 use Rattle.tf_config_data.specs.Names.{meant_at, names_of}
 use Rattle.tf_decision.specs.Kept.{kept_object}

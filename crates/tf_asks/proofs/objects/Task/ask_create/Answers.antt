@@ -1,5 +1,5 @@
 use Rattle.std.proofs.Common.{◌∙◌, sym, ap}
-use Rattle.tf_action_data.specs.Action.{action_of}
+use Rattle.tf_plan_data.specs.Action.{action_of}
 use Rattle.tf_change.specs.Instance.{instance_of}
 use Rattle.tf_outcome.specs.Asked.{create_of, unless_faulty}
 use Rattle.tf_asks.proofs.objects.Task.ask_create.Goals as goal

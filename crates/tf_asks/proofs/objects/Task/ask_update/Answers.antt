@@ -1,5 +1,5 @@
 use Rattle.std.proofs.Common.{◌≡◌, ◌∙◌, ◌<◌, true, List, Result, IfOk, length, sym, ap, subst}
-use Rattle.tf_action_data.specs.Action.{action_of, prior_of}
+use Rattle.tf_plan_data.specs.Action.{action_of, prior_of}
 use Rattle.tf_change.specs.declared.instance.InstanceFault.{InstanceFault}
 use Rattle.tf_config_data.specs.Config.{config_of}
 use Rattle.tf_config_data.specs.Names.{NameView, meant_at, names_of}

@@ -1,5 +1,5 @@
 use Rattle.std.proofs.Common.{ap}
-use Rattle.tf_action_data.specs.Action.{action_of}
+use Rattle.tf_plan_data.specs.Action.{action_of}
 use Rattle.tf_environment.specs.Views.{shapes_of}
 use Rattle.tf_names.specs.Table.{names_in}
 use Rattle.tf_plan_data.specs.Plan.{plan_of}

@@ -3,7 +3,7 @@ use Rattle.std.proofs.Common.{◌≡◌, map, drop}
 use Rattle.tf_address.specs.ObjectId.{instance_key_of}
 use Rattle.tf_names.specs.Table.{names_in}
 use Rattle.tf_outcome.specs.Objects.{objects_seen}
-use Rattle.tf_action_data.specs.Action.{action_of}
+use Rattle.tf_plan_data.specs.Action.{action_of}
 use Rattle.tf_state_data.specs.State.{state_of}
 use Rattle.tf_cells.specs.Reading.{seen_in}
 use Rattle.tf_cells.proofs.before.BeforeResults.object.Given as goal

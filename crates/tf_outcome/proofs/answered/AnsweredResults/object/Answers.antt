@@ -1,5 +1,5 @@
 use Rattle.std.proofs.Common.{◌≡◌, ◌∙◌, IfOk, map, sym, subst}
-use Rattle.tf_action_data.specs.Action.{action_of}
+use Rattle.tf_plan_data.specs.Action.{action_of}
 use Rattle.tf_address.specs.ObjectId.{instance_key_of}
 use Rattle.tf_names.specs.Table.{names_in}
 use Rattle.tf_state_data.specs.State.{state_of}

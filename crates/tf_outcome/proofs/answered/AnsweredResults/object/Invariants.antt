@@ -1,6 +1,6 @@
 -- none of the actions passed is of the instance
 use Rattle.std.proofs.Common.{◌≡◌, map, drop}
-use Rattle.tf_action_data.specs.Action.{action_of}
+use Rattle.tf_plan_data.specs.Action.{action_of}
 use Rattle.tf_address.specs.ObjectId.{instance_key_of}
 use Rattle.tf_graph.specs.Solutions.{seen_by}
 use Rattle.tf_names.specs.Table.{names_in}

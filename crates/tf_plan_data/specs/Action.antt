@@ -1,9 +1,9 @@
 -- The actions of a plan from any prior state, as plain data.
 use Rattle.std.specs.Prelude.{ℕ, List, map, String, string_bytes}
 use Rattle.std.specs.declared.alloc.Global.{Global}
-use Rattle.tf_action_data.specs.declared.action.Action.{Action}
-use Rattle.tf_action_data.specs.declared.step.Step.{Step}
-use Rattle.tf_action_data.specs.declared.step.Step.TheVariants as rust
+use Rattle.tf_plan_data.specs.declared.action.Action.{Action}
+use Rattle.tf_plan_data.specs.declared.step.Step.{Step}
+use Rattle.tf_plan_data.specs.declared.step.Step.TheVariants as rust
 use Rattle.tf_address.specs.Label.{LabelView, label_of}
 use Rattle.tf_address.specs.ObjectId.{InstanceKeyView, instance_key_of}
 use Rattle.tf_state_data.specs.declared.object.Object.{Object}

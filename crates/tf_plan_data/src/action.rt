@@ -1,8 +1,8 @@
 //! An action of a plan.
 
 ghost use Rattle.std.specs.Prelude.{◌≡◌};
-ghost use Rattle.tf_action_data.specs.Action.{action_of};
-ghost use Rattle.tf_action_data.specs.Precedence.{ordered};
+ghost use Rattle.tf_plan_data.specs.Action.{action_of};
+ghost use Rattle.tf_plan_data.specs.Precedence.{ordered};
 
 use crate::step::Step;
 use tf_address::{InstanceKey, Label};

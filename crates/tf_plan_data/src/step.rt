@@ -1,8 +1,8 @@
 //! What an action does.
 
 ghost use Rattle.std.specs.Prelude.{◌≡◌};
-ghost use Rattle.tf_action_data.specs.Action.{step_of};
-ghost use Rattle.tf_action_data.specs.Precedence.{is_half, kind_of};
+ghost use Rattle.tf_plan_data.specs.Action.{step_of};
+ghost use Rattle.tf_plan_data.specs.Precedence.{is_half, kind_of};
 
 use tf_precedence::Kind;
 use tf_state_data::Object;

@@ -1,6 +1,6 @@
 -- What the order of actions sees of an action.
 use Rattle.std.specs.Prelude.{Bool, true, false}
-use Rattle.tf_action_data.specs.Action.{ActionView, StepView, replacement, replaced, destroyed, deposed_destroyed}
+use Rattle.tf_plan_data.specs.Action.{ActionView, StepView, replacement, replaced, destroyed, deposed_destroyed}
 use Rattle.tf_precedence.specs.declared.action.Action.{Action as Ordered}
 use Rattle.tf_precedence.specs.declared.action.Kind.{Kind}
 use Rattle.tf_precedence.specs.declared.action.Kind.TheVariants.{Apply, Destroy, DestroyDeposed}

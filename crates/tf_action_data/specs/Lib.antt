@@ -1,2 +1,0 @@
-pub mod Action
-pub mod Precedence
