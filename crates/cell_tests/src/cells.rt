@@ -11,9 +11,8 @@ use std::thread::Threads;
 use tf_cells::{Cells, Naming};
 use tf_claim::Book;
 use tf_graph::Graph;
-use tf_outcome::{Ended, Served};
+use tf_outcome::{Ended, Served, Stop};
 use tf_provider::{Waived, waive_for};
-use tf_stop::Stop;
 
 /// How an end is called here.
 #[derive(Clone, Copy, Debug, PartialEq, Eq)]

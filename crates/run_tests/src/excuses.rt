@@ -6,11 +6,11 @@ use std::process::Abort;
 use std::sync::Arc;
 use std::sync::atomic::{AtomicUsize, Ordering};
 use std::test::Fail;
+use tf_outcome::Stop;
 use tf_provider::{Provider, Reply, Request};
 use tf_report::Walked;
 use tf_run::run;
 use tf_sim::Sim;
-use tf_stop::Stop;
 use tf_walk::run_one;
 use watching::{Aside, Sided, tell_of};
 

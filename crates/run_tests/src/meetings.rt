@@ -8,10 +8,10 @@ use std::sync::{Arc, Wait};
 use std::test::Fail;
 use std::thread::Threads;
 use test_providers::{Meeting, is_reached_within, meet};
+use tf_outcome::Stop;
 use tf_provider::{Provider, Reply, Request};
 use tf_run::run_and_close;
 use tf_sim::Sim;
-use tf_stop::Stop;
 use tf_value::Value;
 use watching::{Aside, Sided, tell_of};
 

@@ -12,9 +12,9 @@ use std::process::Abort;
 use std::sync::Wait;
 use std::test::Fail;
 use std::thread::Threads;
+use tf_outcome::Stop;
 use tf_provider::{Provider, Reply, Request, Schema};
 use tf_sim::Sim;
-use tf_stop::Stop;
 use tf_value::{Value, copy};
 use watching::{Seen, Texts, WORKERS, apply_by};
 

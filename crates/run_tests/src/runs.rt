@@ -9,12 +9,12 @@ use std::sync::Wait;
 use std::test::Fail;
 use std::thread::Threads;
 use tf_inputs::{Inputs, read_texts};
+use tf_outcome::Stop;
 use tf_plan::plan;
 use tf_plan_data::Plan;
 use tf_provider::Provider;
 use tf_run::run_and_close;
 use tf_sim::Sim;
-use tf_stop::Stop;
 use tf_walk::run_one;
 use watching::{Told, tell_of};
 

@@ -4,11 +4,11 @@ use crate::runs::{BROKEN, DIAMOND, plan_texts};
 use std::alloc::Global;
 use std::process::Abort;
 use std::test::Fail;
+use tf_outcome::Stop;
 use tf_provider::{Journal, Provider};
 use tf_report::Report;
 use tf_settle::settle;
 use tf_sim::Sim;
-use tf_stop::Stop;
 use tf_walk::run_one;
 use watching::tell_of;
 

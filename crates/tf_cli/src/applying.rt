@@ -16,13 +16,13 @@ use std::alloc::Global;
 use std::sync::Wait;
 use std::thread::Threads;
 use tf_config::blocks_have_names;
+use tf_outcome::Stop;
 use tf_plan::Refused;
 use tf_plan_text::plan_text;
 use tf_provider::Provider;
 use tf_report::Walked;
 use tf_run::run;
 use tf_state::write;
-use tf_stop::Stop;
 
 /// Plans a configuration beside a prior state, and carries the plan out by so many workers, 1 to 64, of which the calling
 /// thread is one; it may wait. Its variables have the values that the variables file and their defaults give; where no state

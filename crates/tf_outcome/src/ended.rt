@@ -8,10 +8,10 @@ ghost use Rattle.tf_outcome.specs.Room.{message_fits};
 ghost use Rattle.tf_value.specs.Tree.{tree_of};
 
 use crate::not_good::NotGood;
+use crate::stop::Stopped;
 use tf_change::InstanceFault;
 use tf_provider::{Judged, Unserved, Waived};
 use tf_state_data::Object;
-use tf_stop::Stopped;
 
 /// A call whose provider had memory, with what was had for its reply: an empty text with room for each message about it, and
 /// what a create saves where it can't be used. It can't be copied or let go.

@@ -7,9 +7,9 @@ ghost use Rattle.tf_outcome.specs.declared.ended.Ended.TheVariants as ended;
 
 use crate::ended::{Ended, Faulted};
 use crate::not_good::NotGood;
+use crate::stop::Stopped;
 use tf_claim::{Finished, Permit};
 use tf_provider::{Verdict, waive_for};
-use tf_stop::Stopped;
 
 impl Ended {
     /// An action that is skipped, since this one directly before it isn't good, and the right to report it as done.

@@ -1,5 +1,6 @@
 //! What becomes of the actions of a plan that is carried out: the rule by which each is skipped, excused, faulted or
-//! called (`specs/Outcome.antt`), and what the walk keeps of it until it is reported.
+//! called (`specs/Outcome.antt`), and what the walk keeps of it until it is reported. With it is the flag by which a walk is
+//! stopped.
 #![tactic(auto)]
 
 mod answered;
@@ -10,6 +11,7 @@ mod excuse;
 pub mod laws;
 mod not_good;
 mod recorded;
+mod stop;
 
 pub use answered::{Answered, applies_to, prior_object};
 pub use asking::Asking;
@@ -17,3 +19,4 @@ pub use ended::{Ended, Faulted, Served, not_ended};
 pub use excuse::{Excuse, Outcome};
 pub use not_good::NotGood;
 pub use recorded::ended_by;
+pub use stop::{Stop, Stopped, stops_are_shared};

@@ -18,11 +18,11 @@ use std::marker::Brand;
 use std::sync::{Mutex, Wait};
 use std::thread::Threads;
 use tf_cells::Naming;
+use tf_outcome::Stop;
 use tf_plan_data::Plan;
 use tf_provider::Provider;
 use tf_refusal::Refusal;
 use tf_report::Walked;
-use tf_stop::Stop;
 use tf_workers::Log;
 
 /// The most workers that a walk may have.

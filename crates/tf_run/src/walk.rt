@@ -11,8 +11,8 @@ use tf_cells::{Cells, Naming};
 use tf_claim::{Claims, Seat};
 use tf_hints::{Hints, Thief};
 use tf_names::Names;
+use tf_outcome::Stop;
 use tf_plan_data::Plan;
-use tf_stop::Stop;
 use tf_workers::Log;
 
 /// What one worker has of its own: its seat at the claims, its hints, and the place of its own thief in the list of all.

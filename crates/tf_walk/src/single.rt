@@ -10,11 +10,11 @@ use crate::prepared::{Prepared, prepare};
 use crate::walk::walk;
 use std::alloc::{AllocError, Global};
 use tf_environment::Declarations;
+use tf_outcome::Stop;
 use tf_plan_data::Plan;
 use tf_provider::Provider;
 use tf_refusal::Refusal;
 use tf_report::{Report, Walked, report_of};
-use tf_stop::Stop;
 
 /// Carries out a plan by one thread, without waiting: every action is ended once, after all that stand before
 /// it. The parts of the plan fit together, and some provider in the list has the type of each action. Of an action that

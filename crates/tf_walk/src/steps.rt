@@ -11,10 +11,9 @@ use crate::calls::{first_not_good, make_call};
 use std::alloc::{AllocError, Global};
 use tf_claim::{Finished, Permit};
 use tf_names::Names;
-use tf_outcome::{Answered, Asking, Ended, NotGood};
+use tf_outcome::{Answered, Asking, Ended, NotGood, Stop};
 use tf_plan_data::Plan;
 use tf_provider::{Journal, Provider, first_provider};
-use tf_stop::Stop;
 
 /// Ends a claimed action: skips it where an action directly before it isn't good; leaves it where the walk is to stop by
 /// then; excuses it where memory for its request is refused; tells what is wrong where its request has a fault; and else

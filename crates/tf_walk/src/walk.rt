@@ -10,10 +10,9 @@ use std::alloc::Global;
 use std::mem;
 use tf_claim::Book;
 use tf_names::Names;
-use tf_outcome::Ended;
+use tf_outcome::{Ended, Stop};
 use tf_plan_data::Plan;
 use tf_provider::{Journal, Provider};
-use tf_stop::Stop;
 
 /// Takes every action of a plan to its end; once the walk is to stop, no further provider is called.
 pub fn walk(

@@ -15,10 +15,9 @@ use std::thread;
 use tf_cells::{Cells, Naming};
 use tf_claim::{Finished, Permit};
 use tf_names::Names;
-use tf_outcome::Ended;
+use tf_outcome::{Ended, Stop};
 use tf_plan_data::Plan;
 use tf_provider::Provider;
-use tf_stop::Stop;
 
 /// What a worker works with, beside the providers: the plan of a walk, the names of its configuration, the cells of the plan's
 /// actions, the journal that workers share, and whether the walk is to stop.

@@ -1,5 +1,4 @@
 //! A flag by which a walk is stopped.
-#![tactic(auto)]
 
 use std::sync::atomic::{AtomicBool, Ordering};
 
