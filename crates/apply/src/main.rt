@@ -15,7 +15,7 @@ use std::sync::{Arc, Wait};
 use std::thread::Threads;
 use tf_cli::Stop;
 use tf_local::LocalFile;
-use tf_logged::{Logged, OpenLog};
+use tf_log::{Logged, OpenLog};
 use tf_program::{Given, LogSink, Options, Place, Program, Seen, carry_out_logged, hold, run};
 use tf_progress::Progress;
 use tf_provider::Provider;

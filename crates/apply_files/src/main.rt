@@ -13,7 +13,7 @@ use std::process::ExitCode;
 use std::sync::{Arc, Wait};
 use std::thread::Threads;
 use tf_cli::Stop;
-use tf_logged::{Logged, OpenLog};
+use tf_log::{Logged, OpenLog};
 use tf_program::{Given, LogSink, Options, Place, Program, Seen, carry_out_logged, hold, run};
 use tf_provider::Provider;
 

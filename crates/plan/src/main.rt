@@ -7,8 +7,7 @@ use std::process::ExitCode;
 use std::sync::Wait;
 use std::thread::Threads;
 use tf_local::LocalFile;
-use tf_log::Entry;
-use tf_logged::{Replayed, split};
+use tf_log::{Entry, Replayed, split};
 use tf_program::{
     Given, GraphForm, Options, Past, Place, Program, Seen, foresee, print_graph, print_plan, run,
     see,

@@ -7,7 +7,7 @@ use Rattle.tf_log.specs.Entry.{EntryView, HeaderView}
 use Rattle.tf_log.specs.Laws.{joined, AreLines, HoldsWhole, ReadsAsFar}
 use Rattle.tf_log.specs.Line.{IsInLine, IsHeaderLine, lines_from, lines_of, entry_in, header_in, header_fault}
 use Rattle.tf_log.specs.Log.{entry_then, entries_in, header_then, log_in}
-use Rattle.tf_log.proofs.Lines.{goes_on}
+use Rattle.tf_log.proofs.Lined.{goes_on}
 
 -- ---- lists
 

@@ -2,5 +2,7 @@ pub mod Written
 pub mod Formed
 pub mod OneLine
 pub mod ReadBack
-pub mod Lines
+pub mod Lined
 pub mod Beginnings
+pub mod Passed
+pub mod Replays

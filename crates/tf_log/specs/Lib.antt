@@ -8,3 +8,7 @@ pub mod Line
 pub mod Log
 pub mod Text
 pub mod Laws
+pub mod ReplayLaws
+pub mod Replayed
+pub mod Same
+pub mod True

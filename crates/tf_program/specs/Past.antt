@@ -4,7 +4,7 @@ use Rattle.tf_log.specs.Entry.{EntryView, LogView, entry_of}
 use Rattle.tf_log.specs.Line.{lines_of}
 use Rattle.tf_log.specs.Log.{log_in}
 use Rattle.tf_log.specs.declared.entry.Entry.{Entry}
-use Rattle.tf_logged.specs.Replayed.{answer_count, in_flight}
+use Rattle.tf_log.specs.Replayed.{answer_count, in_flight}
 use Rattle.tf_protocol.specs.Meaning.{asked}
 use Rattle.tf_program.specs.declared.past.Past.{Past}
 

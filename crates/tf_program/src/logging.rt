@@ -20,8 +20,7 @@ use std::rt::Files;
 use std::sync::Wait;
 use std::thread::Threads;
 use tf_cli::Stop;
-use tf_log::Header;
-use tf_logged::{NotStarted, OpenLog, Sink};
+use tf_log::{Header, NotStarted, OpenLog, Sink};
 use tf_provider::Provider;
 
 /// The status where the state isn't written.

@@ -9,8 +9,7 @@ use crate::telling::{tell_bad_line, tell_no_memory};
 use std::alloc::{AllocError, Global};
 use std::io::Write;
 use std::process::ExitCode;
-use tf_log::{Entry, Header, Log, LogFault, read_log};
-use tf_logged::{answer_count, in_flight};
+use tf_log::{Entry, Header, Log, LogFault, answer_count, in_flight, read_log};
 use tf_protocol::Request;
 
 /// An apply that did not end, as its log tells it.

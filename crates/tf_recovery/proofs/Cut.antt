@@ -5,8 +5,8 @@ use Rattle.tf_log.specs.Entry.{EntryView}
 use Rattle.tf_log.specs.Header.{HeaderView}
 use Rattle.tf_log.specs.Laws.{ReadsAsFar}
 use Rattle.tf_log.specs.Line.{lines_of}
-use Rattle.tf_logged.proofs.Replays.{beginnings_are_true, replayed_are_themselves}
-use Rattle.tf_logged.specs.True.{AreTrue}
+use Rattle.tf_log.proofs.Replays.{beginnings_are_true, replayed_are_themselves}
+use Rattle.tf_log.specs.True.{AreTrue}
 use Rattle.tf_protocol.specs.Meaning.{Meaning}
 use Rattle.tf_recovery.specs.Laws.{RecoversAsFar}
 use Rattle.tf_recovery.specs.Recovered.{IsRecovered}

@@ -4,8 +4,8 @@ use Rattle.tf_log.specs.Entry.{EntryView}
 use Rattle.tf_log.specs.Header.{HeaderView}
 use Rattle.tf_log.specs.Laws.{AreLines, ReadsAsFar, joined}
 use Rattle.tf_log.specs.Line.{IsHeaderLine, lines_of}
-use Rattle.tf_logged.specs.Replayed.{all_replayed, own_entries}
-use Rattle.tf_logged.specs.True.{AreTrue}
+use Rattle.tf_log.specs.Replayed.{all_replayed, own_entries}
+use Rattle.tf_log.specs.True.{AreTrue}
 use Rattle.tf_protocol.specs.Meaning.{Meaning}
 use Rattle.tf_recovery.specs.Recovered.{IsRecovered}
 

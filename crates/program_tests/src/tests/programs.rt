@@ -12,7 +12,7 @@ use std::sync::{Arc, Wait};
 use std::test::Fail;
 use std::thread::Threads;
 use tf_cli::Stop;
-use tf_logged::OpenLog;
+use tf_log::OpenLog;
 use tf_program::{
     LogSink, Options, Program, carry_out_logged, hold, print_graph, print_plan, run, see,
 };

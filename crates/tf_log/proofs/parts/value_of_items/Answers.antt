@@ -1,5 +1,5 @@
 use Rattle.std.proofs.Common.{◌≤◌, length, sym}
-use Rattle.tf_log.proofs.Lines.{many_items}
+use Rattle.tf_log.proofs.Lined.{many_items}
 use Rattle.tf_log.proofs.parts.value_of_items.Goals as goal
 
 pub returns-in_default : goal.returns-in_default

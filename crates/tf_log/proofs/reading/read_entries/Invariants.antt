@@ -2,7 +2,7 @@ use Rattle.std.proofs.Common.{◌≡◌, ◌≤◌, ◌+◌, length, map}
 use Rattle.tf_log.specs.Entry.{entry_of}
 use Rattle.tf_log.specs.Line.{lines_of}
 use Rattle.tf_log.specs.Log.{entries_in}
-use Rattle.tf_log.proofs.Lines.{onto}
+use Rattle.tf_log.proofs.Lined.{onto}
 use Rattle.tf_log.proofs.reading.read_entries.Given as goal
 
 abbrev pub invariant-loop-line : goal.invariant-loop-line

@@ -1,7 +1,7 @@
 use Rattle.std.proofs.Common.{sym, rules}
 use Rattle.serde_json.specs.Errors.{IsMemory}
 use Rattle.serde_json.specs.View.{view}
-use Rattle.tf_log.proofs.Lines.{tree_read, tree_refused}
+use Rattle.tf_log.proofs.Lined.{tree_read, tree_refused}
 use Rattle.tf_log.proofs.reading.read_tree.Goals as goal
 
 pub returns-in-Ok : goal.returns-in-Ok

@@ -1,6 +1,6 @@
 use Rattle.std.proofs.Common.{subst}
 use Rattle.std.specs.Prelude.{List}
-use Rattle.tf_logged.proofs.Replays.{replayed_are_themselves}
+use Rattle.tf_log.proofs.Replays.{replayed_are_themselves}
 use Rattle.tf_protocol.specs.Meaning.{Meaning}
 use Rattle.tf_recovery.specs.Recovered.{IsRecovered}
 use Rattle.tf_recovery.proofs.laws.what_is_recovered_is_applied.Goals as goal

@@ -1,4 +1,0 @@
-pub mod Laws
-pub mod Replayed
-pub mod Same
-pub mod True
