@@ -9,7 +9,7 @@ use Rattle.tf_plan.specs.declared.refused.Refused.{Refused}
 use Rattle.tf_protocol.specs.Meaning.{Meaning}
 use Rattle.tf_run.specs.Run.{are_workers}
 use Rattle.tf_cli.specs.Applies.{IsApplied, IsPlanOf, IsPlanText, to_write}
-use Rattle.tf_dot.specs.Dot.{IsDrawn}
+use Rattle.tf_plan_dot.specs.Dot.{IsDrawn}
 use Rattle.tf_plan_data.specs.Plan.{PlanView}
 use Rattle.tf_program.specs.Kept.{EndsKept}
 use Rattle.tf_cli.specs.Refusals.{AreApplyRefusals, AreRefusals}

@@ -11,9 +11,9 @@ ghost use Rattle.tf_refusal.specs.Refusal.{told};
 
 use std::alloc::Global;
 use tf_cli::{Refusal, Refused};
-use tf_dot::dot_text;
 use tf_inputs::{Inputs, read_texts};
 use tf_plan::{Plan, plan};
+use tf_plan_dot::dot_text;
 use tf_provider::Provider;
 
 /// The text that draws the plan of a configuration and a prior state, where nothing is refused.

@@ -1,2 +1,0 @@
-pub mod Dot
-pub mod Quoted

@@ -1,0 +1,4 @@
+pub mod Beyond
+pub mod Reduction
+pub mod Dot
+pub mod Quoted

@@ -1,2 +1,0 @@
-pub mod Beyond
-pub mod Reduction
