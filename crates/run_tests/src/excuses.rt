@@ -8,10 +8,10 @@ use std::sync::atomic::{AtomicUsize, Ordering};
 use std::test::Fail;
 use tf_outcome::Stop;
 use tf_provider::{Provider, Reply, Request};
-use tf_report::Walked;
 use tf_run::run;
 use tf_sim::Sim;
 use tf_walk::run_one;
+use tf_walk_report::Walked;
 use watching::{Aside, Sided, tell_of};
 
 /// It counts its calls, and has no memory in the second.

@@ -6,10 +6,9 @@ use std::process::Abort;
 use std::test::Fail;
 use tf_outcome::Stop;
 use tf_provider::{Journal, Provider};
-use tf_report::Report;
-use tf_settle::settle;
 use tf_sim::Sim;
 use tf_walk::run_one;
+use tf_walk_report::{Report, settle};
 use watching::tell_of;
 
 /// Checks whether the report on a configuration that is carried out is whole with a journal in which nothing is, and that all

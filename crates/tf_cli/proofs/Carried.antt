@@ -5,11 +5,11 @@ use Rattle.tf_state_next.specs.StateAfter.{is_same, next_serial}
 use Rattle.tf_plan_data.specs.Plan.{PlanView}
 use Rattle.tf_plan_text.specs.Text.{plan_text}
 use Rattle.tf_protocol.specs.Meaning.{Meaning}
-use Rattle.tf_report.specs.Report.{IsReported, report_of}
-use Rattle.tf_report.specs.Savable.{HasNames}
+use Rattle.tf_walk_report.specs.Report.{IsReported, report_of}
+use Rattle.tf_walk_report.specs.Savable.{HasNames}
 use Rattle.tf_run.specs.Run.{IsRun}
-use Rattle.tf_report.specs.declared.report.Walked.{Walked}
-use Rattle.tf_report.specs.declared.report.Walked.TheVariants.{Whole, Torn}
+use Rattle.tf_walk_report.specs.declared.report.Walked.{Walked}
+use Rattle.tf_walk_report.specs.declared.report.Walked.TheVariants.{Whole, Torn}
 use Rattle.tf_state_data.specs.Equality.{state_Decides}
 use Rattle.tf_state_data.specs.State.{StateView, state_of}
 use Rattle.tf_state.specs.Text.{state_text}

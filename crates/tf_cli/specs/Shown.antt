@@ -11,11 +11,11 @@ use Rattle.tf_protocol.specs.Verdict.{is_good_verdict}
 use Rattle.tf_outcome.specs.declared.excuse.Outcome.{Outcome}
 use Rattle.tf_outcome.specs.declared.excuse.Outcome.TheVariants as outcome
 use Rattle.tf_additions.specs.Diagnostics.{DiagnosticView, diagnostic_of}
-use Rattle.tf_report.specs.Report.{report_of}
+use Rattle.tf_walk_report.specs.Report.{report_of}
 use Rattle.tf_additions.specs.declared.diagnostic.Diagnostic.{Diagnostic}
-use Rattle.tf_report.specs.declared.report.Report.{Report}
-use Rattle.tf_report.specs.declared.report.Walked.{Walked}
-use Rattle.tf_report.specs.declared.report.Walked.TheVariants.{Whole, Torn}
+use Rattle.tf_walk_report.specs.declared.report.Report.{Report}
+use Rattle.tf_walk_report.specs.declared.report.Walked.{Walked}
+use Rattle.tf_walk_report.specs.declared.report.Walked.TheVariants.{Whole, Torn}
 use Rattle.tf_cli.specs.declared.applied.Applied.{Applied}
 
 abbrev pub is_torn : Walked → Bool

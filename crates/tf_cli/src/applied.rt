@@ -5,7 +5,7 @@ ghost use Rattle.tf_cli.specs.Applies.{to_write};
 
 use std::alloc::AllocError;
 use tf_plan::Refused;
-use tf_report::{Report, Walked};
+use tf_walk_report::{Report, Walked};
 
 /// What came of an apply. What was created may be known from here alone, so it can be neither copied nor let go:
 /// a pattern that names each of its fields takes it apart.

@@ -18,4 +18,4 @@ pub use saving::{SaveFault, save, save_all};
 pub use tf_outcome::Stop;
 pub use tf_plan::Refused;
 pub use tf_refusal::Refusal;
-pub use tf_report::{Report, Walked};
+pub use tf_walk_report::{Report, Walked};

@@ -16,7 +16,7 @@ use std::io::Write;
 use tf_outcome::Outcome;
 use tf_plan::Refused;
 use tf_provider::Verdict;
-use tf_report::{Diagnostic, Report, Walked};
+use tf_walk_report::{Diagnostic, Report, Walked};
 
 /// Whether something was printed.
 type Printed = Result<(), SaveFault>;

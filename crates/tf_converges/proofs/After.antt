@@ -31,7 +31,7 @@ use Rattle.tf_plan_data.specs.Fits.{deposed_key, is_apply}
 use Rattle.tf_plan_data.specs.Plan.{plan_names}
 use Rattle.tf_protocol.specs.Meaning.{Meaning}
 use Rattle.tf_protocol.specs.Schema.{SchemaView}
-use Rattle.tf_report.specs.Events.{renewals}
+use Rattle.tf_walk_report.specs.Events.{renewals}
 use Rattle.tf_state_next.proofs.Places.{found_id}
 use Rattle.tf_state_next.specs.After.{after_destroy, current_after, deposed_anew, destroy_under, object_at, record_of_saved, renewed}
 use Rattle.tf_state_next.specs.Ends.{AppliedView, GivenView, LeftView, gone, saved, unplanned, unwanted}

@@ -22,7 +22,7 @@ use Rattle.tf_outputs.specs.Outputs.{AreOutputsDone, IsOutputDone, OutputDone, d
 use Rattle.tf_outputs.specs.Settled.{names_are_settled}
 use Rattle.tf_plan.proofs.Distinct.{at-contained}
 use Rattle.tf_plan_data.specs.Plan.{plan_names}
-use Rattle.tf_report.specs.Report.{objects_after}
+use Rattle.tf_walk_report.specs.Report.{objects_after}
 use Rattle.tf_request.specs.Requests.{without_sets}
 use Rattle.tf_syntax.specs.ExprTree as expr
 use Rattle.tf_value.specs.Tree.{Tree, Entries}

@@ -26,7 +26,7 @@ use Rattle.tf_precedence.specs.Ties.{TiesView}
 use Rattle.tf_precedence.specs.declared.action.Action.{Action as Ordered}
 use Rattle.tf_precedence.specs.declared.action.Kind.TheVariants.{Apply}
 use Rattle.tf_protocol.specs.Meaning.{Meaning}
-use Rattle.tf_report.proofs.Apart.{apply_is_current}
+use Rattle.tf_walk_report.proofs.Apart.{apply_is_current}
 use Rattle.tf_plan_resources.proofs.Standing.{places-differ}
 use Rattle.tf_plan_resources.specs.Numbering.{numbered}
 use Rattle.tf_state_data.specs.Resource.{ResourceView}

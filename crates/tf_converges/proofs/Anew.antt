@@ -17,8 +17,8 @@ use Rattle.tf_state_next.specs.StateAfter.{IsStateAfter}
 use Rattle.tf_outcome.specs.Outcome.{Done}
 use Rattle.tf_plan_data.specs.Plan.{PlanView, plan_names}
 use Rattle.tf_protocol.specs.Meaning.{Meaning}
-use Rattle.tf_report.specs.Events.{events, renewals}
-use Rattle.tf_report.specs.Report.{IsStateOf}
+use Rattle.tf_walk_report.specs.Events.{events, renewals}
+use Rattle.tf_walk_report.specs.Report.{IsStateOf}
 use Rattle.tf_plan_resources.proofs.Standing.{each-placed, resources-apart}
 use Rattle.tf_plan_resources.specs.Laws as resources_laws
 use Rattle.tf_plan_resources.specs.Numbering.{a_name, numbered, place_in}

@@ -18,7 +18,7 @@ use Rattle.tf_plan.specs.Planned.{IsPlanned, unrefused}
 use Rattle.tf_plan_data.specs.Plan.{PlanView, plan_names}
 use Rattle.tf_protocol.specs.Meaning.{Meaning, schema_in}
 use Rattle.tf_protocol.specs.Schema.{SchemaView, IsSchema}
-use Rattle.tf_report.specs.Events.{events}
+use Rattle.tf_walk_report.specs.Events.{events}
 use Rattle.tf_plan_resources.specs.Laws as resources_laws
 use Rattle.tf_plan_resources.specs.Numbering.{a_name}
 use Rattle.tf_state.specs.Valid.{IsValid}

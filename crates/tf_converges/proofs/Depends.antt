@@ -22,7 +22,7 @@ use Rattle.tf_plan.proofs.Distinct.{at-contained}
 use Rattle.tf_plan.proofs.Objects.{one_key}
 use Rattle.tf_plan_data.specs.Fits.{IsPlaced, deposed_key}
 use Rattle.tf_plan_data.specs.Plan.{plan_names}
-use Rattle.tf_report.specs.Events.{is_about, is_none, renewals}
+use Rattle.tf_walk_report.specs.Events.{is_about, is_none, renewals}
 use Rattle.tf_plan_resources.proofs.Standing.{each-placed, places-differ, resources-apart}
 use Rattle.tf_plan_resources.specs.Numbering.{numbered, place_in}
 use Rattle.tf_state_next.proofs.Places.{found_id}

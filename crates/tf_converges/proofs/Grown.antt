@@ -42,13 +42,13 @@ use Rattle.tf_plan_data.specs.Plan.{plan_names}
 use Rattle.tf_protocol.specs.Meaning.{Asked, schema_in}
 use Rattle.tf_protocol.specs.Schema.{SchemaView}
 use Rattle.tf_protocol.specs.Verdict.{has_attributes, is_good_verdict, verdict_on_object}
-use Rattle.tf_report.specs.Report.{objects_after}
+use Rattle.tf_walk_report.specs.Report.{objects_after}
 use Rattle.tf_state_data.specs.Record.{RecordView}
 use Rattle.tf_value.proofs.Order.{Refines-refl, Refines-trans}
 use Rattle.tf_value.specs.Refinement.{Refines}
 use Rattle.tf_value.specs.Tree.{Tree}
 use Rattle.tf_converges.proofs.After.{IsKept, IsMade, call_at_index, in_deposed, kept_at}
-use Rattle.tf_report.proofs.Apart.{apply_is_current}
+use Rattle.tf_walk_report.proofs.Apart.{apply_is_current}
 use Rattle.tf_converges.proofs.Answers.{good_refines}
 use Rattle.tf_converges.proofs.Applied.{Applied, setting}
 use Rattle.tf_converges.proofs.Declared.{keys_at, records_in}

@@ -11,7 +11,7 @@ use Rattle.tf_state_next.specs.StateAfter.{IsStateAfter}
 use Rattle.tf_outcome.specs.Outcome.{Done}
 use Rattle.tf_plan_data.specs.Plan.{PlanView}
 use Rattle.tf_protocol.specs.Meaning.{Meaning}
-use Rattle.tf_report.specs.Events.{events, renewals}
+use Rattle.tf_walk_report.specs.Events.{events, renewals}
 use Rattle.tf_state_next.specs.After.{current_after, deposed_anew, object_at, renewed}
 use Rattle.tf_state_next.specs.Ends.{AppliedView, unplanned, unwanted}
 use Rattle.tf_state_data.specs.Record.{RecordView}

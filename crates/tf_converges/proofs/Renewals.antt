@@ -15,7 +15,7 @@ use Rattle.tf_state_next.proofs.Finding.{found_passes}
 use Rattle.tf_state_next.specs.Events.{ApplyView, RenewalView, apply_of_instance, as_apply, is_instance}
 use Rattle.tf_plan.proofs.Distinct.{in_map, in_flat_map, to_map}
 use Rattle.tf_plan_data.specs.Plan.{PlanView, plan_names}
-use Rattle.tf_report.specs.Events.{is_about, is_none, renewal_of_record, renewals, renewals_at, renewals_of, stays}
+use Rattle.tf_walk_report.specs.Events.{is_about, is_none, renewal_of_record, renewals, renewals_at, renewals_of, stays}
 use Rattle.tf_plan_resources.proofs.Standing.{places-true}
 use Rattle.tf_plan_resources.specs.Laws as resources_laws
 use Rattle.tf_plan_resources.specs.Numbering.{a_name, block_address, numbered, place_in}

@@ -23,7 +23,7 @@ use Rattle.tf_outcome.specs.Outcome.{done_at, objects_by}
 use Rattle.tf_plan_data.specs.Fits.{is_apply}
 use Rattle.tf_plan_data.specs.Plan.{plan_names}
 use Rattle.tf_protocol.specs.Schema.{SchemaView}
-use Rattle.tf_report.specs.Report.{objects_after}
+use Rattle.tf_walk_report.specs.Report.{objects_after}
 use Rattle.tf_request.proofs.Answering.{next_is}
 use Rattle.tf_value.specs.Tree.{Tree}
 use Rattle.tf_converges.proofs.Agree.{objects_agree}

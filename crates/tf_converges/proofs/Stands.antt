@@ -14,7 +14,7 @@ use Rattle.tf_outcome.specs.Outcome.{done_at, objects_by}
 use Rattle.tf_plan.proofs.Distinct.{at-contained}
 use Rattle.tf_plan_data.specs.Fits.{IsDeclared}
 use Rattle.tf_plan_data.specs.Plan.{plan_names}
-use Rattle.tf_report.specs.Report.{objects_after}
+use Rattle.tf_walk_report.specs.Report.{objects_after}
 use Rattle.tf_state_next.specs.After.{object_at}
 use Rattle.tf_state_data.specs.Record.{RecordView}
 use Rattle.tf_state_data.specs.State.{record_in}

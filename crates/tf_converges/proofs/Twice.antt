@@ -17,7 +17,7 @@ use Rattle.tf_outputs.specs.Outputs.{outputs_after}
 use Rattle.tf_plan_data.specs.Plan.{PlanView}
 use Rattle.tf_precedence.specs.Ties.{TiesView}
 use Rattle.tf_protocol.specs.Meaning.{Meaning}
-use Rattle.tf_report.specs.Events.{events}
+use Rattle.tf_walk_report.specs.Events.{events}
 use Rattle.tf_plan_resources.specs.Dependencies.{dependencies}
 use Rattle.tf_plan_resources.specs.Numbering.{NumberedView, a_name, an_orphan, has_block, numbered, orphans}
 use Rattle.tf_state_next.specs.After.{renewed}

@@ -30,9 +30,9 @@ use Rattle.tf_plan.specs.Plan.{IsPlan, IsPlannedFrom}
 use Rattle.tf_plan_data.specs.Plan.{PlanView, plan_names}
 use Rattle.tf_protocol.specs.Meaning.{Meaning}
 use Rattle.tf_protocol.specs.declared.verdict.Verdict.TheVariants as verdict
-use Rattle.tf_report.specs.Outcomes.{outcome_of}
-use Rattle.tf_report.specs.Report.{IsReport, objects_after}
-use Rattle.tf_report.specs.declared.report.Report.{Report}
+use Rattle.tf_walk_report.specs.Outcomes.{outcome_of}
+use Rattle.tf_walk_report.specs.Report.{IsReport, objects_after}
+use Rattle.tf_walk_report.specs.declared.report.Report.{Report}
 use Rattle.tf_state.specs.Valid.{IsPresent, IsValid}
 use Rattle.tf_state_data.specs.Ids.{AreById}
 use Rattle.tf_state_next.specs.After.{object_at}

@@ -25,8 +25,8 @@ use Rattle.tf_plan_data.specs.Plan.{PlanView, plan_names}
 use Rattle.tf_protocol.specs.Meaning.{Meaning, schema_in}
 use Rattle.tf_protocol.specs.Schema.{SchemaView, IsSchema}
 use Rattle.tf_protocol.specs.declared.verdict.Verdict.TheVariants.{Good}
-use Rattle.tf_report.specs.Report.{AreOutputsOf, IsReport, IsStateOf, objects_after}
-use Rattle.tf_report.specs.declared.report.Report.{Report}
+use Rattle.tf_walk_report.specs.Report.{AreOutputsOf, IsReport, IsStateOf, objects_after}
+use Rattle.tf_walk_report.specs.declared.report.Report.{Report}
 use Rattle.tf_plan_resources.specs.Numbering.{numbered}
 use Rattle.tf_state.specs.Valid.{IsValid}
 use Rattle.tf_state_data.specs.State.{StateView, state_of}

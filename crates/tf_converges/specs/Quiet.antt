@@ -5,7 +5,7 @@ use Rattle.tf_address.specs.ObjectId.{ObjectIdView}
 use Rattle.tf_outcome.specs.Outcome.{Done}
 use Rattle.tf_plan_data.specs.Plan.{PlanView}
 use Rattle.tf_protocol.specs.Meaning.{Meaning}
-use Rattle.tf_report.specs.Report.{IsStateOf}
+use Rattle.tf_walk_report.specs.Report.{IsStateOf}
 use Rattle.tf_state_next.specs.After.{renewed}
 use Rattle.tf_state_data.specs.Record.{RecordView}
 use Rattle.tf_state_data.specs.State.{StateView, record_in}

@@ -17,9 +17,9 @@ use Rattle.tf_protocol.specs.declared.verdict.Verdict.{Verdict}
 use Rattle.tf_protocol.specs.declared.verdict.Verdict.TheVariants as verdict
 use Rattle.tf_provider.specs.Entries.{actions_of}
 use Rattle.tf_provider.specs.declared.journal.Entry.{Entry}
-use Rattle.tf_report.specs.Outcomes.{outcome_of}
-use Rattle.tf_report.specs.Report.{IsReported}
-use Rattle.tf_report.specs.declared.report.Report.{Report}
+use Rattle.tf_walk_report.specs.Outcomes.{outcome_of}
+use Rattle.tf_walk_report.specs.Report.{IsReported}
+use Rattle.tf_walk_report.specs.declared.report.Report.{Report}
 use Rattle.tf_value.proofs.Conjunction.{and-first, and-second}
 use Rattle.tf_laws_reports.proofs.Journals.{action_of_entry, verdict_of_entry}
 use Rattle.tf_laws_reports.proofs.Lists.{all_weaker, got_in, in_cases, nothing_in}

@@ -7,10 +7,10 @@ use Rattle.tf_outcome.specs.Outcome.{Done, skipped, excused, faulted, called}
 use Rattle.tf_outputs.specs.Outputs as outputs
 use Rattle.tf_outputs.specs.Settled.{AreSettled, names_are_settled}
 use Rattle.tf_plan_data.specs.Plan.{PlanView, plan_names}
-use Rattle.tf_report.specs.Good.{are_good_at}
-use Rattle.tf_report.specs.Outcomes.{excuses_at, excuses_from}
-use Rattle.tf_report.specs.OutputsTold.{output_excuses, output_excuses_at}
-use Rattle.tf_report.specs.Report.{objects_after}
+use Rattle.tf_walk_report.specs.Good.{are_good_at}
+use Rattle.tf_walk_report.specs.Outcomes.{excuses_at, excuses_from}
+use Rattle.tf_walk_report.specs.OutputsTold.{output_excuses, output_excuses_at}
+use Rattle.tf_walk_report.specs.Report.{objects_after}
 use Rattle.tf_syntax.specs.ExprTree as expr
 use Rattle.tf_laws_reports.proofs.Lists.{all_appended}
 use Rattle.tf_laws_reports.specs.Excuses.{ExcusesAreDue, IsDue, expression_at}

@@ -28,7 +28,7 @@ use Rattle.tf_plan_data.specs.Fits.{IsDeclared, is_apply}
 use Rattle.tf_plan_data.specs.Plan.{PlanView, plan_names}
 use Rattle.tf_protocol.specs.Meaning.{Meaning, schema_in}
 use Rattle.tf_protocol.specs.Schema.{SchemaView}
-use Rattle.tf_report.specs.OutputsTold.{output_excuses, output_excuses_at}
+use Rattle.tf_walk_report.specs.OutputsTold.{output_excuses, output_excuses_at}
 use Rattle.tf_request.specs.Requests.{is_resource}
 use Rattle.tf_syntax.specs.ExprNames.{named_by}
 use Rattle.tf_syntax.specs.ExprTree as expr

@@ -14,8 +14,8 @@ use Rattle.tf_outputs.specs.Outputs.{OutputDone, end_of}
 use Rattle.tf_outputs.specs.declared.ends.OutputEnd.{OutputEnd}
 use Rattle.tf_outputs.specs.declared.ends.OutputEnd.TheVariants.{NotEvaluated, NoMemory, Faulted, Valued}
 use Rattle.tf_plan_data.specs.Plan.{PlanView}
-use Rattle.tf_report.specs.Outcomes.{excuses_at, excuses_from, outcome_of}
-use Rattle.tf_report.specs.OutputsTold.{output_excuses}
+use Rattle.tf_walk_report.specs.Outcomes.{excuses_at, excuses_from, outcome_of}
+use Rattle.tf_walk_report.specs.OutputsTold.{output_excuses}
 use Rattle.tf_laws_reports.proofs.Due.{excuses_due}
 use Rattle.tf_laws_reports.proofs.Lists.{all_appended, all_got, all_weaker, got_in, in_got}
 use Rattle.tf_laws_reports.specs.Excuses.{ExcusedAreNamed, IsDue, NamedOnce, Subject, an_action, an_output, subject_of}

@@ -12,13 +12,13 @@ use Rattle.tf_outputs.specs.Laws.{OutputsAreOne, SettledAreOne}
 use Rattle.tf_outputs.specs.Outputs.{OutputDone, end_of, outputs_after}
 use Rattle.tf_plan_data.specs.Plan.{PlanView, plan_names}
 use Rattle.tf_protocol.specs.Meaning.{Meaning}
-use Rattle.tf_report.proofs.Joined.{each_ordered}
-use Rattle.tf_report.specs.Events.{events}
-use Rattle.tf_report.specs.Good.{are_good_at}
-use Rattle.tf_report.specs.Outcomes.{excuses_from}
-use Rattle.tf_report.specs.OutputsTold.{output_excuses}
-use Rattle.tf_report.specs.Report.{AreOutputsOf, IsStateOf, IsTold, objects_after}
-use Rattle.tf_report.specs.declared.report.Report.{Report}
+use Rattle.tf_walk_report.proofs.Joined.{each_ordered}
+use Rattle.tf_walk_report.specs.Events.{events}
+use Rattle.tf_walk_report.specs.Good.{are_good_at}
+use Rattle.tf_walk_report.specs.Outcomes.{excuses_from}
+use Rattle.tf_walk_report.specs.OutputsTold.{output_excuses}
+use Rattle.tf_walk_report.specs.Report.{AreOutputsOf, IsStateOf, IsTold, objects_after}
+use Rattle.tf_walk_report.specs.declared.report.Report.{Report}
 use Rattle.tf_state_next.specs.ObjectLaws.{KeyIsOne}
 use Rattle.tf_state_data.specs.State.{StateView, state_of}
 use Rattle.tf_state_data.specs.declared.state.State.{State}

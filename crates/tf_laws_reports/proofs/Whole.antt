@@ -5,7 +5,7 @@ use Rattle.tf_outcome.specs.Laws.{RequestsAreOne}
 use Rattle.tf_outcome.specs.Outcome.{AreOutcomes, Done}
 use Rattle.tf_outcome.specs.declared.excuse.Excuse.{Excuse}
 use Rattle.tf_outputs.specs.Laws.{OutputsAreOne, SettledAreOne}
-use Rattle.tf_report.specs.Report.{IsTold}
+use Rattle.tf_walk_report.specs.Report.{IsTold}
 use Rattle.tf_state_next.specs.ObjectLaws.{KeyIsOne}
 use Rattle.tf_laws_reports.proofs.Ended.{outcomes_one}
 use Rattle.tf_laws_reports.proofs.Told.{told_one}

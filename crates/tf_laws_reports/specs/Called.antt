@@ -10,8 +10,8 @@ use Rattle.tf_protocol.specs.Meaning.{Meaning}
 use Rattle.tf_protocol.specs.declared.verdict.Verdict.{Verdict}
 use Rattle.tf_protocol.specs.declared.verdict.Verdict.TheVariants.{Good}
 use Rattle.tf_provider.specs.declared.journal.Entry.{Entry}
-use Rattle.tf_report.specs.Report.{IsReported, IsWhole}
-use Rattle.tf_report.specs.declared.report.Report.{Report}
+use Rattle.tf_walk_report.specs.Report.{IsReported, IsWhole}
+use Rattle.tf_walk_report.specs.declared.report.Report.{Report}
 
 -- By a report, each action directly before an action is good.
 abbrev pub FollowsGood : PlanView → Report → ℕ → Type 0

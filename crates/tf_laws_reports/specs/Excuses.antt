@@ -10,9 +10,9 @@ use Rattle.tf_outputs.specs.Outputs as outputs
 use Rattle.tf_outputs.specs.Settled.{AreSettled, names_are_settled}
 use Rattle.tf_plan_data.specs.Plan.{PlanView, plan_names}
 use Rattle.tf_protocol.specs.Meaning.{Meaning}
-use Rattle.tf_report.specs.Good.{are_good_at}
-use Rattle.tf_report.specs.Report.{IsReported}
-use Rattle.tf_report.specs.declared.report.Report.{Report}
+use Rattle.tf_walk_report.specs.Good.{are_good_at}
+use Rattle.tf_walk_report.specs.Report.{IsReported}
+use Rattle.tf_walk_report.specs.declared.report.Report.{Report}
 use Rattle.tf_syntax.specs.ExprTree as expr
 
 -- what an excuse names: an action, or an output

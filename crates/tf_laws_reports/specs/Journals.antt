@@ -4,8 +4,8 @@ use Rattle.tf_outcome.specs.Journal.{verdict_in}
 use Rattle.tf_plan_data.specs.Plan.{PlanView}
 use Rattle.tf_protocol.specs.Meaning.{Meaning}
 use Rattle.tf_provider.specs.declared.journal.Entry.{Entry}
-use Rattle.tf_report.specs.Report.{IsWhole}
-use Rattle.tf_report.specs.declared.report.Report.{Report}
+use Rattle.tf_walk_report.specs.Report.{IsWhole}
+use Rattle.tf_walk_report.specs.declared.report.Report.{Report}
 use Rattle.tf_laws_reports.specs.Founded.{IsFounded}
 
 -- Each action has an entry in one exactly where it has one in the other, with the same verdict; and the entries of the one are

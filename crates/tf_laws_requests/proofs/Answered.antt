@@ -30,7 +30,7 @@ use Rattle.tf_outcome.specs.Objects.{prior_object}
 use Rattle.tf_plan_data.specs.Fits.{IsDeclared, is_apply}
 use Rattle.tf_plan_data.specs.Plan.{plan_names}
 use Rattle.tf_protocol.specs.Schema.{SchemaView}
-use Rattle.tf_report.proofs.Apart.{apply_is_current}
+use Rattle.tf_walk_report.proofs.Apart.{apply_is_current}
 use Rattle.tf_state_data.specs.Record.{RecordView}
 use Rattle.tf_value.proofs.Conjunction.{and-both, and-first, and-second}
 use Rattle.tf_value.proofs.Order.{Refines-refl}

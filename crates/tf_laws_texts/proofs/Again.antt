@@ -18,9 +18,9 @@ use Rattle.tf_plan_data.specs.Plan.{PlanView}
 use Rattle.tf_protocol.specs.Meaning.{Meaning}
 use Rattle.tf_protocol.specs.declared.verdict.Verdict.{Verdict}
 use Rattle.tf_protocol.specs.declared.verdict.Verdict.TheVariants as verdict
-use Rattle.tf_report.specs.Outcomes.{outcome_of}
-use Rattle.tf_report.specs.Report.{report_of}
-use Rattle.tf_report.specs.declared.report.Report.{Report}
+use Rattle.tf_walk_report.specs.Outcomes.{outcome_of}
+use Rattle.tf_walk_report.specs.Report.{report_of}
+use Rattle.tf_walk_report.specs.declared.report.Report.{Report}
 use Rattle.tf_state.specs.Laws.{TextIsOfOne, TextReadsAsState}
 use Rattle.tf_state.specs.Table.{Reads}
 use Rattle.tf_state.specs.Text.{state_text}

@@ -30,9 +30,9 @@ use Rattle.tf_plan.proofs.Tied.{block_found}
 use Rattle.tf_plan_data.specs.Fits.{IsDeclared, deposed_key, is_apply}
 use Rattle.tf_plan_data.specs.Plan.{PlanView, plan_names}
 use Rattle.tf_protocol.specs.Meaning.{Meaning}
-use Rattle.tf_report.specs.Events.{events, renewal_of_record, renewals, renewals_at, renewals_of, stays}
-use Rattle.tf_report.specs.Report.{IsReported, IsStateOf, IsTold, objects_after}
-use Rattle.tf_report.specs.declared.report.Report.{Report}
+use Rattle.tf_walk_report.specs.Events.{events, renewal_of_record, renewals, renewals_at, renewals_of, stays}
+use Rattle.tf_walk_report.specs.Report.{IsReported, IsStateOf, IsTold, objects_after}
+use Rattle.tf_walk_report.specs.declared.report.Report.{Report}
 use Rattle.tf_plan_resources.proofs.Standing.{blocks-first, resources-apart}
 use Rattle.tf_plan_resources.specs.Laws as resources_laws
 use Rattle.tf_plan_resources.specs.Numbering.{a_name, numbered, place_in}

@@ -12,7 +12,7 @@ use Rattle.tf_laws_reports.specs.One.{ReportsAreOne, TellTheSame}
 use Rattle.tf_laws_reports.specs.Planned.{PlansAreFounded}
 use Rattle.tf_protocol.specs.Meaning.{Meaning}
 use Rattle.tf_inputs.specs.Texts.{Texts}
-use Rattle.tf_report.specs.Report.{report_of}
+use Rattle.tf_walk_report.specs.Report.{report_of}
 use Rattle.tf_state.specs.Text.{state_text}
 use Rattle.tf_state_data.specs.State.{StateView}
 use Rattle.tf_laws_texts.proofs.Alike.{reported_too}

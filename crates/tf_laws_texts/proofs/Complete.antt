@@ -21,11 +21,11 @@ use Rattle.tf_outputs.specs.Outputs.{AreOutputsDone, IsEvaluated, OutputDone, en
 use Rattle.tf_outputs.specs.Settled.{AreSettled, all_settled, names_are_settled, settled_as}
 use Rattle.tf_plan_data.specs.Plan.{PlanView, plan_names}
 use Rattle.tf_protocol.specs.Meaning.{Meaning}
-use Rattle.tf_report.specs.Good.{are_good_at, is_apply_of}
-use Rattle.tf_report.specs.Outcomes.{outcome_of}
-use Rattle.tf_report.specs.OutputsTold.{diagnostics_of_output, output_diagnostics, output_place}
-use Rattle.tf_report.specs.Report.{IsReported, report_of}
-use Rattle.tf_report.specs.declared.report.Report.{Report}
+use Rattle.tf_walk_report.specs.Good.{are_good_at, is_apply_of}
+use Rattle.tf_walk_report.specs.Outcomes.{outcome_of}
+use Rattle.tf_walk_report.specs.OutputsTold.{diagnostics_of_output, output_diagnostics, output_place}
+use Rattle.tf_walk_report.specs.Report.{IsReported, report_of}
+use Rattle.tf_walk_report.specs.declared.report.Report.{Report}
 use Rattle.tf_syntax.specs.ExprNames.{named_by}
 use Rattle.tf_syntax.specs.ExprTree as expr
 use Rattle.tf_value.proofs.Conjunction.{and-both, and-first, and-second}

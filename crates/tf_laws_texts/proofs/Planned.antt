@@ -21,9 +21,9 @@ use Rattle.tf_plan_data.specs.Plan.{PlanView, plan_names}
 use Rattle.tf_plan_text.specs.Text.{plan_text}
 use Rattle.tf_protocol.specs.Meaning.{Meaning}
 use Rattle.tf_protocol.specs.declared.request.Op.{Op}
-use Rattle.tf_report.specs.Report.{IsReported, report_of}
-use Rattle.tf_report.specs.declared.report.Walked.{Walked}
-use Rattle.tf_report.specs.declared.report.Walked.TheVariants.{Whole, Torn}
+use Rattle.tf_walk_report.specs.Report.{IsReported, report_of}
+use Rattle.tf_walk_report.specs.declared.report.Walked.{Walked}
+use Rattle.tf_walk_report.specs.declared.report.Walked.TheVariants.{Whole, Torn}
 use Rattle.tf_run.specs.Run.{IsRun}
 use Rattle.tf_state.specs.Laws.{EmptyIsValid, ReadIsValid}
 use Rattle.tf_state_data.specs.Resource.{ResourceView}

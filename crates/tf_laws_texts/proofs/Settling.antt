@@ -18,7 +18,7 @@ use Rattle.tf_inputs.specs.Texts.{AreTheValues, StandFor, Texts}
 use Rattle.tf_outputs.specs.Outputs.{outputs_after}
 use Rattle.tf_plan.specs.Plan.{IsPlan}
 use Rattle.tf_protocol.specs.Meaning.{Meaning}
-use Rattle.tf_report.specs.Report.{report_of}
+use Rattle.tf_walk_report.specs.Report.{report_of}
 use Rattle.tf_state.specs.Laws.{TextReadsAsState}
 use Rattle.tf_state.specs.Table.{Reads}
 use Rattle.tf_state_data.specs.State.{StateView}

@@ -20,7 +20,7 @@ use Rattle.tf_plan_data.specs.Plan.{plan_names}
 use Rattle.tf_precedence.specs.Ties.{TiesView}
 use Rattle.tf_protocol.specs.Meaning.{Meaning}
 use Rattle.tf_refusal.specs.Refusal.{Told}
-use Rattle.tf_report.specs.Report.{objects_after, report_of}
+use Rattle.tf_walk_report.specs.Report.{objects_after, report_of}
 use Rattle.tf_state.specs.Table.{IsBeyond, last_serial}
 use Rattle.tf_state_data.specs.Resource.{ResourceView}
 use Rattle.tf_syntax.specs.ExprTree as expr

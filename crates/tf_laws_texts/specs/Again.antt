@@ -21,7 +21,7 @@ use Rattle.tf_protocol.specs.Schema.{SchemaView, IsSchema}
 use Rattle.tf_protocol.specs.declared.verdict.Verdict.TheVariants.{Good}
 use Rattle.tf_refusal.specs.Code.{limit}
 use Rattle.tf_refusal.specs.Refusal.{Told}
-use Rattle.tf_report.specs.Report.{report_of}
+use Rattle.tf_walk_report.specs.Report.{report_of}
 use Rattle.tf_state.specs.Table.{last_serial}
 use Rattle.tf_state_data.specs.State.{record_in}
 use Rattle.tf_value.specs.Tree.{Entries}

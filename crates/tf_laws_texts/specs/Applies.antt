@@ -6,7 +6,7 @@ use Rattle.tf_cli.specs.declared.applied.Applied.{Applied}
 use Rattle.tf_inputs.specs.Texts.{Texts}
 use Rattle.tf_laws_reports.specs.One.{TellTheSame}
 use Rattle.tf_protocol.specs.Meaning.{Meaning}
-use Rattle.tf_report.specs.Report.{report_of}
+use Rattle.tf_walk_report.specs.Report.{report_of}
 
 -- Two applies answer the same: the plan's text; outcomes, state, diagnostics and numbers of good actions; whether the state
 -- isn't the prior one; and the state's text, where there was memory for both.

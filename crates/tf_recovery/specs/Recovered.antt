@@ -8,7 +8,7 @@ use Rattle.tf_outcome.specs.declared.excuse.Outcome.{Outcome}
 use Rattle.tf_outcome.specs.declared.excuse.Outcome.TheVariants.{Judged}
 use Rattle.tf_protocol.specs.Meaning.{Meaning}
 use Rattle.tf_protocol.specs.declared.verdict.Verdict.TheVariants.{Excused}
-use Rattle.tf_report.specs.Report.{report_of}
+use Rattle.tf_walk_report.specs.Report.{report_of}
 
 -- the provider of an action was called, and answered
 abbrev pub is_answered : Outcome → Bool

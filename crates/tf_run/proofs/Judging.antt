@@ -9,10 +9,10 @@ use Rattle.tf_outcome.specs.Excuse.{Moment, during_call}
 use Rattle.tf_outcome.specs.Outcome.{Done, excused, Requests, AreRequests, call_at, done_at, is_faulted, op_of}
 use Rattle.tf_plan_data.specs.Plan.{PlanView}
 use Rattle.tf_protocol.specs.Meaning.{Meaning}
-use Rattle.tf_report.proofs.Excused.{excuses-with_outputs}
-use Rattle.tf_report.proofs.Judged.{outcomes-judged}
-use Rattle.tf_report.specs.Outcomes.{excuses_from}
-use Rattle.tf_report.specs.OutputsTold.{output_excuses}
+use Rattle.tf_walk_report.proofs.Excused.{excuses-with_outputs}
+use Rattle.tf_walk_report.proofs.Judged.{outcomes-judged}
+use Rattle.tf_walk_report.specs.Outcomes.{excuses_from}
+use Rattle.tf_walk_report.specs.OutputsTold.{output_excuses}
 
 -- an action that was excused has a place in the list
 excused-below : (done : List Done) (n : ℕ) (m : Moment) → done_at done n ≡ excused m → n < length done

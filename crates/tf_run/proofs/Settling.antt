@@ -9,14 +9,14 @@ use Rattle.tf_outcome.specs.Outcome.{Done, skipped, excused, faulted, called, do
 use Rattle.tf_outputs.specs.Outputs.{end_of}
 use Rattle.tf_plan_data.specs.Plan.{PlanView}
 use Rattle.tf_protocol.specs.Meaning.{Meaning}
-use Rattle.tf_report.specs.Outcomes.{outcome_of}
-use Rattle.tf_report.specs.Report.{IsReported, report_of}
-use Rattle.tf_report.specs.declared.report.Report.{Report}
-use Rattle.tf_report.specs.declared.report.Walked.{Walked}
-use Rattle.tf_report.specs.declared.report.Walked.TheVariants.{Whole, Torn}
-use Rattle.tf_settle.specs.Settled.{IsJournalTold, IsSettled}
-use Rattle.tf_settle.specs.Told.{is_during, verdict_of, verdict_told}
-use Rattle.tf_report.proofs.Excused.{excuses-with_outputs}
+use Rattle.tf_walk_report.specs.Outcomes.{outcome_of}
+use Rattle.tf_walk_report.specs.Report.{IsReported, report_of}
+use Rattle.tf_walk_report.specs.declared.report.Report.{Report}
+use Rattle.tf_walk_report.specs.declared.report.Walked.{Walked}
+use Rattle.tf_walk_report.specs.declared.report.Walked.TheVariants.{Whole, Torn}
+use Rattle.tf_walk_report.specs.Settled.{IsJournalTold, IsSettled}
+use Rattle.tf_walk_report.specs.Told.{is_during, verdict_of, verdict_told}
+use Rattle.tf_walk_report.proofs.Excused.{excuses-with_outputs}
 use Rattle.tf_run.specs.Run.{IsRun}
 
 told-one : (d : Done) (o : Option Moment) → o ≡ excuse_in d → verdict_of (Some (outcome_of d)) (is_during o) ≡ entered_verdict d

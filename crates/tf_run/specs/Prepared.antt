@@ -4,7 +4,7 @@ use Rattle.tf_cells.specs.declared.naming.Naming.{Ghosts}
 use Rattle.tf_names.specs.Table.{names_in}
 use Rattle.tf_plan_data.specs.Plan.{plan_names, plan_of}
 use Rattle.tf_plan_data.specs.declared.plan.Plan.{Plan}
-use Rattle.tf_report.specs.Furnished.{IsFurnished}
+use Rattle.tf_walk_report.specs.Furnished.{IsFurnished}
 use Rattle.tf_run.specs.declared.prepared.Prepared.{Prepared}
 
 -- The names are the configuration's, the claims and the journal are over the plan's order, all seats are at the claims, each

@@ -3,10 +3,10 @@ use Rattle.std.specs.Prelude.{ℕ, ◌&&◌, Bool, nat_le, List}
 use Rattle.tf_outcome.specs.Journal.{IsJournal}
 use Rattle.tf_plan_data.specs.Plan.{PlanView}
 use Rattle.tf_protocol.specs.Meaning.{Meaning}
-use Rattle.tf_report.specs.Report.{IsReported, IsWalked}
-use Rattle.tf_report.specs.declared.report.Report.{Report}
-use Rattle.tf_report.specs.declared.report.Walked.{Walked}
-use Rattle.tf_report.specs.declared.report.Walked.TheVariants.{Whole, Torn}
+use Rattle.tf_walk_report.specs.Report.{IsReported, IsWalked}
+use Rattle.tf_walk_report.specs.declared.report.Report.{Report}
+use Rattle.tf_walk_report.specs.declared.report.Walked.{Walked}
+use Rattle.tf_walk_report.specs.declared.report.Walked.TheVariants.{Whole, Torn}
 
 -- A report tells what came of a plan, but its journal isn't that of the calls that it tells of.
 pub record IsTorn (ms : List Meaning) (plan : PlanView) (report : Report) : Type 0 where

@@ -2,8 +2,8 @@
 
 ghost use Rattle.std.specs.Prelude.{◌≡◌, List, None, map, replicate};
 ghost use Rattle.tf_outcome.specs.Words.{FitsTogether, names_in, plan_names, plan_of};
-ghost use Rattle.tf_report.specs.Furnished.{IsFurnished};
-ghost use Rattle.tf_report.specs.Report.{report_of};
+ghost use Rattle.tf_walk_report.specs.Furnished.{IsFurnished};
+ghost use Rattle.tf_walk_report.specs.Report.{report_of};
 ghost use Rattle.tf_run.specs.Run.{IsRun};
 
 use crate::fitting::demand_fit;
@@ -15,8 +15,7 @@ use tf_names::Names;
 use tf_outcome::Ended;
 use tf_plan_data::Plan;
 use tf_provider::{Journal, Provider};
-use tf_report::{Furnished, Walked, report_of};
-use tf_settle::settle;
+use tf_walk_report::{Furnished, Walked, report_of, settle};
 
 /// The report on a plan whose actions have all ended, by their cells: whole exactly where the journal is that of the calls,
 /// and else torn. It has no answer that says that there was no memory.

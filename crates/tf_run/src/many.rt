@@ -3,7 +3,7 @@
 ghost use Rattle.std.specs.Prelude.{◌≡◌, List, map, true, IfOk, MatchBool, MatchResult};
 ghost use Rattle.tf_outcome.specs.Words.{action_of, AreServed, FitsTogether, plan_of};
 ghost use Rattle.tf_refusal.specs.Refusal.{no_memory, told, workers as wrong_workers};
-ghost use Rattle.tf_report.specs.Report.{report_of};
+ghost use Rattle.tf_walk_report.specs.Report.{report_of};
 ghost use Rattle.tf_run.specs.Prepared.{IsPrepared};
 ghost use Rattle.tf_run.specs.Run.{IsRun, are_workers};
 
@@ -22,7 +22,7 @@ use tf_outcome::Stop;
 use tf_plan_data::Plan;
 use tf_provider::Provider;
 use tf_refusal::Refusal;
-use tf_report::Walked;
+use tf_walk_report::Walked;
 use tf_workers::Log;
 
 /// The most workers that a walk may have.

@@ -9,7 +9,7 @@ use Rattle.tf_protocol.specs.declared.verdict.Verdict.{Verdict}
 use Rattle.tf_outcome.specs.Journal.{op_at}
 use Rattle.tf_outcome.specs.Outcome.{Done, skipped, excused, faulted, called, Requests, all_good, call_at}
 use Rattle.tf_outcome.specs.Run.{IsRun}
-use Rattle.tf_report.proofs.Judged.{call-judged}
+use Rattle.tf_walk_report.proofs.Judged.{call-judged}
 use Rattle.tf_walk.specs.Ends.{IsEnd}
 
 judged_where : (ms : List Meaning) (requests : Requests) (plan : PlanView) (n : ℕ) (seen : List (ℕ × Done)) (op : Op) (b : Bool) (q : Asked) (a : Option Answer) (v : Verdict)

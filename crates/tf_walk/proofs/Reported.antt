@@ -19,7 +19,7 @@ use Rattle.tf_outcome.specs.declared.excuse.Excuse.{Excuse}
 use Rattle.tf_additions.specs.Addition.{AreJudged, IsJudged}
 use Rattle.tf_outcome.specs.Run.{IsRun}
 use Rattle.tf_walk.specs.Ends.{IsSoFar, IsStaged, AllHaveEnded, end_at, done_in, stage_of}
-use Rattle.tf_report.proofs.Judged.{all-judged, ops-read}
+use Rattle.tf_walk_report.proofs.Judged.{all-judged, ops-read}
 use Rattle.tf_walk.proofs.Judged.{ended-judged}
 use Rattle.tf_walk.proofs.Seen.{all_of}
 

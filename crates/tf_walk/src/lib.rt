@@ -12,4 +12,4 @@ mod walk;
 
 pub use single::run_one;
 pub use tf_outcome::{Excuse, Outcome};
-pub use tf_report::{Diagnostic, Report, Walked};
+pub use tf_walk_report::{Diagnostic, Report, Walked};

@@ -10,7 +10,7 @@ use tf_names::Names;
 use tf_outcome::{Ended, not_ended};
 use tf_plan_data::Plan;
 use tf_provider::Journal;
-use tf_report::{Furnished, furnish};
+use tf_walk_report::{Furnished, furnish};
 
 /// All that the report on a plan needs memory for, the names of its configuration, and the claims on its actions. The
 /// results are for what may not be let go, so neither may this.

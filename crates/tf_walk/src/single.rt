@@ -3,7 +3,7 @@
 ghost use Rattle.std.specs.Prelude.{◌≡◌, map, IfOk, IfErr};
 ghost use Rattle.tf_outcome.specs.Words.{action_of, AreServed, FitsTogether, plan_of};
 ghost use Rattle.tf_refusal.specs.Refusal.{no_memory, told};
-ghost use Rattle.tf_report.specs.Report.{IsWalked, IsWhole};
+ghost use Rattle.tf_walk_report.specs.Report.{IsWalked, IsWhole};
 ghost use Rattle.tf_walk.specs.Prepared.{IsPrepared};
 
 use crate::prepared::{Prepared, prepare};
@@ -14,7 +14,7 @@ use tf_outcome::Stop;
 use tf_plan_data::Plan;
 use tf_provider::Provider;
 use tf_refusal::Refusal;
-use tf_report::{Report, Walked, report_of};
+use tf_walk_report::{Report, Walked, report_of};
 
 /// Carries out a plan by one thread, without waiting: every action is ended once, after all that stand before
 /// it. The parts of the plan fit together, and some provider in the list has the type of each action. Of an action that

@@ -2,8 +2,8 @@
 
 use std::alloc::{AllocError, Global};
 use std::fmt::Debug;
-use tf_report::{Report, Walked};
 use tf_state_data::State;
+use tf_walk_report::{Report, Walked};
 
 /// What is told of a walk.
 #[derive(Drop)]

@@ -5,8 +5,8 @@ use Rattle.tf_plan_data.specs.Action.{action_of}
 use Rattle.tf_config_data.specs.Config.{ConfigView}
 use Rattle.tf_plan_data.specs.Plan.{plan_of}
 use Rattle.tf_plan_text.specs.Text.{plan_text}
-use Rattle.tf_report.specs.Report.{report_of}
-use Rattle.tf_report.specs.Savable.{IsNamed}
+use Rattle.tf_walk_report.specs.Report.{report_of}
+use Rattle.tf_walk_report.specs.Savable.{IsNamed}
 use Rattle.tf_state_data.specs.State.{state_of}
 use Rattle.tf_inputs.specs.Texts.{the_texts}
 use Rattle.tf_plan.specs.Refused.{Tells}

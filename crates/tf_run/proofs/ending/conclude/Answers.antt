@@ -7,10 +7,10 @@ use Rattle.tf_outcome.specs.Ended.{dones_of}
 use Rattle.tf_outcome.specs.Excuse.{excuse_of}
 use Rattle.tf_outputs.specs.Outputs.{end_of}
 use Rattle.tf_plan_data.specs.Plan.{plan_of}
-use Rattle.tf_report.proofs.Excused.{excuses-with_outputs}
+use Rattle.tf_walk_report.proofs.Excused.{excuses-with_outputs}
 use Rattle.tf_run.proofs.Judging.{fit-asked, fit-judged}
 use Rattle.tf_provider.specs.Entries.{Log}
-use Rattle.tf_report.specs.declared.report.Report.{Report}
+use Rattle.tf_walk_report.specs.declared.report.Report.{Report}
 use Rattle.tf_run.proofs.Settling.{settled-run, settled-same}
 use Rattle.tf_run.proofs.Taking.{fit-lent}
 use Rattle.tf_run.proofs.ending.conclude.Goals as goal

@@ -15,7 +15,7 @@ use Rattle.tf_additions.specs.Addition.{AreJudged}
 use Rattle.tf_walk.specs.Ends.{done_in}
 use Rattle.tf_asks.proofs.Asking.{some_requests}
 use Rattle.tf_walk.proofs.Carried.{left_by_walk}
-use Rattle.tf_report.proofs.Excused.{excuses-with_outputs}
+use Rattle.tf_walk_report.proofs.Excused.{excuses-with_outputs}
 use Rattle.tf_walk.proofs.Reported.{so_far-asked, so_far-entered, so_far-judged, so_far-none, so_far-solves, staged-none}
 use Rattle.tf_walk.proofs.Seen.{dones-are}
 use Rattle.tf_walk.proofs.single.carry_out.Goals as goal

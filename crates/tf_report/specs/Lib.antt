@@ -1,9 +1,0 @@
-pub mod Events
-pub mod Furnished
-pub mod Good
-pub mod Outcomes
-pub mod OutputsRoom
-pub mod OutputsTold
-pub mod Report
-pub mod Savable
-pub mod Settling

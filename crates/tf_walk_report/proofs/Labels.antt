@@ -1,0 +1,41 @@
+-- The resources of creates and updates.
+use Rattle.std.proofs.Common.{◌≡◌, ◌∙◌, Bool, true, false, cond, List, [], ◌∷◌, length, map, filter, refl, sym, ap₂, subst, arith}
+use Rattle.std.specs.Prelude.{if◌then◌else◌}
+use Rattle.tf_plan_data.specs.Action.{ActionView}
+use Rattle.tf_additions.specs.Change.{ChangeView, applies_in, change_by, changes_in, applied_of_done, left_of_done}
+use Rattle.tf_additions.specs.Head.{AreHeads, Head, Target, an_instance, an_object, given_with, key_in}
+use Rattle.tf_address.specs.Label.{LabelView}
+use Rattle.tf_address.specs.ObjectId.{ObjectIdView}
+use Rattle.tf_state_next.specs.Events.{ApplyView}
+use Rattle.tf_outcome.specs.Outcome.{Done}
+use Rattle.tf_plan_data.specs.Fits.{is_apply, deposed_key}
+use Rattle.tf_plan_data.specs.Plan.{PlanView}
+use Rattle.tf_protocol.specs.Meaning.{Meaning}
+use Rattle.tf_state_next.specs.After.{object_at}
+use Rattle.tf_state_next.specs.Ends.{AppliedView, LeftView, GivenView}
+use Rattle.tf_walk_report.specs.Furnished.{applied_labels}
+
+abbrev pub labels_in : List ApplyView → List LabelView
+labels_in applies = map (λ a. a.label) applies
+
+one_label : (label own : LabelView) (t : Target) (applied : AppliedView) (left : LeftView) (rest : List ChangeView) (b : Bool) (given : GivenView) (id : ObjectIdView) (more : List LabelView)
+    → t ≡ (if b then an_instance given else an_object id) → label ≡ own → labels_in (applies_in rest) ≡ more → labels_in (applies_in (change_by label t applied left ∷ rest)) ≡ cond b (own ∷ more) more
+one_label label own t applied left rest true given id more e l m = subst (λ x. labels_in (applies_in (change_by label x applied left ∷ rest)) ≡ own ∷ more) (sym e) (ap₂ (λ x xs. x ∷ xs) l m)
+one_label label own t applied left rest false given id more e l m = subst (λ x. labels_in (applies_in (change_by label x applied left ∷ rest)) ≡ more) (sym e) m
+
+kept_label : (b : Bool) (a : ActionView) (actions : List ActionView) → map (λ x. x.label) (cond b (a ∷ actions) actions) ≡ cond b (a.label ∷ map (λ x. x.label) actions) (map (λ x. x.label) actions)
+kept_label true a actions = refl
+kept_label false a actions = refl
+
+-- they are those of the actions
+pub labels-applied : (ms : List Meaning) (plan : PlanView) (actions : List ActionView) (heads : List Head) (done : List Done) → AreHeads plan actions heads → length actions ≡ length done
+    → labels_in (applies_in (changes_in ms heads done)) ≡ applied_labels actions
+labels-applied ms plan [] [] done are sized = refl
+labels-applied ms plan [] (h ∷ heads) done are sized = absurd are
+labels-applied ms plan (a ∷ actions) [] done are sized = absurd are
+labels-applied ms plan (a ∷ actions) (h ∷ heads) [] are sized = absurd (omega (arith, sized))
+labels-applied ms plan (a ∷ actions) (h ∷ heads) (d ∷ done) are sized =
+    let fewer : length actions ≡ length done = omega (arith, sized) in
+    one_label h.label a.label h.target (applied_of_done ms h.op d) (left_of_done ms d) (changes_in ms heads done) (is_apply a.step) (given_with plan a (key_in h.target)) (object_at a.key (deposed_key a.step)) (applied_labels actions)
+    are.0.target.same are.0.label (labels-applied ms plan actions heads done are.1 fewer)
+    ∙ sym (kept_label (is_apply a.step) a (filter (λ x. is_apply x.step) actions))

@@ -1,0 +1,14 @@
+pub mod Addresses
+pub mod Apart
+pub mod Assembled
+pub mod Complete
+pub mod Excused
+pub mod Fine
+pub mod Joined
+pub mod Judged
+pub mod Labels
+pub mod Sound
+pub mod Told
+pub mod Matching
+pub mod Telling
+pub mod Counts

@@ -1,0 +1,51 @@
+//! Whether the journal of a report is the one that the report tells of.
+
+ghost use Rattle.std.specs.Prelude.{◌≡◌, IsTrue, false, map};
+ghost use Rattle.tf_plan_data.specs.Action.{action_of};
+ghost use Rattle.tf_walk_report.specs.Settled.{AreCallsTold, IsJournalTold, IsSettled};
+
+use crate::calls_told::{are_told, count_told};
+use crate::operations::are_of_actions;
+use crate::report::{Report, Walked};
+use tf_plan_data::{Action, Plan};
+
+/// Compares the journal of a report on a plan with the report's outcomes and excuses: `Whole` exactly where it holds the
+/// calls that they tell of, each once with its verdict and with what its provider was to do by the plan, none before one that
+/// it depends on; else `Torn`, with all else as it was. It takes no memory, and time linear in actions and entries, and for each excused action in the excuses.
+pub fn settle(plan: &Plan, report: Report) -> Walked
+    requires { report.journal.graph ≡ plan.now.order }
+    ensures { IsSettled plan.now.order (map action_of plan.now.actions.items) report result }
+{
+    if is_journal_told(&report, plan.actions.as_slice()) {
+        Walked::Whole(report)
+    } else {
+        Walked::Torn(report)
+    }
+}
+
+/// Whether the journal of a report is the one that the report tells of, by the actions of its plan.
+fn is_journal_told(report: &Report, actions: &[Action]) -> bool
+    ensures told { IsTrue result → IsJournalTold report.now.journal.graph (map action_of actions.now) report.now }
+    ensures torn { result ≡ false → IsJournalTold report.now.journal.graph (map action_of actions.now) report.now → ⊥ }
+{
+    let of_actions = are_of_actions(report.journal.entries(), actions);
+    if !of_actions {
+        return false;
+    }
+    are_calls_told(report)
+}
+
+/// Whether the journal of a report has the calls that the report tells of.
+fn are_calls_told(report: &Report) -> bool
+    ensures told { IsTrue result → AreCallsTold report.now.journal.graph report.now }
+    ensures torn { result ≡ false → AreCallsTold report.now.journal.graph report.now → ⊥ }
+{
+    let entries = report.journal.entries();
+    let outcomes = report.outcomes.as_slice();
+    let excused = report.excused.as_slice();
+    let all = are_told(entries, outcomes, excused);
+    if !all {
+        return false;
+    }
+    entries.len() == count_told(outcomes, excused)
+}

@@ -1,0 +1,53 @@
+//! Of which resources all creates and updates are good.
+
+ghost use Rattle.std.specs.Prelude.{◌≡◌, ◌<◌, ◌&&◌, ◌||◌, ℕ, length, map, not, true};
+ghost use Rattle.tf_outcome.specs.Words.{action_of, done_or_skipped, dones_of, has, is_apply, is_good, step_of};
+ghost use Rattle.tf_walk_report.specs.Good.{are_good_at, is_apply_of};
+
+use crate::gather::is_good;
+use tf_outcome::Ended;
+use tf_plan_data::{Action, Step};
+
+/// Notes of each resource, by the place of its name, whether all its creates and updates are good.
+pub fn note_good(good: &mut [bool], actions: &[Action], results: &[Option<Ended>])
+    requires { length results.now ≡ length actions.now }
+    ensures length { length good.new ≡ length good.old }
+    ensures good { (n : ℕ) → n < length good.old → has good.new n ≡ are_good_at (map action_of actions.now) (dones_of results.now) n }
+{
+    mark_all(good);
+    for index in 0..actions.len() {
+        note_end(good, &actions[index], &results[index]);
+    }
+}
+
+/// Marks all places.
+fn mark_all(good: &mut [bool])
+    ensures length { length good.new ≡ length good.old }
+    ensures marked { (n : ℕ) → n < length good.old → has good.new n ≡ true }
+{
+    for place in 0..good.len() {
+        good[place] = true;
+    }
+}
+
+/// Notes of the resource of an action that isn't good that not all are; a destroy doesn't count.
+fn note_end(good: &mut [bool], action: &Action, ended: &Option<Ended>)
+    ensures length { length good.new ≡ length good.old }
+    ensures good { (n : ℕ) → n < length good.old → has good.new n
+        ≡ (has good.old n && (not (is_apply_of n (action_of action.now)) || is_good (done_or_skipped ended.now))) }
+{
+    let number = action.resource;
+    if is_apply(&action.step) && !is_good(ended) && number < good.len() {
+        good[number] = false;
+    }
+}
+
+/// Whether a step creates or updates an object.
+pub fn is_apply(step: &Step) -> bool
+    ensures { result ≡ is_apply (step_of step.now) }
+{
+    matches!(
+        step,
+        Step::Create(_) | Step::Update(_, _, _) | Step::Replacement(_, _)
+    )
+}

@@ -1,0 +1,164 @@
+//! The records of objects for which nothing is planned are given anew what their resources need, and whether those are late.
+
+ghost use Rattle.std.specs.Prelude.{◌≡◌, ◌<◌, ◌++◌, ◌∷◌, [], None, if◌then◌else◌, IfOk, OnOk, filter, length, map};
+ghost use Rattle.std.specs.List.{flat_map, list_any};
+ghost use Rattle.tf_outcome.specs.Words.{action_of, deposed_key, instance_key_of, IsDependence, label_of, names_in, plan_names, plan_of, record_of, resource_of, step_of};
+ghost use Rattle.tf_state_next.specs.Events.{renewal_of};
+ghost use Rattle.tf_walk_report.specs.Events.{is_about, is_none, renewal_of_record, renewals, renewals_at, stays};
+
+use std::alloc::{AllocError, Global};
+use tf_additions::{dependencies_of, is_late};
+use tf_address::{InstanceKey, Label};
+use tf_names::Names;
+use tf_plan_data::{Action, Plan, Step};
+use tf_plan_resources::Numbering;
+use tf_state_data::{Record, Resource};
+use tf_state_next::{Given, Renewal};
+
+/// What is given anew, by the names of the plan's configuration: the records of the objects without an action whose blocks
+/// stand.
+///
+/// # Errors
+///
+/// Only where memory runs out.
+pub fn renewals_for<'p>(
+    alloc: Global,
+    plan: &'p Plan,
+    names: &Names<'p>,
+) -> Result<Vec<Renewal<'p>>, AllocError>
+    requires names { names_in names.now ≡ plan_names (plan_of plan.now) }
+    requires dependence { IsDependence (plan_names (plan_of plan.now)) plan.now.dependence }
+    ensures { IfOk result (λ found. map renewal_of found.items ≡ renewals (plan_of plan.now)) }
+{
+    let numbering = Numbering::new(alloc, names, &plan.prior)?;
+    let mut found = Vec::new(alloc);
+    for resource in plan.prior.resources() {
+        let number = numbering.place(resource.label());
+        add_resource(alloc, &mut found, plan, names, resource, number)?;
+    }
+    Ok(found)
+}
+
+/// Adds the renewals of a resource, by its number.
+fn add_resource<'p>(
+    alloc: Global,
+    found: &mut Vec<Renewal<'p>>,
+    plan: &'p Plan,
+    names: &Names<'_>,
+    resource: &'p Resource,
+    number: Option<usize>,
+) -> Result<(), AllocError>
+    requires names { names_in names.now ≡ plan_names (plan_of plan.now) }
+    requires dependence { IsDependence (plan_names (plan_of plan.now)) plan.now.dependence }
+    ensures { OnOk result (map renewal_of found.new.items ≡ map renewal_of found.old.items ++ renewals_at (plan_of plan.now) (resource_of resource.now) number) }
+{
+    match number {
+        Some(number) if number < names.len() => {
+            let label = resource.label();
+            add_records(alloc, found, plan, names, label, number, resource.records())
+        }
+        _ => Ok(()),
+    }
+}
+
+/// Adds the renewals of a resource whose block stands.
+fn add_records<'p>(
+    alloc: Global,
+    found: &mut Vec<Renewal<'p>>,
+    plan: &'p Plan,
+    names: &Names<'_>,
+    label: &'p Label,
+    number: usize,
+    records: &[Record],
+) -> Result<(), AllocError>
+    requires names { names_in names.now ≡ plan_names (plan_of plan.now) }
+    requires dependence { IsDependence (plan_names (plan_of plan.now)) plan.now.dependence }
+    requires number { number < length (plan_names (plan_of plan.now)) }
+    ensures { OnOk result (map renewal_of found.new.items ≡ map renewal_of found.old.items
+        ++ map (renewal_of_record (plan_of plan.now) (label_of label.now) number) (filter (stays (plan_of plan.now) number) (map record_of records.now))) }
+{
+    for kept in records {
+        add_record(alloc, found, plan, names, label, number, kept)?;
+    }
+    Ok(())
+}
+
+/// Adds the renewal of a record, where it stays.
+fn add_record<'p>(
+    alloc: Global,
+    found: &mut Vec<Renewal<'p>>,
+    plan: &'p Plan,
+    names: &Names<'_>,
+    label: &'p Label,
+    number: usize,
+    kept: &Record,
+) -> Result<(), AllocError>
+    requires names { names_in names.now ≡ plan_names (plan_of plan.now) }
+    requires dependence { IsDependence (plan_names (plan_of plan.now)) plan.now.dependence }
+    requires number { number < length (plan_names (plan_of plan.now)) }
+    ensures { OnOk result (map renewal_of found.new.items ≡ map renewal_of found.old.items
+        ++ (if stays (plan_of plan.now) number (record_of kept.now)
+        then renewal_of_record (plan_of plan.now) (label_of label.now) number (record_of kept.now) ∷ [] else [])) }
+{
+    if stays(plan, number, kept) {
+        found.push(renewal_for(alloc, plan, names, label, number, kept)?)?;
+    }
+    Ok(())
+}
+
+/// The renewal of a record of an object.
+fn renewal_for<'p>(
+    alloc: Global,
+    plan: &Plan,
+    names: &Names<'_>,
+    label: &'p Label,
+    number: usize,
+    kept: &Record,
+) -> Result<Renewal<'p>, AllocError>
+    requires names { names_in names.now ≡ plan_names (plan_of plan.now) }
+    requires dependence { IsDependence (plan_names (plan_of plan.now)) plan.now.dependence }
+    requires number { number < length (plan_names (plan_of plan.now)) }
+    ensures { IfOk result (λ renewal. renewal_of renewal ≡ renewal_of_record (plan_of plan.now) (label_of label.now) number (record_of kept.now)) }
+{
+    let given = Given {
+        key: kept.id.key.clone()?,
+        schema_version: kept.schema_version,
+        dependencies: dependencies_of(alloc, names, &plan.dependence, label, number)?,
+        create_before_destroy: is_late(plan, number),
+        deposed_key: None,
+    };
+    Ok(Renewal { label, given })
+}
+
+/// Whether a record of an object of the resource of a number stays.
+fn stays(plan: &Plan, number: usize, kept: &Record) -> bool
+    ensures { result ≡ stays (plan_of plan.now) number (record_of kept.now) }
+{
+    kept.id.deposed.is_none() && !is_any_about(plan.actions.as_slice(), number, &kept.id.key)
+}
+
+/// Whether an action is about the current object of an instance.
+fn is_any_about(actions: &[Action], number: usize, key: &InstanceKey) -> bool
+    ensures { result ≡ list_any (is_about number (instance_key_of key.now)) (map action_of actions.now) }
+{
+    for action in actions {
+        if is_about(number, key, action) {
+            return true;
+        }
+    }
+    false
+}
+
+/// Whether an action is about the current object of an instance.
+fn is_about(number: usize, key: &InstanceKey, action: &Action) -> bool
+    ensures { result ≡ is_about number (instance_key_of key.now) (action_of action.now) }
+{
+    action.resource == number && is_current(&action.step) && action.key == *key
+}
+
+/// Whether a step is about the current object of an instance.
+fn is_current(step: &Step) -> bool
+    ensures { result ≡ is_none (deposed_key (step_of step.now)) }
+{
+    !matches!(step, Step::DestroyDeposed(_, _))
+}

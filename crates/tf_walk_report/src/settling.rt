@@ -1,0 +1,111 @@
+//! What comes of outputs, once all actions have ended.
+
+ghost use Rattle.std.specs.Prelude.{◌≡◌, ◌<◌, ◌≤◌, ℕ, [], List, length, map, vec_capacity};
+ghost use Rattle.tf_outcome.specs.Words.{action_of, done_at, dones_of, entries_view, has, IsAcyclic, IsDependence, IsTable, names_in, outputs_of, plan_of, seen_by};
+ghost use Rattle.tf_outcome.specs.Outcome.{objects_seen};
+ghost use Rattle.tf_outputs.specs.Outputs.{AreOutputsEnded};
+ghost use Rattle.tf_outputs.specs.Rooms.{HavePlaces, outputs_in};
+ghost use Rattle.tf_outputs.specs.Settled.{AreSettled};
+ghost use Rattle.tf_walk_report.specs.Good.{are_good_at};
+ghost use Rattle.tf_walk_report.specs.Settling.{AreEnded, IsReady};
+
+use crate::good::note_good;
+use std::alloc::Global;
+use std::collections::BTreeMap;
+use tf_environment::Declarations;
+use tf_outcome::{Answered, Ended};
+use tf_outputs::{OutputEnd, OutputRoom, renew_outputs, settle_names};
+use tf_plan_data::{Action, Plan};
+use tf_state_data::Object;
+
+/// Room for what comes of outputs.
+#[derive(Drop)]
+pub struct Settling<'p> {
+    /// For the place of each name, room for whether all creates and updates of its resource are good.
+    pub good: Vec<bool>,
+    /// For the place of each name, room for whether it is settled.
+    pub settled: Vec<bool>,
+    /// The places of all actions.
+    pub seen: Vec<usize>,
+    /// Room for what comes of each output.
+    pub rooms: Vec<OutputRoom<'p>>,
+    /// Room for what is told of each output.
+    pub ends: Vec<OutputEnd>,
+    /// The prior values of outputs that are still declared, by name.
+    pub kept: BTreeMap<String, Object>,
+}
+
+/// The values of outputs by name, and what is told of each output.
+#[derive(Drop)]
+pub struct Outputs {
+    pub values: BTreeMap<String, Object>,
+    pub ends: Vec<OutputEnd>,
+}
+
+/// What comes of the outputs, by what came of the actions. Memory for an output's value may be refused, which is told of
+/// the output.
+pub fn outputs_after(
+    alloc: Global,
+    plan: &Plan,
+    declared: &Declarations,
+    settling: Settling<'_>,
+    results: &[Option<Ended>],
+) -> Outputs
+    requires dependence { IsDependence (names_in declared.now.names.now) declared.now.dependence.now }
+    requires acyclic { IsAcyclic declared.now.dependence.now }
+    requires ready { IsReady (names_in declared.now.names.now) settling }
+    requires sized { length results.now ≡ length plan.now.actions.items }
+    ensures { AreEnded (entries_view declared.now.variables.now.entries) (names_in declared.now.names.now) (plan_of plan.now).shapes (plan_of plan.now).prior
+        (plan_of plan.now).actions (dones_of results.now) settling.entry result }
+{
+    let Settling {
+        good,
+        settled,
+        seen,
+        rooms,
+        mut ends,
+        kept,
+    } = settling;
+    let good = noted(good, plan.actions.as_slice(), results);
+    let settled = settled_by(declared, &good, settled);
+    let answered = Answered {
+        names: declared.names,
+        prior: &plan.prior,
+        actions: plan.actions.as_slice(),
+        seen: &seen,
+        results,
+    };
+    let values = renew_outputs(
+        alloc,
+        declared,
+        plan.shapes.as_slice(),
+        rooms,
+        &settled,
+        &answered,
+        kept,
+        &mut ends,
+    );
+    Outputs { values, ends }
+}
+
+/// Of which resources all creates and updates are good, by the places of their names.
+fn noted(mut good: Vec<bool>, actions: &[Action], results: &[Option<Ended>]) -> Vec<bool>
+    requires { length results.now ≡ length actions.now }
+    ensures length { length result.items ≡ length good.items }
+    ensures good { (n : ℕ) → n < length good.items → has result.items n ≡ are_good_at (map action_of actions.now) (dones_of results.now) n }
+{
+    note_good(&mut good, actions, results);
+    good
+}
+
+/// Which names are settled, by their places.
+fn settled_by(declared: &Declarations, good: &[bool], mut settled: Vec<bool>) -> Vec<bool>
+    requires dependence { IsDependence (names_in declared.now.names.now) declared.now.dependence.now }
+    requires acyclic { IsAcyclic declared.now.dependence.now }
+    requires good { length good.now ≡ length (names_in declared.now.names.now) }
+    requires settled { length settled.items ≡ length (names_in declared.now.names.now) }
+    ensures { AreSettled (names_in declared.now.names.now) (has good.now) (has result.items) }
+{
+    settle_names(declared, good, &mut settled);
+    settled
+}
