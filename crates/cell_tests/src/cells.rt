@@ -1,18 +1,18 @@
 //! Ends that are published, read and taken out.
 
 ghost use Rattle.std.specs.Prelude.{◌≡◌, ◌<◌, IfOk};
-ghost use Rattle.tf_cells.specs.Ideal.{IsEndOf};
+ghost use Rattle.tf_walk_workers.specs.Ideal.{IsEndOf};
 
 use std::alloc::Global;
 use std::marker::Brand;
 use std::test::Fail;
 use std::thread;
 use std::thread::Threads;
-use tf_cells::{Cells, Naming};
 use tf_claim::Book;
 use tf_graph::Graph;
 use tf_outcome::{Ended, Served, Stop};
 use tf_provider::{Waived, waive_for};
+use tf_walk_workers::{Cells, Naming};
 
 /// How an end is called here.
 #[derive(Clone, Copy, Debug, PartialEq, Eq)]

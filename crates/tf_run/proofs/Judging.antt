@@ -1,8 +1,8 @@
 -- What ends of all actions that fit together give a report.
 use Rattle.std.proofs.Common.{◌≡◌, ◌<◌, ℕ, zero, suc, false, List, [], ◌∷◌, ◌++◌, length, map, arith}
 use Rattle.tf_additions.specs.Addition.{AreJudged}
-use Rattle.tf_cells.proofs.Outcomes.{true_outcomes, excused_faultless}
-use Rattle.tf_cells.specs.Laws.{FitTogether}
+use Rattle.tf_walk_workers.proofs.Outcomes.{true_outcomes, excused_faultless}
+use Rattle.tf_walk_workers.specs.Laws.{FitTogether}
 use Rattle.tf_graph.specs.Digraph.{predecessors_of}
 use Rattle.tf_graph.specs.Solutions.{Ranked, seen_by}
 use Rattle.tf_outcome.specs.Excuse.{Moment, during_call}

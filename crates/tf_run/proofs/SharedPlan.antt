@@ -12,8 +12,8 @@ use Rattle.tf_plan_data.specs.contracts.action.Action as action
 use Rattle.tf_plan_data.specs.contracts.step.Step as step
 use Rattle.tf_address.specs.contracts.label.Label as label
 use Rattle.tf_address.specs.contracts.object_id.InstanceKey as key
-use Rattle.tf_cells.proofs.SharedCells.{cells_sync}
-use Rattle.tf_cells.specs.declared.naming.Naming.{Ghosts}
+use Rattle.tf_walk_workers.proofs.SharedCells.{cells_sync}
+use Rattle.tf_walk_workers.specs.declared.naming.Naming.{Ghosts}
 use Rattle.tf_config_data.specs.contracts.config.Block as block
 use Rattle.tf_config_data.specs.contracts.config.Config as config
 use Rattle.tf_config_data.specs.contracts.variable.Variable as variable

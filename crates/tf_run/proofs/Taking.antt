@@ -1,8 +1,8 @@
 -- What was taken out of cells, in the list that it was written to.
 use Rattle.std.proofs.Common.{◌≡◌, ◌∙◌, ℕ, List, [], ◌∷◌, ◌++◌, Option, None, replicate, length, take, drop, refl, sym, ap, subst, arith}
 use Rattle.std.proofs.lemmas.List.{length-map, length-replicate}
-use Rattle.tf_cells.specs.Ideal.{IsTrueTo}
-use Rattle.tf_cells.specs.Laws.{FitTogether}
+use Rattle.tf_walk_workers.specs.Ideal.{IsTrueTo}
+use Rattle.tf_walk_workers.specs.Laws.{FitTogether}
 use Rattle.tf_graph.specs.Digraph.{Digraph}
 use Rattle.tf_outcome.specs.Ended.{done_or_skipped, dones_of}
 use Rattle.tf_outcome.specs.Outcome.{done_at}

@@ -1,6 +1,6 @@
 -- Whether the ends of all actions fit together.
 use Rattle.std.specs.Prelude.{◌≡◌, ◌<◌, ℕ, not, List}
-use Rattle.tf_cells.specs.Laws.{is_skipped}
+use Rattle.tf_walk_workers.specs.Laws.{is_skipped}
 use Rattle.tf_graph.specs.Digraph.{Digraph, predecessors_of}
 use Rattle.tf_graph.specs.Solutions.{seen_by}
 use Rattle.tf_outcome.specs.Outcome.{Done, all_good, done_at}

@@ -1,6 +1,6 @@
 -- What a walk of many workers begins with.
 use Rattle.std.specs.Prelude.{◌≡◌, All, None, replicate}
-use Rattle.tf_cells.specs.declared.naming.Naming.{Ghosts}
+use Rattle.tf_walk_workers.specs.declared.naming.Naming.{Ghosts}
 use Rattle.tf_names.specs.Table.{names_in}
 use Rattle.tf_plan_data.specs.Plan.{plan_names, plan_of}
 use Rattle.tf_plan_data.specs.declared.plan.Plan.{Plan}

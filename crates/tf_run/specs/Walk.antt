@@ -7,7 +7,7 @@ use Rattle.tf_graph.specs.Digraph.{Digraph}
 use Rattle.tf_plan_data.specs.Plan.{PlanView}
 use Rattle.tf_plan_data.specs.declared.plan.Plan.{Plan}
 use Rattle.tf_protocol.specs.Meaning.{Meaning}
-use Rattle.tf_workers.specs.Shared.{IsOfWalk}
+use Rattle.tf_walk_workers.specs.Shared.{IsOfWalk}
 
 -- All that a worker reads is of one walk, and the claims are on its actions.
 pub record IsOneWalk (plan : PlanView) (ms : List Meaning) (p : Plan) (names : List NameView) (cells : ℕ) (claimed : Digraph) (providers : List Meaning) : Type 0 where

@@ -3,8 +3,8 @@
 ghost use Rattle.std.specs.Prelude.{◌≡◌, None, IfOk, replicate};
 
 use std::alloc::{AllocError, Global};
-use tf_cells::{Cells, Naming};
 use tf_outcome::{Ended, Served, not_ended};
+use tf_walk_workers::{Cells, Naming};
 
 /// The cells of some actions, and the list into which they are taken out. What came of an action may not be let go, so
 /// neither may this.

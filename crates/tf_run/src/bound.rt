@@ -1,8 +1,7 @@
 //! Which hints the workers of a walk may have.
 
 use std::marker::PhantomData;
-use tf_cells::Naming;
-use tf_hints::Bound;
+use tf_walk_workers::{Bound, Naming};
 
 /// Each hint is an action of the walk's plan.
 pub(crate) struct InPlan<N>(PhantomData<N>);

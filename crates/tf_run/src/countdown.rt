@@ -5,8 +5,8 @@ ghost use Rattle.std.specs.Prelude.{◌≡◌, ◌<◌, length};
 use std::alloc::{AllocError, Global};
 use std::marker::PhantomData;
 use std::sync::atomic::{AtomicU64, Ordering};
-use tf_cells::Naming;
 use tf_graph::Graph;
+use tf_walk_workers::Naming;
 
 /// Of each action of the walk's plan, how many of those directly before it haven't ended. It says when to give a hint at an
 /// action; whether it may be called is for the claims alone to say.

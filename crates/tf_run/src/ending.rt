@@ -9,13 +9,13 @@ ghost use Rattle.tf_run.specs.Run.{IsRun};
 use crate::fitting::demand_fit;
 use std::alloc::Global;
 use std::sync::Wait;
-use tf_cells::{Cells, Naming};
 use tf_environment::Declarations;
 use tf_names::Names;
 use tf_outcome::Ended;
 use tf_plan_data::Plan;
 use tf_provider::{Journal, Provider};
 use tf_walk_report::{Furnished, Walked, report_of, settle};
+use tf_walk_workers::{Cells, Naming};
 
 /// The report on a plan whose actions have all ended, by their cells: whole exactly where the journal is that of the calls,
 /// and else torn. It has no answer that says that there was no memory.

@@ -2,7 +2,7 @@
 
 ghost use Rattle.std.specs.List.{list_all};
 ghost use Rattle.std.specs.Prelude.{◌≡◌, ◌<◌, ℕ, All, IsTrue, length};
-ghost use Rattle.tf_cells.specs.Laws.{is_skipped};
+ghost use Rattle.tf_walk_workers.specs.Laws.{is_skipped};
 ghost use Rattle.tf_outcome.specs.Ended.{done_or_skipped, dones_of};
 ghost use Rattle.tf_outcome.specs.Outcome.{done_at, is_good};
 ghost use Rattle.tf_run.specs.Fitting.{IsSkippedRightly, AreSkippedRightly};

@@ -17,13 +17,12 @@ use std::alloc::{AllocError, Global};
 use std::marker::Brand;
 use std::sync::{Mutex, Wait};
 use std::thread::Threads;
-use tf_cells::Naming;
 use tf_outcome::Stop;
 use tf_plan_data::Plan;
 use tf_provider::Provider;
 use tf_refusal::Refusal;
 use tf_walk_report::Walked;
-use tf_workers::Log;
+use tf_walk_workers::{Log, Naming};
 
 /// The most workers that a walk may have.
 pub const MOST_WORKERS: usize = 64;

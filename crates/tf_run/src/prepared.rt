@@ -10,13 +10,12 @@ use crate::bound::InPlan;
 use crate::countdown::Countdown;
 use crate::walk::Desk;
 use std::alloc::{AllocError, Global};
-use tf_cells::Naming;
 use tf_claim::{Claims, Seat};
-use tf_hints::{Hints, Thief};
 use tf_names::Names;
 use tf_plan_data::Plan;
 use tf_provider::Journal;
 use tf_walk_report::{Furnished, furnish};
+use tf_walk_workers::{Hints, Naming, Thief};
 
 /// All that a walk needs memory for: the names of the plan's configuration, the claims on its actions, how many actions each
 /// of them waits for, a desk for each worker, the journal, the board, and all that the report needs.

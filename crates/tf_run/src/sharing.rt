@@ -10,9 +10,9 @@ use crate::worker::work;
 use std::sync::Wait;
 use std::thread;
 use std::thread::Threads;
-use tf_cells::Naming;
 use tf_claim::{Claims, Seat};
 use tf_provider::Provider;
+use tf_walk_workers::Naming;
 
 /// Has a worker work at each desk: this thread at the first, and one more thread at each of the others. What they have seen
 /// and done is put together in one seat.

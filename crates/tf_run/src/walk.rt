@@ -7,13 +7,11 @@ use crate::countdown::Countdown;
 use crate::progress::Progress;
 use std::alloc::Global;
 use std::sync::Mutex;
-use tf_cells::{Cells, Naming};
 use tf_claim::{Claims, Seat};
-use tf_hints::{Hints, Thief};
 use tf_names::Names;
 use tf_outcome::Stop;
 use tf_plan_data::Plan;
-use tf_workers::Log;
+use tf_walk_workers::{Cells, Hints, Log, Naming, Thief};
 
 /// What one worker has of its own: its seat at the claims, its hints, and the place of its own thief in the list of all.
 #[derive(Drop)]

@@ -7,11 +7,9 @@ ghost use Rattle.tf_run.specs.Walk.{HasLetGoFrom, IsOneWalk};
 use crate::bound::InPlan;
 use crate::walk::{Desk, Ground, Walk};
 use std::sync::Wait;
-use tf_cells::Naming;
 use tf_claim::Seat;
-use tf_hints::{Hints, Thief};
 use tf_provider::Provider;
-use tf_workers::{Memo, Workshop};
+use tf_walk_workers::{Hints, Memo, Naming, Thief, Workshop};
 
 /// Ends actions, one after another, until all actions have ended. Where there is nothing to do it waits for news.
 pub(crate) fn work<N: Naming, B: Ground<N>, R: Wait>(

@@ -1,7 +1,7 @@
 -- each thread borrows the cells and a flag, which may be shared
 use denote.Param.Send.{IsSend, IsSync, sendable}
 use Rattle.std.proofs.Crossing.{crosses}
-use Rattle.tf_cells.proofs.SharedCells.{cells_sync}
+use Rattle.tf_walk_workers.proofs.SharedCells.{cells_sync}
 use Rattle.tf_provider.specs.contracts.waived.Waived as waived
 use Rattle.tf_outcome.specs.contracts.stop.Stop as stop
 use Rattle.cell_tests.proofs.cells.publish_twice.Goals as goal

@@ -2,7 +2,7 @@ use Rattle.std.proofs.Common.{◌∙◌, ◌++◌, length, map, take, drop, ap, 
 use Rattle.std.proofs.lemmas.List.{length-map}
 use Rattle.tf_plan_data.specs.Action.{action_of}
 use Rattle.tf_asks.proofs.Asking.{some_requests}
-use Rattle.tf_cells.proofs.Outcomes.{true_outcomes}
+use Rattle.tf_walk_workers.proofs.Outcomes.{true_outcomes}
 use Rattle.tf_outcome.specs.Ended.{dones_of}
 use Rattle.tf_outcome.specs.Excuse.{excuse_of}
 use Rattle.tf_outputs.specs.Outputs.{end_of}

@@ -1,8 +1,0 @@
-use Rattle.tf_cells.specs.TakingOut.{IsTakenOut}
-use Rattle.tf_cells.proofs.cells.Cells.take_out.Given as goal
-
-abbrev pub invariant-loop-cell : goal.invariant-loop-cell
-invariant-loop-cell g l = IsTakenOut g.N.Naming.meanings g.N.Naming.plan l.fn.self l.cells.items l.results
-
-abbrev pub decreases-loop-cell : goal.decreases-loop-cell
-decreases-loop-cell g l = goal.left-loop-cell g l

@@ -1,5 +1,0 @@
-use Rattle.tf_cells.proofs.Outcomes.{true_outcomes, excused_faultless}
-use Rattle.tf_cells.proofs.laws.all_are_outcomes.Goals as goal
-
-pub returns : goal.returns
-returns c = record { outcomes = true_outcomes; during = excused_faultless }

@@ -1,5 +1,0 @@
-use Rattle.tf_cells.proofs.Calls.{calls_true, excuses_true}
-use Rattle.tf_cells.proofs.laws.ends_are_true.Goals as goal
-
-pub returns : goal.returns
-returns c = record { calls = calls_true; excuses = excuses_true }

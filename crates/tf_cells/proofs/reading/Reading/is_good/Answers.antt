@@ -1,9 +1,0 @@
-use Rattle.std.proofs.Common.{sym, ap, ◌∙◌}
-use Rattle.tf_outcome.specs.Outcome.{is_good}
-use Rattle.tf_cells.specs.Reading.{done_in}
-use Rattle.tf_cells.proofs.Truth.{good-is}
-use Rattle.tf_cells.proofs.reading.Reading.is_good.Goals as goal
-
-pub returns-clause-ideal : goal.returns-clause-ideal
-returns-clause-ideal g c = λ good.
-    good-is g.N.Naming.meanings g.N.Naming.plan c.args.self.now.action (done_in c.args.self.now) c.ended.ensures.fits (sym (ap is_good c.ended.ensures.same) ∙ sym c.is_good.ensures ∙ good)

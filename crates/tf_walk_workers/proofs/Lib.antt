@@ -1,0 +1,10 @@
+pub mod Rules
+pub mod CallsSeen
+pub mod Outcomes
+pub mod SharedCells
+pub mod Showing
+pub mod Taking
+pub mod TrueEnds
+pub mod Passed
+pub mod Remembered
+pub mod Truth

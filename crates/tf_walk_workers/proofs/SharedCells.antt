@@ -1,0 +1,28 @@
+-- Cells may be shared by threads, where the type that names their walk may be.
+use denote.Param.Send.{IsSend, IsSync, sendable}
+use denote.RattleType.{RattleType}
+use denote.Enum.Enum.{Enum}
+use denote.Enum.Declared as choice
+use Rattle.std.proofs.Crossing.{crosses}
+use Rattle.std.proofs.MapsCrossing as maps
+use Rattle.counted_slot.proofs.Counted.TheSendSync.{the_sync}
+use Rattle.tf_outcome.specs.contracts.ended.Ended as ended
+use Rattle.tf_provider.specs.contracts.called.Judged as judged
+use Rattle.tf_value.proofs.value.Value.TheLaws.TheKnot as value
+use Rattle.tf_walk_workers.specs.contracts.cells.Cells.{the_row}
+use Rattle.tf_walk_workers.specs.declared.naming.Naming.{Ghosts}
+
+judged_send : IsSend judged.the_row
+judged_send = search (value.crosses, maps.crosses, crosses, sendable) depth 60 fits 20000
+
+judged_sync : IsSync judged.the_row
+judged_sync = search (value.crosses, maps.crosses, crosses, sendable) depth 60 fits 20000
+
+ended_send : IsSend (Enum (choice.shape ended.the_type))
+ended_send = search (judged_send, value.crosses, maps.crosses, crosses, sendable) depth 60 fits 20000
+
+ended_sync : IsSync (Enum (choice.shape ended.the_type))
+ended_sync = search (judged_sync, value.crosses, maps.crosses, crosses, sendable) depth 60 fits 20000
+
+pub cells_sync : (T : RattleType) (g : Ghosts T.Denot) → IsSend T → IsSync T → IsSync (the_row T g)
+cells_sync T g s y = search (ended_send, ended_sync, the_sync, crosses, sendable) depth 60 fits 20000

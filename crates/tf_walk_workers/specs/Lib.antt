@@ -1,0 +1,10 @@
+pub mod Hoard
+pub mod Ideal
+pub mod Laws
+pub mod NoPlan
+pub mod Reading
+pub mod Sight
+pub mod TakingOut
+pub mod Memo
+pub mod Seen
+pub mod Shared

@@ -1,0 +1,21 @@
+-- What a worker keeps of the requests that it made.
+use Rattle.std.specs.Prelude.{◌<◌, List, map}
+use Rattle.tf_plan_data.specs.Action.{action_of}
+use Rattle.tf_asks.specs.SoFar.{StandSoFar}
+use Rattle.tf_walk_workers.specs.Sight.{sight_of}
+use Rattle.tf_config_data.specs.Names.{NameView}
+use Rattle.tf_names.specs.Table.{names_in}
+use Rattle.tf_outcome.specs.Objects.{objects_seen}
+use Rattle.tf_plan_data.specs.Plan.{PlanView, plan_of}
+use Rattle.tf_plan_data.specs.declared.plan.Plan.{Plan}
+use Rattle.tf_protocol.specs.Meaning.{Meaning}
+use Rattle.tf_state_data.specs.State.{state_of}
+use Rattle.tf_walk_workers.specs.Seen.{AreSeen}
+use Rattle.tf_walk_workers.specs.declared.memo.Memo.{Memo}
+
+-- A memo of an action of a plan is true: all actions directly before that one are good, what came of them is seen, and what
+-- stands so far stands by it.
+pub record IsTrueMemo {N : Type 0} (ms : List Meaning) (walk : PlanView) (plan : Plan) (names : List NameView) (memo : Memo N) : Type 0 where
+  pub inside : memo.action < plan.order.nodes
+  pub seen : AreSeen ms walk plan names memo.action memo.before
+  pub so_far : StandSoFar (plan_of plan) (objects_seen (names_in memo.before.names.now) (state_of memo.before.prior.now) (map action_of memo.before.actions.now) (sight_of memo.before)) memo.kept.items

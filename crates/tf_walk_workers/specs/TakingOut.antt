@@ -1,0 +1,17 @@
+-- Ends that are taken out of their cells, from the last cell on.
+use Rattle.std.specs.Prelude.{◌≡◌, ◌≤◌, ◌<◌, ℕ, List, length, Option, None, slice_index_or}
+use Rattle.tf_plan_data.specs.Plan.{PlanView}
+use Rattle.tf_protocol.specs.Meaning.{Meaning}
+use Rattle.tf_outcome.specs.Ended.{dones_of}
+use Rattle.tf_outcome.specs.Outcome.{done_at}
+use Rattle.tf_outcome.specs.declared.ended.Ended.{Ended}
+use Rattle.tf_walk_workers.specs.Ideal.{IsTrueTo, IsNumbered}
+
+-- So far: the cells that are left are those of the first actions, whose places are free; what stands in a place is true
+-- of its action.
+pub record IsTakenOut (ms : List Meaning) (plan : PlanView) (count : ℕ) (cells : List ℕ) (results : List (Option Ended)) : Type 0 where
+  pub numbered : IsNumbered cells
+  pub sized : length results ≡ count
+  pub within : length cells ≤ count
+  pub free : (n : ℕ) → n < length cells → slice_index_or results n None ≡ None
+  pub fits : (n : ℕ) → IsTrueTo ms plan n (done_at (dones_of results) n)

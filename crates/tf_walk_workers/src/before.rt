@@ -1,0 +1,92 @@
+//! What came of the actions before one, for its request.
+
+ghost use Rattle.std.specs.Prelude.{◌≡◌, ◌<◌, All, IfOk, map};
+ghost use Rattle.tf_outcome.specs.Words.{action_of, names_in, objects_seen, state_of};
+ghost use Rattle.tf_walk_workers.specs.Reading.{seen_in};
+ghost use Rattle.tf_walk_workers.specs.Sight.{IfGood, Shows};
+
+use crate::cells::Cells;
+use crate::naming::Naming;
+use crate::reading::Reading;
+use std::alloc::{AllocError, Global};
+use tf_address::InstanceKey;
+use tf_names::Names;
+use tf_outcome::{applies_to, prior_object};
+use tf_plan_data::Action;
+use tf_request::Results;
+use tf_state_data::State;
+use tf_value::Value;
+
+/// What came of some actions of a plan, all of which are good. It stays in their cells while this lives.
+#[derive(Drop)]
+pub struct Before<'a, N: Naming> {
+    names: &'a Names<'a>,
+    prior: &'a State,
+    actions: &'a [Action],
+    readings: Vec<Reading<'a, N>>,
+}
+
+/// What is seen of some actions.
+#[derive(Drop)]
+pub enum Sight<'a, N: Naming> {
+    /// Of one of them nothing can be read yet.
+    Waits,
+    /// One of them isn't good.
+    Bad,
+    /// All of them are good.
+    Good(Before<'a, N>),
+}
+
+impl<N: Naming> Results for Before<'_, N> {
+    ghost objects = { λ s. objects_seen (names_in s.names.now) (state_of s.prior.now) (map action_of s.actions.now) (map seen_in s.readings.items) };
+
+    fn object(&self, alloc: Global, place: usize, key: &InstanceKey) -> Result<Value, AllocError> {
+        for reading in &self.readings {
+            if applies_to(self.actions, reading.action(), place, key) {
+                return reading.object(alloc);
+            }
+        }
+        prior_object(self.names, self.prior, place, key)
+    }
+}
+
+impl<N: Naming> Cells<N> {
+    /// What came of some actions of a plan, where all of them are good. Then it is what came of them in every ideal. The
+    /// names are those of the plan's configuration, and the state is the one that it starts from.
+    ///
+    /// # Errors
+    ///
+    /// Only where memory runs out.
+    pub fn look<'a>(
+        &'a self,
+        alloc: Global,
+        names: &'a Names<'a>,
+        prior: &'a State,
+        actions: &'a [Action],
+        before: &[usize],
+    ) -> Result<Sight<'a, N>, AllocError>
+        requires { All (λ n. n < self.now) before.now }
+        ensures names { IfOk result (λ sight. IfGood sight (λ good. good.names.now ≡ names.now)) }
+        ensures prior { IfOk result (λ sight. IfGood sight (λ good. good.prior.now ≡ prior.now)) }
+        ensures actions { IfOk result (λ sight. IfGood sight (λ good. good.actions.now ≡ actions.now)) }
+        ensures shows { IfOk result (λ sight. IfGood sight (Shows N.meanings N.plan before.now)) }
+    {
+        let mut readings = Vec::with_capacity(alloc, before.len())?;
+        for action in before {
+            let Some(reading) = self.read(*action) else {
+                return Ok(Sight::Waits);
+            };
+            let bad = !reading.is_good();
+            if bad {
+                return Ok(Sight::Bad);
+            }
+            readings.push_reserved(reading);
+        }
+        Ok(Sight::Good(Before {
+            names,
+            prior,
+            actions,
+            readings,
+        }))
+    }
+}

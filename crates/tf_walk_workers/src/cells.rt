@@ -1,0 +1,136 @@
+//! The cells of a walk.
+
+ghost use Rattle.std.specs.Prelude.{◌≡◌, ◌+◌, ◌<◌, ℕ, None, IfOk, IfErr, IfSome, IsTrue, length, replicate, slice_index_or, slice_set, vec_len, Some};
+ghost use Rattle.counted_slot.specs.Counting.{IsTurn};
+ghost use Rattle.tf_outcome.specs.Ended.{dones_of};
+ghost use Rattle.tf_outcome.specs.Outcome.{done_at};
+ghost use Rattle.tf_walk_workers.specs.Ideal.{IsEndOf, IsTrueTo, IsNumbered};
+
+use crate::kept::Kept;
+use crate::naming::Naming;
+use crate::reading::Reading;
+use counted_slot::{Counted, FREE, MOST_READERS, ONE_READER, PRESENT, TAKEN};
+use std::alloc::{AllocError, Global};
+use std::marker::{Model, PhantomData};
+use std::mem;
+use tf_outcome::Ended;
+
+/// One cell for each action of a plan, into which what came of it is published, and from which it is read, without a
+/// lock. Contracts see how many there are.
+pub struct Cells<N: Naming> {
+    cells: Vec<Counted<Option<Kept<N>>>>,
+}
+
+impl<N: Naming> Model for Cells<N> {
+    ghost Value = { ℕ };
+
+    ghost view = { λ s. vec_len s.cells };
+
+    ghost invariant = { λ s. IsNumbered s.cells.items };
+}
+
+impl<N: Naming> Cells<N> {
+    /// So many cells, in which nothing is.
+    ///
+    /// # Errors
+    ///
+    /// Only where memory runs out.
+    pub fn new(alloc: Global, count: usize) -> Result<Cells<N>, AllocError>
+        ensures { IfOk result (λ cells. cells ≡ count) }
+    {
+        let mut cells = Vec::with_capacity(alloc, count)?;
+        for n in 0..count {
+            cells.push_reserved(Counted::new(None, &n));
+        }
+        Ok(Cells { cells })
+    }
+
+    /// The cell of an action.
+    fn cell(&self, action: usize) -> &Counted<Option<Kept<N>>>
+        requires { action < self.now }
+        ensures { result.now ≡ action }
+    {
+        &self.cells[action]
+    }
+
+    /// Publishes what came of an action: of it, as the evidence in it says.
+    ///
+    /// # Errors
+    ///
+    /// Where something was published for the action already, or is just being published: what isn't in the cell comes
+    /// back.
+    pub fn publish(&self, action: usize, ended: Ended) -> Result<(), Ended>
+        requires action { action < self.now }
+        requires own { IsEndOf N.meanings N.plan action ended }
+        ensures { IfErr result (IsEndOf N.meanings N.plan action) }
+    {
+        let (found, claim) = self.cell(action).turn(FREE, TAKEN);
+        if found != FREE {
+            claim.done();
+            return Err(ended);
+        }
+        let kept = Kept {
+            ended,
+            of: PhantomData,
+        };
+        match claim.put(Some(kept), PRESENT) {
+            None => Ok(()),
+            Some(Kept { ended, of: _ }) => Err(ended),
+        }
+    }
+
+    /// What came of an action, where that can be read.
+    pub fn read(&self, action: usize) -> Option<Reading<'_, N>>
+        requires { action < self.now }
+        ensures { IfSome result (λ reading. reading.action ≡ action) }
+    {
+        let cell = self.cell(action);
+        for _ in 0..u64::MAX {
+            let seen = cell.load();
+            if !may_be_read(seen) {
+                return None;
+            }
+            let (found, claim) = cell.turn(seen, seen + ONE_READER);
+            if found == seen {
+                return Reading::of(action, claim);
+            }
+            claim.done();
+        }
+        None
+    }
+
+    /// Takes out all that was published, each into the place of its action.
+    pub fn take_out(self, results: &mut [Option<Ended>])
+        requires { results.old ≡ replicate self None }
+        ensures length { length results.new ≡ self }
+        ensures fits { (n : ℕ) → IsTrueTo N.meanings N.plan n (done_at (dones_of results.new) n) }
+    {
+        let Self { mut cells } = self;
+        while let Some(cell) = cells.pop() {
+            match cell.into_inner() {
+                Some(Kept { ended, of: _ }) => place(results, cells.len(), ended),
+                None => {}
+            }
+        }
+        cells.destroy_empty();
+    }
+}
+
+/// Whether one more may read a cell with this word.
+fn may_be_read(word: u64) -> bool
+    ensures { IsTrue result → IsTurn word (word + 4) }
+{
+    word % ONE_READER == PRESENT && word % 0x1_0000_0000 / ONE_READER < MOST_READERS
+}
+
+/// Puts what came of an action into its place, in which nothing is yet.
+fn place(results: &mut [Option<Ended>], action: usize, ended: Ended)
+    requires action { action < length results.old }
+    requires free { slice_index_or results.old action None ≡ None }
+    ensures { results.new ≡ slice_set results.old action (Some ended) }
+{
+    match mem::replace(&mut results[action], Some(ended)) {
+        None => {}
+        Some(_) => unreachable!(),
+    }
+}

@@ -1,0 +1,92 @@
+//! The hints of one worker, and how others take them.
+
+ghost use Rattle.std.specs.Prelude.{◌≡◌, ◌+◌, ◌<◌, ◌≤◌, IfOk, IfSome, MatchBool};
+
+use crate::bound::{Below, Bound};
+use crossbeam_deque::{Steal, Stealer, Worker};
+use std::alloc::{AllocError, Global};
+use std::marker::Model;
+use std::sync::Wait;
+
+/// The hints of one worker.
+#[derive(Drop)]
+pub struct Hints<B: Bound> {
+    own: Worker<usize, Global, (), Below<B>>,
+}
+
+impl<B: Bound> Model for Hints<B> {
+    ghost use Rattle.crossbeam_deque.specs.Handles.{worker_capacity, worker_index};
+    ghost use Rattle.tf_walk_workers.specs.Hoard.{Hoard};
+
+    ghost Value = { Hoard };
+
+    ghost view = { λ h. record { room = worker_capacity h.own; height = worker_index h.own } };
+}
+
+/// With which any worker steals the hints of one.
+#[derive(Drop)]
+pub struct Thief<B: Bound> {
+    of: Stealer<usize, Global, (), Below<B>>,
+}
+
+impl<B: Bound> Hints<B> {
+    /// No hints, with room for so many at first.
+    ///
+    /// # Errors
+    ///
+    /// Only where memory runs out.
+    pub fn new(alloc: Global, room: usize) -> Result<Hints<B>, AllocError>
+        ensures { IfOk result (λ hints. (room ≤ hints.room) × (hints.height ≡ 0)) }
+    {
+        let own = Worker::lifo_as(alloc, room)?;
+        Ok(Hints { own })
+    }
+
+    /// With which others steal these hints.
+    ///
+    /// # Errors
+    ///
+    /// Only where memory runs out.
+    pub fn thief(&self) -> Result<Thief<B>, AllocError> {
+        let of = self.own.stealer()?;
+        Ok(Thief { of })
+    }
+
+    /// Gives a hint, and says whether it was taken. Where it wasn't, which is so only where the hints stand as high as there is
+    /// room, it is lost.
+    pub fn push(&mut self, hint: usize) -> bool
+        requires { hint < B.bound }
+        ensures room { self.old.room ≤ self.new.room }
+        ensures taken { MatchBool result
+            (self.new.height ≡ self.old.height + 1)
+            ((self.new.height ≡ self.old.height) × (self.old.room ≤ self.old.height)) }
+    {
+        self.own.push_as::<Below<B>>(hint).is_ok()
+    }
+
+    /// The hint that was given last, if there is one.
+    pub fn pop(&mut self) -> Option<usize>
+        ensures bound { IfSome result (λ hint. hint < B.bound) }
+        ensures room { (self.old.room ≤ self.new.room) × (self.new.height ≤ self.old.height) }
+    {
+        self.own.pop_as::<Below<B>>()
+    }
+}
+
+impl<B: Bound> Thief<B> {
+    /// The hint that was given first, if there is one. Where another worker was quicker it tries again. `None` too where the
+    /// worker whose hints they are is about to pop the only one.
+    pub fn steal<R: Wait>(&self, rt: &R) -> Option<usize>
+        ensures { IfSome result (λ hint. hint < B.bound) }
+    {
+        let mut pass = self.of.pass();
+        for _ in rt.forever() {
+            match self.of.steal_as::<Below<B>>(&mut pass) {
+                Steal::Success(hint) => return Some(hint),
+                Steal::Empty => return None,
+                Steal::Retry => {}
+            }
+        }
+        unreachable!()
+    }
+}

@@ -1,0 +1,32 @@
+//! What one of many workers that carry out a plan does with an action that it has claimed, and what workers share beside claims.
+//!
+//! Hints say what a worker may look at next: each worker has hints of its own, which the others steal where they have none. A
+//! hint is a number below a bound, whichever worker gave it. Result cells have what came of each action, published once, and read
+//! by those who work out what comes after it. A worker reads there what came of the actions before its own, asks and calls the
+//! action's provider, records the call, and publishes what came of it.
+#![tactic(auto)]
+
+mod asking;
+mod before;
+mod bound;
+mod calls;
+mod cells;
+mod hints;
+mod kept;
+pub mod laws;
+mod log;
+mod memo;
+mod naming;
+mod reading;
+mod seeing;
+mod steps;
+
+pub use before::{Before, Sight};
+pub use bound::Bound;
+pub use cells::Cells;
+pub use hints::{Hints, Thief};
+pub use log::{Log, logs_are_shared};
+pub use memo::Memo;
+pub use naming::Naming;
+pub use reading::Reading;
+pub use steps::Workshop;

@@ -1,0 +1,111 @@
+//! What came of an action, as it is read from its cell.
+
+ghost use Rattle.std.specs.Option.{option_map_or};
+ghost use Rattle.std.specs.Prelude.{◌≡◌, IfOk, IfSome, IsTrue, MatchOption, is_some, true, false};
+ghost use Rattle.tf_outcome.specs.Words.{done_of, ended_action, is_good, object_of, tree_of};
+ghost use Rattle.tf_walk_workers.specs.Ideal.{InEachIdeal, IsGoodInEach, IsTrueTo};
+
+use crate::kept::Kept;
+use crate::naming::Naming;
+use counted_slot::Claim;
+use std::alloc::{AllocError, Global};
+use tf_outcome::{Ended, NotGood};
+use tf_protocol::Reply;
+use tf_value::{Value, copy};
+
+/// What came of an action, which stays in its cell while this lives.
+pub struct Reading<'a, N: Naming> {
+    action: usize,
+    claim: Claim<'a, Option<Kept<N>>>,
+    pub ghost own: { claim.tag ≡ action },
+    pub ghost reads: { claim.right ≡ 1 },
+    pub ghost filled: { option_map_or is_some claim.value false ≡ true },
+}
+
+impl<'a, N: Naming> Drop for Reading<'a, N> {
+    fn drop(self) {
+        let Self { action: _, claim } = self;
+        claim.leave();
+    }
+}
+
+impl<'a, N: Naming> Reading<'a, N> {
+    ghost use Rattle.tf_walk_workers.specs.Reading.{done_in};
+
+    /// What the claim on an action's cell reads, if anything is there.
+    pub(crate) fn of(action: usize, claim: Claim<'a, Option<Kept<N>>>) -> Option<Reading<'a, N>>
+        requires own { claim.tag ≡ action }
+        requires reads { claim.right ≡ 1 }
+        ensures { IfSome result (λ reading. reading.action ≡ action) }
+    {
+        if claim.get().is_some() {
+            Some(Reading { action, claim })
+        } else {
+            claim.leave();
+            None
+        }
+    }
+
+    /// The action.
+    pub fn action(&self) -> usize
+        ensures { result ≡ self.now.action }
+    {
+        self.action
+    }
+
+    /// What came of the action, which is of it and true of it.
+    pub fn ended(&self) -> &Ended
+        ensures own { ended_action result.now ≡ self.now.action }
+        ensures same { done_of result.now ≡ done_in self.now }
+        ensures fits { IsTrueTo N.meanings N.plan self.now.action (done_in self.now) }
+    {
+        match self.claim.get() {
+            Some(kept) => &kept.ended,
+            None => unreachable!(),
+        }
+    }
+
+    /// Whether the action is good. Where it is, the same came of it in every ideal.
+    pub fn is_good(&self) -> bool
+        ensures value { result ≡ is_good (done_in self.now) }
+        ensures ideal { IsTrue result → InEachIdeal N.meanings N.plan (λ ideal. done_in self.now ≡ ideal self.now.action) }
+    {
+        self.ended().is_good()
+    }
+
+    /// The evidence that the action isn't good, where it isn't. Where it is, it is good in every ideal.
+    pub fn not_good(&self) -> Option<NotGood>
+        ensures { MatchOption result
+            (IsGoodInEach N.meanings N.plan self.now.action)
+            (λ bad. bad ≡ self.now.action) }
+    {
+        self.ended().not_good()
+    }
+
+    /// The object that a provider answered to the action, copied; null where it answered none. Where the action is good,
+    /// it is the object in every ideal.
+    ///
+    /// # Errors
+    ///
+    /// Only where memory runs out.
+    pub fn object(&self, alloc: Global) -> Result<Value, AllocError>
+        ensures value { IfOk result (λ value. tree_of value ≡ object_of (done_in self.now)) }
+        ensures ideal { IfOk result (λ value. IsTrue (is_good (done_in self.now))
+            → InEachIdeal N.meanings N.plan (λ ideal. tree_of value ≡ object_of (ideal self.now.action))) }
+    {
+        object_of(alloc, self.ended())
+    }
+}
+
+/// The object that a provider answered, copied; null where there is none.
+fn object_of(alloc: Global, ended: &Ended) -> Result<Value, AllocError>
+    ensures { IfOk result (λ value. tree_of value ≡ object_of (done_of ended.now)) }
+{
+    match ended {
+        Ended::Called(served) => match served.call.reply() {
+            Reply::Object(object) => copy(object),
+            _ => Ok(Value::Null),
+        },
+        _ => Ok(Value::Null),
+    }
+}

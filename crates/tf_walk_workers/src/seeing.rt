@@ -1,0 +1,80 @@
+//! What a worker sees of the actions before one.
+
+ghost use Rattle.std.specs.Prelude.{◌≡◌, ◌<◌, All, Contains, IfOk, MatchOption};
+ghost use Rattle.tf_outcome.specs.Words.{names_in, predecessors_of};
+ghost use Rattle.tf_walk_workers.specs.Ideal.{IsGoodInEach};
+ghost use Rattle.tf_walk_workers.specs.Seen.{AreSeen};
+
+use crate::before::{Before, Sight};
+use crate::cells::Cells;
+use crate::naming::Naming;
+use std::alloc::{AllocError, Global};
+use std::sync::Wait;
+use std::thread;
+use tf_names::Names;
+use tf_outcome::NotGood;
+use tf_plan_data::Plan;
+
+/// The evidence that one of some actions isn't good, of the first that isn't, once what came of those up to it can be read;
+/// `None` where all are good, and then they are in every ideal. It takes no memory.
+pub(crate) fn first_not_good<N: Naming, R: Wait>(
+    rt: &R,
+    cells: &Cells<N>,
+    actions: &[usize],
+) -> Option<NotGood>
+    requires { All (λ n. n < cells.now) actions.now }
+    ensures { MatchOption result
+        (All (λ n. IsGoodInEach N.meanings N.plan n) actions.now)
+        (λ bad. Contains actions.now bad) }
+{
+    for action in actions {
+        if let Some(bad) = not_good(rt, cells, *action) {
+            return Some(bad);
+        }
+    }
+    None
+}
+
+/// The evidence that an action isn't good, where it isn't, once what came of it can be read.
+fn not_good<N: Naming, R: Wait>(rt: &R, cells: &Cells<N>, action: usize) -> Option<NotGood>
+    requires { action < cells.now }
+    ensures { MatchOption result (IsGoodInEach N.meanings N.plan action) (λ bad. bad ≡ action) }
+{
+    for _ in rt.forever() {
+        if let Some(reading) = cells.read(action) {
+            return reading.not_good();
+        }
+        thread::yield_now();
+    }
+    unreachable!()
+}
+
+/// What came of the actions directly before one, once all of them can be read and are good.
+///
+/// # Errors
+///
+/// Only where memory runs out.
+pub(crate) fn good_before<'a, N: Naming, R: Wait>(
+    rt: &R,
+    alloc: Global,
+    plan: &'a Plan,
+    names: &'a Names<'a>,
+    cells: &'a Cells<N>,
+    action: usize,
+) -> Result<Before<'a, N>, AllocError>
+    requires cells { cells.now ≡ plan.now.order.nodes }
+    requires within { action < plan.now.order.nodes }
+    requires good { All (λ n. IsGoodInEach N.meanings N.plan n) (predecessors_of plan.now.order action) }
+    ensures { IfOk result (AreSeen N.meanings N.plan plan.now (names_in names.now) action) }
+{
+    let actions = plan.actions.as_slice();
+    let nodes = plan.order.graph().predecessors(action);
+    for _ in rt.forever() {
+        match cells.look(alloc, names, &plan.prior, actions, nodes) {
+            Ok(Sight::Good(before)) => return Ok(before),
+            Ok(Sight::Waits | Sight::Bad) => thread::yield_now(),
+            Err(AllocError) => return Err(AllocError),
+        }
+    }
+    unreachable!()
+}

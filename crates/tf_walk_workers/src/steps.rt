@@ -1,0 +1,112 @@
+//! The end of one action, by a worker.
+
+ghost use Rattle.std.specs.Prelude.{◌≡◌, ◌<◌, IfSome, map};
+ghost use Rattle.tf_outcome.specs.Words.{done_of, ended_action, HasCause, names_in};
+ghost use Rattle.tf_walk_workers.specs.Ideal.{IsEndOf, IsTrueTo};
+ghost use Rattle.tf_walk_workers.specs.Memo.{IsTrueMemo};
+ghost use Rattle.tf_walk_workers.specs.Shared.{IsOfWalk};
+
+use crate::calls::serve;
+use crate::cells::Cells;
+use crate::log::Log;
+use crate::memo::Memo;
+use crate::naming::Naming;
+use std::alloc::{AllocError, Global};
+use std::sync::{Mutex, Wait};
+use std::thread;
+use tf_claim::{Finished, Permit};
+use tf_names::Names;
+use tf_outcome::{Ended, Stop};
+use tf_plan_data::Plan;
+use tf_provider::Provider;
+
+/// What a worker works with, beside the providers: the plan of a walk, the names of its configuration, the cells of the plan's
+/// actions, the journal that workers share, and whether the walk is to stop.
+#[derive(Drop)]
+pub struct Workshop<'a, N: Naming, R> {
+    /// What it waits by.
+    pub rt: &'a R,
+    /// What requests are made in.
+    pub alloc: Global,
+    /// The plan.
+    pub plan: &'a Plan,
+    /// The names of its configuration.
+    pub names: &'a Names<'a>,
+    /// The cells of the plan's actions.
+    pub cells: &'a Cells<N>,
+    /// The journal.
+    pub journal: &'a Mutex<Log<N>>,
+    /// Whether the walk is to stop.
+    pub stop: &'a Stop,
+}
+
+impl<'a, N: Naming, R: Wait> Workshop<'a, N, R> {
+    /// Ends a claimed action, and publishes what came of it: it is skipped where an action directly before it isn't good;
+    /// left where the walk is to stop; excused where memory for its request is refused; it has a fault where its request has
+    /// one; and else its provider is called, outside the lock, and the call is recorded under it. All actions directly
+    /// before it have ended, and nothing was published for it: where that doesn't hold yet, it waits. `memo` is what the worker
+    /// keeps for its next action, none at first.
+    pub fn end_action(
+        &self,
+        providers: &[Box<dyn Provider + Sync>],
+        permit: Permit,
+        memo: &mut Option<Memo<'a, N>>,
+    ) -> Finished
+        requires walk { IsOfWalk N.plan N.meanings self.now.plan.now (names_in self.now.names.now) self.now.cells.now (map (λ b. meaning b) providers.now) }
+        requires within { permit < self.now.plan.now.order.nodes }
+        requires memo { IfSome memo.old (IsTrueMemo N.meanings N.plan self.now.plan.now (names_in self.now.names.now)) }
+        ensures finished { result ≡ permit }
+        ensures memo { IfSome memo.new (IsTrueMemo N.meanings N.plan self.now.plan.now (names_in self.now.names.now)) }
+    {
+        let action = permit.action();
+        let (ended, finished) = self.come_to_end(providers, permit, memo);
+        publish(self.rt, self.cells, action, ended);
+        finished
+    }
+
+    /// What comes of a claimed action, once all actions directly before it can be read.
+    fn come_to_end(
+        &self,
+        providers: &[Box<dyn Provider + Sync>],
+        permit: Permit,
+        memo: &mut Option<Memo<'a, N>>,
+    ) -> (Ended, Finished)
+        requires walk { IsOfWalk N.plan N.meanings self.now.plan.now (names_in self.now.names.now) self.now.cells.now (map (λ b. meaning b) providers.now) }
+        requires within { permit < self.now.plan.now.order.nodes }
+        requires memo { IfSome memo.old (IsTrueMemo N.meanings N.plan self.now.plan.now (names_in self.now.names.now)) }
+        ensures finished { result.1 ≡ permit }
+        ensures action { ended_action result.0 ≡ permit }
+        ensures cause { HasCause N.plan.order result.0 }
+        ensures ended { IsTrueTo N.meanings N.plan permit (done_of result.0) }
+        ensures memo { IfSome memo.new (IsTrueMemo N.meanings N.plan self.now.plan.now (names_in self.now.names.now)) }
+    {
+        let action = permit.action();
+        if let Some(bad) = self.not_good_before(memo, action) {
+            return Ended::skipped(permit, bad);
+        }
+        if let Some(stopped) = self.stop.look() {
+            return Ended::left(permit, stopped);
+        }
+        match self.ask(providers, action, memo) {
+            Err(AllocError) => Ended::not_asked(permit),
+            Ok(Err(faulted)) => Ended::faulted(permit, faulted),
+            Ok(Ok(asking)) => serve(self.rt, providers, self.journal, permit, asking),
+        }
+    }
+}
+
+/// Publishes what came of an action. Where something was published for it already, it waits.
+fn publish<N: Naming, R: Wait>(rt: &R, cells: &Cells<N>, action: usize, ended: Ended)
+    requires action { action < cells.now }
+    requires own { IsEndOf N.meanings N.plan action ended }
+{
+    let mut left = ended;
+    for _ in rt.forever() {
+        match cells.publish(action, left) {
+            Ok(()) => return,
+            Err(back) => left = back,
+        }
+        thread::yield_now();
+    }
+    unreachable!()
+}

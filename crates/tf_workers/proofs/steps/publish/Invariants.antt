@@ -1,8 +1,0 @@
--- what is left to publish is of the action, and true of it
-use Rattle.tf_cells.specs.Ideal.{IsEndOf}
-use Rattle.tf_workers.proofs.steps.publish.Given as goal
-
-abbrev pub invariant-loop : goal.invariant-loop
-invariant-loop g l =
-    (goal.iterator-loop g).can_next l.iterator' × (goal.iterator-loop g).is_finite l.iterator'
-    × IsEndOf g.N.Naming.meanings g.N.Naming.plan l.fn.action l.left

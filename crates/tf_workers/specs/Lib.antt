@@ -1,3 +1,0 @@
-pub mod Memo
-pub mod Seen
-pub mod Shared
