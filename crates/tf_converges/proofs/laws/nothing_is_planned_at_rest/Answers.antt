@@ -1,6 +1,0 @@
-use Rattle.tf_converges.proofs.Still.{nothing_at_rest}
-use Rattle.tf_converges.proofs.Unrefused.{nothing_refused}
-use Rattle.tf_converges.proofs.laws.nothing_is_planned_at_rest.Goals as goal
-
-pub returns : goal.returns
-returns c = record { planned = nothing_at_rest; refused = nothing_refused }

@@ -1,5 +1,0 @@
-use Rattle.tf_converges.proofs.Read.{read_names, read_sound}
-use Rattle.tf_converges.proofs.laws.read_configurations_fit.Goals as goal
-
-pub returns : goal.returns
-returns c = record { sound = read_sound; names = read_names }

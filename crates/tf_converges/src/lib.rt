@@ -1,4 +1,0 @@
-//! What holds of an apply that went well: the same configuration plans nothing again.
-#![tactic(auto)]
-
-pub mod laws;

@@ -1,0 +1,94 @@
+-- What is asked for an instance depends on what the instances of its resource's needs stand for alone.
+use Rattle.std.proofs.Common.{◌≡◌, ◌∙◌, ◌<◌, ℕ, Bool, true, Option, Some, None, Contains, length, refl, sym, ap, subst}
+use Rattle.std.specs.List.{AllByRecursion}
+use Rattle.tf_plan_data.specs.Action.{ActionView}
+use Rattle.tf_address.specs.ObjectId.{InstanceKeyView}
+use Rattle.tf_change.proofs.Locals.{instances_local}
+use Rattle.tf_change.specs.Instance.{instance_object}
+use Rattle.tf_config_data.specs.Config.{BlockView}
+use Rattle.tf_config_data.specs.Names.{Meant, a_local, a_block, meant_at, block_refers, directly_before, places, refers_at}
+use Rattle.tf_laws.proofs.Places.{meant_within}
+use Rattle.tf_laws.proofs.Still.{together_same}
+use Rattle.tf_environment.proofs.Places.{along, names_stay}
+use Rattle.tf_environment.proofs.Seen.{agree_on}
+use Rattle.tf_environment.specs.Shape.{ShapeView, instance_keys}
+use Rattle.tf_environment.specs.Stages.{applying}
+use Rattle.tf_environment.specs.Standing.{StandingView, AreStandings, environment, rule, stands_at}
+use Rattle.tf_eval.proofs.Locality.{expressions_local}
+use Rattle.tf_eval.specs.Environment.{Environment}
+use Rattle.tf_graph.proofs.Edges.{all_by_contained}
+use Rattle.tf_graph.proofs.Solving.{all_by_at, solution-exists}
+use Rattle.tf_plan_resources.specs.Members.{is_among}
+use Rattle.tf_outcome.specs.Asked.{AreRequests, Requests}
+use Rattle.tf_plan_data.specs.Plan.{plan_names}
+use Rattle.tf_protocol.specs.Schema.{SchemaView}
+use Rattle.tf_request.proofs.Answering.{next_is}
+use Rattle.tf_value.specs.Tree.{Tree}
+use Rattle.tf_laws.proofs.PlannedParts.{Made}
+
+-- where the objects of a resource's instances are the same, so is what the resource stands for
+meant_same : (shapes : ℕ → ShapeView) (f g : ℕ → InstanceKeyView → Tree) (n : ℕ) (m : Option Meant) (env : Environment) → ((key : InstanceKeyView) → is_among (instance_keys (shapes n)) key ≡ true → f n key ≡ g n key)
+    → stands_at (applying shapes f) n m env ≡ stands_at (applying shapes g) n m env
+meant_same shapes f g n None env h = refl
+meant_same shapes f g n (Some (a_local e)) env h = refl
+meant_same shapes f g n (Some (a_block block)) env h = together_same (λ key. Some (f n key)) (λ key. Some (g n key)) (shapes n) (λ key among. ap Some (h key among))
+
+module _ (x : Made) where
+  needs_direct : (a b : ℕ) → Contains (directly_before (plan_names x.plan) a) b → x.plan.needs a b ≡ true
+  needs_direct a b c = ap (λ (f : ℕ → ℕ → Bool). f a b) x.ordered.tied.needs ∙ x.ordered.tied.is_dependence.direct a b c
+
+  needs_closed : (a b c : ℕ) → x.plan.needs a b ≡ true → Contains (directly_before (plan_names x.plan) b) c → x.plan.needs a c ≡ true
+  needs_closed a b c need d =
+      let same = x.ordered.tied.needs in
+      ap (λ (f : ℕ → ℕ → Bool). f a c) same ∙ x.ordered.tied.is_dependence.closed a b c (sym (ap (λ (f : ℕ → ℕ → Bool). f a b) same) ∙ need) d
+
+  pub needs_transitive : (a b c : ℕ) → x.plan.needs a b ≡ true → x.plan.needs b c ≡ true → x.plan.needs a c ≡ true
+  needs_transitive a b c one two =
+      let same = x.ordered.tied.needs in
+      ap (λ (f : ℕ → ℕ → Bool). f a c) same
+      ∙ x.ordered.tied.is_dependence.transitive a b c (sym (ap (λ (f : ℕ → ℕ → Bool). f a b) same) ∙ one) (sym (ap (λ (f : ℕ → ℕ → Bool). f b c) same) ∙ two)
+
+  module _ (place : ℕ) (f g : ℕ → InstanceKeyView → Tree) (same : (n : ℕ) (key : InstanceKeyView) → x.plan.needs place n ≡ true → is_among (instance_keys (x.plan.shapes n)) key ≡ true → f n key ≡ g n key) where
+    module _ (ones others : ℕ → StandingView) (solves_ones : AreStandings (applying x.plan.shapes f) x.plan.variables (plan_names x.plan) ones)
+        (solves_others : AreStandings (applying x.plan.shapes g) x.plan.variables (plan_names x.plan) others) where
+      abbrev IsAlike : ℕ → Type 0
+      IsAlike m = x.plan.needs place m ≡ true → ones m ≡ others m
+
+      alike_at : (m : ℕ) → m < length (plan_names x.plan) → AllByRecursion IsAlike (directly_before (plan_names x.plan) m) → IsAlike m
+      alike_at m h before need =
+          let turned : AllByRecursion (λ b. others b ≡ ones b) (directly_before (plan_names x.plan) m) =
+          all_by_contained (λ b. others b ≡ ones b) (directly_before (plan_names x.plan) m)
+          (λ b c. sym (all_by_at IsAlike (directly_before (plan_names x.plan) m) b before c (needs_closed place m b need c))) in
+          let one : stands_at (applying x.plan.shapes f) m (meant_at (plan_names x.plan) m) (environment x.plan.variables (plan_names x.plan) others) ≡ ones m =
+          next_is x.plan.shapes f x.plan.variables (plan_names x.plan) x.ranked others ones solves_ones m h (λ local. turned) in
+          let two : stands_at (applying x.plan.shapes g) m (meant_at (plan_names x.plan) m) (environment x.plan.variables (plan_names x.plan) others) ≡ others m =
+          next_is x.plan.shapes g x.plan.variables (plan_names x.plan) x.ranked others others solves_others m h (λ local. all_by_contained (λ b. others b ≡ others b) (directly_before (plan_names x.plan) m) (λ b c. refl)) in
+          sym one
+          ∙ meant_same x.plan.shapes f g m (meant_at (plan_names x.plan) m) (environment x.plan.variables (plan_names x.plan) others) (λ key among. same m key need among)
+          ∙ two
+
+      alike : (m : ℕ) → m < length (plan_names x.plan) → IsAlike m
+      alike m h = along (length (plan_names x.plan)) (directly_before (plan_names x.plan)) IsAlike x.ranked (names_stay (plan_names x.plan)) alike_at m h
+
+      made_same : (block : BlockView) (key : InstanceKeyView) (schema : SchemaView) → meant_at (plan_names x.plan) place ≡ Some (a_block block)
+          → instance_object schema block key (environment x.plan.variables (plan_names x.plan) ones) ≡ instance_object schema block key (environment x.plan.variables (plan_names x.plan) others)
+      made_same block key schema meant =
+          let inside = meant_within (plan_names x.plan) place (a_block block) meant in
+          let all : AllByRecursion (λ b. ones b ≡ others b) (directly_before (plan_names x.plan) place) =
+          all_by_contained (λ b. ones b ≡ others b) (directly_before (plan_names x.plan) place)
+          (λ b c. alike b (all_by_at (λ d. d < length (plan_names x.plan)) (directly_before (plan_names x.plan) place) b (names_stay (plan_names x.plan) place inside) c) (needs_direct place b c)) in
+          let own : AllByRecursion (λ b. ones b ≡ others b) (places (plan_names x.plan) (block_refers block)) =
+          subst (λ (m : Option Meant). AllByRecursion (λ b. ones b ≡ others b) (places (plan_names x.plan) (refers_at m))) meant all in
+          instances_local expressions_local schema block key (environment x.plan.variables (plan_names x.plan) ones) (environment x.plan.variables (plan_names x.plan) others)
+          (agree_on x.plan.variables (plan_names x.plan) ones others (block_refers block) own)
+
+    -- what is requested is the same
+    pub requests_same : (requests : Requests) (a : ActionView) (block : BlockView) (schema : SchemaView) → AreRequests x.plan requests → a.resource ≡ place → meant_at (plan_names x.plan) a.resource ≡ Some (a_block block)
+        → requests f a schema ≡ requests g a schema
+    requests_same requests a block schema are resource meant =
+        let names = plan_names x.plan in
+        let ones = solution-exists (length names) (directly_before names) (rule (applying x.plan.shapes f) x.plan.variables names) x.ranked in
+        let others = solution-exists (length names) (directly_before names) (rule (applying x.plan.shapes g) x.plan.variables names) x.ranked in
+        are f a schema ones.0 block ones.1 meant
+        ∙ made_same ones.0 others.0 ones.1 others.1 block a.key schema (ap (meant_at (plan_names x.plan)) (sym resource) ∙ meant)
+        ∙ sym (are g a schema others.0 block others.1 meant)

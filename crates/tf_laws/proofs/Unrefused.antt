@@ -1,0 +1,174 @@
+-- Beside resources at rest of which nothing is refused there is a plan.
+use Rattle.std.proofs.Common.{◌≡◌, ◌∙◌, ◌+◌, ◌++◌, ℕ, Bool, true, false, cond, if◌then◌else◌, List, [], ◌∷◌, Option, Some, None, is_some, Result, Ok, fold, length, map, refl, ap, ap₂, subst}
+use Rattle.std.specs.List.{AllByRecursion}
+use Rattle.std.specs.Prelude.{slice_get}
+use Rattle.tf_address.specs.ObjectId.{InstanceKeyView}
+use Rattle.tf_change.proofs.Locals.{instances_local}
+use Rattle.tf_change.specs.Instance.{InstanceFaultView, instance_object}
+use Rattle.tf_config_data.specs.Config.{BlockView, LifecycleView}
+use Rattle.tf_config_data.specs.Names.{NameView, Meant, a_local, a_block, block_refers, directly_before, meant_at, places, refers_at}
+use Rattle.tf_deciding.specs.Deciding.{DecidedView, OfView, version_of, with_block, with_members, with_outcome}
+use Rattle.tf_deciding.specs.Outcome.{OutcomeView, by_decision, declared_outcome, member_outcome, removal_outcome}
+use Rattle.tf_deciding.specs.Stage.{deciding, records_at}
+use Rattle.tf_deciding.specs.Steps.{decided_steps}
+use Rattle.tf_deciding.specs.Whole.{decided, nothing_decided, with_meant, with_numbered}
+use Rattle.tf_decision.specs.Decision as decision
+use Rattle.tf_decision.specs.Decision.{DecisionView, RefusalView, change, current, unless_prevented, unless_unfit}
+use Rattle.tf_decision.specs.Ignored.{heeding, ignored_fault}
+use Rattle.tf_decision.specs.Prior.{PriorFaultView, first_unfit}
+use Rattle.tf_environment.proofs.Places.{all_places}
+use Rattle.tf_environment.proofs.Seen.{agree_on}
+use Rattle.tf_environment.specs.Shape.{ShapeView, instance_keys}
+use Rattle.tf_environment.specs.Stages.{applying}
+use Rattle.tf_environment.specs.Standing.{StandingView, AreStandings, all_stand, environment, rule}
+use Rattle.tf_eval.proofs.Locality.{expressions_local}
+use Rattle.tf_eval.specs.Environment.{Environment}
+use Rattle.tf_eval.specs.ExprMeaning.{meaning}
+use Rattle.tf_eval.specs.Locality.{AgreeOn}
+use Rattle.tf_graph.proofs.Solving.{all_by_weaker, solution-exists}
+use Rattle.tf_graph.specs.Solutions.{Ranked, seen_by}
+use Rattle.tf_plan_resources.specs.Members.{MemberView, member, members, is_among, records_of}
+use Rattle.tf_operators.specs.Answer.{Answer}
+use Rattle.tf_plan.proofs.Listing.{decided-actions, place_actions}
+use Rattle.tf_plan.specs.Outputs.{output_fault, output_refusals}
+use Rattle.tf_plan.specs.Planned.{planned_in}
+use Rattle.tf_plan.specs.Told.{instance_told}
+use Rattle.tf_protocol.specs.Meaning.{Meaning, schema_in}
+use Rattle.tf_protocol.specs.Schema.{SchemaView}
+use Rattle.tf_refusal.specs.Refusal.{Told}
+use Rattle.tf_plan_resources.specs.Numbering.{NumberedView, a_name, an_orphan, numbered}
+use Rattle.tf_state_data.specs.Record.{RecordView}
+use Rattle.tf_state_data.specs.Resource.{ResourceView}
+use Rattle.tf_syntax.specs.ExprNames.{named_by}
+use Rattle.tf_syntax.specs.ExprTree as expr
+use Rattle.tf_value.specs.Tree.{Tree, Entries}
+use Rattle.tf_laws.proofs.Decided.{IsFine}
+use Rattle.tf_laws.proofs.Lists.{flat_none}
+use Rattle.tf_laws.proofs.Members.{members_hold}
+use Rattle.tf_laws.proofs.Places.{at_name, meant_within, no_orphan}
+use Rattle.tf_laws.proofs.Still.{AreLookedAt, all_same, before_same, block_still, current_is, place_none}
+use Rattle.tf_laws.specs.Rest.{AreAtRest, EachMeans, IsResting, IsUnrefused, NothingIsRefusedAtRest}
+
+-- ---- one instance
+
+nothing_prevented : (b : Bool) → unless_prevented b decision.nothing ≡ Ok decision.nothing
+nothing_prevented true = refl
+nothing_prevented false = refl
+
+-- nothing is decided, and nothing refused
+decides_nothing : (schema : SchemaView) (lifecycle : LifecycleView) (records : List RecordView) (p : Result Tree InstanceFaultView) (r : RecordView) (made : Tree) → first_unfit schema records ≡ None
+    → ignored_fault schema lifecycle.ignore_changes ≡ None → p ≡ Ok made → current records ≡ Some r → change schema lifecycle.ignore_changes (Some r) made ≡ decision.nothing
+    → decision.decision schema lifecycle records p ≡ Ok decision.nothing
+decides_nothing schema lifecycle records p r made fits heeded makes found none =
+    ap (λ (o : Option PriorFaultView). unless_unfit o (decision.decided schema lifecycle (current records) (heeding (ignored_fault schema lifecycle.ignore_changes) p))) fits
+    ∙ ap (λ (o : Option (List ℕ)). decision.decided schema lifecycle (current records) (heeding o p)) heeded
+    ∙ ap (λ (q : Result Tree InstanceFaultView). decision.decided schema lifecycle (current records) q) makes
+    ∙ ap (λ (o : Option RecordView). unless_prevented lifecycle.prevent_destroy (change schema lifecycle.ignore_changes o made)) found
+    ∙ ap (unless_prevented lifecycle.prevent_destroy) none ∙ nothing_prevented lifecycle.prevent_destroy
+
+-- so a member is decided
+member_fine : (ms : List Meaning) (block : BlockView) (ks : List InstanceKeyView) (all : List RecordView) (key : InstanceKeyView) (env seen : Environment) (object : Tree) → is_among ks key ≡ true
+    → IsResting ms block key seen object (records_of key all) → IsUnrefused ms block key seen (records_of key all) → AgreeOn env seen (block_refers block)
+    → IsFine (member_outcome (schema_in block.label.type_name ms) block env (member ks all key))
+member_fine ms block ks all key env seen object among rest free agree =
+    let m = member ks all key in
+    let records = records_of key all in
+    let same = instances_local expressions_local free.schema block key env seen agree in
+    let found : current (records_of key all) ≡ Some rest.only = ap current rest.alone ∙ current_is rest.only rest.current in
+    let none = rest.rests free.schema free.made free.served free.makes in
+    let nothing_done = decides_nothing free.schema block.lifecycle records (instance_object free.schema block key env) rest.only free.made free.fits free.heeded (same ∙ free.makes) found none in
+    let outcome = λ (b : Bool). if b then declared_outcome free.schema block env m else removal_outcome free.schema (Some block.lifecycle) m in (
+      decided_steps records decision.nothing,
+      ap (λ (o : Option SchemaView). member_outcome o block env m) free.served ∙ ap outcome among ∙ ap (by_decision records) nothing_done,
+    )
+
+-- ---- what is refused
+
+none_more : (of : OfView) (becomes : MemberView → OutcomeView) (i : ℕ) (ms : List MemberView) (d : DecidedView) → AllByRecursion (λ m. becomes m ≡ Ok []) ms → (with_members of becomes i ms d).refusals ≡ d.refusals
+none_more of becomes i [] d h = refl
+none_more of becomes i (m ∷ ms) d h = none_more of becomes (i + 1) ms (with_outcome of i m.key (becomes m) d) h.1 ∙ ap (λ (o : OutcomeView). (with_outcome of i m.key o d).refusals) h.0
+
+fine_output : (name : List ℕ) (a : Answer) (t : Tree) → a ≡ Ok t → output_fault name a ≡ []
+fine_output name a t e = ap (output_fault name) e
+
+either_none : {A : Type 0} (b : Bool) (xs : List A) → xs ≡ [] → cond b xs [] ≡ []
+either_none true xs e = e
+either_none false xs e = refl
+
+parts_of : {A : Type 0} (P Q : A → Type 0) (xs : List A) → ((x : A) → P x → Q x) → AllByRecursion P xs → AllByRecursion Q xs
+parts_of P Q [] f h = tt
+parts_of P Q (x ∷ xs) f h = (f x h.0, parts_of P Q xs f h.1)
+
+module _ (ms : List Meaning) (variables : Entries) (names : List NameView) (shapes : ℕ → ShapeView) (objects : ℕ → InstanceKeyView → Tree) (resources : List ResourceView)
+    (ranked : Ranked (directly_before names)) (still : AreAtRest ms variables names shapes objects resources)
+    (standings others : ℕ → StandingView) (solves : AreStandings (deciding ms resources shapes) variables names standings) (stands : AreStandings (applying shapes objects) variables names others)
+    (free : (n : ℕ) (block : BlockView) (key : InstanceKeyView) → meant_at names n ≡ Some (a_block block) → is_among (instance_keys (shapes n)) key ≡ true
+    → IsUnrefused ms block key (environment variables names others) (records_of key (records_at block.label resources))) where
+  looked_at : AreLookedAt ms variables names shapes resources standings others
+  looked_at n block meant before =
+      let alike = all_by_weaker (λ a. (standings a ≡ others a) × (is_some (standings a) ≡ true)) (λ a. standings a ≡ others a) (directly_before names n) (λ a h. h.0) before in
+      let agree : AgreeOn (environment variables names standings) (environment variables names others) (refers_at (meant_at names n)) = agree_on variables names standings others (refers_at (meant_at names n)) alike in
+      let own : AgreeOn (environment variables names standings) (environment variables names others) (block_refers block) =
+      subst (λ (m : Option Meant). AgreeOn (environment variables names standings) (environment variables names others) (refers_at m)) meant agree in
+      members_hold (λ m. IsFine (member_outcome (schema_in block.label.type_name ms) block (environment variables names standings) m)) (instance_keys (shapes n)) (records_at block.label resources) (still.declared n block meant)
+      (λ key among.
+      member_fine ms block (instance_keys (shapes n)) (records_at block.label resources) key (environment variables names standings) (environment variables names others) (objects n key) among
+      (still.rest others stands n block key meant among) (free n block key meant among) own)
+
+  meant_free : (n : ℕ) (m : Meant) (d : DecidedView) → meant_at names n ≡ Some m → (with_meant ms resources variables names shapes standings n m d).refusals ≡ d.refusals
+  meant_free n (a_local e) d meant = refl
+  meant_free n (a_block block) d meant = by_test (all_stand (seen_by standings (directly_before names n)))
+    where
+      by_test : (b : Bool) → (cond b (with_block ms resources n block (environment variables names standings) (shapes n) d) d).refusals ≡ d.refusals
+      by_test false = refl
+      by_test true =
+          let schema = schema_in block.label.type_name ms in
+          let before = before_same ms variables names shapes objects resources ranked still standings others solves stands looked_at n (meant_within names n (a_block block) meant) in
+          let each = block_still ms variables names shapes objects resources ranked still standings others solves stands looked_at n block meant before in
+          none_more (record { resource = n; label = block.label; version = version_of schema }) (member_outcome schema block (environment variables names standings)) 0 (members (instance_keys (shapes n)) (records_at block.label resources)) d
+          (parts_of _ (λ m. member_outcome (schema_in block.label.type_name ms) block (environment variables names standings) m ≡ Ok []) (members (instance_keys (shapes n)) (records_at block.label resources)) (λ m h. h.0) each)
+
+  numbered_free : (n : ℕ) (o : Option NumberedView) (d : DecidedView) → slice_get (numbered names resources) n ≡ o → (with_numbered ms resources variables names shapes standings n o d).refusals ≡ d.refusals
+  numbered_free n None d e = refl
+  numbered_free n (Some (a_name name)) d e = meant_free n name.meant d (at_name names resources n name e)
+  numbered_free n (Some (an_orphan r)) d e = absurd (no_orphan names resources still.blocks n r e)
+
+  all_free : (order : List ℕ) (d : DecidedView) → (fold (λ e n. with_numbered ms resources variables names shapes standings n (slice_get (numbered names resources) n) e) d order).refusals ≡ d.refusals
+  all_free [] d = refl
+  all_free (n ∷ order) d =
+      all_free order (with_numbered ms resources variables names shapes standings n (slice_get (numbered names resources) n) d)
+      ∙ numbered_free n (slice_get (numbered names resources) n) d refl
+
+  outputs_free : (es : expr.Entries) → EachMeans (environment variables names others) es → output_refusals variables names standings es ≡ []
+  outputs_free expr.no_entries h = refl
+  outputs_free (expr.entry name e es) h =
+      let agree : AgreeOn (environment variables names standings) (environment variables names others) (named_by e) =
+      agree_on variables names standings others (named_by e)
+      (all_places (λ a. standings a ≡ others a) names (named_by e) (λ a k. (all_same ms variables names shapes objects resources ranked still standings others solves stands looked_at a k).0)) in
+      let means = expressions_local (environment variables names standings) (environment variables names others) e agree ∙ h.0.1 in
+      ap₂ (λ (xs ys : List Told). xs ++ ys)
+      (either_none (all_stand (seen_by standings (places names (named_by e)))) (output_fault name (meaning (environment variables names standings) e)) (fine_output name (meaning (environment variables names standings) e) h.0.0 means))
+      (outputs_free es h.1)
+
+  pub plans_nothing : (outputs : expr.Entries) (order : List ℕ) → EachMeans (environment variables names others) outputs
+      → planned_in ms resources variables names outputs shapes order standings ≡ record { actions = []; refusals = [] }
+  plans_nothing outputs order means =
+      let done : (decided ms resources variables names shapes standings (numbered names resources) order).actions ≡ [] =
+      decided-actions ms resources variables names shapes standings (numbered names resources) order
+      ∙ flat_none (λ n. place_actions ms resources variables names shapes standings n (slice_get (numbered names resources) n)) order
+      (λ n. place_none ms variables names shapes objects resources ranked still standings others solves stands looked_at n (slice_get (numbered names resources) n) refl) in
+      let refused : map instance_told (decided ms resources variables names shapes standings (numbered names resources) order).refusals ++ output_refusals variables names standings outputs ≡ [] =
+      ap (λ rs. map instance_told rs ++ output_refusals variables names standings outputs) (all_free order nothing_decided) ∙ outputs_free outputs means in
+      λ i. record { actions = done i; refusals = refused i }
+
+pub nothing_refused : NothingIsRefusedAtRest
+nothing_refused ms variables names outputs shapes objects resources order ranked still free in_order =
+    let others = solution-exists (length names) (directly_before names) (rule (applying shapes objects) variables names) ranked in
+    let standings = solution-exists (length names) (directly_before names) (rule (deciding ms resources shapes) variables names) ranked in
+    record {
+      places = order;
+      in_order = in_order;
+      standings = standings.0;
+      stand = standings.1;
+      decided = plans_nothing ms variables names shapes objects resources ranked still standings.0 others.0 standings.1 others.1 (free.instances others.0 others.1) outputs order (free.outputs_mean others.0 others.1);
+    }

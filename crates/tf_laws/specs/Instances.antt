@@ -1,0 +1,70 @@
+-- The instances that a plan has of each resource are those that its `count` or `for_each` comes to, at each stage.
+use Rattle.std.specs.Prelude.{◌≡◌, ℕ, true, List, Some, Ok, Contains}
+use Rattle.tf_plan_data.specs.Action.{ActionView}
+use Rattle.tf_address.specs.ObjectId.{InstanceKeyView}
+use Rattle.tf_config_data.specs.Config.{BlockView, ConfigView, for_each}
+use Rattle.tf_config_data.specs.Names.{a_block, meant_at}
+use Rattle.tf_deciding.specs.Stage.{deciding}
+use Rattle.tf_environment.specs.Repetition.{instances}
+use Rattle.tf_environment.specs.Shape.{ShapeView}
+use Rattle.tf_environment.specs.Stages.{applying, expansion}
+use Rattle.tf_environment.specs.Standing.{StandingView, AreStandings, environment}
+use Rattle.tf_outcome.specs.Asked.{AreRequests, Requests, asked_for}
+use Rattle.tf_plan_data.specs.Fits.{is_apply}
+use Rattle.tf_plan_data.specs.Plan.{PlanView, plan_names}
+use Rattle.tf_protocol.specs.Meaning.{Asked, Meaning}
+use Rattle.tf_protocol.specs.Schema.{SchemaView}
+use Rattle.tf_state_data.specs.State.{StateView}
+use Rattle.tf_syntax.specs.ExprTree as expr
+use Rattle.tf_value.specs.Tree.{Tree, Entries}
+use Rattle.tf_laws.specs.Requests.{IsSoundPlan}
+
+-- The instances of each resource of a plan are those of the expansion.
+abbrev pub InstancesAreExpanded : Type 0
+InstancesAreExpanded =
+    (ms : List Meaning) (config : ConfigView) (variables : Entries) (prior : StateView) (plan : PlanView) (standings : ℕ → StandingView)
+    → IsSoundPlan ms config variables prior plan → AreStandings expansion plan.variables (plan_names plan) standings
+    → (n : ℕ) (block : BlockView) → meant_at (plan_names plan) n ≡ Some (a_block block)
+    → instances block.repetition (environment plan.variables (plan_names plan) standings) ≡ Ok (plan.shapes n)
+
+-- where `count` or `for_each` of a resource comes to instances, they are those that a plan has
+abbrev pub HavePlannedInstances : PlanView → (ℕ → StandingView) → Type 0
+HavePlannedInstances plan standings =
+    (n : ℕ) (block : BlockView) (shape : ShapeView) → meant_at (plan_names plan) n ≡ Some (a_block block)
+    → instances block.repetition (environment plan.variables (plan_names plan) standings) ≡ Ok shape → shape ≡ plan.shapes n
+
+-- They stay where names stand for what is planned.
+abbrev pub InstancesStayInPlans : Type 0
+InstancesStayInPlans =
+    (ms : List Meaning) (config : ConfigView) (variables : Entries) (prior : StateView) (plan : PlanView) (standings : ℕ → StandingView)
+    → IsSoundPlan ms config variables prior plan → AreStandings (deciding ms plan.prior.resources plan.shapes) plan.variables (plan_names plan) standings
+    → HavePlannedInstances plan standings
+
+-- And in an apply, whatever objects instances stand for.
+abbrev pub InstancesStayInApplies : Type 0
+InstancesStayInApplies =
+    (ms : List Meaning) (config : ConfigView) (variables : Entries) (prior : StateView) (plan : PlanView) (objects : ℕ → InstanceKeyView → Tree) (standings : ℕ → StandingView)
+    → IsSoundPlan ms config variables prior plan → AreStandings (applying plan.shapes objects) plan.variables (plan_names plan) standings
+    → HavePlannedInstances plan standings
+
+-- what the `for_each` of a resource comes to are the instances that a plan has
+abbrev pub HasPlannedKeys : PlanView → (ℕ → StandingView) → ℕ → Type 0
+HasPlannedKeys plan standings n =
+    (block : BlockView) (e : expr.Tree) → meant_at (plan_names plan) n ≡ Some (a_block block) → block.repetition ≡ for_each e
+    → instances (for_each e) (environment plan.variables (plan_names plan) standings) ≡ Ok (plan.shapes n)
+
+-- Of an instance that is made or changed, `for_each` has the plan's keys where names stand for what is planned.
+abbrev pub KeysStayInPlans : Type 0
+KeysStayInPlans =
+    (ms : List Meaning) (config : ConfigView) (variables : Entries) (prior : StateView) (plan : PlanView) (standings : ℕ → StandingView) (a : ActionView)
+    → IsSoundPlan ms config variables prior plan → AreStandings (deciding ms plan.prior.resources plan.shapes) plan.variables (plan_names plan) standings
+    → Contains plan.actions a → is_apply a.step ≡ true → HasPlannedKeys plan standings a.resource
+
+-- And in an apply, where its request can be made, whatever objects instances stand for.
+abbrev pub KeysStayInRequests : Type 0
+KeysStayInRequests =
+    (ms : List Meaning) (config : ConfigView) (variables : Entries) (prior : StateView) (plan : PlanView) (requests : Requests) (objects : ℕ → InstanceKeyView → Tree) (standings : ℕ → StandingView)
+    (a : ActionView) (schema : SchemaView) (asked : Asked)
+    → IsSoundPlan ms config variables prior plan → AreRequests plan requests → AreStandings (applying plan.shapes objects) plan.variables (plan_names plan) standings
+    → Contains plan.actions a → is_apply a.step ≡ true → asked_for (plan_names plan) schema a (requests objects a schema) ≡ Ok asked
+    → HasPlannedKeys plan standings a.resource

@@ -1,0 +1,25 @@
+-- What configurations and variables that were read keep to.
+use Rattle.std.specs.Prelude.{◌≡◌, ℕ, List, Option, Some}
+use Rattle.serde_json.specs.Data.{Data}
+use Rattle.tf_config.specs.Configuration.{IsConfiguration}
+use Rattle.tf_config_data.specs.Config.{ConfigView}
+use Rattle.tf_protocol.specs.Meaning.{Meaning, schema_in}
+use Rattle.tf_protocol.specs.Schema.{SchemaView, IsSchema}
+use Rattle.tf_state.specs.Valid.{IsValid}
+use Rattle.tf_state_data.specs.State.{StateView}
+use Rattle.tf_value.specs.Tree.{Entries}
+use Rattle.tf_variables.specs.Values.{AreValues}
+use Rattle.tf_laws.specs.Converges.{IsSound}
+use Rattle.tf_laws.specs.Twice.{HasOrderedOutputs, HasOwnNames}
+
+-- What a plan starts from is sound where the configuration was read, its variables have these values by a variables file or by
+-- default, providers have schemas, and the prior state is valid.
+abbrev pub ReadIsSound : Type 0
+ReadIsSound =
+    (ms : List Meaning) (tree : Data) (config : ConfigView) (file : Option Data) (values : Entries) (prior : StateView)
+    → IsConfiguration tree config → AreValues file config.variables values
+    → ((name : List ℕ) (schema : SchemaView) → schema_in name ms ≡ Some schema → IsSchema schema) → IsValid prior → IsSound ms config values prior
+
+-- In a configuration that was read each name stands for one thing, and outputs stand in byte order of their names.
+abbrev pub ReadHasOwnNames : Type 0
+ReadHasOwnNames = (tree : Data) (config : ConfigView) → IsConfiguration tree config → HasOwnNames config × HasOrderedOutputs config

@@ -1,5 +1,0 @@
-use Rattle.tf_laws_reports.proofs.Called.{called_after_good, entered_after_good, judged_after_good}
-use Rattle.tf_laws_reports.proofs.laws.calls_follow_good_ones.Goals as goal
-
-pub returns : goal.returns
-returns c = record { called = called_after_good; judged = judged_after_good; entered = entered_after_good }

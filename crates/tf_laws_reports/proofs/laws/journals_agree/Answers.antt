@@ -1,5 +1,0 @@
-use Rattle.tf_laws_reports.proofs.Journals.{journals_agree}
-use Rattle.tf_laws_reports.proofs.laws.journals_agree.Goals as goal
-
-pub returns : goal.returns
-returns c = journals_agree c.reports_are_one.ensures

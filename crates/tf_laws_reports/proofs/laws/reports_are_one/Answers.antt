@@ -1,5 +1,0 @@
-use Rattle.tf_laws_reports.proofs.Whole.{reports_one}
-use Rattle.tf_laws_reports.proofs.laws.reports_are_one.Goals as goal
-
-pub returns : goal.returns
-returns c = reports_one c.requests_exist.ensures.one c.settled_are_one.ensures.one c.outputs_are_one.ensures.one c.keys_are_free.ensures.one c.state_after_is_one.ensures

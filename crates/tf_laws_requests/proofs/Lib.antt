@@ -1,9 +1,0 @@
-mod Alike
-mod Answered
-mod Applied
-mod Called
-mod Instance
-mod Keys
-mod Planned
-mod Requested
-mod Steps

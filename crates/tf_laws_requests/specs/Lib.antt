@@ -1,2 +1,0 @@
-pub mod Instances
-pub mod Requests
