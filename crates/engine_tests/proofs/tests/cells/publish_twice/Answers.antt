@@ -4,7 +4,7 @@ use Rattle.std.proofs.Crossing.{crosses}
 use Rattle.tf_walk_workers.proofs.SharedCells.{cells_sync}
 use Rattle.tf_provider.specs.contracts.waived.Waived as waived
 use Rattle.tf_outcome.specs.contracts.stop.Stop as stop
-use Rattle.cell_tests.proofs.cells.publish_twice.Goals as goal
+use Rattle.engine_tests.proofs.tests.cells.publish_twice.Goals as goal
 
 waived_send : IsSend waived.the_row
 waived_send = search sendable depth 20

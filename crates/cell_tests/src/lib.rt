@@ -1,5 +1,0 @@
-//! Tests over result cells, by threads.
-#![tactic(auto)]
-
-#[cfg(test)]
-mod cells;

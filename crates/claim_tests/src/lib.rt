@@ -1,5 +1,0 @@
-//! Tests over the shared claims, by threads.
-#![tactic(auto)]
-
-#[cfg(test)]
-mod claims;
