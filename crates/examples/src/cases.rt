@@ -4,7 +4,7 @@ use std::alloc::Global;
 use std::sync::Wait;
 use std::test::Fail;
 use std::thread::Threads;
-use watching::{Manner, Seen, Texts, WORKERS, planned, watch_apply, watch_manner};
+use test_watching::{Manner, Seen, Texts, WORKERS, planned, watch_apply, watch_manner};
 
 /// The parts that a case may have.
 static PARTS: [&str; 16] = [

@@ -6,13 +6,13 @@ use std::process::Abort;
 use std::sync::Arc;
 use std::sync::atomic::{AtomicUsize, Ordering};
 use std::test::Fail;
+use test_watching::{Aside, Sided, tell_of};
 use tf_outcome::Stop;
 use tf_provider::{Provider, Reply, Request};
 use tf_run::run;
 use tf_sim::Sim;
 use tf_walk::run_one;
 use tf_walk_report::Walked;
-use watching::{Aside, Sided, tell_of};
 
 /// It counts its calls, and has no memory in the second.
 #[derive(Drop)]

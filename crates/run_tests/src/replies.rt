@@ -12,11 +12,11 @@ use std::process::Abort;
 use std::sync::Wait;
 use std::test::Fail;
 use std::thread::Threads;
+use test_watching::{Seen, Texts, WORKERS, apply_by};
 use tf_outcome::Stop;
 use tf_provider::{Provider, Reply, Request, Schema};
 use tf_sim::Sim;
 use tf_value::{Value, copy};
-use watching::{Seen, Texts, WORKERS, apply_by};
 
 /// The provider `sim`, but for its answer to one request: that it failed, where there is a message, else an object, where
 /// there is one, else that there is none.

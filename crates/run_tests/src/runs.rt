@@ -8,6 +8,7 @@ use std::process::Abort;
 use std::sync::Wait;
 use std::test::Fail;
 use std::thread::Threads;
+use test_watching::{Told, tell_of};
 use tf_inputs::{Inputs, read_texts};
 use tf_outcome::Stop;
 use tf_plan::plan;
@@ -16,7 +17,6 @@ use tf_provider::Provider;
 use tf_run::run_and_close;
 use tf_sim::Sim;
 use tf_walk::run_one;
-use watching::{Told, tell_of};
 
 /// Two nets, and a host on each.
 pub(crate) const NETS: &str =

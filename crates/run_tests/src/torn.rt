@@ -4,12 +4,12 @@ use crate::runs::{BROKEN, DIAMOND, plan_texts};
 use std::alloc::Global;
 use std::process::Abort;
 use std::test::Fail;
+use test_watching::tell_of;
 use tf_outcome::Stop;
 use tf_provider::{Journal, Provider};
 use tf_sim::Sim;
 use tf_walk::run_one;
 use tf_walk_report::{Report, settle};
-use watching::tell_of;
 
 /// Checks whether the report on a configuration that is carried out is whole with a journal in which nothing is, and that all
 /// else in it is as it was.

@@ -10,6 +10,7 @@ use std::alloc::Global;
 use std::sync::{Arc, Wait};
 use std::test::Fail;
 use std::thread::Threads;
+use test_watching::Sided;
 use tf_cli::{Applied, Refusal, Refused, Stop, Walked, apply_text};
 use tf_inputs::{Inputs, read_texts};
 use tf_plan::plan;
@@ -19,7 +20,6 @@ use tf_run::run_and_close;
 use tf_sim::Sim;
 use tf_state::write;
 use tf_walk::run_one;
-use watching::Sided;
 
 /// How many bytes are kept back while the plan is carried out, for what is told then.
 const KEPT: usize = 4_194_304;

@@ -2,9 +2,9 @@
 
 use std::sync::Arc;
 use std::sync::atomic::{AtomicUsize, Ordering};
+use test_watching::Aside;
 use tf_provider::{Op, Provider, Reply, Request};
 use tf_sim::Sim;
-use watching::Aside;
 
 /// An action of the plan.
 #[derive(Drop)]

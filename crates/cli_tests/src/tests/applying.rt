@@ -5,7 +5,7 @@ use std::process::Abort;
 use std::sync::Wait;
 use std::test::Fail;
 use std::thread::Threads;
-use watching::{Texts, planned, watch_apply};
+use test_watching::{Texts, planned, watch_apply};
 
 /// Checks that a plan and an apply are refused with these lines, and that no provider was called.
 pub fn check_refused<R: Abort + Threads + Wait + Sync>(

@@ -6,7 +6,7 @@ use std::process::Abort;
 use std::sync::Wait;
 use std::test::Fail;
 use std::thread::Threads;
-use watching::{Seen, Texts, watch_apply};
+use test_watching::{Seen, Texts, watch_apply};
 
 // Configurations in which some actions are good, some aren't and some are never called.
 static CONFIGS: [&str; 3] = [

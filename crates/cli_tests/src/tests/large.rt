@@ -5,7 +5,7 @@ use std::alloc::{AllocError, Global};
 use std::process::Abort;
 use std::test::Fail;
 use test_texts::series;
-use watching::{Seen, Texts, WORKERS, planned, watch_apply};
+use test_watching::{Seen, Texts, WORKERS, planned, watch_apply};
 
 const BEYOND: &str = "error 14 at configuration: Limit\n";
 

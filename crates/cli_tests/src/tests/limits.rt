@@ -7,7 +7,7 @@ use std::sync::Wait;
 use std::test::Fail;
 use std::thread::Threads;
 use test_texts::series;
-use watching::{Texts, WORKERS, planned, watch_apply};
+use test_watching::{Texts, WORKERS, planned, watch_apply};
 
 const BEYOND: &str = "error 14 at configuration: Limit\n";
 

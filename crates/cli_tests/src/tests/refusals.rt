@@ -4,7 +4,7 @@ use crate::tests::applying::check_refused;
 use std::alloc::{AllocError, Global};
 use std::test::Fail;
 use test_texts::series;
-use watching::{Texts, planned};
+use test_watching::{Texts, planned};
 
 #[test]
 fn refuses_what_is_no_text(rt: HostRuntime) -> Result<(), Fail> {

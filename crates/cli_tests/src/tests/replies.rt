@@ -10,11 +10,11 @@ use std::process::Abort;
 use std::sync::Wait;
 use std::test::Fail;
 use std::thread::Threads;
+use test_watching::{Manner, Seen, Texts, WORKERS, apply_by, watch_manner};
 use tf_cli::Stop;
 use tf_provider::{Provider, Reply, Request, Schema};
 use tf_sim::Sim;
 use tf_value::{Value, copy};
-use watching::{Manner, Seen, Texts, WORKERS, apply_by, watch_manner};
 
 const NOTHING: &str =
     "{\n  \"lineage\": \"L\",\n  \"outputs\": {},\n  \"resources\": [],\n  \"serial\": 0,\n  \"terraform_version\": \"1.0.0\",\n  \"version\": 4\n}\n";

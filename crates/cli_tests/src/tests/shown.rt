@@ -6,10 +6,10 @@ use std::io;
 use std::sync::Wait;
 use std::test::Fail;
 use std::thread::Threads;
+use test_watching::state_after;
 use tf_cli::{Applied, Refused, Stop, apply_text, show};
 use tf_provider::Provider;
 use tf_sim::Sim;
-use watching::state_after;
 
 // The answer of an apply for whose state there was no memory.
 fn stateless<R: Threads + Wait + Sync>(

@@ -2,10 +2,10 @@
 
 use std::alloc::{AllocError, Global};
 use std::test::Fail;
+use test_watching::{Seen, Texts, WORKERS, apply_by};
 use tf_cli::Stop;
 use tf_provider::{Attribute, Kind, Mode, Provider, Reply, Request, Schema, SchemaFault};
 use tf_value::copy;
-use watching::{Seen, Texts, WORKERS, apply_by};
 
 /// The most attributes of a schema.
 const MOST: usize = 200;

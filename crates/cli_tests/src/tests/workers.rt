@@ -6,12 +6,11 @@ use std::sync::atomic::{AtomicUsize, Ordering};
 use std::sync::{Arc, Wait};
 use std::test::Fail;
 use std::thread::Threads;
-use test_providers::{Meeting, is_reached_within, meet};
+use test_watching::{Aside, Meeting, Sided, Texts, apply_by, is_reached_within, meet};
 use tf_cli::Stop;
 use tf_provider::{Provider, Reply, Request};
 use tf_sim::Sim;
 use tf_value::Value;
-use watching::{Aside, Sided, Texts, apply_by};
 
 /// How often the call of one of two looks for the other, and how often that of one of more; others may run in between.
 const TURNS_OF_TWO: usize = 10_000_000;

@@ -1,8 +1,9 @@
-//! Plans and applies of whole texts, watched: what the tests and examples of `tf_cli` share.
+//! What the tests of more than one crate share: plans and applies of whole texts, watched, and providers.
 #![tactic(auto)]
 
 mod applies;
 mod aside;
+mod meeting;
 mod telling;
 mod watched;
 
@@ -10,5 +11,6 @@ pub use applies::{
     After, Seen, Texts, WORKERS, apply_by, planned, state_after, watch_apply, watch_manner,
 };
 pub use aside::{Aside, Sided};
+pub use meeting::{Meeting, Meets, is_reached_within, meet};
 pub use telling::{Told, tell_of};
 pub use watched::Manner;
