@@ -6,7 +6,7 @@ ghost use Rattle.tf_plan_data.specs.Words.{config_of, IsAcyclic, IsDependence, n
 use std::alloc::{AllocError, Global};
 use tf_config::{Config, read};
 use tf_names::{Dependence, Names, judge};
-use tf_plan::{Plan, Refused, plan, plan_text};
+use tf_plan::{Planned, Refused, plan, plan_text};
 use tf_protocol::Provider;
 use tf_refusal::code::{BAD_STATE, LIMIT};
 use tf_refusal::{Detail, Refusal};
@@ -17,7 +17,11 @@ use tf_variables::read_vars;
 /// The text of the plan of a configuration from a state, none where its text is empty; or a line for each refusal.
 pub(crate) fn text_of(alloc: Global, config: &str, state: &str) -> Result<String, AllocError> {
     match planned(alloc, config, state) {
-        Ok(plan) => plan_text(alloc, plan.actions.as_slice(), plan.late.as_slice()),
+        Ok(planned) => plan_text(
+            alloc,
+            planned.plan.actions.as_slice(),
+            planned.plan.late.as_slice(),
+        ),
         Err(Refused::NoMemory) => Err(AllocError),
         Err(Refused::These(refusals)) => lines(alloc, refusals.as_slice()),
     }
@@ -26,7 +30,7 @@ pub(crate) fn text_of(alloc: Global, config: &str, state: &str) -> Result<String
 /// The pairs of actions of which the first is before the second, by their places in the plan; or a line for each refusal.
 pub(crate) fn order_of(alloc: Global, config: &str, state: &str) -> Result<String, AllocError> {
     match planned(alloc, config, state) {
-        Ok(plan) => pairs(alloc, plan.order.graph().edges()),
+        Ok(planned) => pairs(alloc, planned.plan.order.graph().edges()),
         Err(Refused::NoMemory) => Err(AllocError),
         Err(Refused::These(refusals)) => lines(alloc, refusals.as_slice()),
     }
@@ -35,8 +39,8 @@ pub(crate) fn order_of(alloc: Global, config: &str, state: &str) -> Result<Strin
 /// How many such pairs there are; or a line for each refusal.
 pub(crate) fn count_of(alloc: Global, config: &str, state: &str) -> Result<String, AllocError> {
     match planned(alloc, config, state) {
-        Ok(plan) => {
-            let count = plan.order.graph().edges().len();
+        Ok(planned) => {
+            let count = planned.plan.order.graph().edges().len();
             format!(in alloc; "{count}\n")
         }
         Err(Refused::NoMemory) => Err(AllocError),
@@ -54,7 +58,7 @@ pub(crate) fn is_known(alloc: Global, config: &str) -> Result<bool, AllocError> 
 }
 
 /// The plan of a configuration from a state, none where its text is empty.
-pub(crate) fn planned(alloc: Global, config: &str, state: &str) -> Result<Plan, Refused> {
+pub(crate) fn planned(alloc: Global, config: &str, state: &str) -> Result<Planned, Refused> {
     let providers = sims(alloc)?;
     planned_by(alloc, config, state, providers.as_slice())
 }
@@ -71,7 +75,7 @@ pub(crate) fn planned_by(
     config: &str,
     state: &str,
     providers: &[Box<dyn Provider + Sync>],
-) -> Result<Plan, Refused> {
+) -> Result<Planned, Refused> {
     let config = match read(alloc, config.as_bytes()) {
         Ok(config) => config,
         Err(refusal) => return Err(these(alloc, refusal)?),

@@ -59,7 +59,11 @@ fn answer(alloc: Global, resources: &str) -> Result<String, Fail> {
     let mut providers: Vec<Box<dyn Provider + Sync>> = Vec::new(alloc);
     providers.push(Box::new(alloc, net_provider(alloc)?)?)?;
     match planned_by(alloc, text.as_str(), "", providers.as_slice()) {
-        Ok(plan) => Ok(plan_text(alloc, plan.actions.as_slice(), plan.late.as_slice())?),
+        Ok(planned) => Ok(plan_text(
+            alloc,
+            planned.plan.actions.as_slice(),
+            planned.plan.late.as_slice(),
+        )?),
         Err(Refused::These(refusals)) => Ok(lines(alloc, refusals.as_slice())?),
         Err(Refused::NoMemory) => Err(AllocError.into()),
     }

@@ -36,7 +36,7 @@ fn check_meets<R: Abort + Threads + Wait + Sync>(
     };
     let told = tell_of(alloc, walked)?;
     assert_eq!(rt; misses.load(Ordering::SeqCst), 0, "{config}");
-    assert_eq!(rt; told.journal.len(), plan.actions.len(), "{config}");
+    assert_eq!(rt; told.journal.len(), plan.plan.actions.len(), "{config}");
     assert!(rt; told.whole && is_closed, "{config}");
     Ok(())
 }

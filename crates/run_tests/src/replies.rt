@@ -1,10 +1,5 @@
 //! Each call of a walk answered badly, in turn.
 
-ghost use Rattle.std.specs.Option.{option_map_or};
-ghost use Rattle.std.specs.Prelude.{◌≡◌, IfOk, IfSome, option_map, string_bytes};
-ghost use Rattle.tf_protocol.specs.Meaning.{answered, failed, gone, object as object_of};
-ghost use Rattle.tf_value.specs.Tree.{tree_of};
-
 use crate::runs::{BEFORE, BOTH_LATE, DIAMOND, LATE, check_runs_by};
 use std::alloc::{AllocError, Global};
 use std::collections::BTreeMap;
@@ -12,11 +7,11 @@ use std::process::Abort;
 use std::sync::Wait;
 use std::test::Fail;
 use std::thread::Threads;
-use test_watching::{Seen, Texts, WORKERS, apply_by};
+use test_watching::{Seen, Texts, WORKERS, apply_by, scripted_reply};
 use tf_outcome::Stop;
 use tf_provider::{Provider, Reply, Request, Schema};
 use tf_sim::Sim;
-use tf_value::{Value, copy};
+use tf_value::Value;
 
 /// The provider `sim`, but for its answer to one request: that it failed, where there is a message, else an object, where
 /// there is one, else that there is none.
@@ -53,39 +48,10 @@ impl Provider for Misled {
         let is_apply = request.object.is_some();
         let is_kind = if self.is_apply { is_apply } else { !is_apply };
         if request.address.as_str() == self.address.as_str() && is_kind {
-            bad_reply(&self.message, &self.object)
+            scripted_reply(&self.message, &self.object)
         } else {
             self.sim.apply(request)
         }
-    }
-}
-
-/// What the script has: that a request failed, where there is a message, else an object, where there is one, else that there
-/// is none.
-fn bad_reply(message: &Option<String>, object: &Option<Value>) -> Reply
-    ensures { IfSome (answered result) (λ a. a ≡ option_map_or (λ m. failed (string_bytes m) (option_map tree_of object.now)) message.now (option_map_or (λ v. object_of (tree_of v)) object.now gone)) }
-{
-    let Ok(object) = copied(object) else {
-        return Reply::NoMemory;
-    };
-    match message {
-        None => match object {
-            Some(value) => Reply::Object(value),
-            None => Reply::Gone,
-        },
-        Some(message) => match message.clone() {
-            Ok(message) => Reply::Failed { message, object },
-            Err(AllocError) => Reply::NoMemory,
-        },
-    }
-}
-
-fn copied(object: &Option<Value>) -> Result<Option<Value>, AllocError>
-    ensures { IfOk result (λ o. option_map tree_of o ≡ option_map tree_of object.now) }
-{
-    match object {
-        Some(value) => Ok(Some(copy(value)?)),
-        None => Ok(None),
     }
 }
 

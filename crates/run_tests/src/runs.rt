@@ -1,7 +1,7 @@
 //! Plans that are walked many times, by different numbers of workers.
 
 ghost use Rattle.std.specs.Prelude.{IfOk, map};
-ghost use Rattle.tf_plan_data.specs.Words.{action_of, AreServed, FitsTogether};
+ghost use Rattle.tf_plan_data.specs.Words.{action_of, AreServed};
 
 use std::alloc::Global;
 use std::process::Abort;
@@ -12,7 +12,7 @@ use test_watching::{Told, tell_of};
 use tf_inputs::{Inputs, read_texts};
 use tf_outcome::Stop;
 use tf_plan::plan;
-use tf_plan_data::Plan;
+use tf_plan_data::Planned;
 use tf_provider::Provider;
 use tf_run::run_and_close;
 use tf_sim::Sim;
@@ -64,9 +64,8 @@ pub(crate) fn plan_texts(
     config: &str,
     state: Option<&str>,
     providers: &[Box<dyn Provider + Sync>],
-) -> Result<Plan, Fail>
-    ensures fits { IfOk result FitsTogether }
-    ensures served { IfOk result (λ p. AreServed (map (λ b. meaning b) providers.now) (map action_of p.actions.items)) }
+) -> Result<Planned, Fail>
+    ensures served { IfOk result (λ p. AreServed (map meaning providers.now) (map action_of p.actions.items)) }
 {
     let state = state.map(|text| text.as_bytes());
     let Ok(
@@ -130,13 +129,12 @@ pub(crate) fn check_runs_by<R: Abort + Threads + Wait + Sync>(
 fn check_run<R: Abort + Threads + Wait + Sync>(
     rt: &R,
     alloc: Global,
-    plan: &Plan,
+    plan: &Planned,
     providers: &[Box<dyn Provider + Sync>],
     workers: usize,
     one: &Told,
 ) -> Result<(), Fail>
-    requires fits { FitsTogether plan.now }
-    requires served { AreServed (map (λ b. meaning b) providers.now) (map action_of plan.now.actions.items) }
+    requires served { AreServed (map meaning providers.now) (map action_of plan.now.actions.items) }
 {
     let stop = Stop::new();
     let Ok((walked, is_closed)) = run_and_close(rt, alloc, plan, providers, workers, &stop) else {

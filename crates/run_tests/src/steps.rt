@@ -46,7 +46,7 @@ fn check_order<R: Abort + Threads + Sync>(rt: &R, alloc: Global, row: &Row) -> R
     let mut providers: Vec<Box<dyn Provider + Sync>> = Vec::new(alloc);
     providers.push(Box::new(alloc, Sim::new(alloc)?)?)?;
     let plan = plan_texts(alloc, config, state, &providers)?;
-    check_walks(rt, alloc, plan.order.graph(), counted)
+    check_walks(rt, alloc, plan.plan.order.graph(), counted)
 }
 
 #[test]

@@ -22,7 +22,7 @@ fn check_without_calls<R: Abort>(
     let mut providers: Vec<Box<dyn Provider + Sync>> = Vec::new(alloc);
     providers.push(Box::new(alloc, Sim::new(alloc)?)?)?;
     let plan = plan_texts(alloc, config, None, &providers)?;
-    let empty = Journal::with_room(alloc, plan.order.graph())?;
+    let empty = Journal::with_room(alloc, plan.plan.order.graph())?;
     let Ok(walked) = run_one(alloc, &plan, &providers, &Stop::new()) else {
         return Err("no memory".into());
     };
@@ -46,7 +46,7 @@ fn check_without_calls<R: Abort>(
         excused,
         good,
     };
-    let told = tell_of(alloc, settle(&plan, report))?;
+    let told = tell_of(alloc, settle(&plan.plan, report))?;
     assert_eq!(rt; told.whole, whole);
     assert!(rt; told.journal.is_empty());
     assert!(rt; told.state == before.state);

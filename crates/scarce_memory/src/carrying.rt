@@ -1,7 +1,7 @@
 //! Carrying a plan out where one growth is refused.
 
 ghost use Rattle.std.specs.Prelude.{IfOk, map};
-ghost use Rattle.tf_plan_data.specs.Words.{action_of, AreServed, FitsTogether};
+ghost use Rattle.tf_plan_data.specs.Words.{action_of, AreServed};
 
 use crate::noting::Noting;
 use crate::telling::tell;
@@ -14,7 +14,7 @@ use test_watching::Sided;
 use tf_cli::{Applied, Refusal, Refused, Stop, Walked, apply_text};
 use tf_inputs::{Inputs, read_texts};
 use tf_plan::plan;
-use tf_plan_data::Plan;
+use tf_plan_data::Planned;
 use tf_provider::Provider;
 use tf_run::run_and_close;
 use tf_sim::Sim;
@@ -113,11 +113,10 @@ fn walk_plan<R: Threads + Wait + Sync>(
     rt: &R,
     alloc: Global,
     given: &Given,
-    plan: &Plan,
+    plan: &Planned,
     providers: &[Box<dyn Provider + Sync>],
 ) -> Result<(Walked, bool), Refusal>
-    requires fits { FitsTogether plan.now }
-    requires served { AreServed (map (λ b. meaning b) providers.now) (map action_of plan.now.actions.items) }
+    requires served { AreServed (map meaning providers.now) (map action_of plan.now.actions.items) }
 {
     let stop = Stop::new();
     if given.way != Way::One {
@@ -130,9 +129,9 @@ fn walk_plan<R: Threads + Wait + Sync>(
 }
 
 /// What an apply answers, without the plan's text.
-fn answer_of(alloc: Global, plan: &Plan, walked: Walked) -> Applied {
+fn answer_of(alloc: Global, plan: &Planned, walked: Walked) -> Applied {
     let state = write(alloc, &walked.report().state);
-    let changed = walked.report().state.serial() != plan.prior.serial();
+    let changed = walked.report().state.serial() != plan.plan.prior.serial();
     Applied {
         plan: String::new(alloc),
         walked,
@@ -156,9 +155,8 @@ fn plan_of(
     alloc: Global,
     given: &Given,
     providers: &[Box<dyn Provider + Sync>],
-) -> Result<Plan, Fail>
-    ensures fits { IfOk result FitsTogether }
-    ensures served { IfOk result (λ p. AreServed (map (λ b. meaning b) providers.now) (map action_of p.actions.items)) }
+) -> Result<Planned, Fail>
+    ensures served { IfOk result (λ p. AreServed (map meaning providers.now) (map action_of p.actions.items)) }
 {
     let state = given.state.as_ref().map(|state| state.as_slice());
     let Ok(

@@ -31,8 +31,8 @@ pub fn conclude<'p>(
     room: Room<'p>,
     ended: Option<Ended>,
 ) -> Addition<'p>
-    requires { IsJudged (map (λ b. meaning b) providers.now) (room_head room).op (done_or_skipped ended) }
-    ensures { IsAdditionOf (map (λ b. meaning b) providers.now) (room_head room.entry) (done_or_skipped ended) result }
+    requires { IsJudged (map meaning providers.now) (room_head room).op (done_or_skipped ended) }
+    ensures { IsAdditionOf (map meaning providers.now) (room_head room.entry) (done_or_skipped ended) result }
 {
     match ended {
         None => nothing(room),

@@ -33,7 +33,7 @@ pub fn conclude_all<'p>(
     changes: &mut Changes<'p>,
     diagnostics: &mut Vec<Diagnostic>,
 )
-    requires judged { AreJudged (map (λ b. meaning b) providers.now) (map (λ h. h.op) (map room_head rooms.items)) (dones_of results.items) }
+    requires judged { AreJudged (map meaning providers.now) (map (λ h. h.op) (map room_head rooms.items)) (dones_of results.items) }
     requires paired { length rooms.items ≡ length results.items }
     requires no_applies { changes.old.applies.items ≡ [] }
     requires no_destroys { changes.old.destroys.items ≡ [] }
@@ -41,10 +41,10 @@ pub fn conclude_all<'p>(
     requires room_for_applies { length results.items ≤ vec_capacity changes.old.applies }
     requires room_for_destroys { length results.items ≤ vec_capacity changes.old.destroys }
     requires room_for_diagnostics { length results.items ≤ vec_capacity diagnostics.old }
-    ensures applies { map apply_of changes.new.applies.items ≡ applies_in (changes_in (map (λ b. meaning b) providers.now) (map room_head rooms.entry.items) (dones_of results.items)) }
-    ensures destroys { map destroy_of changes.new.destroys.items ≡ destroys_in (changes_in (map (λ b. meaning b) providers.now) (map room_head rooms.entry.items) (dones_of results.items)) }
+    ensures applies { map apply_of changes.new.applies.items ≡ applies_in (changes_in (map meaning providers.now) (map room_head rooms.entry.items) (dones_of results.items)) }
+    ensures destroys { map destroy_of changes.new.destroys.items ≡ destroys_in (changes_in (map meaning providers.now) (map room_head rooms.entry.items) (dones_of results.items)) }
     ensures tells { map diagnostic_of diagnostics.new.items ≡ told_in (map room_head rooms.entry.items) (dones_of results.items) }
-    ensures stored { AllByRecursion MayBeStored (changes_in (map (λ b. meaning b) providers.now) (map room_head rooms.entry.items) (dones_of results.items)) }
+    ensures stored { AllByRecursion MayBeStored (changes_in (map meaning providers.now) (map room_head rooms.entry.items) (dones_of results.items)) }
     ensures few { length diagnostics.new.items ≤ length results.items }
     ensures capacity { vec_capacity diagnostics.old ≤ vec_capacity diagnostics.new }
 {

@@ -42,13 +42,13 @@ pub fn ask_provider<R: Results>(
     requires fits { FitsTogether plan.now }
     requires names { names_in names.now ≡ names_of (config_of plan.now.config) }
     requires declared { IsDeclared (names_of (config_of plan.now.config)) (action_of action.now) }
-    requires served { IsServedBy (map (λ b. meaning b) providers.now) (action_of action.now) }
+    requires served { IsServedBy (map meaning providers.now) (action_of action.now) }
     requires so_far { StandSoFar (plan_of plan.now) (R.objects results.now) kept.old.items }
     ensures asked { IfOk result (λ made. (requests : Requests) → AreRequests (plan_of plan.now) requests
-        → comes_of (map (λ b. meaning b) providers.now) (asked_by made)
-        ≡ call_with (map (λ b. meaning b) providers.now) requests (plan_of plan.now) (R.objects results.now) (action_of action.now)) }
+        → comes_of (map meaning providers.now) (asked_by made)
+        ≡ call_with (map meaning providers.now) requests (plan_of plan.now) (R.objects results.now) (action_of action.now)) }
     ensures served { IfOk result (λ made. IfOk made (λ asking.
-        IsSomeAnd (schema_in (asked asking.request).type_name (map (λ b. meaning b) providers.now)) (λ s. IsTrue (asks_fully (asked asking.request) s)))) }
+        IsSomeAnd (schema_in (asked asking.request).type_name (map meaning providers.now)) (λ s. IsTrue (asks_fully (asked asking.request) s)))) }
     ensures op { IfOk result (λ made. IfOk made (λ asking. (asked asking.request).op ≡ op_of (action_of action.now).step)) }
     ensures so_far { StandSoFar (plan_of plan.now) (R.objects results.now) kept.new.items }
 {

@@ -11,7 +11,7 @@ ghost use Rattle.tf_state_data.specs.State.{state_of};
 ghost use Rattle.tf_state.specs.Text.{state_text};
 
 use crate::applied::Applied;
-use crate::planning::{Given, one_refusal, plan_of_texts};
+use crate::planning::{InputTexts, one_refusal, plan_of_texts};
 use std::alloc::Global;
 use std::sync::Wait;
 use std::thread::Threads;
@@ -39,20 +39,21 @@ pub fn apply_text<R: Threads + Wait + Sync>(
     workers: usize,
     stop: &Stop,
 ) -> Result<Applied, Refused>
-    ensures applied { IfOk result (IsApplied (map (λ b. meaning b) providers.now) (the_texts config.now (option_map (λ s. s.now) vars.entry) (option_map (λ s. s.now) state.entry)) lineage.now) }
+    ensures applied { IfOk result (IsApplied (map meaning providers.now) (the_texts config.now (option_map (λ s. s.now) vars.entry) (option_map (λ s. s.now) state.entry)) lineage.now) }
     ensures workers { IfOk result (λ _. are_workers workers ≡ true) }
-    ensures refused { IfErr result (Tells (AreApplyRefusals (map (λ b. meaning b) providers.now) (the_texts config.now (option_map (λ s. s.now) vars.entry) (option_map (λ s. s.now) state.entry)) lineage.now workers)) }
+    ensures refused { IfErr result (Tells (AreApplyRefusals (map meaning providers.now) (the_texts config.now (option_map (λ s. s.now) vars.entry) (option_map (λ s. s.now) state.entry)) lineage.now workers)) }
 {
     blocks_have_names();
-    let given = Given {
+    let texts = InputTexts {
         config,
         vars,
         state,
         lineage,
     };
-    let plan = plan_of_texts(alloc, &given, providers)?;
+    let planned = plan_of_texts(alloc, &texts, providers)?;
+    let plan = &planned.plan;
     let text = plan_text(alloc, plan.actions.as_slice(), plan.late.as_slice())?;
-    match run(rt, alloc, &plan, providers, workers, stop) {
+    match run(rt, alloc, &planned, providers, workers, stop) {
         Ok(walked) => Ok(answer_of(alloc, text, plan.prior.serial(), walked)),
         Err(refusal) => Err(one_refusal(alloc, refusal)),
     }

@@ -12,7 +12,7 @@ pub mod saving;
 pub use applied::{Applied, state_to_write};
 pub use applying::apply_text;
 pub use lines::verb_text;
-pub use planning::plan_text;
+pub use planning::{InputTexts, plan_of_texts, plan_text};
 pub use printing::{print, print_refused, show};
 pub use saving::{SaveFault, save, save_all};
 pub use tf_outcome::Stop;

@@ -1,7 +1,7 @@
 //! From the texts that the user gives to a plan.
 
 ghost use Rattle.std.specs.Prelude.{◌≡◌, map, option_map, IfOk, IfErr, string_bytes};
-ghost use Rattle.tf_outcome.specs.Words.{action_of, AreServed, FitsTogether, plan_of, state_of};
+ghost use Rattle.tf_outcome.specs.Words.{action_of, AreServed, plan_of, state_of};
 ghost use Rattle.tf_cli.specs.Applies.{IsPlanOf, IsPlanText};
 ghost use Rattle.tf_cli.specs.Refusals.{AreRefusals, RefusesBy};
 ghost use Rattle.tf_inputs.specs.Texts.{the_texts};
@@ -11,17 +11,22 @@ ghost use Rattle.tf_state.specs.Valid.{IsValid};
 
 use std::alloc::Global;
 use tf_inputs::{Inputs, read_texts};
-use tf_plan::{Plan, Refused, plan};
+use tf_plan::{Refused, plan};
+use tf_plan_data::Planned;
 use tf_plan_text::plan_text as text_of_plan;
 use tf_provider::Provider;
 use tf_refusal::Refusal;
 
-/// The texts that the user gives: a configuration, the variables file and the prior state; and the lineage of a new state.
+/// The texts that the user gives, and the lineage of a new state.
 #[derive(Clone, Copy)]
-pub struct Given<'a> {
+pub struct InputTexts<'a> {
+    /// The configuration, in Terraform's JSON syntax.
     pub config: &'a [u8],
+    /// The variables file, where there is one.
     pub vars: Option<&'a [u8]>,
+    /// The prior state, where there is one; else nothing exists yet.
     pub state: Option<&'a [u8]>,
+    /// The lineage of the state where no prior one is given.
     pub lineage: &'a str,
 }
 
@@ -34,33 +39,38 @@ pub fn plan_text(
     state: Option<&[u8]>,
     providers: &[Box<dyn Provider + Sync>],
 ) -> Result<String, Refused>
-    ensures planned { IfOk result (λ text. IsPlanText (map (λ b. meaning b) providers.now) (the_texts config.now (option_map (λ s. s.now) vars.entry) (option_map (λ s. s.now) state.entry)) (string_bytes text)) }
-    ensures refused { IfErr result (Tells (AreRefusals (map (λ b. meaning b) providers.now) (the_texts config.now (option_map (λ s. s.now) vars.entry) (option_map (λ s. s.now) state.entry)))) }
+    ensures planned { IfOk result (λ text. IsPlanText (map meaning providers.now) (the_texts config.now (option_map (λ s. s.now) vars.entry) (option_map (λ s. s.now) state.entry)) (string_bytes text)) }
+    ensures refused { IfErr result (Tells (AreRefusals (map meaning providers.now) (the_texts config.now (option_map (λ s. s.now) vars.entry) (option_map (λ s. s.now) state.entry)))) }
 {
-    let given = Given {
+    let texts = InputTexts {
         config,
         vars,
         state,
         lineage: "",
     };
-    let plan = plan_of_texts(alloc, &given, providers)?;
+    let planned = plan_of_texts(alloc, &texts, providers)?;
+    let plan = &planned.plan;
     let text = text_of_plan(alloc, plan.actions.as_slice(), plan.late.as_slice())?;
     Ok(text)
 }
 
-/// The plan of a configuration beside a prior state, or beside the empty one of a lineage.
+/// The plan of a configuration beside a prior state, or beside the empty one of a lineage; or what is refused of the texts, in the
+/// order in which `plan_text` says it.
+///
+/// # Errors
+///
+/// As `plan_text`: `NoMemory` may be told in place of any answer.
 pub fn plan_of_texts(
     alloc: Global,
-    given: &Given<'_>,
+    texts: &InputTexts<'_>,
     providers: &[Box<dyn Provider + Sync>],
-) -> Result<Plan, Refused>
-    ensures planned { IfOk result (λ plan. IsPlanOf (map (λ b. meaning b) providers.now) (the_texts given.now.config.now (option_map (λ s. s.now) given.now.vars) (option_map (λ s. s.now) given.now.state)) given.now.lineage.now (plan_of plan)) }
-    ensures fits { IfOk result FitsTogether }
-    ensures served { IfOk result (λ plan. AreServed (map (λ b. meaning b) providers.now) (map action_of plan.actions.items)) }
+) -> Result<Planned, Refused>
+    ensures planned { IfOk result (λ plan. IsPlanOf (map meaning providers.now) (the_texts texts.now.config.now (option_map (λ s. s.now) texts.now.vars) (option_map (λ s. s.now) texts.now.state)) texts.now.lineage.now (plan_of plan)) }
+    ensures served { IfOk result (λ plan. AreServed (map meaning providers.now) (map action_of plan.actions.items)) }
     ensures valid { IfOk result (λ plan. IsValid (state_of plan.prior)) }
-    ensures refused { IfErr result (Tells (AreRefusals (map (λ b. meaning b) providers.now) (the_texts given.now.config.now (option_map (λ s. s.now) given.now.vars) (option_map (λ s. s.now) given.now.state)))) }
+    ensures refused { IfErr result (Tells (AreRefusals (map meaning providers.now) (the_texts texts.now.config.now (option_map (λ s. s.now) texts.now.vars) (option_map (λ s. s.now) texts.now.state)))) }
 {
-    match read_texts(alloc, given.config, given.vars, given.state, given.lineage) {
+    match read_texts(alloc, texts.config, texts.vars, texts.state, texts.lineage) {
         Ok(inputs) => {
             let Inputs {
                 config,

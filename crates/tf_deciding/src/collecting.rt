@@ -68,7 +68,7 @@ impl Decided {
         state: &State,
         providers: &[Box<dyn Provider + Sync>],
     ) -> Result<(), AllocError>
-        ensures { OnOk result (decided_of self.new ≡ with_block (map (λ b. meaning b) providers.now) (state_of state.now).resources resource.now.place
+        ensures { OnOk result (decided_of self.new ≡ with_block (map meaning providers.now) (state_of state.now).resources resource.now.place
             (block_at (label_of resource.now.label.now) resource.now.block.now) (S.environment resource.now.scope.now) (shape_of shape.now) (decided_of self.old)) }
     {
         let schema = schema_for(providers, resource.label.type_name.as_str());
@@ -93,7 +93,7 @@ impl Decided {
         orphan: &tf_state_data::Resource,
         providers: &[Box<dyn Provider + Sync>],
     ) -> Result<(), AllocError>
-        ensures { OnOk result (decided_of self.new ≡ with_orphan (map (λ b. meaning b) providers.now) place (resource_of orphan.now) (decided_of self.old)) }
+        ensures { OnOk result (decided_of self.new ≡ with_orphan (map meaning providers.now) place (resource_of orphan.now) (decided_of self.old)) }
     {
         let schema = schema_for(providers, orphan.label().type_name.as_str());
         let members = members(alloc, &[], orphan.records())?;

@@ -59,7 +59,7 @@ fn all_can_go(
     label: &Label,
     block: &Block,
 ) -> Result<bool, AllocError>
-    ensures { IfOk result (λ all. all ≡ all_can_go (map (λ b. meaning b) objects.now.providers.now) (state_of objects.now.state.now).resources
+    ensures { IfOk result (λ all. all ≡ all_can_go (map meaning objects.now.providers.now) (state_of objects.now.state.now).resources
         (shape_of shape.now) (block_at (label_of label.now) block.now)) }
 {
     let schema = schema_for(objects.providers, label.type_name.as_str());

@@ -33,7 +33,7 @@ pub fn decide_all(
 ) -> Result<Decided, AllocError>
     requires dependence { IsDependence (names_in declared.now.names.now) declared.now.dependence.now }
     requires numbered { numbered_in numbering.now ≡ numbered (names_in declared.now.names.now) (resources_in numbering.now) }
-    ensures { IfOk result (λ d. decided_of d ≡ decided (map (λ b. meaning b) stage.now.objects.providers.now) (state_of stage.now.objects.state.now).resources
+    ensures { IfOk result (λ d. decided_of d ≡ decided (map meaning stage.now.objects.providers.now) (state_of stage.now.objects.state.now).resources
         (entries_view declared.now.variables.now.entries) (names_in declared.now.names.now) (shapes_of stage.now.shapes.now) (standings_of kept.now) (numbered_in numbering.now) order.now) }
 {
     let mut decided = Decided {
@@ -66,7 +66,7 @@ fn add_place(
 ) -> Result<(), AllocError>
     requires dependence { IsDependence (names_in declared.now.names.now) declared.now.dependence.now }
     requires numbered { numbered_in numbering.now ≡ numbered (names_in declared.now.names.now) (resources_in numbering.now) }
-    ensures { OnOk result (decided_of decided.new ≡ with_numbered (map (λ b. meaning b) stage.now.objects.providers.now) (state_of stage.now.objects.state.now).resources
+    ensures { OnOk result (decided_of decided.new ≡ with_numbered (map meaning stage.now.objects.providers.now) (state_of stage.now.objects.state.now).resources
         (entries_view declared.now.variables.now.entries) (names_in declared.now.names.now) (shapes_of stage.now.shapes.now) (standings_of kept.now) place
         (slice_get (numbered_in numbering.now) place) (decided_of decided.old)) }
 {
@@ -93,7 +93,7 @@ fn add_named(
 ) -> Result<(), AllocError>
     requires dependence { IsDependence (names_in declared.now.names.now) declared.now.dependence.now }
     requires place { place < length (names_in declared.now.names.now) }
-    ensures { OnOk result (decided_of decided.new ≡ with_meant (map (λ b. meaning b) stage.now.objects.providers.now) (state_of stage.now.objects.state.now).resources
+    ensures { OnOk result (decided_of decided.new ≡ with_meant (map meaning stage.now.objects.providers.now) (state_of stage.now.objects.state.now).resources
         (entries_view declared.now.variables.now.entries) (names_in declared.now.names.now) (shapes_of stage.now.shapes.now) (standings_of kept.now) place
         (named_view named.entry).meant (decided_of decided.old)) }
 {

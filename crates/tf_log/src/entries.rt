@@ -20,7 +20,7 @@ pub fn split(
     providers: &[Box<dyn Provider + Sync>],
 ) -> Result<Vec<Vec<Entry>>, AllocError>
     ensures { IfOk result (λ lists. map (λ own. map entry_of own.items) lists.items
-        ≡ own_entries (map (λ b. meaning b) providers.now) (map entry_of entries.items)) }
+        ≡ own_entries (map meaning providers.now) (map entry_of entries.items)) }
 {
     let mut left = entries;
     let mut lists = Vec::with_capacity(alloc, providers.len())?;

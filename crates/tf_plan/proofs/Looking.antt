@@ -1,5 +1,5 @@
 -- Where the wanted names stand for the same, the same is planned.
-use Rattle.std.proofs.Common.{◌≡◌, ◌∙◌, ◌++◌, ℕ, true, Option, Some, None, Result, Ok, Err, IfOk, List, [], ◌∷◌, map, if◌then◌else◌, refl, sym, ap, subst, inl, inr}
+use Rattle.std.proofs.Common.{◌≡◌, ◌∙◌, ◌++◌, ℕ, Option, Some, None, Result, Ok, Err, IfOk, List, [], map, if◌then◌else◌, refl, sym, ap, subst, inl, inr}
 use Rattle.std.specs.List.{AllByRecursion}
 use Rattle.std.specs.Prelude.{fold, slice_get}
 use Rattle.std.specs.declared.alloc.AllocError.{AllocError}
@@ -8,7 +8,7 @@ use Rattle.tf_change.proofs.Locals.{instances_local}
 use Rattle.tf_config_data.specs.Config.{BlockView}
 use Rattle.tf_config_data.specs.Names.{NameView, Meant, a_local, a_block, block_refers, meant_at, refers_at, directly_before, places}
 use Rattle.tf_deciding.specs.Deciding.{DecidedView, version_of, with_block, with_members}
-use Rattle.tf_deciding.specs.Outcome.{OutcomeView, by_decision, member_outcome, removal_outcome}
+use Rattle.tf_deciding.specs.Outcome.{by_decision, member_outcome, removal_outcome}
 use Rattle.tf_deciding.specs.Stage.{block_members, deciding}
 use Rattle.tf_deciding.specs.Whole.{decided, nothing_decided, with_meant, with_numbered}
 use Rattle.tf_decision.specs.Decision.{decision}
@@ -33,7 +33,7 @@ use Rattle.tf_plan.specs.Outputs.{output_fault, output_refusal, output_refusals}
 use Rattle.tf_plan.specs.Planned.{IsPlanned, planned_in, planned_of}
 use Rattle.tf_plan.specs.Told.{instance_told}
 use Rattle.tf_plan.specs.Wanted.{IsWanted}
-use Rattle.tf_plan.specs.declared.deciding.Planned.{Planned}
+use Rattle.tf_plan.specs.declared.deciding.PlannedInstances.{PlannedInstances}
 use Rattle.tf_protocol.specs.Meaning.{Meaning, schema_in}
 use Rattle.tf_protocol.specs.Schema.{SchemaView}
 use Rattle.tf_plan_resources.specs.Numbering.{NumberedView, a_name, an_orphan, numbered}
@@ -106,7 +106,7 @@ module _ (variables : Entries) (names : List NameView) (kept standings : ℕ →
 
 -- what is planned where the wanted names stand for the very standings
 pub planned-is : (ms : List Meaning) (resources : List ResourceView) (variables : Entries) (names : List NameView) (outputs : expr.Entries) (shapes : ℕ → ShapeView) (order : List ℕ) (kept : ℕ → StandingView) (d : Dependence)
-    (result : Result Planned AllocError) → IsDependence names d → IsAcyclic d → AreInAddressOrder (numbered names resources) order
+    (result : Result PlannedInstances AllocError) → IsDependence names d → IsAcyclic d → AreInAddressOrder (numbered names resources) order
     → ((standings : ℕ → StandingView) → AreStandings (deciding ms resources shapes) variables names standings → (n : ℕ) → IsWanted names d outputs n → kept n ≡ standings n)
     → IfOk result (λ p. planned_of p ≡ planned_in ms resources variables names outputs shapes order kept) → IfOk result (λ p. IsPlanned ms resources variables names outputs shapes (planned_of p))
 planned-is ms resources variables names outputs shapes order kept d (Ok p) is acyclic sorted same made =

@@ -12,7 +12,7 @@ use Rattle.tf_environment.specs.Standing.{StandingView, AreStandings}
 use Rattle.tf_expand.specs.Expanding.{AreExpanded}
 use Rattle.tf_plan.specs.Outputs.{output_refusals}
 use Rattle.tf_plan.specs.Told.{instance_told}
-use Rattle.tf_plan.specs.declared.deciding.Planned.{Planned}
+use Rattle.tf_plan.specs.declared.deciding.PlannedInstances.{PlannedInstances}
 use Rattle.tf_protocol.specs.Meaning.{Meaning}
 use Rattle.tf_refusal.specs.Refusal.{Told, told}
 use Rattle.tf_plan_resources.specs.Numbering.{numbered}
@@ -56,5 +56,5 @@ pub record IsPlanned (ms : List Meaning) (resources : List ResourceView) (variab
   pub decided : planned_in ms resources variables names outputs shapes places standings ≡ planned
 
 -- without where it lies in memory
-abbrev pub planned_of : Planned → PlannedView
+abbrev pub planned_of : PlannedInstances → PlannedView
 planned_of p = record { actions = map action_of p.actions.items; refusals = map told p.refusals.items }

@@ -23,7 +23,7 @@ use tf_syntax::Expr;
 
 /// What is planned, and what is refused. Where anything is refused, nothing may be called.
 #[derive(Drop)]
-pub(crate) struct Planned {
+pub(crate) struct PlannedInstances {
     /// The actions of the instances that aren't refused, in address order.
     pub(crate) actions: Vec<Action>,
     /// All that is refused: instances in address order, then outputs in byte order of their names.
@@ -49,9 +49,9 @@ pub(crate) fn plan_instances(
     given: &Given,
     shapes: &[Shape],
     providers: &[Box<dyn Provider + Sync>],
-) -> Result<Planned, AllocError>
+) -> Result<PlannedInstances, AllocError>
     requires { IsGiven given.now }
-    ensures { IfOk result (λ planned. IsPlanned (map (λ b. meaning b) providers.now) (resources_given given.now) (variables_given given.now) (names_given given.now) (outputs_given given.now)
+    ensures { IfOk result (λ planned. IsPlanned (map meaning providers.now) (resources_given given.now) (variables_given given.now) (names_given given.now) (outputs_given given.now)
         (shapes_of shapes.now) (planned_of planned)) }
 {
     let kept = stage_standings(alloc, given, shapes, providers)?;
@@ -76,7 +76,7 @@ fn stage_standings(
 ) -> Result<Vec<Standing>, AllocError>
     requires { IsGiven given.now }
     ensures { IfOk result (λ kept. (standings : ℕ → StandingView)
-        → AreStandings (deciding (map (λ b. meaning b) providers.now) (resources_given given.now) (shapes_of shapes.now)) (variables_given given.now) (names_given given.now) standings
+        → AreStandings (deciding (map meaning providers.now) (resources_given given.now) (shapes_of shapes.now)) (variables_given given.now) (names_given given.now) standings
         → (n : ℕ) → IsWanted (names_given given.now) given.now.declared.now.dependence.now (outputs_given given.now) n → standings_of kept.items n ≡ standings n) }
 {
     let stage = Deciding {
@@ -98,9 +98,9 @@ fn plan_places(
     providers: &[Box<dyn Provider + Sync>],
     kept: &[Standing],
     places: &[usize],
-) -> Result<Planned, AllocError>
+) -> Result<PlannedInstances, AllocError>
     requires { IsGiven given.now }
-    ensures { IfOk result (λ planned. planned_of planned ≡ planned_in (map (λ b. meaning b) providers.now) (resources_given given.now) (variables_given given.now) (names_given given.now) (outputs_given given.now)
+    ensures { IfOk result (λ planned. planned_of planned ≡ planned_in (map meaning providers.now) (resources_given given.now) (variables_given given.now) (names_given given.now) (outputs_given given.now)
         (shapes_of shapes.now) places.now (standings_of kept.now)) }
 {
     let stage = Deciding {
@@ -114,5 +114,5 @@ fn plan_places(
     let Decided { actions, refusals } = decided;
     let mut refusals = refusals_of(alloc, refusals)?;
     add_outputs(alloc, &mut refusals, given.declared, kept, given.outputs)?;
-    Ok(Planned { actions, refusals })
+    Ok(PlannedInstances { actions, refusals })
 }

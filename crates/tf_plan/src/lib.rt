@@ -15,6 +15,6 @@ mod wanted;
 
 pub use planner::{MAX_ACTIONS, plan};
 pub use refused::Refused;
-pub use tf_plan_data::{Action, Plan, Step, address_text};
+pub use tf_plan_data::{Action, Plan, Planned, Step, address_text};
 pub use tf_plan_text::plan_text;
 pub use tf_precedence::Order;

@@ -1,13 +1,13 @@
 //! The planner.
 
 ghost use Rattle.std.specs.Prelude.{◌≡◌, ◌≤◌, ◌<◌, ◌+◌, ◌^◌, IfOk, IfErr, false, length, map, slice_index_or};
-ghost use Rattle.tf_plan_data.specs.Words.{a_name, action_of, AreApart, AreServed, config_of, entries_view, FitsTogether, IsAcyclic, IsDependence, names_in, names_of, needs_in, numbered_in, plan_of, shapes_of, state_of};
+ghost use Rattle.tf_plan_data.specs.Words.{a_name, action_of, AreApart, AreServed, config_of, entries_view, IsAcyclic, IsDependence, names_in, names_of, needs_in, numbered_in, plan_of, shapes_of, state_of};
 ghost use Rattle.tf_plan.specs.Given.{IsGiven, names_given, outputs_given, resources_given, variables_given};
 ghost use Rattle.tf_plan.specs.Plan.{IsPlan, IsPlannedFrom, max_actions};
 ghost use Rattle.tf_plan.specs.Planned.{AreInstances, IsPlanned, planned_of, unrefused};
 ghost use Rattle.tf_plan.specs.Refused.{AreRefused, AreRefusedIn, AreRefusedOf, AreRefusedOfSome, AreUnexpanded, Tells};
 
-use crate::deciding::{Given, Planned, plan_instances};
+use crate::deciding::{Given, PlannedInstances, plan_instances};
 use crate::faults::{alone, expansion_refusal, limit_refusal};
 use crate::ordering::{Ordered, order_actions};
 use crate::refused::Refused;
@@ -18,7 +18,7 @@ use tf_environment::{Declarations, Shape};
 use tf_expand::expand;
 use tf_graph::MAX_NODES;
 use tf_names::{Dependence, Names};
-use tf_plan_data::{Action, Plan};
+use tf_plan_data::{Action, Plan, Planned};
 use tf_plan_resources::Numbering;
 use tf_precedence::Order;
 use tf_protocol::Provider;
@@ -48,15 +48,14 @@ pub fn plan(
     variables: BTreeMap<String, Value>,
     dependence: Dependence,
     providers: &[Box<dyn Provider + Sync>],
-) -> Result<Plan, Refused>
+) -> Result<Planned, Refused>
     requires dependence { IsDependence (names_of (config_of config)) dependence }
     requires acyclic { IsAcyclic dependence }
     requires few { length (names_of (config_of config)) + length (state_of prior).resources ≤ MAX_NODES }
     requires serial { (state_of prior).serial + 1 < 2 ^ 32 }
-    ensures planned { IfOk result (λ p. IsPlan (map (λ b. meaning b) providers.now) (config_of config) (entries_view variables.entries) (state_of prior) (plan_of p)) }
-    ensures fits { IfOk result FitsTogether }
-    ensures served { IfOk result (λ p. AreServed (map (λ b. meaning b) providers.now) (map action_of p.actions.items)) }
-    ensures refused { IfErr result (Tells (AreRefused (map (λ b. meaning b) providers.now) (config_of config) (entries_view variables.entries) (state_of prior))) }
+    ensures planned { IfOk result (λ p. IsPlan (map meaning providers.now) (config_of config) (entries_view variables.entries) (state_of prior) (plan_of p)) }
+    ensures served { IfOk result (λ p. AreServed (map meaning providers.now) (map action_of p.actions.items)) }
+    ensures refused { IfErr result (Tells (AreRefused (map meaning providers.now) (config_of config) (entries_view variables.entries) (state_of prior))) }
 {
     blocks_are_apart(&config);
     let parts = plan_parts(alloc, &prior, &config, &variables, &dependence, providers)?;
@@ -66,15 +65,17 @@ pub fn plan(
         late,
         order,
     } = parts;
-    Ok(Plan {
-        prior,
-        config,
-        variables,
-        dependence,
-        shapes,
-        late,
-        actions,
-        order,
+    Ok(Planned {
+        plan: Plan {
+            prior,
+            config,
+            variables,
+            dependence,
+            shapes,
+            late,
+            actions,
+            order,
+        },
     })
 }
 
@@ -106,9 +107,9 @@ fn plan_parts<'a>(
     requires dependence { IsDependence (names_of (config_of config.now)) dependence.now }
     requires acyclic { IsAcyclic dependence.now }
     requires few { length (names_of (config_of config.now)) + length (state_of prior.now).resources ≤ MAX_NODES }
-    ensures planned { IfOk result (λ parts. IsPlannedFrom (map (λ b. meaning b) providers.now) (state_of prior.now).resources (entries_view variables.now.entries) (names_of (config_of config.now)) (config_of config.now).outputs
+    ensures planned { IfOk result (λ parts. IsPlannedFrom (map meaning providers.now) (state_of prior.now).resources (entries_view variables.now.entries) (names_of (config_of config.now)) (config_of config.now).outputs
         (needs_in dependence.now) (shapes_of parts.shapes.items) (map action_of parts.actions.items) (λ n. slice_index_or parts.late.items n false) parts.order) }
-    ensures refused { IfErr result (Tells (AreRefused (map (λ b. meaning b) providers.now) (config_of config.now) (entries_view variables.now.entries) (state_of prior.now))) }
+    ensures refused { IfErr result (Tells (AreRefused (map meaning providers.now) (config_of config.now) (entries_view variables.now.entries) (state_of prior.now))) }
 {
     let names = Names::new(alloc, config)?;
     let numbering = Numbering::new(alloc, &names, prior)?;
@@ -134,9 +135,9 @@ fn plan_given(
 ) -> Result<PlannedParts, Refused>
     requires given { IsGiven given.now }
     requires few { length (numbered_in given.now.numbering.now) ≤ MAX_NODES }
-    ensures planned { IfOk result (λ parts. IsPlannedFrom (map (λ b. meaning b) providers.now) (resources_given given.now) (variables_given given.now) (names_given given.now) (outputs_given given.now)
+    ensures planned { IfOk result (λ parts. IsPlannedFrom (map meaning providers.now) (resources_given given.now) (variables_given given.now) (names_given given.now) (outputs_given given.now)
         (needs_in given.now.declared.now.dependence.now) (shapes_of parts.shapes.items) (map action_of parts.actions.items) (λ n. slice_index_or parts.late.items n false) parts.order) }
-    ensures refused { IfErr result (Tells (AreRefusedOf (map (λ b. meaning b) providers.now) (resources_given given.now) (variables_given given.now) (names_given given.now) (outputs_given given.now))) }
+    ensures refused { IfErr result (Tells (AreRefusedOf (map meaning providers.now) (resources_given given.now) (variables_given given.now) (names_given given.now) (outputs_given given.now))) }
 {
     let shapes = expanded(alloc, given.declared)?;
     let actions = decided_actions(alloc, given, shapes.as_slice(), providers)?;
@@ -174,10 +175,10 @@ fn decided_actions(
     providers: &[Box<dyn Provider + Sync>],
 ) -> Result<Vec<Action>, Refused>
     requires { IsGiven given.now }
-    ensures planned { IfOk result (λ actions. IsPlanned (map (λ b. meaning b) providers.now) (resources_given given.now) (variables_given given.now) (names_given given.now) (outputs_given given.now)
+    ensures planned { IfOk result (λ actions. IsPlanned (map meaning providers.now) (resources_given given.now) (variables_given given.now) (names_given given.now) (outputs_given given.now)
         (shapes_of shapes.now) (unrefused (map action_of actions.items))) }
     ensures few { IfOk result (λ actions. length actions.items ≤ max_actions) }
-    ensures refused { IfErr result (Tells (AreRefusedOfSome (IsPlanned (map (λ b. meaning b) providers.now) (resources_given given.now) (variables_given given.now) (names_given given.now) (outputs_given given.now)
+    ensures refused { IfErr result (Tells (AreRefusedOfSome (IsPlanned (map meaning providers.now) (resources_given given.now) (variables_given given.now) (names_given given.now) (outputs_given given.now)
         (shapes_of shapes.now)))) }
 {
     let planned = plan_instances(alloc, given, shapes, providers)?;
@@ -185,12 +186,12 @@ fn decided_actions(
 }
 
 /// The actions, where nothing is refused and they aren't too many; else what is refused.
-fn actions_of(alloc: Global, planned: Planned) -> Result<Vec<Action>, Refused>
+fn actions_of(alloc: Global, planned: PlannedInstances) -> Result<Vec<Action>, Refused>
     ensures fine { IfOk result (λ actions. planned_of planned ≡ unrefused (map action_of actions.items)) }
     ensures few { IfOk result (λ actions. length actions.items ≤ max_actions) }
     ensures refused { IfErr result (Tells (AreRefusedIn (planned_of planned))) }
 {
-    let Planned { actions, refusals } = planned;
+    let PlannedInstances { actions, refusals } = planned;
     if !refusals.is_empty() {
         return Err(Refused::These(refusals));
     }

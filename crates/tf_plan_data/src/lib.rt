@@ -4,9 +4,11 @@
 mod action;
 mod addresses;
 mod plan;
+mod planned;
 mod step;
 
 pub use action::Action;
 pub use addresses::address_text;
 pub use plan::Plan;
+pub use planned::Planned;
 pub use step::Step;

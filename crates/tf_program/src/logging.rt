@@ -45,7 +45,7 @@ pub fn settle<R: Files + AllocGlobal, T: Threads + Wait + Sync, O: Write, E: Wri
 ) -> Result<(), ExitCode>
 where
     R::File: LogFile,
-    ensures from { IfOk result (λ _. GoesOnFrom (map (λ b. meaning b) replayed.now) past.now given.old given.new) }
+    ensures from { IfOk result (λ _. GoesOnFrom (map meaning replayed.now) past.now given.old given.new) }
     ensures into { IfOk result (λ _. IsLookedInto past.now given.old) }
 {
     match look_back(threads, rt.alloc(), place, given, past, replayed, err)? {
@@ -72,7 +72,7 @@ pub fn foresee<T: Threads + Wait + Sync, E: Write>(
     replayed: &[Box<dyn Provider + Sync>],
     err: &mut E,
 ) -> Result<(), ExitCode>
-    ensures from { IfOk result (λ _. GoesOnFrom (map (λ b. meaning b) replayed.now) past.now given.old given.new) }
+    ensures from { IfOk result (λ _. GoesOnFrom (map meaning replayed.now) past.now given.old given.new) }
     ensures status { IfErr result IsFailure }
 {
     match look_back(threads, alloc, place, given, past, replayed, err)? {
@@ -135,7 +135,7 @@ pub fn carry_out_logged<
 ) -> ExitCode
 where
     R::File: LogFile,
-    ensures { EndsLogged (map (λ b. meaning b) providers.now) given.now result (O.contents out.old) (O.contents out.new) (E.contents err.old) }
+    ensures { EndsLogged (map meaning providers.now) given.now result (O.contents out.old) (O.contents out.new) (E.contents err.old) }
 {
     if let Err(status) = start(rt, place, log, given, err) {
         return status;

@@ -38,7 +38,7 @@ pub fn look_back<T: Threads + Wait + Sync, E: Write>(
     replayed: &[Box<dyn Provider + Sync>],
     err: &mut E,
 ) -> Result<Standing, ExitCode>
-    ensures looked { IfOk result (IsLookedAt (map (λ b. meaning b) replayed.now) past.now given.now) }
+    ensures looked { IfOk result (IsLookedAt (map meaning replayed.now) past.now given.now) }
     ensures status { IfErr result IsFailure }
 {
     let state = match recover(threads, alloc, &past.header, past.answers, replayed) {

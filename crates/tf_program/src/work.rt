@@ -26,7 +26,7 @@ pub fn print_plan<O: Write, E: Write>(
     out: &mut O,
     err: &mut E,
 ) -> u8
-    ensures { (answer : _) × IsPlanAnswer (map (λ b. meaning b) providers.now) given.now answer × EndsPlan answer result (O.contents out.old) (O.contents out.new) (E.contents err.old) (E.contents err.new) }
+    ensures { (answer : _) × IsPlanAnswer (map meaning providers.now) given.now answer × EndsPlan answer result (O.contents out.old) (O.contents out.new) (E.contents err.old) (E.contents err.new) }
 {
     match plan_text(
         alloc,
@@ -52,7 +52,7 @@ pub fn print_graph<O: Write, E: Write>(
     out: &mut O,
     err: &mut E,
 ) -> u8
-    ensures { (answer : _) × IsGraphAnswer (map (λ b. meaning b) providers.now) given.now answer × EndsPlan answer result (O.contents out.old) (O.contents out.new) (E.contents err.old) (E.contents err.new) }
+    ensures { (answer : _) × IsGraphAnswer (map meaning providers.now) given.now answer × EndsPlan answer result (O.contents out.old) (O.contents out.new) (E.contents err.old) (E.contents err.new) }
 {
     match graph_text(
         alloc,
@@ -91,7 +91,7 @@ pub fn carry_out<R: Files + AllocGlobal, T: Threads + Wait + Sync, O: Write, E: 
     out: &mut O,
     err: &mut E,
 ) -> u8
-    ensures { (answer : _) × IsAnswer (map (λ b. meaning b) providers.now) given.now answer × EndsApply answer result (O.contents out.old) (O.contents out.new) (E.contents err.old) (E.contents err.new) }
+    ensures { (answer : _) × IsAnswer (map meaning providers.now) given.now answer × EndsApply answer result (O.contents out.old) (O.contents out.new) (E.contents err.old) (E.contents err.new) }
 {
     let answer = apply_text(
         threads,

@@ -21,8 +21,8 @@ pub fn recover<R: Threads + Wait + Sync>(
     answers: usize,
     providers: &[Box<dyn Provider + Sync>],
 ) -> Result<Recovered, Unrecovered>
-    ensures recovered { IfOk result (λ recovered. IsRecovered (map (λ b. meaning b) providers.now) header.now answers (option_map string_bytes recovered.state)) }
-    ensures unrecovered { IfErr result (IsUnrecovered (map (λ b. meaning b) providers.now) header.now answers) }
+    ensures recovered { IfOk result (λ recovered. IsRecovered (map meaning providers.now) header.now answers (option_map string_bytes recovered.state)) }
+    ensures unrecovered { IfErr result (IsUnrecovered (map meaning providers.now) header.now answers) }
 {
     let answer = apply_text(
         rt,

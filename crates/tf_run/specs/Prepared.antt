@@ -1,6 +1,5 @@
 -- What a walk of many workers begins with.
 use Rattle.std.specs.Prelude.{◌≡◌, All, None, replicate}
-use Rattle.tf_walk_workers.specs.declared.naming.Naming.{Ghosts}
 use Rattle.tf_names.specs.Table.{names_in}
 use Rattle.tf_plan_data.specs.Plan.{plan_names, plan_of}
 use Rattle.tf_plan_data.specs.declared.plan.Plan.{Plan}
@@ -9,7 +8,7 @@ use Rattle.tf_run.specs.declared.prepared.Prepared.{Prepared}
 
 -- The names are the configuration's, the claims and the journal are over the plan's order, all seats are at the claims, each
 -- action has a cell and a place in the list, of which nothing is filled, and there is room for the report.
-pub record IsPrepared {N : Type 0} {walk : Ghosts N} (plan : Plan) (p : Prepared N walk) : Type 0 where
+pub record IsPrepared {N : Type 0} (plan : Plan) (p : Prepared N) : Type 0 where
   pub names : names_in p.names ≡ plan_names (plan_of plan)
   pub claims : p.claims.graph ≡ plan.order
   pub desk : p.team.desk.seat.table ≡ p.claims.table

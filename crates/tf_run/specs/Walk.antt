@@ -1,7 +1,5 @@
 -- What the workers of a walk share.
 use Rattle.std.specs.Prelude.{◌≡◌, ℕ, List}
-use Rattle.tf_claim.specs.Views.{edges_from, went_all}
-use Rattle.tf_claim.specs.declared.seat.View.{View}
 use Rattle.tf_config_data.specs.Names.{NameView}
 use Rattle.tf_graph.specs.Digraph.{Digraph}
 use Rattle.tf_plan_data.specs.Plan.{PlanView}
@@ -13,7 +11,3 @@ use Rattle.tf_walk_workers.specs.Shared.{IsOfWalk}
 pub record IsOneWalk (plan : PlanView) (ms : List Meaning) (p : Plan) (names : List NameView) (cells : ℕ) (claimed : Digraph) (providers : List Meaning) : Type 0 where
   pub read : IsOfWalk plan ms p names cells providers
   pub claims : claimed ≡ p.order
-
--- the last that a seat did was to let go of the edges out of an action
-abbrev pub HasLetGoFrom : Digraph → ℕ → View → Type 0
-HasLetGoFrom g n v = (before : View) × (v ≡ went_all (edges_from g n) before)

@@ -31,14 +31,14 @@ pub(crate) fn conclude<N: Naming, R: Wait>(
     journal: Journal,
 ) -> Walked
     requires fits { FitsTogether plan.now }
-    requires meanings { N.meanings ≡ map (λ b. meaning b) providers.now }
+    requires meanings { N.meanings ≡ map meaning providers.now }
     requires plan { N.plan ≡ plan_of plan.now }
     requires names { names_in names.now ≡ plan_names (plan_of plan.now) }
     requires furnished { IsFurnished plan.now furnished }
     requires cells { cells ≡ plan.now.order.nodes }
     requires results { results.items ≡ replicate plan.now.order.nodes None }
     requires journal { journal.graph ≡ plan.now.order }
-    ensures run { IsRun (map (λ b. meaning b) providers.now) (plan_of plan.now) result }
+    ensures run { IsRun (map meaning providers.now) (plan_of plan.now) result }
     ensures journal { (report_of result).journal.graph ≡ plan.now.order }
 {
     cells.take_out(&mut results);

@@ -4,9 +4,9 @@
 
 mod board;
 mod bound;
-mod countdown;
 mod ending;
 mod fitting;
+mod hinting;
 mod many;
 mod prepared;
 mod progress;

@@ -18,7 +18,7 @@ use std::marker::Brand;
 use std::sync::{Mutex, Wait};
 use std::thread::Threads;
 use tf_outcome::Stop;
-use tf_plan_data::Plan;
+use tf_plan_data::{Plan, Planned};
 use tf_provider::Provider;
 use tf_refusal::Refusal;
 use tf_walk_report::Walked;
@@ -29,9 +29,8 @@ pub const MOST_WORKERS: usize = 64;
 
 /// Carries out a plan by so many workers, of which the calling thread is one; a worker that can't be started is done
 /// without. Every action is ended once, after all that stand before it; once `stop` is set, none that hasn't begun is called.
-/// The parts of the plan fit together, and some provider in the list has the type of each action. Refused, before the first
-/// call, only where `workers` isn't 1 to 64 or there is no memory for the walk; after the first call, no memory is taken for
-/// what a reply says. It may wait.
+/// Some provider in the list has the type of each action. Refused, before the first call, only where `workers` isn't 1 to 64
+/// or there is no memory for the walk; after the first call, no memory is taken for what a reply says. It may wait.
 ///
 /// # Errors
 ///
@@ -39,14 +38,13 @@ pub const MOST_WORKERS: usize = 64;
 pub fn run<R: Threads + Wait + Sync>(
     rt: &R,
     alloc: Global,
-    plan: &Plan,
+    plan: &Planned,
     providers: &[Box<dyn Provider + Sync>],
     workers: usize,
     stop: &Stop,
 ) -> Result<Walked, Refusal>
-    requires fits { FitsTogether plan.now }
-    requires served { AreServed (map (λ b. meaning b) providers.now) (map action_of plan.now.actions.items) }
-    ensures walked { IfOk result (IsRun (map (λ b. meaning b) providers.now) (plan_of plan.now)) }
+    requires served { AreServed (map meaning providers.now) (map action_of plan.now.actions.items) }
+    ensures walked { IfOk result (IsRun (map meaning providers.now) (plan_of plan.now)) }
     ensures journal { IfOk result (λ walked. (report_of walked).journal.graph ≡ plan.now.order) }
     ensures refused { MatchResult result
         (λ _. are_workers workers ≡ true)
@@ -67,14 +65,13 @@ pub fn run<R: Threads + Wait + Sync>(
 pub fn run_and_close<R: Threads + Wait + Sync>(
     rt: &R,
     alloc: Global,
-    plan: &Plan,
+    plan: &Planned,
     providers: &[Box<dyn Provider + Sync>],
     workers: usize,
     stop: &Stop,
 ) -> Result<(Walked, bool), Refusal>
-    requires fits { FitsTogether plan.now }
-    requires served { AreServed (map (λ b. meaning b) providers.now) (map action_of plan.now.actions.items) }
-    ensures walked { IfOk result (λ ended. IsRun (map (λ b. meaning b) providers.now) (plan_of plan.now) ended.0) }
+    requires served { AreServed (map meaning providers.now) (map action_of plan.now.actions.items) }
+    ensures walked { IfOk result (λ ended. IsRun (map meaning providers.now) (plan_of plan.now) ended.0) }
     ensures journal { IfOk result (λ ended. (report_of ended.0).journal.graph ≡ plan.now.order) }
     ensures refused { MatchResult result
         (λ _. are_workers workers ≡ true)
@@ -83,7 +80,7 @@ pub fn run_and_close<R: Threads + Wait + Sync>(
     if !are_workers(workers) {
         return Err(Refusal::Workers);
     }
-    match run_as::<Brand, R>(rt, alloc, plan, providers, workers, stop) {
+    match run_as::<Brand, R>(rt, alloc, &plan.plan, providers, workers, stop) {
         Ok(ended) => Ok(ended),
         Err(AllocError) => Err(Refusal::OutOfMemory),
     }
@@ -106,10 +103,10 @@ fn run_as<N: Naming + Send + Sync, R: Threads + Wait + Sync>(
     stop: &Stop,
 ) -> Result<(Walked, bool), AllocError>
     requires fits { FitsTogether plan.now }
-    requires meanings { N.meanings ≡ map (λ b. meaning b) providers.now }
+    requires meanings { N.meanings ≡ map meaning providers.now }
     requires plan { N.plan ≡ plan_of plan.now }
-    requires served { AreServed (map (λ b. meaning b) providers.now) (map action_of plan.now.actions.items) }
-    ensures walked { IfOk result (λ ended. IsRun (map (λ b. meaning b) providers.now) (plan_of plan.now) ended.0) }
+    requires served { AreServed (map meaning providers.now) (map action_of plan.now.actions.items) }
+    ensures walked { IfOk result (λ ended. IsRun (map meaning providers.now) (plan_of plan.now) ended.0) }
     ensures journal { IfOk result (λ ended. (report_of ended.0).journal.graph ≡ plan.now.order) }
 {
     let prepared = prepare::<N>(alloc, plan, workers)?;
@@ -127,17 +124,16 @@ fn carry_out<N: Naming + Send + Sync, R: Threads + Wait + Sync>(
     prepared: Prepared<'_, N>,
 ) -> (Walked, bool)
     requires fits { FitsTogether plan.now }
-    requires meanings { N.meanings ≡ map (λ b. meaning b) providers.now }
+    requires meanings { N.meanings ≡ map meaning providers.now }
     requires plan { N.plan ≡ plan_of plan.now }
-    requires served { AreServed (map (λ b. meaning b) providers.now) (map action_of plan.now.actions.items) }
+    requires served { AreServed (map meaning providers.now) (map action_of plan.now.actions.items) }
     requires prepared { IsPrepared plan.now prepared }
-    ensures walked { IsRun (map (λ b. meaning b) providers.now) (plan_of plan.now) result.0 }
+    ensures walked { IsRun (map meaning providers.now) (plan_of plan.now) result.0 }
     ensures journal { (report_of result.0).journal.graph ≡ plan.now.order }
 {
     let Prepared {
         names,
         claims,
-        countdown,
         team: Team {
             desk,
             others,
@@ -160,7 +156,6 @@ fn carry_out<N: Naming + Send + Sync, R: Threads + Wait + Sync>(
         claims: &claims,
         journal: &journal,
         thieves: thieves.as_slice(),
-        countdown: &countdown,
         progress: &progress,
     };
     let seat = share_out(rt, &walk, &ground, providers, desk, others);

@@ -7,7 +7,7 @@ ghost use Rattle.tf_run.specs.Prepared.{IsPrepared};
 
 use crate::board::Board;
 use crate::bound::InPlan;
-use crate::countdown::Countdown;
+use crate::hinting::Hinting;
 use crate::walk::Desk;
 use std::alloc::{AllocError, Global};
 use tf_claim::{Claims, Seat};
@@ -17,12 +17,11 @@ use tf_provider::Journal;
 use tf_walk_report::{Furnished, furnish};
 use tf_walk_workers::{Hints, Naming, Thief};
 
-/// All that a walk needs memory for: the names of the plan's configuration, the claims on its actions, how many actions each
-/// of them waits for, a desk for each worker, the journal, the board, and all that the report needs.
+/// All that a walk needs memory for: the names of the plan's configuration, the claims on its actions, a desk for each worker, the
+/// journal, the board, and all that the report needs.
 pub(crate) struct Prepared<'p, N: Naming> {
     pub names: Names<'p>,
     pub claims: Claims,
-    pub countdown: Countdown<N>,
     pub team: Team<N>,
     pub journal: Journal,
     pub board: Board<N>,
@@ -55,7 +54,6 @@ pub(crate) fn prepare<'p, N: Naming>(
     let order = plan.order.graph();
     let names = Names::new(alloc, &plan.config)?;
     let (claims, seat) = Claims::new(alloc, order)?;
-    let countdown = Countdown::new(alloc, order)?;
     let team = team_of(alloc, &claims, seat, workers.min(order.nodes()))?;
     let journal = Journal::with_room(alloc, order)?;
     let board = Board::new(alloc, order.nodes())?;
@@ -63,7 +61,6 @@ pub(crate) fn prepare<'p, N: Naming>(
         Ok(furnished) => Ok(Prepared {
             names,
             claims,
-            countdown,
             team,
             journal,
             board,
@@ -115,5 +112,14 @@ fn desk_of<N: Naming>(
     let hints = Hints::new(alloc, HINTS)?;
     let place = thieves.len();
     thieves.push(hints.thief()?)?;
-    Ok(Desk { seat, hints, place })
+    let hinting = Hinting {
+        hints,
+        free: 0,
+        is_lost: false,
+    };
+    Ok(Desk {
+        seat,
+        hinting,
+        place,
+    })
 }

@@ -61,7 +61,7 @@ impl Progress {
 
     /// Tells that one more action has ended, and that so many may be done now that waited for it. The worker that tells it
     /// takes one of those itself; for each other one a worker is woken.
-    pub fn tell_end(&self, free: usize) {
+    pub fn tell_end(&self, free: u64) {
         self.ended.fetch_add(1, Ordering::SeqCst);
         if free > 1 {
             self.tell_news(free - 1);
@@ -69,13 +69,13 @@ impl Progress {
     }
 
     /// Tells that there is news for so many workers, and wakes so many of those that wait.
-    pub fn tell_news(&self, workers: usize) {
+    pub fn tell_news(&self, workers: u64) {
         self.news.fetch_add(1, Ordering::SeqCst);
         let waiting = self.waiting.load(Ordering::SeqCst);
         if waiting == 0 {
             return;
         }
-        if waiting <= workers as u64 {
+        if waiting <= workers {
             self.news.wake_all();
             return;
         }

@@ -24,7 +24,7 @@ pub(crate) fn share_out<N: Naming + Send + Sync, B: Ground<N> + Sync, R: Threads
     desk: Desk<N>,
     others: Vec<Desk<N>>,
 ) -> Seat
-    requires walk { IsOneWalk N.plan N.meanings (B.planned ground.now) (B.named ground.now) (B.count ground.now) walk.now.claims.now.graph (map (λ b. meaning b) providers.now) }
+    requires walk { IsOneWalk N.plan N.meanings (B.planned ground.now) (B.named ground.now) (B.count ground.now) walk.now.claims.now.graph (map meaning providers.now) }
     requires desk { desk.seat.table ≡ walk.now.claims.now.table }
     requires others { All (λ desk. desk.seat.table ≡ walk.now.claims.now.table) others.items }
     ensures { result.table ≡ walk.now.claims.now.table }
@@ -33,7 +33,7 @@ pub(crate) fn share_out<N: Naming + Send + Sync, B: Ground<N> + Sync, R: Threads
         rt,
         walk.claims,
         &|desk: Desk<N>| -> Seat
-            requires walk { IsOneWalk N.plan N.meanings (B.planned ground.now) (B.named ground.now) (B.count ground.now) walk.now.claims.now.graph (map (λ b. meaning b) providers.now) }
+            requires walk { IsOneWalk N.plan N.meanings (B.planned ground.now) (B.named ground.now) (B.count ground.now) walk.now.claims.now.graph (map meaning providers.now) }
             requires desk { desk.seat.table ≡ walk.now.claims.now.table }
             ensures { result.table ≡ walk.entry.now.claims.now.table }
         { work(rt, walk, ground, providers, desk) },

@@ -3,7 +3,7 @@
 ghost use Rattle.std.specs.Prelude.{◌≡◌, ℕ, List};
 
 use crate::bound::InPlan;
-use crate::countdown::Countdown;
+use crate::hinting::Hinting;
 use crate::progress::Progress;
 use std::alloc::Global;
 use std::sync::Mutex;
@@ -11,13 +11,13 @@ use tf_claim::{Claims, Seat};
 use tf_names::Names;
 use tf_outcome::Stop;
 use tf_plan_data::Plan;
-use tf_walk_workers::{Cells, Hints, Log, Naming, Thief};
+use tf_walk_workers::{Cells, Log, Naming, Thief};
 
 /// What one worker has of its own: its seat at the claims, its hints, and the place of its own thief in the list of all.
 #[derive(Drop)]
 pub(crate) struct Desk<N: Naming> {
     pub seat: Seat,
-    pub hints: Hints<InPlan<N>>,
+    pub hinting: Hinting<N>,
     pub place: usize,
 }
 
@@ -29,7 +29,6 @@ pub(crate) struct Walk<'a, N: Naming> {
     pub claims: &'a Claims,
     pub journal: &'a Mutex<Log<N>>,
     pub thieves: &'a [Thief<InPlan<N>>],
-    pub countdown: &'a Countdown<N>,
     pub progress: &'a Progress,
 }
 

@@ -2,14 +2,14 @@
 
 ghost use Rattle.std.specs.Prelude.{◌≡◌, ◌<◌, List, map};
 ghost use Rattle.tf_run.specs.Post.{IsPost};
-ghost use Rattle.tf_run.specs.Walk.{HasLetGoFrom, IsOneWalk};
+ghost use Rattle.tf_run.specs.Walk.{IsOneWalk};
 
 use crate::bound::InPlan;
 use crate::walk::{Desk, Ground, Walk};
 use std::sync::Wait;
 use tf_claim::Seat;
 use tf_provider::Provider;
-use tf_walk_workers::{Hints, Memo, Naming, Thief, Workshop};
+use tf_walk_workers::{Memo, Naming, Thief, Workshop};
 
 /// Ends actions, one after another, until all actions have ended. Where there is nothing to do it waits for news.
 pub(crate) fn work<N: Naming, B: Ground<N>, R: Wait>(
@@ -19,7 +19,7 @@ pub(crate) fn work<N: Naming, B: Ground<N>, R: Wait>(
     providers: &[Box<dyn Provider + Sync>],
     desk: Desk<N>,
 ) -> Seat
-    requires walk { IsOneWalk N.plan N.meanings (B.planned ground.now) (B.named ground.now) (B.count ground.now) walk.now.claims.now.graph (map (λ b. meaning b) providers.now) }
+    requires walk { IsOneWalk N.plan N.meanings (B.planned ground.now) (B.named ground.now) (B.count ground.now) walk.now.claims.now.graph (map meaning providers.now) }
     requires seat { desk.seat.table ≡ walk.now.claims.now.table }
     ensures { result.table ≡ walk.now.claims.now.table }
 {
@@ -41,11 +41,11 @@ pub(crate) fn work<N: Naming, B: Ground<N>, R: Wait>(
             walk.progress.wait_for_news(rt, news);
         }
     }
-    walk.progress.tell_news(walk.thieves.len());
+    walk.progress.tell_news(walk.thieves.len() as u64);
     let Post { desk, memo: _ } = post;
     let Desk {
         seat,
-        hints: _,
+        hinting: _,
         place: _,
     } = desk;
     seat
@@ -70,7 +70,7 @@ impl<'a, N: Naming, B: Ground<N>, R: Wait> Worker<'a, '_, N, B, R> {
     /// Ends an action that may be claimed, if there is one: by a hint of its own, or else the first in the list that no
     /// worker has looked at, or else by a hint of another worker.
     fn go_on(&self, providers: &[Box<dyn Provider + Sync>], post: &mut Post<'a, N>) -> bool
-        requires walk { IsOneWalk N.plan N.meanings (B.planned self.now.ground.now) (B.named self.now.ground.now) (B.count self.now.ground.now) self.now.walk.now.claims.now.graph (map (λ b. meaning b) providers.now) }
+        requires walk { IsOneWalk N.plan N.meanings (B.planned self.now.ground.now) (B.named self.now.ground.now) (B.count self.now.ground.now) self.now.walk.now.claims.now.graph (map meaning providers.now) }
         requires post { IsPost N.meanings N.plan (B.planned self.now.ground.now) (B.named self.now.ground.now) self.now.walk.now.claims.now post.old }
         ensures { IsPost N.meanings N.plan (B.planned self.now.ground.now) (B.named self.now.ground.now) self.now.walk.now.claims.now post.new }
     {
@@ -81,12 +81,12 @@ impl<'a, N: Naming, B: Ground<N>, R: Wait> Worker<'a, '_, N, B, R> {
 
     /// Ends an action by a hint of the worker's own. Hints at actions that can't be claimed are forgotten.
     fn follow_own(&self, providers: &[Box<dyn Provider + Sync>], post: &mut Post<'a, N>) -> bool
-        requires walk { IsOneWalk N.plan N.meanings (B.planned self.now.ground.now) (B.named self.now.ground.now) (B.count self.now.ground.now) self.now.walk.now.claims.now.graph (map (λ b. meaning b) providers.now) }
+        requires walk { IsOneWalk N.plan N.meanings (B.planned self.now.ground.now) (B.named self.now.ground.now) (B.count self.now.ground.now) self.now.walk.now.claims.now.graph (map meaning providers.now) }
         requires post { IsPost N.meanings N.plan (B.planned self.now.ground.now) (B.named self.now.ground.now) self.now.walk.now.claims.now post.old }
         ensures { IsPost N.meanings N.plan (B.planned self.now.ground.now) (B.named self.now.ground.now) self.now.walk.now.claims.now post.new }
     {
         for _ in self.rt.forever() {
-            let Some(hint) = post.desk.hints.pop() else {
+            let Some(hint) = post.desk.hinting.hints.pop() else {
                 return false;
             };
             if self.end_if_free(providers, post, hint) {
@@ -98,7 +98,7 @@ impl<'a, N: Naming, B: Ground<N>, R: Wait> Worker<'a, '_, N, B, R> {
 
     /// Ends an action by a hint that it steals, of the worker behind it first.
     fn follow_others(&self, providers: &[Box<dyn Provider + Sync>], post: &mut Post<'a, N>) -> bool
-        requires walk { IsOneWalk N.plan N.meanings (B.planned self.now.ground.now) (B.named self.now.ground.now) (B.count self.now.ground.now) self.now.walk.now.claims.now.graph (map (λ b. meaning b) providers.now) }
+        requires walk { IsOneWalk N.plan N.meanings (B.planned self.now.ground.now) (B.named self.now.ground.now) (B.count self.now.ground.now) self.now.walk.now.claims.now.graph (map meaning providers.now) }
         requires post { IsPost N.meanings N.plan (B.planned self.now.ground.now) (B.named self.now.ground.now) self.now.walk.now.claims.now post.old }
         ensures { IsPost N.meanings N.plan (B.planned self.now.ground.now) (B.named self.now.ground.now) self.now.walk.now.claims.now post.new }
     {
@@ -114,7 +114,7 @@ impl<'a, N: Naming, B: Ground<N>, R: Wait> Worker<'a, '_, N, B, R> {
         post: &mut Post<'a, N>,
         thieves: &[Thief<InPlan<N>>],
     ) -> bool
-        requires walk { IsOneWalk N.plan N.meanings (B.planned self.now.ground.now) (B.named self.now.ground.now) (B.count self.now.ground.now) self.now.walk.now.claims.now.graph (map (λ b. meaning b) providers.now) }
+        requires walk { IsOneWalk N.plan N.meanings (B.planned self.now.ground.now) (B.named self.now.ground.now) (B.count self.now.ground.now) self.now.walk.now.claims.now.graph (map meaning providers.now) }
         requires post { IsPost N.meanings N.plan (B.planned self.now.ground.now) (B.named self.now.ground.now) self.now.walk.now.claims.now post.old }
         ensures { IsPost N.meanings N.plan (B.planned self.now.ground.now) (B.named self.now.ground.now) self.now.walk.now.claims.now post.new }
     {
@@ -134,7 +134,7 @@ impl<'a, N: Naming, B: Ground<N>, R: Wait> Worker<'a, '_, N, B, R> {
         post: &mut Post<'a, N>,
         thief: &Thief<InPlan<N>>,
     ) -> bool
-        requires walk { IsOneWalk N.plan N.meanings (B.planned self.now.ground.now) (B.named self.now.ground.now) (B.count self.now.ground.now) self.now.walk.now.claims.now.graph (map (λ b. meaning b) providers.now) }
+        requires walk { IsOneWalk N.plan N.meanings (B.planned self.now.ground.now) (B.named self.now.ground.now) (B.count self.now.ground.now) self.now.walk.now.claims.now.graph (map meaning providers.now) }
         requires post { IsPost N.meanings N.plan (B.planned self.now.ground.now) (B.named self.now.ground.now) self.now.walk.now.claims.now post.old }
         ensures { IsPost N.meanings N.plan (B.planned self.now.ground.now) (B.named self.now.ground.now) self.now.walk.now.claims.now post.new }
     {
@@ -153,7 +153,7 @@ impl<'a, N: Naming, B: Ground<N>, R: Wait> Worker<'a, '_, N, B, R> {
     /// lost. So a worker that looks at one whose turn hasn't come passes it by: whoever ends the last action before it gives
     /// a hint at it.
     fn look_on(&self, providers: &[Box<dyn Provider + Sync>], post: &mut Post<'a, N>) -> bool
-        requires walk { IsOneWalk N.plan N.meanings (B.planned self.now.ground.now) (B.named self.now.ground.now) (B.count self.now.ground.now) self.now.walk.now.claims.now.graph (map (λ b. meaning b) providers.now) }
+        requires walk { IsOneWalk N.plan N.meanings (B.planned self.now.ground.now) (B.named self.now.ground.now) (B.count self.now.ground.now) self.now.walk.now.claims.now.graph (map meaning providers.now) }
         requires post { IsPost N.meanings N.plan (B.planned self.now.ground.now) (B.named self.now.ground.now) self.now.walk.now.claims.now post.old }
         ensures { IsPost N.meanings N.plan (B.planned self.now.ground.now) (B.named self.now.ground.now) self.now.walk.now.claims.now post.new }
     {
@@ -170,14 +170,15 @@ impl<'a, N: Naming, B: Ground<N>, R: Wait> Worker<'a, '_, N, B, R> {
     }
 
     /// Claims an action, takes it to its end, lets go of what waits for it, and gives hints at what is free then; false where
-    /// it can't be claimed. Others are woken for what is more than one worker does.
+    /// it can't be claimed. Where a hint is lost, the workers look at all actions anew. Others are woken for what is more than
+    /// one worker does.
     fn end_if_free(
         &self,
         providers: &[Box<dyn Provider + Sync>],
         post: &mut Post<'a, N>,
         action: usize,
     ) -> bool
-        requires walk { IsOneWalk N.plan N.meanings (B.planned self.now.ground.now) (B.named self.now.ground.now) (B.count self.now.ground.now) self.now.walk.now.claims.now.graph (map (λ b. meaning b) providers.now) }
+        requires walk { IsOneWalk N.plan N.meanings (B.planned self.now.ground.now) (B.named self.now.ground.now) (B.count self.now.ground.now) self.now.walk.now.claims.now.graph (map meaning providers.now) }
         requires post { IsPost N.meanings N.plan (B.planned self.now.ground.now) (B.named self.now.ground.now) self.now.walk.now.claims.now post.old }
         requires action { action < N.plan.order.nodes }
         ensures { IsPost N.meanings N.plan (B.planned self.now.ground.now) (B.named self.now.ground.now) self.now.walk.now.claims.now post.new }
@@ -196,35 +197,15 @@ impl<'a, N: Naming, B: Ground<N>, R: Wait> Worker<'a, '_, N, B, R> {
             stop: walk.stop,
         };
         let finished = workshop.end_action(providers, permit, &mut post.memo);
-        walk.claims.finish(&mut post.desk.seat, finished);
-        walk.claims.let_go_from(&mut post.desk.seat, action);
-        let free = give_hints(walk, &post.desk.seat, &mut post.desk.hints, action);
-        walk.progress.tell_end(free);
+        let desk = &mut post.desk;
+        desk.hinting.begin();
+        walk.claims.finish(&mut desk.seat, finished);
+        walk.claims
+            .let_go_from(&mut desk.seat, action, &mut desk.hinting);
+        if desk.hinting.is_lost {
+            walk.progress.look_anew();
+        }
+        walk.progress.tell_end(desk.hinting.free);
         true
     }
-}
-
-/// Gives a hint at each action directly behind one that waits for nothing more, now that this one has ended and the seat has
-/// let go of the edges out of it: so whoever follows the hint finds the action free. Returns how many there are. Where a hint
-/// is lost, the workers look at all actions anew.
-fn give_hints<N: Naming>(
-    walk: &Walk<'_, N>,
-    seat: &Seat,
-    hints: &mut Hints<InPlan<N>>,
-    action: usize,
-) -> usize
-    requires graph { walk.now.claims.now.graph ≡ N.plan.order }
-    requires within { action < N.plan.order.nodes }
-    requires released { HasLetGoFrom walk.now.claims.now.graph action seat.now.view }
-{
-    let mut free = 0;
-    for next in walk.claims.graph().successors(action) {
-        if walk.countdown.is_last_before(*next) {
-            free += 1;
-            if !hints.push(*next) {
-                walk.progress.look_anew();
-            }
-        }
-    }
-    free
 }

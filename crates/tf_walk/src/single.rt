@@ -11,31 +11,30 @@ use crate::walk::walk;
 use std::alloc::{AllocError, Global};
 use tf_environment::Declarations;
 use tf_outcome::Stop;
-use tf_plan_data::Plan;
+use tf_plan_data::{Plan, Planned};
 use tf_provider::Provider;
 use tf_refusal::Refusal;
 use tf_walk_report::{Report, Walked, report_of};
 
 /// Carries out a plan by one thread, without waiting: every action is ended once, after all that stand before
-/// it. The parts of the plan fit together, and some provider in the list has the type of each action. Of an action that
-/// may be called the flag is looked at once, before its request is made: where it is set, the action is left. Refused, before
-/// the first call, only where there is no memory for the report; after the first call, no memory is taken for what a
-/// reply says.
+/// it. Some provider in the list has the type of each action. Of an action that may be called the flag is looked at once,
+/// before its request is made: where it is set, the action is left. Refused, before the first call, only where there is no
+/// memory for the report; after the first call, no memory is taken for what a reply says.
 ///
 /// # Errors
 ///
 /// Only where memory runs out.
 pub fn run_one(
     alloc: Global,
-    plan: &Plan,
+    plan: &Planned,
     providers: &[Box<dyn Provider + Sync>],
     stop: &Stop,
 ) -> Result<Walked, Refusal>
-    requires fits { FitsTogether plan.now }
-    requires served { AreServed (map (λ b. meaning b) providers.now) (map action_of plan.now.actions.items) }
-    ensures walked { IfOk result (IsWalked (map (λ b. meaning b) providers.now) (plan_of plan.now)) }
+    requires served { AreServed (map meaning providers.now) (map action_of plan.now.actions.items) }
+    ensures walked { IfOk result (IsWalked (map meaning providers.now) (plan_of plan.now)) }
     ensures refused { IfErr result (λ r. told r ≡ no_memory) }
 {
+    let plan = &plan.plan;
     match prepare(alloc, plan) {
         Ok(prepared) => Ok(Walked::Whole(carry_out(alloc, plan, providers, prepared, stop))),
         Err(AllocError) => Err(Refusal::OutOfMemory),
@@ -51,9 +50,9 @@ fn carry_out(
     stop: &Stop,
 ) -> Report
     requires fits { FitsTogether plan.now }
-    requires served { AreServed (map (λ b. meaning b) providers.now) (map action_of plan.now.actions.items) }
+    requires served { AreServed (map meaning providers.now) (map action_of plan.now.actions.items) }
     requires prepared { IsPrepared plan.now prepared }
-    ensures { IsWhole (map (λ b. meaning b) providers.now) (plan_of plan.now) result }
+    ensures { IsWhole (map meaning providers.now) (plan_of plan.now) result }
 {
     let Prepared {
         names,

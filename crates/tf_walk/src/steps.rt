@@ -30,15 +30,15 @@ pub fn end_action(
 ) -> (Ended, Finished)
     requires fits { FitsTogether plan.now }
     requires names { names_in names.now ≡ names_of (config_of plan.now.config) }
-    requires served { AreServed (map (λ b. meaning b) providers.now) (map action_of plan.now.actions.items) }
-    requires so_far { IsSoFar (map (λ b. meaning b) providers.now) (plan_of plan.now) (map (option_map done_of) results.now) journal.old.entries }
+    requires served { AreServed (map meaning providers.now) (map action_of plan.now.actions.items) }
+    requires so_far { IsSoFar (map meaning providers.now) (plan_of plan.now) (map (option_map done_of) results.now) journal.old.entries }
     requires free { end_at (map (option_map done_of) results.now) permit ≡ None }
     requires before { list_all (λ n. is_some (end_at (map (option_map done_of) results.now) n)) (predecessors_of plan.now.order permit) ≡ true }
     requires within { permit < length plan.now.actions.items }
     requires graph { journal.old.graph ≡ plan.now.order }
     ensures finished { result.1 ≡ permit }
     ensures action { ended_action result.0 ≡ permit }
-    ensures ended { (requests : Requests) → AreRequests (plan_of plan.now) requests → IsEnd (map (λ b. meaning b) providers.now) requests (plan_of plan.now) permit
+    ensures ended { (requests : Requests) → AreRequests (plan_of plan.now) requests → IsEnd (map meaning providers.now) requests (plan_of plan.now) permit
         (seen_by (done_in (map (option_map done_of) results.now)) (predecessors_of plan.now.order permit)) (done_of result.0) }
     ensures entered { Enters permit (op_at (map action_of plan.now.actions.items) permit) (done_of result.0) journal.old.entries journal.new.entries }
     ensures same_graph { journal.new.graph ≡ journal.old.graph }
@@ -84,12 +84,12 @@ fn serve(
     permit: Permit,
     asking: Asking,
 ) -> (Ended, Finished)
-    requires served { IsSomeAnd (schema_in (asked asking.request).type_name (map (λ b. meaning b) providers.now)) (λ s. IsTrue (asks_fully (asked asking.request) s)) }
+    requires served { IsSomeAnd (schema_in (asked asking.request).type_name (map meaning providers.now)) (λ s. IsTrue (asks_fully (asked asking.request) s)) }
     requires within { permit < journal.old.graph.nodes }
     requires fits { fault_of journal.old permit ≡ None }
     ensures finished { result.1 ≡ permit }
     ensures action { ended_action result.0 ≡ permit }
-    ensures ended { IsRun (call_of (map (λ b. meaning b) providers.now) (asked asking.request)) (done_of result.0) }
+    ensures ended { IsRun (call_of (map meaning providers.now) (asked asking.request)) (done_of result.0) }
     ensures entered { Enters permit (Some (asked asking.request).op) (done_of result.0) journal.old.entries journal.new.entries }
     ensures same_graph { journal.new.graph ≡ journal.old.graph }
 {

@@ -27,12 +27,12 @@ pub fn walk(
 )
     requires fits { FitsTogether plan.now }
     requires names { names_in names.now ≡ names_of (config_of plan.now.config) }
-    requires served { AreServed (map (λ b. meaning b) providers.now) (map action_of plan.now.actions.items) }
-    requires so_far { IsSoFar (map (λ b. meaning b) providers.now) (plan_of plan.now) (map (option_map done_of) results.old) journal.old.entries }
+    requires served { AreServed (map meaning providers.now) (map action_of plan.now.actions.items) }
+    requires so_far { IsSoFar (map meaning providers.now) (plan_of plan.now) (map (option_map done_of) results.old) journal.old.entries }
     requires staged { IsStaged book.old.stages (map (option_map done_of) results.old) }
     requires book { book.old.graph ≡ plan.now.order }
     requires graph { journal.old.graph ≡ plan.now.order }
-    ensures so_far { IsSoFar (map (λ b. meaning b) providers.now) (plan_of plan.now) (map (option_map done_of) results.new) journal.new.entries }
+    ensures so_far { IsSoFar (map meaning providers.now) (plan_of plan.now) (map (option_map done_of) results.new) journal.new.entries }
     ensures all { AllHaveEnded (plan_of plan.now) (map (option_map done_of) results.new) }
     ensures graph { journal.new.graph ≡ plan.now.order }
 {

@@ -44,8 +44,8 @@ pub fn report_of(
     requires fits { FitsTogether plan.now }
     requires furnished { IsFurnished plan.now furnished }
     requires sized { length results.items ≡ length plan.now.actions.items }
-    requires judged { AreJudged (map (λ b. meaning b) providers.now) (map (λ a. op_of a.step) (plan_of plan.now).actions) (dones_of results.items) }
-    ensures told { (outputs : List OutputDone) × IsTold (map (λ b. meaning b) providers.now) (plan_of plan.now) (dones_of results.items) outputs result }
+    requires judged { AreJudged (map meaning providers.now) (map (λ a. op_of a.step) (plan_of plan.now).actions) (dones_of results.items) }
+    ensures told { (outputs : List OutputDone) × IsTold (map meaning providers.now) (plan_of plan.now) (dones_of results.items) outputs result }
     ensures journal { result.journal ≡ journal }
 {
     let _nodes = plan.order.graph().nodes();

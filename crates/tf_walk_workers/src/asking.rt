@@ -29,13 +29,13 @@ impl<'a, N: Naming, R: Wait> Workshop<'a, N, R> {
         action: usize,
         memo: &mut Option<Memo<'a, N>>,
     ) -> Result<Result<Asking, Faulted>, AllocError>
-        requires walk { IsOfWalk N.plan N.meanings self.now.plan.now (names_in self.now.names.now) self.now.cells.now (map (λ b. meaning b) providers.now) }
+        requires walk { IsOfWalk N.plan N.meanings self.now.plan.now (names_in self.now.names.now) self.now.cells.now (map meaning providers.now) }
         requires within { action < self.now.plan.now.order.nodes }
         requires good { All (λ n. IsGoodInEach N.meanings N.plan n) (predecessors_of self.now.plan.now.order action) }
         requires memo { IfSome memo.old (IsTrueMemo N.meanings N.plan self.now.plan.now (names_in self.now.names.now)) }
-        ensures asked { IfOk result (λ made. (d : Done) → IsRun (comes_of (map (λ b. meaning b) providers.now) (asked_by made)) d → IsTrueTo N.meanings N.plan action d) }
+        ensures asked { IfOk result (λ made. (d : Done) → IsRun (comes_of (map meaning providers.now) (asked_by made)) d → IsTrueTo N.meanings N.plan action d) }
         ensures served { IfOk result (λ made. IfOk made (λ asking.
-            IsSomeAnd (schema_in (asked asking.request).type_name (map (λ b. meaning b) providers.now)) (λ s. IsTrue (asks_fully (asked asking.request) s)))) }
+            IsSomeAnd (schema_in (asked asking.request).type_name (map meaning providers.now)) (λ s. IsTrue (asks_fully (asked asking.request) s)))) }
         ensures memo { IfSome memo.new (IsTrueMemo N.meanings N.plan self.now.plan.now (names_in self.now.names.now)) }
     {
         let mut own = self.memo_for(memo.take(), action)?;
@@ -51,13 +51,13 @@ impl<'a, N: Naming, R: Wait> Workshop<'a, N, R> {
         action: usize,
         memo: &mut Memo<'a, N>,
     ) -> Result<Result<Asking, Faulted>, AllocError>
-        requires walk { IsOfWalk N.plan N.meanings self.now.plan.now (names_in self.now.names.now) self.now.cells.now (map (λ b. meaning b) providers.now) }
+        requires walk { IsOfWalk N.plan N.meanings self.now.plan.now (names_in self.now.names.now) self.now.cells.now (map meaning providers.now) }
         requires within { action < self.now.plan.now.order.nodes }
         requires memo { IsTrueMemo N.meanings N.plan self.now.plan.now (names_in self.now.names.now) memo.old }
         requires own { predecessors_of self.now.plan.now.order memo.old.action ≡ predecessors_of self.now.plan.now.order action }
-        ensures asked { IfOk result (λ made. (d : Done) → IsRun (comes_of (map (λ b. meaning b) providers.now) (asked_by made)) d → IsTrueTo N.meanings N.plan action d) }
+        ensures asked { IfOk result (λ made. (d : Done) → IsRun (comes_of (map meaning providers.now) (asked_by made)) d → IsTrueTo N.meanings N.plan action d) }
         ensures served { IfOk result (λ made. IfOk made (λ asking.
-            IsSomeAnd (schema_in (asked asking.request).type_name (map (λ b. meaning b) providers.now)) (λ s. IsTrue (asks_fully (asked asking.request) s)))) }
+            IsSomeAnd (schema_in (asked asking.request).type_name (map meaning providers.now)) (λ s. IsTrue (asks_fully (asked asking.request) s)))) }
         ensures memo { IsTrueMemo N.meanings N.plan self.now.plan.now (names_in self.now.names.now) memo.new }
     {
         let actions = self.plan.actions.as_slice();

@@ -19,12 +19,12 @@ pub(crate) fn serve<N: Naming, R: Wait>(
     permit: Permit,
     asking: Asking,
 ) -> (Ended, Finished)
-    requires served { IsSomeAnd (schema_in (asked asking.request).type_name (map (λ b. meaning b) providers.now)) (λ s. IsTrue (asks_fully (asked asking.request) s)) }
+    requires served { IsSomeAnd (schema_in (asked asking.request).type_name (map meaning providers.now)) (λ s. IsTrue (asks_fully (asked asking.request) s)) }
     requires within { permit < N.plan.order.nodes }
     ensures finished { result.1 ≡ permit }
     ensures action { ended_action result.0 ≡ permit }
     ensures cause { HasCause N.plan.order result.0 }
-    ensures ended { IsRun (call_of (map (λ b. meaning b) providers.now) (asked asking.request)) (done_of result.0) }
+    ensures ended { IsRun (call_of (map meaning providers.now) (asked asking.request)) (done_of result.0) }
 {
     match first_provider(providers, asking.request.type_name.as_str()) {
         None => unreachable!(),

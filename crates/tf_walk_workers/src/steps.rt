@@ -52,7 +52,7 @@ impl<'a, N: Naming, R: Wait> Workshop<'a, N, R> {
         permit: Permit,
         memo: &mut Option<Memo<'a, N>>,
     ) -> Finished
-        requires walk { IsOfWalk N.plan N.meanings self.now.plan.now (names_in self.now.names.now) self.now.cells.now (map (λ b. meaning b) providers.now) }
+        requires walk { IsOfWalk N.plan N.meanings self.now.plan.now (names_in self.now.names.now) self.now.cells.now (map meaning providers.now) }
         requires within { permit < self.now.plan.now.order.nodes }
         requires memo { IfSome memo.old (IsTrueMemo N.meanings N.plan self.now.plan.now (names_in self.now.names.now)) }
         ensures finished { result ≡ permit }
@@ -71,7 +71,7 @@ impl<'a, N: Naming, R: Wait> Workshop<'a, N, R> {
         permit: Permit,
         memo: &mut Option<Memo<'a, N>>,
     ) -> (Ended, Finished)
-        requires walk { IsOfWalk N.plan N.meanings self.now.plan.now (names_in self.now.names.now) self.now.cells.now (map (λ b. meaning b) providers.now) }
+        requires walk { IsOfWalk N.plan N.meanings self.now.plan.now (names_in self.now.names.now) self.now.cells.now (map meaning providers.now) }
         requires within { permit < self.now.plan.now.order.nodes }
         requires memo { IfSome memo.old (IsTrueMemo N.meanings N.plan self.now.plan.now (names_in self.now.names.now)) }
         ensures finished { result.1 ≡ permit }

@@ -1,0 +1,41 @@
+//! Hints at actions that wait for nothing more.
+
+ghost use Rattle.std.specs.Prelude.{◌≡◌};
+
+use crate::bound::InPlan;
+use tf_claim::Listener;
+use tf_walk_workers::{Hints, Naming};
+
+/// A worker's hints. As it ends an action, it gives one at each action that it let go of the last edge into: so whoever follows
+/// the hint finds that action free.
+#[derive(Drop)]
+pub(crate) struct Hinting<N: Naming> {
+    pub hints: Hints<InPlan<N>>,
+    /// How many actions it heard of since it last began.
+    pub free: u64,
+    /// Whether a hint at one of them was lost, for want of room.
+    pub is_lost: bool,
+}
+
+impl<N: Naming> Hinting<N> {
+    /// Begins anew, as the next action ends.
+    pub fn begin(&mut self)
+        ensures { self.new.free ≡ 0 }
+    {
+        self.free = 0;
+        self.is_lost = false;
+    }
+}
+
+impl<N: Naming> Listener for Hinting<N> {
+    ghost bound = { N.plan.order.nodes };
+
+    ghost heard = { λ h. h.free };
+
+    fn hear(&mut self, action: usize) {
+        self.free += 1;
+        if !self.hints.push(action) {
+            self.is_lost = true;
+        }
+    }
+}
