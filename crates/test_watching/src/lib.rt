@@ -4,6 +4,7 @@
 mod applies;
 mod aside;
 mod meeting;
+mod scripted;
 mod telling;
 mod watched;
 
@@ -12,5 +13,6 @@ pub use applies::{
 };
 pub use aside::{Aside, Sided};
 pub use meeting::{Meeting, Meets, is_reached_within, meet};
+pub use scripted::scripted_reply;
 pub use telling::{Told, tell_of};
 pub use watched::Manner;

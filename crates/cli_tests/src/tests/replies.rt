@@ -1,8 +1,5 @@
 //! Each kind of reply, what is told of it, and what is saved.
 
-ghost use Rattle.std.specs.Prelude.{◌≡◌, IfOk, option_map};
-ghost use Rattle.tf_value.specs.Tree.{tree_of};
-
 use crate::tests::applying::CONFIG;
 use std::alloc::{AllocError, Global};
 use std::collections::BTreeMap;
@@ -10,11 +7,11 @@ use std::process::Abort;
 use std::sync::Wait;
 use std::test::Fail;
 use std::thread::Threads;
-use test_watching::{Manner, Seen, Texts, WORKERS, apply_by, watch_manner};
+use test_watching::{Manner, Seen, Texts, WORKERS, apply_by, scripted_reply, watch_manner};
 use tf_cli::Stop;
 use tf_provider::{Provider, Reply, Request, Schema};
 use tf_sim::Sim;
-use tf_value::{Value, copy};
+use tf_value::Value;
 
 const NOTHING: &str =
     "{\n  \"lineage\": \"L\",\n  \"outputs\": {},\n  \"resources\": [],\n  \"serial\": 0,\n  \"terraform_version\": \"1.0.0\",\n  \"version\": 4\n}\n";
@@ -46,28 +43,7 @@ impl Provider for Scripted {
     }
 
     fn apply(&self, _request: &Request) -> Reply {
-        let Ok(object) = copied(&self.object) else {
-            return Reply::NoMemory;
-        };
-        match &self.message {
-            None => match object {
-                Some(value) => Reply::Object(value),
-                None => Reply::Gone,
-            },
-            Some(message) => match message.clone() {
-                Ok(message) => Reply::Failed { message, object },
-                Err(AllocError) => Reply::NoMemory,
-            },
-        }
-    }
-}
-
-fn copied(object: &Option<Value>) -> Result<Option<Value>, AllocError>
-    ensures { IfOk result (λ o. option_map tree_of o ≡ option_map tree_of object.now) }
-{
-    match object {
-        Some(value) => Ok(Some(copy(value)?)),
-        None => Ok(None),
+        scripted_reply(&self.message, &self.object)
     }
 }
 

@@ -1,65 +1,16 @@
 //! Many workers: that they call at the same time.
 
-use std::alloc::Global;
-use std::process::Abort;
+use std::sync::Arc;
 use std::sync::atomic::{AtomicUsize, Ordering};
-use std::sync::{Arc, Wait};
 use std::test::Fail;
-use std::thread::Threads;
-use test_watching::{Aside, Meeting, Sided, Texts, apply_by, is_reached_within, meet};
+use test_watching::{Aside, Sided, Texts, apply_by, is_reached_within};
 use tf_cli::Stop;
 use tf_provider::{Provider, Reply, Request};
 use tf_sim::Sim;
 use tf_value::Value;
 
-/// How often the call of one of two looks for the other, and how often that of one of more; others may run in between.
+/// How often the call of one of two looks for the other; others may run in between.
 const TURNS_OF_TWO: usize = 10_000_000;
-
-const TURNS_OF_MANY: usize = 100_000_000;
-
-/// Checks that so many calls, of a provider each, are seen by one another where as many workers make them.
-fn check_meeting<R: Abort + Threads + Wait + Sync>(
-    rt: &R,
-    alloc: Global,
-    config: &str,
-    count: usize,
-    turns: usize,
-) -> Result<(), Fail> {
-    let Meeting {
-        providers: all,
-        misses,
-    } = meet(alloc, count, turns)?;
-    let mut providers: Vec<Box<dyn Provider + Sync>> = Vec::new(alloc);
-    for provider in all {
-        providers.push(Box::new(alloc, provider)?)?;
-    }
-    let seen = apply_by(
-        rt,
-        alloc,
-        Texts::of(config),
-        &providers,
-        count,
-        &Stop::new(),
-    )?;
-    assert_eq!(rt; misses.load(Ordering::SeqCst), 0);
-    assert_eq!(rt; seen.errors.as_str(), "");
-    assert_eq!(rt; seen.journal.len(), count);
-    assert!(rt; seen.whole);
-    Ok(())
-}
-
-#[test]
-fn two_calls_meet(rt: HostRuntime) -> Result<(), Fail> {
-    let config = r#"{"resource": {"t0": {"a": {}}, "t1": {"a": {}}}}"#;
-    check_meeting(&rt, rt.alloc(), config, 2, TURNS_OF_TWO)
-}
-
-#[test]
-fn four_calls_meet(rt: HostRuntime) -> Result<(), Fail> {
-    let config =
-        r#"{"resource": {"t0": {"a": {}}, "t1": {"a": {}}, "t2": {"a": {}}, "t3": {"a": {}}}}"#;
-    check_meeting(&rt, rt.alloc(), config, 4, TURNS_OF_MANY)
-}
 
 /// The create of the net with cidr `a` waits, but not for ever, until that with cidr `net-b` has begun.
 #[derive(Drop)]
