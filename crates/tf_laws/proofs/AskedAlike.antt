@@ -1,21 +1,19 @@
 -- What is asked for an instance depends on what the instances of its resource's needs stand for alone.
-use Rattle.std.proofs.Common.{◌≡◌, ◌∙◌, ◌<◌, ℕ, Bool, true, Option, Some, None, Contains, length, refl, sym, ap, subst}
+use Rattle.std.proofs.Common.{◌≡◌, ◌∙◌, ◌<◌, ℕ, Bool, true, Option, Some, length, refl, sym, ap, subst}
 use Rattle.std.specs.List.{AllByRecursion}
 use Rattle.tf_plan_data.specs.Action.{ActionView}
 use Rattle.tf_address.specs.ObjectId.{InstanceKeyView}
 use Rattle.tf_change.proofs.Locals.{instances_local}
 use Rattle.tf_change.specs.Instance.{instance_object}
 use Rattle.tf_config_data.specs.Config.{BlockView}
-use Rattle.tf_config_data.specs.Names.{Meant, a_local, a_block, meant_at, block_refers, directly_before, places, refers_at}
+use Rattle.tf_config_data.specs.Names.{Meant, a_block, meant_at, block_refers, directly_before, places, refers_at}
 use Rattle.tf_laws.proofs.Places.{meant_within}
-use Rattle.tf_laws.proofs.Still.{together_same}
 use Rattle.tf_environment.proofs.Places.{along, names_stay}
 use Rattle.tf_environment.proofs.Seen.{agree_on}
-use Rattle.tf_environment.specs.Shape.{ShapeView, instance_keys}
+use Rattle.tf_environment.specs.Shape.{instance_keys}
 use Rattle.tf_environment.specs.Stages.{applying}
 use Rattle.tf_environment.specs.Standing.{StandingView, AreStandings, environment, rule, stands_at}
 use Rattle.tf_eval.proofs.Locality.{expressions_local}
-use Rattle.tf_eval.specs.Environment.{Environment}
 use Rattle.tf_graph.proofs.Edges.{all_by_contained}
 use Rattle.tf_graph.proofs.Solving.{all_by_at, solution-exists}
 use Rattle.tf_plan_resources.specs.Members.{is_among}
@@ -25,23 +23,9 @@ use Rattle.tf_protocol.specs.Schema.{SchemaView}
 use Rattle.tf_request.proofs.Answering.{next_is}
 use Rattle.tf_value.specs.Tree.{Tree}
 use Rattle.tf_laws.proofs.PlannedParts.{Made}
-
--- where the objects of a resource's instances are the same, so is what the resource stands for
-meant_same : (shapes : ℕ → ShapeView) (f g : ℕ → InstanceKeyView → Tree) (n : ℕ) (m : Option Meant) (env : Environment) → ((key : InstanceKeyView) → is_among (instance_keys (shapes n)) key ≡ true → f n key ≡ g n key)
-    → stands_at (applying shapes f) n m env ≡ stands_at (applying shapes g) n m env
-meant_same shapes f g n None env h = refl
-meant_same shapes f g n (Some (a_local e)) env h = refl
-meant_same shapes f g n (Some (a_block block)) env h = together_same (λ key. Some (f n key)) (λ key. Some (g n key)) (shapes n) (λ key among. ap Some (h key among))
+use Rattle.tf_laws.proofs.Needing.{meant_same, needs_closed, needs_direct}
 
 module _ (x : Made) where
-  needs_direct : (a b : ℕ) → Contains (directly_before (plan_names x.plan) a) b → x.plan.needs a b ≡ true
-  needs_direct a b c = ap (λ (f : ℕ → ℕ → Bool). f a b) x.ordered.tied.needs ∙ x.ordered.tied.is_dependence.direct a b c
-
-  needs_closed : (a b c : ℕ) → x.plan.needs a b ≡ true → Contains (directly_before (plan_names x.plan) b) c → x.plan.needs a c ≡ true
-  needs_closed a b c need d =
-      let same = x.ordered.tied.needs in
-      ap (λ (f : ℕ → ℕ → Bool). f a c) same ∙ x.ordered.tied.is_dependence.closed a b c (sym (ap (λ (f : ℕ → ℕ → Bool). f a b) same) ∙ need) d
-
   pub needs_transitive : (a b c : ℕ) → x.plan.needs a b ≡ true → x.plan.needs b c ≡ true → x.plan.needs a c ≡ true
   needs_transitive a b c one two =
       let same = x.ordered.tied.needs in
@@ -58,7 +42,7 @@ module _ (x : Made) where
       alike_at m h before need =
           let turned : AllByRecursion (λ b. others b ≡ ones b) (directly_before (plan_names x.plan) m) =
           all_by_contained (λ b. others b ≡ ones b) (directly_before (plan_names x.plan) m)
-          (λ b c. sym (all_by_at IsAlike (directly_before (plan_names x.plan) m) b before c (needs_closed place m b need c))) in
+          (λ b c. sym (all_by_at IsAlike (directly_before (plan_names x.plan) m) b before c (needs_closed x.plan x.ordered place m b need c))) in
           let one : stands_at (applying x.plan.shapes f) m (meant_at (plan_names x.plan) m) (environment x.plan.variables (plan_names x.plan) others) ≡ ones m =
           next_is x.plan.shapes f x.plan.variables (plan_names x.plan) x.ranked others ones solves_ones m h (λ local. turned) in
           let two : stands_at (applying x.plan.shapes g) m (meant_at (plan_names x.plan) m) (environment x.plan.variables (plan_names x.plan) others) ≡ others m =
@@ -76,7 +60,7 @@ module _ (x : Made) where
           let inside = meant_within (plan_names x.plan) place (a_block block) meant in
           let all : AllByRecursion (λ b. ones b ≡ others b) (directly_before (plan_names x.plan) place) =
           all_by_contained (λ b. ones b ≡ others b) (directly_before (plan_names x.plan) place)
-          (λ b c. alike b (all_by_at (λ d. d < length (plan_names x.plan)) (directly_before (plan_names x.plan) place) b (names_stay (plan_names x.plan) place inside) c) (needs_direct place b c)) in
+          (λ b c. alike b (all_by_at (λ d. d < length (plan_names x.plan)) (directly_before (plan_names x.plan) place) b (names_stay (plan_names x.plan) place inside) c) (needs_direct x.plan x.ordered place b c)) in
           let own : AllByRecursion (λ b. ones b ≡ others b) (places (plan_names x.plan) (block_refers block)) =
           subst (λ (m : Option Meant). AllByRecursion (λ b. ones b ≡ others b) (places (plan_names x.plan) (refers_at m))) meant all in
           instances_local expressions_local schema block key (environment x.plan.variables (plan_names x.plan) ones) (environment x.plan.variables (plan_names x.plan) others)

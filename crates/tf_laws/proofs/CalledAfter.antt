@@ -8,7 +8,7 @@ use Rattle.tf_graph.specs.Digraph.{predecessors_of}
 use Rattle.tf_graph.specs.Solutions.{seen_by}
 use Rattle.tf_outcome.specs.Excuse.{excuse_of}
 use Rattle.tf_outcome.specs.Journal.{entered_verdict, verdict_in}
-use Rattle.tf_outcome.specs.Outcome.{Done, skipped, excused, faulted, called, all_good, call_at, done_at, is_good, is_good_verdict, or_excused}
+use Rattle.tf_outcome.specs.Outcome.{Done, skipped, excused, faulted, called, all_good, call_at, done_at, is_good, or_excused}
 use Rattle.tf_outcome.specs.declared.excuse.Outcome.{Outcome}
 use Rattle.tf_outcome.specs.declared.excuse.Outcome.TheVariants.{Judged}
 use Rattle.tf_plan_data.specs.Plan.{PlanView}
@@ -22,17 +22,12 @@ use Rattle.tf_walk_report.specs.Report.{IsReported}
 use Rattle.tf_walk_report.specs.declared.report.Report.{Report}
 use Rattle.tf_value.proofs.Conjunction.{and-first, and-second}
 use Rattle.tf_laws.proofs.Journals.{action_of_entry, verdict_of_entry}
-use Rattle.tf_laws.proofs.ListsOfEntries.{all_weaker, got_in, in_cases, nothing_in}
+use Rattle.tf_laws.proofs.Lists.{all_weaker}
+use Rattle.tf_laws.proofs.ListsOfEntries.{got_in, in_cases, nothing_in}
+use Rattle.tf_laws.proofs.Well.{good_verdict}
 use Rattle.tf_laws.specs.Called.{CalledAfterGood, EnteredAfterGood, JudgedAfterGood}
 
 -- ---- what is good
-
-good_verdict : (v : Verdict) → is_good_verdict v ≡ true → v ≡ verdict.Good
-good_verdict verdict.Good h = refl
-good_verdict verdict.Failed h = absurd (cc)
-good_verdict (verdict.Contradicted n) h = absurd (cc)
-good_verdict verdict.Malformed h = absurd (cc)
-good_verdict verdict.Excused h = absurd (cc)
 
 good_entered : (d : Done) → is_good d ≡ true → entered_verdict d ≡ Some verdict.Good
 good_entered skipped h = absurd (cc)

@@ -2,14 +2,11 @@
 use Rattle.std.proofs.Common.{◌≡◌, ◌∙◌, ℕ, true, false, List, [], ◌∷◌, Option, Some, None, IsTrue, inl, inr, refl, sym, subst, arith}
 use Rattle.serde_json.specs.Data.{Data}
 use Rattle.tf_config.proofs.RefusalLaws.{apart}
-use Rattle.tf_config.specs.Demand.{Demand, nothing_fits, holds, of_expression, AreMet, IsMet, Fails}
+use Rattle.tf_config.specs.Demand.{AreMet, IsMet, Fails}
 use Rattle.tf_config.specs.Laws.{RefusedIsNotRead}
 use Rattle.tf_config.specs.Reading.{IsRefused}
 use Rattle.tf_config_data.specs.Config.{ConfigView, VariableView}
 use Rattle.tf_config_data.specs.Names.{NameView, names_of}
-use Rattle.tf_expr.specs.Demand as expr
-use Rattle.tf_expr.specs.declared.fault.Cause.{Cause}
-use Rattle.tf_expr.specs.declared.fault.Cause.TheVariants.{BadShape, At, TooDeep}
 use Rattle.tf_graph.proofs.Edges.{contains_head}
 use Rattle.tf_inputs.specs.Texts.{AreNamesGood, AreTheValues, IsRead}
 use Rattle.tf_json_path.proofs.Checks.{IsFirst-unmet}
@@ -18,7 +15,6 @@ use Rattle.tf_names.specs.Cyclic.{RefusesCycle}
 use Rattle.tf_names.specs.Judging.{RefusesItsNames}
 use Rattle.tf_names.specs.KnownNames.{AreKnown, IsKnown, IsUnknown, RefusesNames, config_checks, declared_in}
 use Rattle.tf_names.specs.Needs.{AreCyclic, Needs}
-use Rattle.tf_refusal.specs.OfExpression.{Way}
 use Rattle.tf_refusal.specs.Refusal.{Told, fault, no_memory, workers}
 use Rattle.tf_syntax.specs.TemplateNames.{Pair}
 use Rattle.tf_variables.specs.Laws.{ValuesAreFaultless}

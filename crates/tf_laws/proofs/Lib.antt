@@ -90,3 +90,5 @@ mod PlannedOverTexts
 mod Refused
 mod Schemas
 mod Unplanned
+mod OwnParts
+mod Needing

@@ -16,10 +16,6 @@ pub got_all : {A : Type 0} (P : A → Type 0) (xs : List A) → ((n : ℕ) (x : 
 got_all P [] h = tt
 got_all P (x ∷ xs) h = (h 0 x refl, got_all P xs (λ n y e. h (suc n) y e))
 
-pub all_weaker : {A : Type 0} (P Q : A → Type 0) (xs : List A) → ((x : A) → P x → Q x) → AllByRecursion P xs → AllByRecursion Q xs
-all_weaker P Q [] f h = tt
-all_weaker P Q (x ∷ xs) f h = (f x h.0, all_weaker P Q xs f h.1)
-
 pub all_appended : {A : Type 0} (P : A → Type 0) (xs ys : List A) → AllByRecursion P xs → AllByRecursion P ys → AllByRecursion P (xs ++ ys)
 all_appended P [] ys h k = k
 all_appended P (x ∷ xs) ys h k = (h.0, all_appended P xs ys h.1 k)

@@ -17,7 +17,8 @@ use Rattle.tf_plan_data.specs.Plan.{PlanView}
 use Rattle.tf_walk_report.specs.Outcomes.{excuses_at, excuses_from, outcome_of}
 use Rattle.tf_walk_report.specs.OutputsTold.{output_excuses}
 use Rattle.tf_laws.proofs.Due.{excuses_due}
-use Rattle.tf_laws.proofs.ListsOfEntries.{all_appended, all_got, all_weaker, got_in, in_got}
+use Rattle.tf_laws.proofs.Lists.{all_weaker}
+use Rattle.tf_laws.proofs.ListsOfEntries.{all_appended, all_got, got_in, in_got}
 use Rattle.tf_laws.specs.Excuses.{ExcusedAreNamed, IsDue, NamedOnce, Subject, an_action, an_output, subject_of}
 
 -- ---- nothing is named twice

@@ -31,7 +31,7 @@ use Rattle.tf_state.specs.Valid.{IsPresent, IsValid}
 use Rattle.tf_state_data.specs.Ids.{AreById}
 use Rattle.tf_state_data.specs.State.{StateView}
 use Rattle.tf_value.specs.Tree.{Entries}
-use Rattle.tf_laws.proofs.ListsOfEntries.{all_weaker}
+use Rattle.tf_laws.proofs.Lists.{all_weaker}
 use Rattle.tf_laws.specs.Founded.{IsFounded}
 use Rattle.tf_laws.specs.Planned.{PlansAreFounded}
 

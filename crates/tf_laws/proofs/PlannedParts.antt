@@ -1,26 +1,24 @@
 -- A plan that was made of what is sound, by its parts. What names stand for in the expansion and in the plan is chosen here
 -- alone.
-use Rattle.std.proofs.Common.{◌≡◌, ◌∙◌, ℕ, Bool, false, List, Some, length, map, sym, ap, subst}
+use Rattle.std.proofs.Common.{◌≡◌, ◌∙◌, ℕ, Bool, false, List, Some, map, sym, ap, subst}
 use Rattle.std.specs.List.{AllByRecursion}
 use Rattle.std.specs.List.Sorted.{IsStrictlySortedBy}
-use Rattle.tf_plan_data.specs.Action.{ActionView}
 use Rattle.tf_address.specs.Label.{label_cmp}
 use Rattle.tf_config_data.specs.Config.{ConfigView}
-use Rattle.tf_config_data.specs.Names.{directly_before, names_of}
+use Rattle.tf_config_data.specs.Names.{directly_before}
 use Rattle.tf_laws.proofs.Declared.{Setting}
 use Rattle.tf_laws.proofs.Lists.{all_weaker}
+use Rattle.tf_laws.proofs.OwnParts.{plan_from}
 use Rattle.tf_deciding.specs.Stage.{deciding}
-use Rattle.tf_environment.specs.Shape.{ShapeView}
 use Rattle.tf_environment.specs.Stages.{expansion}
 use Rattle.tf_environment.specs.Standing.{StandingView, AreStandings}
 use Rattle.tf_expand.specs.Expanding.{AreExpanded}
-use Rattle.tf_graph.specs.Digraph.{Digraph}
 use Rattle.tf_graph.specs.Solutions.{Ranked}
 use Rattle.tf_names.specs.Needs.{IsAcyclic}
 use Rattle.tf_plan.proofs.Blocks.{names-apart}
 use Rattle.tf_plan.proofs.Fitting.{AreFit, plan-fits}
 use Rattle.tf_plan.specs.Ordered.{IsOrdered}
-use Rattle.tf_plan.specs.Plan.{IsPlan, IsPlannedFrom}
+use Rattle.tf_plan.specs.Plan.{IsPlannedFrom}
 use Rattle.tf_plan.specs.Planned.{IsPlanned, unrefused}
 use Rattle.tf_plan_data.specs.Plan.{PlanView, plan_names}
 use Rattle.tf_protocol.specs.Meaning.{Meaning, schema_in}
@@ -30,7 +28,6 @@ use Rattle.tf_plan_resources.specs.Numbering.{a_name}
 use Rattle.tf_state.specs.Valid.{IsPresent, IsValid}
 use Rattle.tf_state_data.specs.Addresses.{AreByAddress}
 use Rattle.tf_state_data.specs.Ids.{AreById}
-use Rattle.tf_state_data.specs.Resource.{ResourceView}
 use Rattle.tf_state_data.specs.State.{StateView}
 use Rattle.tf_value.specs.Tree.{Entries}
 use Rattle.tf_laws.specs.Requests.{IsSoundPlan}
@@ -73,20 +70,6 @@ setting x =
       by_address = x.by_address;
       by_id = x.by_id;
     }
-
--- what is planned of a configuration is planned of one that it is equal to
-planned_of : (ms : List Meaning) (resources : List ResourceView) (valued variables : Entries) (configured config : ConfigView) (needs : ℕ → ℕ → Bool) (shapes : ℕ → ShapeView) (actions : List ActionView) (late : ℕ → Bool) (order : Digraph)
-    → variables ≡ valued → config ≡ configured
-    → IsPlannedFrom ms resources valued (names_of configured) configured.outputs needs shapes actions late order → IsPlannedFrom ms resources variables (names_of config) config.outputs needs shapes actions late order
-planned_of ms resources valued variables configured config needs shapes actions late order same alike h =
-    subst (λ (v : Entries). IsPlannedFrom ms resources v (names_of config) config.outputs needs shapes actions late order) (sym same)
-    (subst (λ (c : ConfigView). IsPlannedFrom ms resources valued (names_of c) c.outputs needs shapes actions late order) (sym alike) h)
-
-plan_from : (ms : List Meaning) (config : ConfigView) (variables : Entries) (prior : StateView) (plan : PlanView) → IsPlan ms config variables prior plan
-    → IsPlannedFrom ms plan.prior.resources plan.variables (plan_names plan) plan.config.outputs plan.needs plan.shapes plan.actions plan.late plan.order
-plan_from ms config variables prior plan is =
-    subst (λ (s : StateView). IsPlannedFrom ms s.resources plan.variables (plan_names plan) plan.config.outputs plan.needs plan.shapes plan.actions plan.late plan.order) (sym is.prior)
-    (planned_of ms prior.resources variables plan.variables config plan.config plan.needs plan.shapes plan.actions plan.late plan.order is.variables is.config is.planned)
 
 module _ (ms : List Meaning) (config : ConfigView) (variables : Entries) (prior : StateView) (plan : PlanView) (is : IsSoundPlan ms config variables prior plan) where
   pub own_planned : IsPlannedFrom ms plan.prior.resources plan.variables (plan_names plan) plan.config.outputs plan.needs plan.shapes plan.actions plan.late plan.order

@@ -1,20 +1,18 @@
 -- What an action asked is what its block makes where names stand for what came of all.
-use Rattle.std.proofs.Common.{◌≡◌, ◌∙◌, ◌<◌, ℕ, Bool, true, length, Option, Some, None, refl, sym, ap, subst}
+use Rattle.std.proofs.Common.{◌≡◌, ◌∙◌, ◌<◌, ℕ, true, length, Option, Some, refl, sym, subst}
 use Rattle.std.specs.List.{AllByRecursion}
-use Rattle.std.specs.Prelude.{Contains, slice_get}
+use Rattle.std.specs.Prelude.{slice_get}
 use Rattle.tf_plan_data.specs.Action.{ActionView}
 use Rattle.tf_address.specs.ObjectId.{InstanceKeyView}
 use Rattle.tf_change.proofs.Locals.{instances_local}
 use Rattle.tf_change.specs.Instance.{instance_object}
 use Rattle.tf_config_data.specs.Config.{BlockView}
-use Rattle.tf_config_data.specs.Names.{Meant, a_local, a_block, meant_at, block_refers, directly_before, places, refers_at}
+use Rattle.tf_config_data.specs.Names.{Meant, a_block, meant_at, block_refers, directly_before, places, refers_at}
 use Rattle.tf_environment.proofs.Places.{along, names_stay}
 use Rattle.tf_environment.proofs.Seen.{agree_on}
-use Rattle.tf_environment.specs.Shape.{ShapeView}
 use Rattle.tf_environment.specs.Stages.{applying}
 use Rattle.tf_environment.specs.Standing.{StandingView, AreStandings, environment, rule, stands_at}
 use Rattle.tf_eval.proofs.Locality.{expressions_local}
-use Rattle.tf_eval.specs.Environment.{Environment}
 use Rattle.tf_graph.proofs.Edges.{all_by_contained}
 use Rattle.tf_graph.proofs.Solving.{all_by_at, solution-exists}
 use Rattle.tf_graph.specs.Digraph.{predecessors_of}
@@ -29,23 +27,9 @@ use Rattle.tf_value.specs.Tree.{Tree}
 use Rattle.tf_laws.proofs.Agree.{objects_agree}
 use Rattle.tf_laws.proofs.Applied.{Applied}
 use Rattle.tf_laws.proofs.Places.{meant_within}
-use Rattle.tf_laws.proofs.Still.{together_same}
-
--- where objects are the same at a place, so is what stands there
-meant_same : (shapes : ℕ → ShapeView) (f g : ℕ → InstanceKeyView → Tree) (n : ℕ) (m : Option Meant) (env : Environment) → ((key : InstanceKeyView) → f n key ≡ g n key) → stands_at (applying shapes f) n m env ≡ stands_at (applying shapes g) n m env
-meant_same shapes f g n None env h = refl
-meant_same shapes f g n (Some (a_local e)) env h = refl
-meant_same shapes f g n (Some (a_block block)) env h = together_same (λ key. Some (f n key)) (λ key. Some (g n key)) (shapes n) (λ key among. ap Some (h key))
+use Rattle.tf_laws.proofs.Needing.{meant_same, needs_closed, needs_direct}
 
 module _ (x : Applied) where
-  needs_direct : (a b : ℕ) → Contains (directly_before (plan_names x.plan) a) b → x.plan.needs a b ≡ true
-  needs_direct a b c = ap (λ (f : ℕ → ℕ → Bool). f a b) x.ordered.tied.needs ∙ x.ordered.tied.is_dependence.direct a b c
-
-  needs_closed : (a b c : ℕ) → x.plan.needs a b ≡ true → Contains (directly_before (plan_names x.plan) b) c → x.plan.needs a c ≡ true
-  needs_closed a b c need d =
-      let same = x.ordered.tied.needs in
-      ap (λ (f : ℕ → ℕ → Bool). f a c) same ∙ x.ordered.tied.is_dependence.closed a b c (sym (ap (λ (f : ℕ → ℕ → Bool). f a b) same) ∙ need) d
-
   module _ (standings : ℕ → StandingView) (solves : AreStandings (applying x.plan.shapes (objects_after x.plan x.done)) x.plan.variables (plan_names x.plan) standings) where
     module _ (k : ℕ) (a : ActionView) (at : slice_get x.plan.actions k ≡ Some a) (applies : is_apply a.step ≡ true) where
       abbrev objects_then : ℕ → InstanceKeyView → Tree
@@ -59,17 +43,17 @@ module _ (x : Applied) where
         alike_at m h before need =
             let then_before : AllByRecursion (λ b. others b ≡ standings b) (directly_before (plan_names x.plan) m) =
             all_by_contained (λ b. others b ≡ standings b) (directly_before (plan_names x.plan) m)
-            (λ b c. all_by_at IsAlike (directly_before (plan_names x.plan) m) b before c (needs_closed a.resource m b need c)) in
+            (λ b c. all_by_at IsAlike (directly_before (plan_names x.plan) m) b before c (needs_closed x.plan x.ordered a.resource m b need c)) in
             let turned : AllByRecursion (λ b. standings b ≡ others b) (directly_before (plan_names x.plan) m) =
             all_by_contained (λ b. standings b ≡ others b) (directly_before (plan_names x.plan) m)
-            (λ b c. sym (all_by_at IsAlike (directly_before (plan_names x.plan) m) b before c (needs_closed a.resource m b need c))) in
+            (λ b c. sym (all_by_at IsAlike (directly_before (plan_names x.plan) m) b before c (needs_closed x.plan x.ordered a.resource m b need c))) in
             let one : stands_at (applying x.plan.shapes objects_then) m (meant_at (plan_names x.plan) m) (environment x.plan.variables (plan_names x.plan) standings) ≡ others m =
             next_is x.plan.shapes objects_then x.plan.variables (plan_names x.plan) x.ranked standings others solves_then m h (λ local. turned) in
             let two : stands_at (applying x.plan.shapes (objects_after x.plan x.done)) m (meant_at (plan_names x.plan) m) (environment x.plan.variables (plan_names x.plan) standings) ≡ standings m =
             next_is x.plan.shapes (objects_after x.plan x.done) x.plan.variables (plan_names x.plan) x.ranked standings standings solves m h (λ local. all_by_contained (λ b. standings b ≡ standings b) (directly_before (plan_names x.plan) m) (λ b c. refl)) in
             sym one
             ∙ meant_same x.plan.shapes objects_then (objects_after x.plan x.done) m (meant_at (plan_names x.plan) m) (environment x.plan.variables (plan_names x.plan) standings)
-            (λ key. objects_agree x.ms (plan_names x.plan) x.plan.prior x.plan.prior.resources x.plan.needs x.plan.late x.plan.actions x.plan.order (done_at x.done) x.fit x.ordered k a at applies m key need)
+            (λ key among. objects_agree x.ms (plan_names x.plan) x.plan.prior x.plan.prior.resources x.plan.needs x.plan.late x.plan.actions x.plan.order (done_at x.done) x.fit x.ordered k a at applies m key need)
             ∙ two
 
         alike : (m : ℕ) → m < length (plan_names x.plan) → IsAlike m
@@ -81,7 +65,7 @@ module _ (x : Applied) where
             let inside = meant_within (plan_names x.plan) a.resource (a_block block) meant in
             let all : AllByRecursion (λ b. others b ≡ standings b) (directly_before (plan_names x.plan) a.resource) =
             all_by_contained (λ b. others b ≡ standings b) (directly_before (plan_names x.plan) a.resource)
-            (λ b c. alike b (all_by_at (λ d. d < length (plan_names x.plan)) (directly_before (plan_names x.plan) a.resource) b (names_stay (plan_names x.plan) a.resource inside) c) (needs_direct a.resource b c)) in
+            (λ b c. alike b (all_by_at (λ d. d < length (plan_names x.plan)) (directly_before (plan_names x.plan) a.resource) b (names_stay (plan_names x.plan) a.resource inside) c) (needs_direct x.plan x.ordered a.resource b c)) in
             let own : AllByRecursion (λ b. others b ≡ standings b) (places (plan_names x.plan) (block_refers block)) =
             subst (λ (m : Option Meant). AllByRecursion (λ b. others b ≡ standings b) (places (plan_names x.plan) (refers_at m))) meant all in
             instances_local expressions_local schema block key (environment x.plan.variables (plan_names x.plan) others) (environment x.plan.variables (plan_names x.plan) standings)

@@ -26,7 +26,7 @@ use Rattle.tf_state.specs.Table.{Reads}
 use Rattle.tf_state.specs.Text.{state_text}
 use Rattle.tf_state_data.specs.State.{StateView, record_in}
 use Rattle.tf_value.proofs.Conjunction.{and-first, and-second}
-use Rattle.tf_laws.proofs.PlannedOverTexts.{Laws, no_entries, none_again, plan_ranked, reported, shown_none}
+use Rattle.tf_laws.proofs.PlannedOverTexts.{Laws, no_entries, none_again, reported, shown_none}
 use Rattle.tf_laws.proofs.Reading.{one_resources}
 use Rattle.tf_laws.specs.Again.{HaveSchemas, NothingIsDoneAgain, NothingIsPlannedAfterSuccess, NothingIsPlannedAgain, WentWell, no_changes, over, with_written}
 

@@ -1,11 +1,11 @@
 -- What may be refused over the state that an apply left.
-use Rattle.std.proofs.Common.{◌≡◌, ◌≤◌, ◌∙◌, ◌<◌, ◌+◌, ℕ, zero, suc, List, [], ◌∷◌, Result, Ok, Err, length, inl, inr, refl, sym, ap, ap₂, subst, arith}
+use Rattle.std.proofs.Common.{◌≡◌, ◌≤◌, ◌<◌, ℕ, List, [], ◌∷◌, length, inl, inr, subst, arith}
 use Rattle.tf_plan_data.specs.Action.{ActionView}
 use Rattle.tf_address.specs.ObjectId.{InstanceKeyView}
 use Rattle.tf_cli.specs.Applies.{IsApplied, state_in}
 use Rattle.tf_cli.specs.declared.applied.Applied.{Applied}
 use Rattle.tf_config_data.specs.Config.{ConfigView}
-use Rattle.tf_config_data.specs.Names.{NameView, directly_before, meant_at, names_of}
+use Rattle.tf_config_data.specs.Names.{NameView, directly_before, names_of}
 use Rattle.tf_laws.proofs.Whole.{carried_out, rest_same}
 use Rattle.tf_laws.specs.Converges.{IsCarriedOut, StateAfterIsAtRest}
 use Rattle.tf_laws.specs.Rest.{AreAtRest, NothingIsPlannedAtRest}

@@ -92,7 +92,7 @@ apply_op _ h = absurd (cc)
 
 -- ---- good verdicts
 
-good_verdict : (v : Verdict) → is_good_verdict v ≡ true → v ≡ verdict.Good
+pub good_verdict : (v : Verdict) → is_good_verdict v ≡ true → v ≡ verdict.Good
 good_verdict verdict.Good h = refl
 good_verdict verdict.Failed h = absurd (cc)
 good_verdict (verdict.Contradicted n) h = absurd (cc)

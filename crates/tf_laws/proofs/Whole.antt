@@ -2,13 +2,12 @@
 use Rattle.std.proofs.Common.{◌≡◌, ◌∙◌, ◌<◌, ℕ, Bool, true, false, List, Option, Some, None, length, map, refl, sym, ap, subst, ◌∷◌, []}
 use Rattle.std.specs.List.{AllByRecursion}
 use Rattle.std.specs.List.Sorted.{IsStrictlySortedBy}
-use Rattle.tf_plan_data.specs.Action.{ActionView}
 use Rattle.tf_additions.specs.Dependencies.{dependencies}
 use Rattle.tf_address.specs.Label.{label_cmp}
 use Rattle.tf_address.specs.ObjectId.{InstanceKeyView}
 use Rattle.tf_change.specs.Laws.{InstancesGrow}
 use Rattle.tf_config_data.specs.Config.{BlockView, ConfigView}
-use Rattle.tf_config_data.specs.Names.{NameView, Meant, a_local, a_block, directly_before, meant_at, names_of}
+use Rattle.tf_config_data.specs.Names.{NameView, Meant, a_local, a_block, directly_before, meant_at}
 use Rattle.tf_deciding.specs.Stage.{deciding, records_at}
 use Rattle.tf_environment.specs.Laws.{StandingsGrow}
 use Rattle.tf_environment.specs.Shape.{ShapeView, instance_keys}
@@ -16,7 +15,6 @@ use Rattle.tf_environment.specs.Stages.{applying}
 use Rattle.tf_environment.specs.Standing.{all_stand, environment, result_in, rule, stands_at, together, where_all}
 use Rattle.tf_eval.specs.Environment.{Environment}
 use Rattle.tf_graph.proofs.Solving.{solution-exists}
-use Rattle.tf_graph.specs.Digraph.{Digraph}
 use Rattle.tf_graph.specs.Solutions.{Ranked, seen_by}
 use Rattle.tf_plan_resources.specs.Members.{is_among}
 use Rattle.tf_names.specs.Needs.{IsAcyclic}
@@ -50,25 +48,12 @@ use Rattle.tf_laws.proofs.Places.{meant_within}
 use Rattle.tf_laws.proofs.Rests.{after_rests}
 use Rattle.tf_laws.proofs.Still.{nothing_at_rest}
 use Rattle.tf_laws.proofs.Unrefused.{nothing_refused}
+use Rattle.tf_laws.proofs.OwnParts.{plan_from, planned_of}
 use Rattle.tf_laws.specs.Converges.{Converges, IsCarriedOut, IsSound, NothingIsRefusedAgain, ReportsConverge, StateAfterIsAtRest}
 use Rattle.tf_laws.specs.Known.{ExpressionsStayKnown}
 use Rattle.tf_laws.specs.Rest.{AreAtRest}
 
 -- ---- a plan by its own parts
-
--- what is planned of a configuration and a state is planned of those that they are equal to
-planned_of : (ms : List Meaning) (resources : List ResourceView) (valued variables : Entries) (configured config : ConfigView) (needs : ℕ → ℕ → Bool) (shapes : ℕ → ShapeView) (actions : List ActionView) (late : ℕ → Bool) (order : Digraph)
-    → variables ≡ valued → config ≡ configured
-    → IsPlannedFrom ms resources valued (names_of configured) configured.outputs needs shapes actions late order → IsPlannedFrom ms resources variables (names_of config) config.outputs needs shapes actions late order
-planned_of ms resources valued variables configured config needs shapes actions late order same alike h =
-    subst (λ (v : Entries). IsPlannedFrom ms resources v (names_of config) config.outputs needs shapes actions late order) (sym same)
-    (subst (λ (c : ConfigView). IsPlannedFrom ms resources valued (names_of c) c.outputs needs shapes actions late order) (sym alike) h)
-
-plan_from : (ms : List Meaning) (config : ConfigView) (variables : Entries) (prior : StateView) (plan : PlanView) → IsPlan ms config variables prior plan
-    → IsPlannedFrom ms plan.prior.resources plan.variables (plan_names plan) plan.config.outputs plan.needs plan.shapes plan.actions plan.late plan.order
-plan_from ms config variables prior plan is =
-    subst (λ (s : StateView). IsPlannedFrom ms s.resources plan.variables (plan_names plan) plan.config.outputs plan.needs plan.shapes plan.actions plan.late plan.order) (sym is.prior)
-    (planned_of ms prior.resources variables plan.variables config plan.config plan.needs plan.shapes plan.actions plan.late plan.order is.variables is.config is.planned)
 
 by_id : (s : StateView) → IsValid s → AllByRecursion (λ r. AreById r.records) s.resources
 by_id s valid = all_weaker IsPresent (λ r. AreById r.records) s.resources (λ r present. present.0.records.1) valid.resources.0
