@@ -3,6 +3,7 @@ pub mod Seen
 pub mod Locals
 pub mod Refining
 pub mod Keeping
+pub mod Marking
 pub mod Laying
 pub mod TooMany
 pub mod Growing

@@ -11,6 +11,7 @@ mod evaluation;
 mod instance;
 pub mod laws;
 mod layout;
+mod marks;
 mod repetition;
 mod scope;
 mod shape;
@@ -20,6 +21,7 @@ mod table;
 
 pub use instance::{Bound, instance_constants};
 pub use layout::{Keyed, lay_out};
+pub use marks::{is_marked, mark, none_marked};
 pub use repetition::{RepetitionFault, instances};
 pub use scope::NamesScope;
 pub use shape::Shape;

@@ -2,7 +2,6 @@
 
 ghost use Rattle.std.specs.Prelude.{◌≡◌, ◌<◌, ℕ, IfOk, None, if◌then◌else◌, is_some, length, Contains};
 ghost use Rattle.tf_config_data.specs.Names.{directly_before, meant_at};
-ghost use Rattle.tf_graph.specs.NodeSet.{has};
 ghost use Rattle.tf_graph.specs.Order.{IsInOrder};
 ghost use Rattle.tf_graph.specs.Solutions.{seen_by};
 ghost use Rattle.tf_names.specs.Needs.{IsDependence, order_in};
@@ -13,6 +12,7 @@ ghost use Rattle.tf_environment.specs.Laws.{IsLocal};
 ghost use Rattle.tf_environment.specs.Standing.{StandingView, all_stand as all_that_stand, environment, stands_at, where_all};
 ghost use Rattle.tf_environment.specs.Views.{standing_of, standings_of};
 
+use crate::marks::is_marked;
 use crate::scope::NamesScope;
 use crate::stage::{Resource, Stage};
 use crate::standing::{Standing, evaluated};
@@ -74,7 +74,7 @@ fn standings_in<T: Stage>(
 {
     let mut kept = no_standings(alloc, declared.names.len())?;
     for place in order {
-        let is_wanted = contains(wanted, *place);
+        let is_wanted = is_marked(wanted, *place);
         let standing = stand_at(alloc, stage, declared, kept.as_slice(), *place, is_wanted)?;
         kept[*place] = standing;
     }
@@ -95,13 +95,6 @@ pub fn no_standings(alloc: Global, count: usize) -> Result<Vec<Standing>, AllocE
         kept.push(Standing::Nothing)?;
     }
     Ok(kept)
-}
-
-/// Whether a place is wanted.
-fn contains(wanted: &[bool], place: usize) -> bool
-    ensures { result ≡ has wanted.now place }
-{
-    place < wanted.len() && wanted[place]
 }
 
 /// What the name at a place stands for, by what names stand for so far; nothing where it isn't wanted.

@@ -14,7 +14,6 @@ pub mod Sameness
 pub mod Solved
 pub mod Excluding
 pub mod Tied
-pub mod Marking
 pub mod Wanting
 pub mod Looking
 pub mod Declaring

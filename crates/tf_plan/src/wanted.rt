@@ -11,7 +11,7 @@ ghost use Rattle.tf_syntax.specs.ExprTree.{entries_view};
 
 use std::alloc::{AllocError, Global};
 use std::collections::BTreeMap;
-use tf_environment::Declarations;
+use tf_environment::{Declarations, is_marked, mark, none_marked};
 use tf_expand::{needed_by, needed_by_resources};
 use tf_names::Names;
 use tf_syntax::Expr;
@@ -45,7 +45,7 @@ pub(crate) fn wanted_names(
 fn is_either(one: &[bool], other: &[bool], third: &[bool], place: usize) -> bool
     ensures { result ≡ has one.now place || has other.now place || has third.now place }
 {
-    contains(one, place) || contains(other, place) || contains(third, place)
+    is_marked(one, place) || is_marked(other, place) || is_marked(third, place)
 }
 
 /// For each place, whether an output names what stands there.
@@ -76,29 +76,4 @@ fn places_in_outputs(
         found.extend_from_slice(more.as_slice())?;
     }
     Ok(found)
-}
-
-/// As many places, none of which is marked.
-fn none_marked(alloc: Global, count: usize) -> Result<Vec<bool>, AllocError>
-    ensures { IfOk result (λ marked. marked.items ≡ replicate count false) }
-{
-    vec![in alloc; false; count]
-}
-
-/// Marks places.
-fn mark(marked: &mut [bool], places: &[usize])
-    requires within { AllByRecursion (λ n. n < length marked.old) places.now }
-    ensures length { length marked.new ≡ length marked.old }
-    ensures marked { (n : ℕ) → (has marked.new n ≡ true) ↔ ((has marked.old n ≡ true) ⊎ Contains places.now n) }
-{
-    for place in places {
-        marked[*place] = true;
-    }
-}
-
-/// Whether a place is marked.
-fn contains(marked: &[bool], place: usize) -> bool
-    ensures { result ≡ has marked.now place }
-{
-    place < marked.len() && marked[place]
 }

@@ -12,7 +12,8 @@ use Rattle.tf_precedence.specs.Late.{Leads, IsLate, AreLate}
 use Rattle.tf_precedence.specs.Laws.{AcyclicIsStrict, TiesAreSound, NoStateLeadsBack}
 use Rattle.tf_precedence.specs.Ties.{ties_of}
 use Rattle.tf_precedence.proofs.Chains.{no_chain-back}
-use Rattle.tf_precedence.specs.Spread.{IsFurther, IsLooked, IsSpread, unfound}
+use Rattle.tf_precedence.proofs.SpreadState.{IsLooked, IsSpread}
+use Rattle.tf_precedence.specs.Spread.{IsFurther, unfound}
 
 -- one more is found
 set-kept : (late : List Bool) (r n : ℕ) → r < length late → has late n ≡ true → has (set late r true) n ≡ true

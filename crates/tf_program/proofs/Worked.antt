@@ -1,6 +1,7 @@
 -- What the programs do with what they were given.
 use Rattle.std.proofs.Common.{◌≡◌, ◌∙◌, ℕ, List, Option, Some, None, Result, Ok, Err, true, refl, sym, ap, subst, option_map, string_bytes}
 use Rattle.std.specs.Prelude.{IfOk, IfErr}
+use Rattle.std.specs.declared.alloc.Global.{Global}
 use Rattle.std.specs.declared.string.String.{String}
 use Rattle.tf_inputs.specs.Texts.{Texts, the_texts}
 use Rattle.tf_plan.specs.Refused.{Tells}
@@ -11,7 +12,7 @@ use Rattle.tf_cli.specs.Applies.{IsApplied, IsPlanText, to_write}
 use Rattle.tf_program.specs.Kept.{EndsKept}
 use Rattle.tf_cli.specs.Refusals.{AreApplyRefusals, AreRefusals}
 use Rattle.tf_cli.specs.Shown.{status_of}
-use Rattle.tf_program.specs.Work.{EndsApply, EndsWith, IsAnswer, IsGraphText, IsShown, texts_of}
+use Rattle.tf_program.specs.Work.{EndsApply, EndsWith, IsAnswer, IsGraphAnswer, IsGraphText, IsPlanAnswer, IsShown, answer_of, texts_of}
 use Rattle.tf_cli.specs.declared.applied.Applied.{Applied}
 use Rattle.tf_program.specs.declared.given.Given.{Given}
 
@@ -36,6 +37,16 @@ module _ (ms : List Meaning) (given : Given) (config : List ℕ) (vars state : O
   pub is_refused : (refused : Refused) → Tells (AreRefusals ms (the_texts config vars state)) refused → Tells (AreRefusals ms (texts_of given)) refused
   is_refused why refused = subst (λ (t : Texts). Tells (AreRefusals ms t) why) the_same refused
 
+  pub are_refused : {A : Type 0} (answer : Result A Refused) → IfErr answer (Tells (AreRefusals ms (the_texts config vars state))) → IfErr answer (Tells (AreRefusals ms (texts_of given)))
+  are_refused (Ok a) refused = refused
+  are_refused (Err why) refused = is_refused why refused
+
+  -- an answer of a plan of these texts is one of what was given
+  pub is_plan_answer : (answer : Result (String Global) Refused) → IfOk answer (λ text. IsPlanText ms (the_texts config vars state) (string_bytes text))
+      → IfErr answer (Tells (AreRefusals ms (the_texts config vars state))) → IsPlanAnswer ms given (answer_of answer)
+  is_plan_answer (Ok text) planned refused = is_planned (string_bytes text) planned
+  is_plan_answer (Err why) planned refused = is_refused why refused
+
   -- an answer of an apply of these texts is one of what was given
   pub is_answer : (lineage : List ℕ) → lineage ≡ string_bytes given.options.lineage → (answer : Result Applied Refused)
       → IfOk answer (IsApplied ms (the_texts config vars state) lineage) → IfOk answer (λ _. are_workers given.options.parallelism ≡ true)
@@ -48,6 +59,11 @@ module _ (ms : List Meaning) (given : Given) (config : List ℕ) (vars state : O
   is_answer lineage named (Err why) applied workers refused =
       subst (λ (t : Texts). Tells (AreApplyRefusals ms t (string_bytes given.options.lineage) given.options.parallelism) why) the_same
       (subst (λ (l : List ℕ). Tells (AreApplyRefusals ms (the_texts config vars state) l given.options.parallelism) why) named refused)
+
+pub is_graph_answer : (ms : List Meaning) (given : Given) (answer : Result (String Global) Refused) → IfOk answer (λ text. IsGraphText ms (texts_of given) (string_bytes text))
+    → IfErr answer (Tells (AreRefusals ms (texts_of given))) → IsGraphAnswer ms given (answer_of answer)
+is_graph_answer ms given (Ok text) drawn refused = drawn
+is_graph_answer ms given (Err why) drawn refused = refused
 
 module _ (result : ℕ) (out out_after err err_after : Option (List ℕ)) where
   pub nothing_to_write : {Z : Type 0} (answer : Result Applied Refused) (text : Option (String Z)) → option_map string_bytes text ≡ to_write answer → text ≡ None

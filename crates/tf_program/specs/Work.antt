@@ -2,7 +2,9 @@
 use Rattle.std.specs.Prelude.{◌≡◌, ◌⊎◌, true, ℕ, List, Option, Some, None, Result, Ok, Err, option_map, string_bytes}
 use Rattle.std.specs.Io.KnownBytes.{Appends}
 use Rattle.std.specs.Process.{exit_status}
+use Rattle.std.specs.declared.alloc.Global.{Global}
 use Rattle.std.specs.declared.process.ExitCode.{ExitCode}
+use Rattle.std.specs.declared.string.String.{String}
 use Rattle.tf_inputs.specs.Texts.{Texts, the_texts}
 use Rattle.tf_plan.specs.Refused.{Tells}
 use Rattle.tf_plan.specs.declared.refused.Refused.{Refused}
@@ -21,6 +23,11 @@ use Rattle.tf_program.specs.declared.given.Given.{Given}
 -- the texts that a program was given
 abbrev pub texts_of : Given → Texts
 texts_of given = the_texts given.config.items (option_map (λ bytes. bytes.items) given.vars) (option_map (λ bytes. bytes.items) given.state)
+
+-- an answer with its text without where it lies in memory
+abbrev pub answer_of : Result (String Global) Refused → Result (List ℕ) Refused
+answer_of (Ok text) = Ok (string_bytes text)
+answer_of (Err refused) = Err refused
 
 -- the answer of a plan of what was given: its text, or what is refused
 abbrev pub IsPlanAnswer : List Meaning → Given → Result (List ℕ) Refused → Type 0

@@ -3,7 +3,7 @@
 ghost use Rattle.std.specs.Io.KnownBytes.{Appends};
 ghost use Rattle.std.specs.Prelude.{◌≡◌, ◌⊎◌, map};
 ghost use Rattle.tf_cli.specs.Saved.{AppendsStart};
-ghost use Rattle.tf_program.specs.Work.{EndsApply, EndsPlan, IsAnswer, IsGraphAnswer, IsPlanAnswer};
+ghost use Rattle.tf_program.specs.Work.{EndsApply, EndsPlan, IsAnswer, IsGraphAnswer, IsPlanAnswer, answer_of};
 
 use crate::drawing::graph_text;
 use crate::given::Given;
@@ -14,7 +14,7 @@ use std::io::Write;
 use std::rt::Files;
 use std::sync::Wait;
 use std::thread::Threads;
-use tf_cli::{Stop, apply_text, plan_text, print_refused, save, show, state_to_write};
+use tf_cli::{Refused, Stop, apply_text, plan_text, print_refused, save, show, state_to_write};
 use tf_provider::Provider;
 
 /// Prints the plan of what `plan` was given, or what is refused of it. The answer is the status: 1 where something is refused, and
@@ -28,19 +28,14 @@ pub fn print_plan<O: Write, E: Write>(
 ) -> u8
     ensures { (answer : _) × IsPlanAnswer (map meaning providers.now) given.now answer × EndsPlan answer result (O.contents out.old) (O.contents out.new) (E.contents err.old) (E.contents err.new) }
 {
-    match plan_text(
+    let answer = plan_text(
         alloc,
         given.config.as_slice(),
         given.vars_bytes(),
         given.state_bytes(),
         providers,
-    ) {
-        Ok(text) => print_text(text.as_str(), out),
-        Err(refused) => {
-            let _ = print_refused(&refused, err);
-            1
-        }
-    }
+    );
+    print_answer(answer, out, err)
 }
 
 /// Prints the order of the plan of what `plan` was given, for Graphviz, in place of the plan's text, or what is refused of it. The
@@ -54,13 +49,14 @@ pub fn print_graph<O: Write, E: Write>(
 ) -> u8
     ensures { (answer : _) × IsGraphAnswer (map meaning providers.now) given.now answer × EndsPlan answer result (O.contents out.old) (O.contents out.new) (E.contents err.old) (E.contents err.new) }
 {
-    match graph_text(
-        alloc,
-        given.config.as_slice(),
-        given.vars_bytes(),
-        given.state_bytes(),
-        providers,
-    ) {
+    print_answer(graph_text(alloc, given, providers), out, err)
+}
+
+/// Prints a text, or what is refused in its place. The answer is the status.
+fn print_answer<O: Write, E: Write>(answer: Result<String, Refused>, out: &mut O, err: &mut E) -> u8
+    ensures { EndsPlan (answer_of answer) result (O.contents out.old) (O.contents out.new) (E.contents err.old) (E.contents err.new) }
+{
+    match answer {
         Ok(text) => print_text(text.as_str(), out),
         Err(refused) => {
             let _ = print_refused(&refused, err);

@@ -6,7 +6,7 @@ ghost use Rattle.tf_environment.specs.Words.{directly_before, has, IsAcyclic, Is
 ghost use Rattle.tf_request.specs.Wanted.{IsWanted, is_local};
 
 use std::alloc::{AllocError, Global};
-use tf_environment::Declarations;
+use tf_environment::{Declarations, mark, none_marked};
 use tf_names::Named;
 
 /// For each place, whether the name there is wanted: it is at one of these places, or the expression of a wanted local
@@ -23,19 +23,12 @@ pub(crate) fn wanted_by(
     ensures wanted { IfOk result (λ wanted. (n : ℕ) → (has wanted.items n ≡ true) ↔ IsWanted (names_in declared.now.names.now) others.now n) }
 {
     let order = declared.dependence.order();
-    let mut wanted = none_wanted(alloc, declared.names.len())?;
+    let mut wanted = none_marked(alloc, declared.names.len())?;
     mark(wanted.as_mut_slice(), others);
     for index in (0..order.len()).rev() {
         mark_named(declared, wanted.as_mut_slice(), order[index]);
     }
     Ok(wanted)
-}
-
-/// As many places, none of which is marked.
-fn none_wanted(alloc: Global, count: usize) -> Result<Vec<bool>, AllocError>
-    ensures { IfOk result (λ wanted. wanted.items ≡ replicate count false) }
-{
-    vec![in alloc; false; count]
 }
 
 /// Marks what the expression at a place names, where a marked local stands there.
@@ -53,16 +46,5 @@ fn mark_named(declared: &Declarations, wanted: &mut [bool], place: usize)
     match declared.names.at(place) {
         Named::Local(_, _) => mark(wanted, declared.dependence.before(place)),
         Named::Resource(_, _) => {}
-    }
-}
-
-/// Marks places.
-fn mark(wanted: &mut [bool], places: &[usize])
-    requires within { AllByRecursion (λ n. n < length wanted.old) places.now }
-    ensures length { length wanted.new ≡ length wanted.old }
-    ensures marked { (n : ℕ) → (has wanted.new n ≡ true) ↔ ((has wanted.old n ≡ true) ⊎ Contains places.now n) }
-{
-    for place in places {
-        wanted[*place] = true;
     }
 }

@@ -27,7 +27,7 @@ pub(crate) fn work<N: Naming, B: Ground<N>, R: Wait>(
     let mut post = Post { desk, memo: None };
     let all = walk.claims.graph().nodes() as u64;
     // What may be claimed is found, though no contract says so. No worker waits before every action was given to one to look
-    // at, which claims it if nothing stands before it. At any other action a worker has a hint that ended the last one before
+    // at, which claims it if nothing stands before it. At any other action a worker has a hint that let go of the last edge into
     // it, or, where the hint is lost, all actions are given anew; and that worker looks at its own hints, and on, before it
     // waits. So others are woken only to be quicker, but for the end, when all are. None waits that hasn't looked since the
     // last news: the news is read before it looks, and told after there is something to find. `tools/model` goes through all

@@ -3,6 +3,7 @@ pub mod CallsSeen
 pub mod Outcomes
 pub mod SharedCells
 pub mod Showing
+pub mod TakingOut
 pub mod Taking
 pub mod TrueEnds
 pub mod Passed

@@ -10,7 +10,7 @@ use Rattle.tf_outcome.specs.Ended.{done_of, done_or_skipped, dones_of}
 use Rattle.tf_outcome.specs.Outcome.{done_at}
 use Rattle.tf_outcome.specs.declared.ended.Ended.{Ended}
 use Rattle.tf_walk_workers.specs.Ideal.{IsTrueTo, IsNumbered}
-use Rattle.tf_walk_workers.specs.TakingOut.{IsTakenOut}
+use Rattle.tf_walk_workers.proofs.TakingOut.{IsTakenOut}
 
 -- where nothing is known of an action, it counts as skipped
 one_done : (results : List (Option Ended)) (n : ℕ) → done_at (dones_of results) n ≡ done_or_skipped (get_or results n None)

@@ -4,7 +4,6 @@ pub mod Laws
 pub mod NoPlan
 pub mod Reading
 pub mod Sight
-pub mod TakingOut
 pub mod Memo
 pub mod Seen
 pub mod Shared

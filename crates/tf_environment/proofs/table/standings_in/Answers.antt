@@ -21,7 +21,7 @@ loop-place-preserved g c =
     let kept = c.loop-place.kept.items in
     let below : i < length c.args.order.now = c.loop-place-test.true in
     kept_more stage variables names c.args.order.now c.args.wanted.now i p kept _ c.in_ok-standing.standing c.requires.local c.requires.order c.requires.closed below refl (c.requires.within p (i, below, get_or_default c.args.order.now i p 0 below)) refl
-    (stood_is stage variables names c.args.wanted.now p c.contains-is_wanted.result c.as_slice.result.now kept (standing_of c.in_ok-standing.standing) c.in_ok-standing.ensures c.contains-is_wanted.ensures c.as_slice.ensures.value)
+    (stood_is stage variables names c.args.wanted.now p c.is_marked-is_wanted.result c.as_slice.result.now kept (standing_of c.in_ok-standing.standing) c.in_ok-standing.ensures c.is_marked-is_wanted.ensures c.as_slice.ensures.value)
     c.loop-place.invariant
 
 pub returns-clause-standings : goal.returns-clause-standings

@@ -5,7 +5,7 @@ use Rattle.tf_config_data.specs.Names.{places}
 use Rattle.tf_environment.proofs.Places.{all_places}
 use Rattle.tf_graph.specs.NodeSet.{has}
 use Rattle.tf_names.specs.Table.{names_in}
-use Rattle.tf_plan.proofs.Marking.{empty_marks, written_back}
+use Rattle.tf_environment.proofs.Marking.{empty_marks, written_back}
 use Rattle.tf_plan.proofs.Wanting.{only_new}
 use Rattle.tf_syntax.specs.ExprNames.{named_below}
 use Rattle.tf_syntax.specs.ExprTree.{entries_view}

@@ -1,7 +1,7 @@
 use Rattle.std.proofs.Common.{◌≡◌, ◌∙◌, ◌++◌, ◌∷◌, [], arith}
 use Rattle.std.proofs.lemmas.List.{nil_from_length}
 use Rattle.tf_precedence.proofs.Spreading.{spread-next, spread-done}
-use Rattle.tf_precedence.specs.Spread.{IsSpread}
+use Rattle.tf_precedence.proofs.SpreadState.{IsSpread}
 use Rattle.tf_precedence.proofs.late.lateness.Goals as goal
 
 pub loop-resource-preserved : goal.loop-resource-preserved

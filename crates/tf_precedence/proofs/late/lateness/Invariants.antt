@@ -1,5 +1,6 @@
 use Rattle.std.proofs.Common.{◌≡◌, ◌+◌, length, vec_len}
-use Rattle.tf_precedence.specs.Spread.{IsSpread, unfound}
+use Rattle.tf_precedence.proofs.SpreadState.{IsSpread}
+use Rattle.tf_precedence.specs.Spread.{unfound}
 use Rattle.tf_precedence.proofs.late.lateness.Given as goal
 
 abbrev pub invariant-loop-resource : goal.invariant-loop-resource

@@ -5,7 +5,8 @@ use Rattle.tf_config_data.specs.Names.{directly_before}
 use Rattle.tf_graph.specs.NodeSet.{has}
 use Rattle.tf_graph.specs.Order.{IsInOrder}
 use Rattle.tf_names.specs.Table.{names_in}
-use Rattle.tf_request.proofs.Wanting.{Spreads, written_back, empty_marks, spread_start, spread_more, spread_all}
+use Rattle.tf_environment.proofs.Marking.{empty_marks, written_back}
+use Rattle.tf_request.proofs.Wanting.{Spreads, spread_start, spread_more, spread_all}
 use Rattle.tf_request.proofs.wanted.wanted_by.Goals as goal
 
 pub loop-index-init : goal.loop-index-init
@@ -13,7 +14,7 @@ loop-index-init c =
     let names = names_in c.args.declared.now.names.now in
     let order : List ℕ = c.order-order.result.now in
     let none = c.in_ok-wanted.wanted in
-    let marked : List Bool = c.mark.new.wanted in
+    let marked : List Bool = c.mark.new.marked in
     let same : c.as_mut_slice.result.now ≡ none.items = c.as_mut_slice.ensures.value in
     let long : length marked ≡ length none.items = c.mark.ensures.length ∙ ap (λ xs. length xs) same in
     let count : length none.items ≡ length names = ap (λ xs. length xs) c.in_ok-wanted.ensures ∙ length-replicate c.len.result false ∙ c.len.ensures in

@@ -4,7 +4,7 @@ use Rattle.std.specs.Prelude.{slice_set}
 use Rattle.tf_outcome.specs.Ended.{done_of}
 use Rattle.tf_outcome.specs.declared.ended.Ended.{Ended}
 use Rattle.tf_walk_workers.specs.Ideal.{IsTrueTo}
-use Rattle.tf_walk_workers.specs.TakingOut.{IsTakenOut}
+use Rattle.tf_walk_workers.proofs.TakingOut.{IsTakenOut}
 use Rattle.tf_walk_workers.proofs.Taking.{none-taken, one-less, last-cell, one-placed}
 use Rattle.tf_walk_workers.proofs.cells.Cells.take_out.Goals as goal
 

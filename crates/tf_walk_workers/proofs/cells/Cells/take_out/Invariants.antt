@@ -1,4 +1,4 @@
-use Rattle.tf_walk_workers.specs.TakingOut.{IsTakenOut}
+use Rattle.tf_walk_workers.proofs.TakingOut.{IsTakenOut}
 use Rattle.tf_walk_workers.proofs.cells.Cells.take_out.Given as goal
 
 abbrev pub invariant-loop-cell : goal.invariant-loop-cell
