@@ -1,3 +1,4 @@
+pub mod Asking
 pub mod Called
 pub mod Formed
 pub mod Gathered
@@ -6,7 +7,9 @@ pub mod Independent
 pub mod Judged
 pub mod Lines
 pub mod Lists
+pub mod Listed
 pub mod Named
 pub mod Ordered
 pub mod Pairs
+pub mod Spread
 pub mod Stored

@@ -24,6 +24,10 @@ dependencies needs names n = fold (λ found m. with_address (address_of (meant_a
 abbrev pub addresses : (ℕ → ℕ → Bool) → List NameView → ℕ → List (List ℕ)
 addresses needs names n = filter_map (λ m. address_of (meant_at names m)) (filter (needs n) (range_with_len 0 (length names)))
 
+-- the addresses of the resources at some places
+abbrev pub addresses_at : List NameView → List ℕ → List (List ℕ)
+addresses_at names places = filter_map (λ m. address_of (meant_at names m)) places
+
 -- texts in byte order, each once
 abbrev pub put_all : List (List ℕ) → List (List ℕ)
 put_all texts = fold put_text [] texts

@@ -3,6 +3,7 @@ pub mod Change
 pub mod Dependencies
 pub mod Diagnostics
 pub mod Head
+pub mod Needed
 pub mod Place
 pub mod Replied
 pub mod RoomHead

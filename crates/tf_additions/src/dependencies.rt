@@ -1,9 +1,10 @@
 //! What a resource depends on, as a state keeps it.
 
 ghost use Rattle.std.specs.Option.{option_to_list};
-ghost use Rattle.std.specs.Prelude.{◌≡◌, ◌<◌, ◌++◌, ◌∷◌, [], ℕ, false, true, IfOk, OnOk, length, map, string_bytes, Some, if◌then◌else◌};
+ghost use Rattle.std.specs.Prelude.{◌≡◌, ◌<◌, ◌++◌, ◌∷◌, [], ℕ, Bool, false, true, Contains, IfOk, OnOk, length, map, string_bytes, Some, if◌then◌else◌};
 ghost use Rattle.tf_outcome.specs.Words.{IsDependence, label_of, label_text, meant_at, names_in, needs_in};
-ghost use Rattle.tf_additions.specs.Dependencies.{address_of, addresses, dependencies, put_all};
+ghost use Rattle.tf_graph.specs.Lists.{row};
+ghost use Rattle.tf_additions.specs.Dependencies.{address_of, addresses, addresses_at, dependencies, put_all};
 
 use std::alloc::{AllocError, Global};
 use std::collections::BTreeSet;
@@ -61,6 +62,42 @@ fn dependencies(
 {
     let found = addresses(alloc, names, dependence, place)?;
     in_order(alloc, found)
+}
+
+/// The addresses `TYPE.NAME` of the resources that the list of a place has, in byte order.
+///
+/// # Errors
+///
+/// Only where memory runs out.
+pub(crate) fn dependencies_listed(
+    alloc: Global,
+    names: &Names<'_>,
+    lists: &[Vec<usize>],
+    place: usize,
+) -> Result<BTreeSet<String>, AllocError>
+    requires inside { place < length lists.now }
+    requires within { (m : ℕ) → Contains (row lists.now place) m → m < length (names_in names.now) }
+    ensures { IfOk result (λ found. (needs : ℕ → ℕ → Bool) → addresses_at (names_in names.now) (row lists.now place) ≡ addresses needs (names_in names.now) place
+        → map string_bytes found.keys ≡ dependencies needs (names_in names.now) place) }
+{
+    let found = addresses_at(alloc, names, lists[place].as_slice())?;
+    in_order(alloc, found)
+}
+
+/// The addresses of the resources at some places.
+fn addresses_at(
+    alloc: Global,
+    names: &Names<'_>,
+    places: &[usize],
+) -> Result<Vec<String>, AllocError>
+    requires { (m : ℕ) → Contains places.now m → m < length (names_in names.now) }
+    ensures { IfOk result (λ found. map string_bytes found.items ≡ addresses_at (names_in names.now) places.now) }
+{
+    let mut found = Vec::with_capacity(alloc, places.len())?;
+    for place in places {
+        note(alloc, &mut found, names, *place, true)?;
+    }
+    Ok(found)
 }
 
 /// Texts in byte order, each once. All are put in order together: where they stand in it already, each is compared with

@@ -10,10 +10,12 @@ mod conclude;
 mod dependencies;
 mod diagnostic;
 mod gather;
+mod needed;
 mod one_line;
 mod replied;
 mod rooming;
 mod rooms;
+mod spreading;
 mod telling;
 
 pub use dependencies::dependencies_of;

@@ -6,10 +6,12 @@ ghost use Rattle.tf_outcome.specs.Words.{action_of, IsDeclared, IsDependence, na
 ghost use Rattle.tf_state_next.specs.DeposedKey.{IsDeposedKey};
 ghost use Rattle.tf_state_next.specs.Ends.{given_of};
 ghost use Rattle.tf_additions.specs.Head.{AreHeads, IsHeadOf, IsKeyFor, IsTargetOf, given_with, is_replacement};
+ghost use Rattle.tf_additions.specs.Needed.{IsListed, IsListedFor};
 ghost use Rattle.tf_additions.specs.Place.{place_of};
 ghost use Rattle.tf_additions.specs.RoomHead.{room_head, target_of};
 
-use crate::dependencies::dependencies_of;
+use crate::dependencies::dependencies_listed;
+use crate::needed::needed_for;
 use crate::rooms::{Room, Target};
 use std::alloc::{AllocError, Global};
 use tf_address::ObjectId;
@@ -35,23 +37,24 @@ pub fn rooms_for<'p>(
     requires serial { (plan_of plan.now).prior.serial + 1 < 2 ^ 32 }
     ensures { IfOk result (λ rooms. AreHeads (plan_of plan.now) (map action_of plan.now.actions.items) (map room_head rooms.items)) }
 {
+    let lists = needed_for(alloc, plan, names)?;
     let mut rooms = Vec::with_capacity(alloc, plan.actions.len())?;
     for action in plan.actions.iter() {
-        rooms.push(room_for(alloc, plan, names, action)?)?;
+        rooms.push(room_for(alloc, plan, names, lists.as_slice(), action)?)?;
     }
     Ok(rooms)
 }
 
-/// Room for the report on an action.
+/// Room for the report on an action, by the lists of the resources that others need.
 fn room_for<'p>(
     alloc: Global,
     plan: &'p Plan,
     names: &Names<'_>,
+    lists: &[Vec<usize>],
     action: &'p Action,
 ) -> Result<Room<'p>, AllocError>
     requires names { names_in names.now ≡ plan_names (plan_of plan.now) }
-    requires dependence { IsDependence (plan_names (plan_of plan.now)) plan.now.dependence }
-    requires declared { IsDeclared (plan_names (plan_of plan.now)) (action_of action.now) }
+    requires listed { IsListedFor (plan_of plan.now) lists.now (action_of action.now) }
     requires serial { (plan_of plan.now).prior.serial + 1 < 2 ^ 32 }
     ensures { IfOk result (λ room. IsHeadOf (plan_of plan.now) (action_of action.now) (room_head room)) }
 {
@@ -59,7 +62,7 @@ fn room_for<'p>(
         place: place_for(alloc, action)?,
         op: op_of(&action.step),
         label: &action.label,
-        target: target_for(alloc, plan, names, action)?,
+        target: target_for(alloc, plan, names, lists, action)?,
         message: String::with_capacity(alloc, 15)?,
     })
 }
@@ -98,26 +101,26 @@ fn target_for(
     alloc: Global,
     plan: &Plan,
     names: &Names<'_>,
+    lists: &[Vec<usize>],
     action: &Action,
 ) -> Result<Target, AllocError>
     requires names { names_in names.now ≡ plan_names (plan_of plan.now) }
-    requires dependence { IsDependence (plan_names (plan_of plan.now)) plan.now.dependence }
-    requires declared { IsDeclared (plan_names (plan_of plan.now)) (action_of action.now) }
+    requires listed { IsListedFor (plan_of plan.now) lists.now (action_of action.now) }
     requires serial { (plan_of plan.now).prior.serial + 1 < 2 ^ 32 }
     ensures { IfOk result (λ target. IsTargetOf (plan_of plan.now) (action_of action.now) (target_of target)) }
 {
     match &action.step {
         Step::Create(_) => {
-            let given = given_for(alloc, plan, names, action, None)?;
+            let given = given_for(alloc, plan, names, lists, action, None)?;
             Ok(Target::Instance(given))
         }
         Step::Update(_, _, _) => {
-            let given = given_for(alloc, plan, names, action, None)?;
+            let given = given_for(alloc, plan, names, lists, action, None)?;
             Ok(Target::Instance(given))
         }
         Step::Replacement(_, _) => {
             let key = key_for(alloc, plan, action)?;
-            let given = given_for(alloc, plan, names, action, key)?;
+            let given = given_for(alloc, plan, names, lists, action, key)?;
             Ok(Target::Instance(given))
         }
         Step::Replaced(_) | Step::Destroy(_) => {
@@ -137,19 +140,19 @@ fn given_for(
     alloc: Global,
     plan: &Plan,
     names: &Names<'_>,
+    lists: &[Vec<usize>],
     action: &Action,
     deposed_key: Option<String>,
 ) -> Result<Given, AllocError>
     requires names { names_in names.now ≡ plan_names (plan_of plan.now) }
-    requires dependence { IsDependence (plan_names (plan_of plan.now)) plan.now.dependence }
-    requires place { action.now.resource < length (plan_names (plan_of plan.now)) }
+    requires listed { IsListed (plan_of plan.now).needs (plan_names (plan_of plan.now)) action.now.resource lists.now }
     ensures { IfOk result (λ given. given_of given ≡ given_with (plan_of plan.now) (action_of action.now) (option_map string_bytes deposed_key)) }
 {
     let resource = action.resource;
     Ok(Given {
         key: action.key.clone()?,
         schema_version: action.version,
-        dependencies: dependencies_of(alloc, names, &plan.dependence, &action.label, resource)?,
+        dependencies: dependencies_listed(alloc, names, lists, resource)?,
         create_before_destroy: is_late(plan, resource),
         deposed_key,
     })

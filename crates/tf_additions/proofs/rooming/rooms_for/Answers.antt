@@ -1,22 +1,24 @@
 use Rattle.std.proofs.Common.{◌∙◌, ◌<◌, ◌+◌, List, length, map, get_or, ap, sym, take, subst}
 use Rattle.tf_plan_data.specs.Action.{action_of}
 use Rattle.tf_plan_data.specs.declared.action.Action.{Action}
-use Rattle.tf_plan_data.specs.Fits.{IsDeclared}
-use Rattle.tf_plan_data.specs.Plan.{plan_names, plan_of}
+use Rattle.tf_plan_data.specs.Plan.{plan_of}
 use Rattle.tf_additions.specs.Head.{AreHeads}
+use Rattle.tf_additions.specs.Needed.{IsListedFor}
 use Rattle.tf_additions.specs.RoomHead.{room_head}
 use Rattle.tf_additions.proofs.Heads.{heads-next}
 use Rattle.tf_additions.proofs.Lists.{all-at}
 use Rattle.tf_additions.proofs.rooming.rooms_for.Goals as goal
 
-pub room_for-requires-clause-declared : goal.room_for-requires-clause-declared
-room_for-requires-clause-declared c =
+pub room_for-requires-clause-listed : goal.room_for-requires-clause-listed
+room_for-requires-clause-listed c =
     let items = c.deref-action-items.ensures.value in
     let action = c.action-item.result in
-    let names = plan_names (plan_of c.args.plan.now) in
+    let lists = c.in_ok-lists.lists.items in
+    let plan = plan_of c.args.plan.now in
     let below : c.loop-action.action-index < length c.args.plan.now.actions.items = subst (λ (xs : List Action). c.loop-action.action-index < length xs) items c.loop-action-test.true in
     let is = c.action-item.is ∙ ap (λ xs. get_or xs c.loop-action.action-index action) items in
-    all-at (IsDeclared names) action_of c.args.plan.now.actions.items c.loop-action.action-index action below is c.requires.declared
+    let listed : IsListedFor plan lists (action_of action) = all-at (IsListedFor plan lists) action_of c.args.plan.now.actions.items c.loop-action.action-index action below is c.in_ok-lists.ensures in
+    rw c.as_slice.ensures.value listed
 
 pub loop-action-preserved : goal.loop-action-preserved
 loop-action-preserved c =
