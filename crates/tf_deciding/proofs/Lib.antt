@@ -1,6 +1,8 @@
 pub mod Declared
 pub mod Local
 pub mod Listed
-pub mod Found
 pub mod Adding
 pub mod Standing
+pub mod Appending
+pub mod Finding
+pub mod Along

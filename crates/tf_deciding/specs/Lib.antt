@@ -5,3 +5,5 @@ pub mod Stage
 pub mod Laws
 pub mod Deciding
 pub mod Whole
+pub mod Settling
+pub mod Rows

@@ -8,7 +8,7 @@ use Rattle.tf_change.specs.Instance.{instance_object}
 use Rattle.tf_config_data.specs.Config.{BlockView, LifecycleView}
 use Rattle.tf_decision.specs.Decision.{DecisionView, RefusalView, nothing, create, update, replace, current, decision, removal_refusal}
 use Rattle.tf_environment.specs.Shape.{ShapeView, instance_keys}
-use Rattle.tf_environment.specs.Standing.{StageView}
+use Rattle.tf_environment.specs.Standing.{StageView, StandingView, together}
 use Rattle.tf_eval.specs.Environment.{Environment}
 use Rattle.tf_plan_resources.specs.Members.{MemberView, members, records_of}
 use Rattle.tf_protocol.specs.Meaning.{Meaning, schema_in}
@@ -61,6 +61,10 @@ stays_or_goes schema lifecycle m = m.is_declared || can_go schema lifecycle m
 -- no instance is refused which the configuration doesn't have
 abbrev pub all_can_go : List Meaning → List ResourceView → ShapeView → BlockView → Bool
 all_can_go ms resources shape block = list_all (stays_or_goes (schema_in block.label.type_name ms) block.lifecycle) (block_members shape block resources)
+
+-- what the resource of a block stands for whose instances stand together so: for nothing where an instance of it is refused
+abbrev pub block_standing : List Meaning → List ResourceView → ℕ → ShapeView → BlockView → Environment → StandingView
+block_standing ms resources n shape block env = together (if all_can_go ms resources shape block then Some shape else None) (decided_object ms resources n block env)
 
 -- The plan's stage. A resource has the instances that the expansion gave it, each of which stands for its object. It stands
 -- for nothing where an instance of it is refused, also one that the configuration doesn't have.

@@ -2,24 +2,23 @@
 
 ghost use Rattle.std.specs.Prelude.{◌≡◌, ◌++◌, IfOk, OnOk, map, option_map};
 ghost use Rattle.tf_plan_data.specs.Action.{action_of};
-ghost use Rattle.tf_environment.specs.Words.{block_at, instance_key_of, label_of, shape_of};
-ghost use Rattle.tf_deciding.specs.Deciding.{action, decided_of, of_view, version_of, with_block, with_members, with_orphan, with_outcome};
-ghost use Rattle.tf_deciding.specs.Outcome.{member_outcome, orphan_outcome};
+ghost use Rattle.tf_environment.specs.Words.{instance_key_of};
+ghost use Rattle.tf_deciding.specs.Deciding.{action, decided_of, of_view, version_of, with_members, with_orphan, with_outcome};
+ghost use Rattle.tf_deciding.specs.Outcome.{orphan_outcome};
+ghost use Rattle.tf_deciding.specs.Rows.{followed_by};
+ghost use Rattle.tf_deciding.specs.Settling.{settled_of, with_settled};
 ghost use Rattle.tf_deciding.specs.Views.{outcome_of, steps_of};
+ghost use Rattle.tf_deciding.specs.Whole.{nothing_decided};
 ghost use Rattle.tf_plan_resources.specs.MemberViews.{member_of};
-ghost use Rattle.tf_plan_resources.specs.Words.{resource_of, state_of};
+ghost use Rattle.tf_plan_resources.specs.Words.{resource_of};
 
-use crate::outcome::{Why, member_outcome, orphan_outcome};
-use crate::stage::block_members;
+use crate::outcome::{Why, orphan_outcome};
+use crate::settling::Settled;
 use std::alloc::{AllocError, Global};
 use tf_address::{InstanceKey, Label};
-use tf_config_data::Block;
-use tf_environment::{Resource, Shape};
-use tf_eval::Scope;
 use tf_plan_data::{Action, Step};
 use tf_plan_resources::{Member, members};
 use tf_protocol::{Provider, Schema, schema_for};
-use tf_state_data::State;
 
 /// An instance that is refused.
 #[derive(Debug, Drop)]
@@ -54,31 +53,45 @@ pub(crate) struct Of<'a> {
 }
 
 impl Decided {
-    /// Decides the members of a resource whose block stands: those that the configuration has, by the resource's shape, and
-    /// those that the state has of it.
-    ///
-    /// # Errors
-    ///
-    /// Only where memory runs out.
-    pub fn add_block<S: Scope>(
-        &mut self,
-        alloc: Global,
-        resource: &Resource<'_, S>,
-        shape: &Shape,
-        state: &State,
-        providers: &[Box<dyn Provider + Sync>],
-    ) -> Result<(), AllocError>
-        ensures { OnOk result (decided_of self.new ≡ with_block (map meaning providers.now) (state_of state.now).resources resource.now.place
-            (block_at (label_of resource.now.label.now) resource.now.block.now) (S.environment resource.now.scope.now) (shape_of shape.now) (decided_of self.old)) }
+    /// Nothing is done and nothing refused.
+    pub(crate) fn nothing(alloc: Global) -> Decided
+        ensures { decided_of result ≡ nothing_decided }
     {
-        let schema = schema_for(providers, resource.label.type_name.as_str());
-        let members = block_members(alloc, state, shape, resource.label, resource.block)?;
-        let of = Of {
-            resource: resource.place,
-            label: resource.label,
-            version: version_of(schema),
-        };
-        add_members(alloc, self, &of, schema, resource, members.as_slice())
+        Decided {
+            actions: Vec::new(alloc),
+            refusals: Vec::new(alloc),
+        }
+    }
+
+    /// Moves what was decided elsewhere behind what is decided so far.
+    pub(crate) fn append(&mut self, more: Decided) -> Result<(), AllocError>
+        ensures { OnOk result (decided_of self.new ≡ followed_by (decided_of self.old) (decided_of more)) }
+    {
+        let Decided {
+            mut actions,
+            mut refusals,
+        } = more;
+        self.actions.append(&mut actions)?;
+        self.refusals.append(&mut refusals)
+    }
+
+    /// Adds what becomes of the members of a resource whose block stands.
+    pub(crate) fn add_settled(
+        &mut self,
+        of: &Of<'_>,
+        settled: Vec<Settled<'_>>,
+    ) -> Result<(), AllocError>
+        ensures { OnOk result (decided_of self.new ≡ with_settled (of_view of.now) (map settled_of settled.entry.items) (decided_of self.old)) }
+    {
+        for one in settled {
+            let Settled {
+                instance,
+                member,
+                outcome,
+            } = one;
+            add_outcome(self, of, instance, &member.key, outcome)?;
+        }
+        Ok(())
     }
 
     /// Decides the members of a resource whose block is gone.
@@ -107,34 +120,13 @@ impl Decided {
 }
 
 /// The version of a schema, where there is one.
-fn version_of(schema: Option<&Schema>) -> u32
+pub(crate) fn version_of(schema: Option<&Schema>) -> u32
     ensures { result ≡ version_of (option_map (λ s. s.now) schema.entry) }
 {
     match schema {
         Some(schema) => schema.version(),
         None => 0,
     }
-}
-
-/// Adds what becomes of the members of a resource whose block stands.
-fn add_members<S: Scope>(
-    alloc: Global,
-    decided: &mut Decided,
-    of: &Of<'_>,
-    schema: Option<&Schema>,
-    resource: &Resource<'_, S>,
-    members: &[Member<'_>],
-) -> Result<(), AllocError>
-    ensures { OnOk result (decided_of decided.new ≡ with_members (of_view of.now)
-        (member_outcome (option_map (λ s. s.now) schema.entry) (block_at (label_of resource.now.label.now) resource.now.block.now) (S.environment resource.now.scope.now))
-        0 (map member_of members.now) (decided_of decided.old)) }
-{
-    for index in 0..members.len() {
-        let member = &members[index];
-        let outcome = member_outcome(alloc, schema, resource.block, resource.scope, member)?;
-        add_outcome(decided, of, index, &member.key, outcome)?;
-    }
-    Ok(())
 }
 
 /// Adds what becomes of the members of a resource whose block is gone.

@@ -1,51 +1,26 @@
-//! What instances stand for in the plan.
+//! What instances stand for in the plan, by what is decided of them.
 
-ghost use Rattle.std.specs.Prelude.{◌≡◌, IfOk, map, option_map};
-ghost use Rattle.tf_environment.specs.Words.{block_at, instance_key_of, label_of, LabelView, tree_of};
-ghost use Rattle.tf_deciding.specs.Stage.{decided_object, object_beside, object_of, records_at};
-ghost use Rattle.tf_decision.specs.Answer.{decision_of};
+ghost use Rattle.std.specs.List.Sorted.{IsStrictlySortedBy, IsStrictlySortedBy-prop};
+ghost use Rattle.std.specs.Prelude.{◌≡◌, if◌then◌else◌, IfOk, map, None, option_map};
+ghost use Rattle.tf_address.specs.ObjectId.{instance_key_cmp};
+ghost use Rattle.tf_environment.specs.Words.{instance_key_of, label_of, shape_of, standing_of, tree_of};
+ghost use Rattle.tf_deciding.specs.Settling.{all_free, asked_by, asked_in, is_free, settled_at, settled_key, settled_object, settled_of, settled_standing, stood_for};
+ghost use Rattle.tf_deciding.specs.Stage.{records_at};
+ghost use Rattle.tf_deciding.specs.Views.{outcome_of, steps_of};
+ghost use Rattle.tf_plan_data.specs.Action.{step_of};
 ghost use Rattle.tf_state_data.specs.Ids.{AreById};
 ghost use Rattle.tf_state_data.specs.Record.{record_of};
 ghost use Rattle.tf_state_data.specs.State.{state_of};
 
+use crate::outcome::Why;
+use crate::settling::Settled;
 use std::alloc::{AllocError, Global};
 use tf_address::{InstanceKey, Label};
-use tf_change::plan_instance;
-use tf_config_data::Block;
-use tf_decision::{Decision, current, decide};
-use tf_environment::{Objects, Resource};
-use tf_eval::Scope;
-use tf_plan_resources::records_of;
-use tf_protocol::{Provider, Schema, schema_for};
+use tf_decision::current;
+use tf_environment::{Keyed, Shape, Standing, lay_out};
+use tf_plan_data::Step;
 use tf_state_data::{Record, State};
 use tf_value::Value;
-
-/// What instances stand for in a plan from a prior state: for the object that is asked for where it is created, updated or
-/// replaced, and for the one that is there where nothing is done. Each type's provider is the first in the list that has it.
-#[derive(Drop)]
-pub struct DecidedObjects<'a> {
-    /// The prior state.
-    pub state: &'a State,
-    /// The providers.
-    pub providers: &'a [Box<dyn Provider + Sync>],
-}
-
-impl Objects for DecidedObjects<'_> {
-    ghost planned = { λ s. decided_object (map (λ b. (Provider-box b).meaning b.value) s.providers.now) (state_of s.state.now).resources };
-
-    fn object<S: Scope>(
-        &self,
-        alloc: Global,
-        resource: &Resource<'_, S>,
-        key: &InstanceKey,
-    ) -> Result<Option<Value>, AllocError> {
-        let Some(schema) = schema_for(self.providers, resource.label.type_name.as_str()) else {
-            return Ok(None);
-        };
-        let records = records_of(records_at(self.state, resource.label), key);
-        object_of(alloc, schema, resource.block, records, resource.scope, key)
-    }
-}
 
 /// The records of the resource at an address; none where the state hasn't got it.
 pub(crate) fn records_at<'a>(state: &'a State, label: &Label) -> &'a [Record]
@@ -58,35 +33,108 @@ pub(crate) fn records_at<'a>(state: &'a State, label: &Label) -> &'a [Record]
     }
 }
 
-/// What an instance of a block stands for, by its records; nothing where it is refused.
-fn object_of<S: Scope>(
+/// What the instances of a resource stand for, by what becomes of its members, which stand in address order.
+#[derive(Drop)]
+struct SettledObjects<'a> {
+    settled: &'a [Settled<'a>],
+    ghost sorted: { IsStrictlySortedBy instance_key_cmp (map settled_key (map settled_of settled.now)) } by { IsStrictlySortedBy-prop _ _ },
+}
+
+impl Keyed for SettledObjects<'_> {
+    ghost object = { λ o. settled_object (map settled_of o.settled.now) };
+
+    fn object(&self, _alloc: Global, key: &InstanceKey) -> Result<Option<Value>, AllocError> {
+        match settled_at(self.settled, key) {
+            Some(settled) => stood_for(settled.member.records, &settled.outcome),
+            None => Ok(None),
+        }
+    }
+}
+
+/// What a resource stands for, by what becomes of its members; nothing where one is refused that the configuration doesn't
+/// have, and where it isn't wanted.
+pub(crate) fn settled_standing(
     alloc: Global,
-    schema: &Schema,
-    block: &Block,
-    records: &[Record],
-    scope: &S,
-    key: &InstanceKey,
-) -> Result<Option<Value>, AllocError>
-    ensures { (label : LabelView) → IfOk result (λ object. option_map tree_of object
-        ≡ object_of schema.now (block_at label block.now) (map record_of records.now) (S.environment scope.now) (instance_key_of key.now)) }
+    shape: &Shape,
+    settled: &[Settled<'_>],
+    is_wanted: bool,
+) -> Result<Standing, AllocError>
+    requires { IsStrictlySortedBy instance_key_cmp (map settled_key (map settled_of settled.now)) }
+    ensures { IfOk result (λ standing. standing_of standing
+        ≡ (if is_wanted then settled_standing (shape_of shape.now) (map settled_of settled.now) else None)) }
 {
-    let planned = plan_instance(alloc, schema, block, key, scope)?;
-    match decide(alloc, schema, &block.lifecycle, records, planned)? {
-        Ok(decision) => object_beside(current(records), decision),
+    if !is_wanted || !all_free(settled) {
+        return Ok(Standing::Nothing);
+    }
+    let objects = SettledObjects { settled };
+    lay_out(alloc, shape, &objects)
+}
+
+/// Whether no member is refused that the configuration doesn't have.
+fn all_free(settled: &[Settled<'_>]) -> bool
+    ensures { result ≡ all_free (map settled_of settled.now) }
+{
+    for one in settled {
+        if !is_free(one) {
+            return false;
+        }
+    }
+    true
+}
+
+/// Whether the configuration has a member, or it isn't refused.
+fn is_free(one: &Settled<'_>) -> bool
+    ensures { result ≡ is_free (settled_of one.now) }
+{
+    one.member.is_declared || one.outcome.is_ok()
+}
+
+/// The member of an instance, and what becomes of it.
+fn settled_at<'a>(settled: &'a [Settled<'a>], key: &InstanceKey) -> Option<&'a Settled<'a>>
+    requires { IsStrictlySortedBy instance_key_cmp (map settled_key (map settled_of settled.now)) }
+    ensures { option_map (λ s. settled_of s.now) result ≡ settled_at (instance_key_of key.now) (map settled_of settled.now) }
+{
+    match settled.binary_search_by(|one| one.member.key.cmp(key)) {
+        Ok(index) => Some(&settled[index]),
+        Err(_) => None,
+    }
+}
+
+/// What an instance with these records stands for, by what becomes of it; nothing where it is refused.
+fn stood_for(
+    records: &[Record],
+    outcome: &Result<Vec<Step>, Why>,
+) -> Result<Option<Value>, AllocError>
+    ensures { IfOk result (λ object. option_map tree_of object ≡ stood_for (map record_of records.now) (outcome_of outcome.now)) }
+{
+    match outcome {
+        Ok(steps) => match asked_by(steps.as_slice()) {
+            Some(asked) => Ok(Some(asked.clone()?)),
+            None => attributes(current(records)),
+        },
         Err(_) => Ok(None),
     }
 }
 
-/// What an instance stands for beside its current object.
-fn object_beside(prior: Option<&Record>, decision: Decision) -> Result<Option<Value>, AllocError>
-    ensures { IfOk result (λ object. option_map tree_of object
-        ≡ object_beside (option_map (λ r. record_of r.now) prior.entry) (decision_of decision)) }
+/// The object that steps ask for. Of an instance the apply stands first.
+fn asked_by(steps: &[Step]) -> Option<&Value>
+    ensures { option_map (λ v. tree_of v.now) result ≡ asked_by (steps_of steps.now) }
 {
-    match decision {
-        Decision::Nothing => attributes(prior),
-        Decision::Create(asked) => Ok(Some(asked)),
-        Decision::Update(asked, _names) => Ok(Some(asked)),
-        Decision::Replace(asked, _names) => Ok(Some(asked)),
+    match steps.first() {
+        Some(step) => asked_in(step),
+        None => None,
+    }
+}
+
+/// The object that a step asks for.
+fn asked_in(step: &Step) -> Option<&Value>
+    ensures { option_map (λ v. tree_of v.now) result ≡ asked_in (step_of step.now) }
+{
+    match step {
+        Step::Create(asked) => Some(asked),
+        Step::Update(_, asked, _) => Some(asked),
+        Step::Replacement(asked, _) => Some(asked),
+        _ => None,
     }
 }
 

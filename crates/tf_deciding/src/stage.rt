@@ -1,74 +1,79 @@
-//! The plan's stage.
+//! What is decided of a block, and what it stands for by that.
 
-ghost use Rattle.std.specs.Prelude.{◌≡◌, IfOk, map, option_map};
-ghost use Rattle.std.specs.List.{list_all};
-ghost use Rattle.tf_environment.specs.Words.{block_at, label_of, LabelView, lifecycle_of, shape_of, shapes_of};
-ghost use Rattle.tf_deciding.specs.Stage.{all_can_go, block_members, deciding, stays_or_goes};
+ghost use Rattle.std.specs.Prelude.{◌≡◌, if◌then◌else◌, IfOk, map, None};
+ghost use Rattle.tf_environment.specs.Words.{block_at, label_of, shape_of, standing_of};
+ghost use Rattle.tf_deciding.specs.Deciding.{decided_of, with_block};
+ghost use Rattle.tf_deciding.specs.Stage.{block_members, block_standing};
+ghost use Rattle.tf_deciding.specs.Whole.{nothing_decided};
 ghost use Rattle.tf_plan_resources.specs.MemberViews.{member_of};
 ghost use Rattle.tf_state_data.specs.State.{state_of};
 
-use crate::objects::{DecidedObjects, records_at};
+use crate::collecting::{Decided, Of, version_of};
+use crate::objects::{records_at, settled_standing};
+use crate::settling::settle;
 use std::alloc::{AllocError, Global};
 use tf_address::Label;
-use tf_config_data::{Block, Lifecycle};
-use tf_decision::refuse_removal;
-use tf_environment::{Instanced, Resource, Shape, Stage, Standing};
+use tf_config_data::Block;
+use tf_environment::{Resource, Shape, Standing};
 use tf_eval::Scope;
 use tf_plan_resources::{Member, members};
-use tf_protocol::{Provider, Schema, schema_for};
+use tf_protocol::{Provider, schema_for};
 use tf_state_data::State;
 
-/// The plan from a prior state: each resource has the instances that the expansion gave it, and what is decided of them.
+/// The plan from a prior state: each resource has the instances that the expansion gave it. Each type's provider is the first in
+/// the list that has it.
 #[derive(Drop)]
 pub struct Deciding<'a> {
     /// How the instances of each resource stand together, by the place of its name.
     pub shapes: &'a [Shape],
-    /// What the instances stand for.
-    pub objects: DecidedObjects<'a>,
+    /// The prior state.
+    pub state: &'a State,
+    /// The providers.
+    pub providers: &'a [Box<dyn Provider + Sync>],
 }
 
-impl Stage for Deciding<'_> {
-    ghost stage = { λ s. deciding (map (λ b. (Provider-box b).meaning b.value) s.objects.providers.now) (state_of s.objects.state.now).resources (shapes_of s.shapes.now) };
-
-    fn stand<S: Scope>(
-        &self,
-        alloc: Global,
-        resource: &Resource<'_, S>,
-    ) -> Result<Standing, AllocError> {
-        let objects = &self.objects;
-        let is_free = match self.shapes.get(resource.place) {
-            Some(shape) => all_can_go(alloc, objects, shape, resource.label, resource.block)?,
-            None => all_can_go(alloc, objects, &Shape::One, resource.label, resource.block)?,
-        };
-        if !is_free {
-            return Ok(Standing::Nothing);
-        }
-        let instanced = Instanced {
-            shapes: self.shapes,
-            objects,
-        };
-        instanced.stand(alloc, resource)
-    }
+/// What a name stands for, and what is decided of it.
+#[derive(Drop)]
+pub(crate) struct Looked {
+    /// What it stands for; nothing where it isn't wanted.
+    pub(crate) standing: Standing,
+    /// What is decided of its instances; nothing where it is a local.
+    pub(crate) decided: Decided,
 }
 
-/// Whether no instance is refused which the configuration doesn't have.
-fn all_can_go(
+/// Decides the members of a resource whose block stands, each once: those that the configuration has, by the resource's shape,
+/// and those that the state has of it. What the resource stands for is what was decided of them.
+pub(crate) fn decide_block<S: Scope>(
     alloc: Global,
-    objects: &DecidedObjects<'_>,
+    stage: &Deciding<'_>,
+    resource: &Resource<'_, S>,
     shape: &Shape,
-    label: &Label,
-    block: &Block,
-) -> Result<bool, AllocError>
-    ensures { IfOk result (λ all. all ≡ all_can_go (map meaning objects.now.providers.now) (state_of objects.now.state.now).resources
-        (shape_of shape.now) (block_at (label_of label.now) block.now)) }
+    is_wanted: bool,
+) -> Result<Looked, AllocError>
+    ensures standing { IfOk result (λ looked. standing_of looked.standing ≡ (if is_wanted
+        then block_standing (map meaning stage.now.providers.now) (state_of stage.now.state.now).resources resource.now.place (shape_of shape.now)
+        (block_at (label_of resource.now.label.now) resource.now.block.now) (S.environment resource.now.scope.now)
+        else None)) }
+    ensures decided { IfOk result (λ looked. decided_of looked.decided
+        ≡ with_block (map meaning stage.now.providers.now) (state_of stage.now.state.now).resources resource.now.place
+        (block_at (label_of resource.now.label.now) resource.now.block.now) (S.environment resource.now.scope.now) (shape_of shape.now) nothing_decided) }
 {
-    let schema = schema_for(objects.providers, label.type_name.as_str());
-    let members = block_members(alloc, objects.state, shape, label, block)?;
-    all_stay_or_go(alloc, schema, &block.lifecycle, members.as_slice())
+    let schema = schema_for(stage.providers, resource.label.type_name.as_str());
+    let members = block_members(alloc, stage.state, shape, resource.label, resource.block)?;
+    let settled = settle(alloc, schema, resource, members.as_slice())?;
+    let standing = settled_standing(alloc, shape, settled.as_slice(), is_wanted)?;
+    let of = Of {
+        resource: resource.place,
+        label: resource.label,
+        version: version_of(schema),
+    };
+    let mut decided = Decided::nothing(alloc);
+    decided.add_settled(&of, settled)?;
+    Ok(Looked { standing, decided })
 }
 
 /// The members of a resource whose block stands.
-pub(crate) fn block_members<'a>(
+fn block_members<'a>(
     alloc: Global,
     state: &'a State,
     shape: &Shape,
@@ -80,42 +85,4 @@ pub(crate) fn block_members<'a>(
 {
     let keys = shape.keys(alloc)?;
     members(alloc, keys.as_slice(), records_at(state, label))
-}
-
-/// Whether the configuration has each of these members, or its objects can be destroyed.
-fn all_stay_or_go(
-    alloc: Global,
-    schema: Option<&Schema>,
-    lifecycle: &Lifecycle,
-    members: &[Member<'_>],
-) -> Result<bool, AllocError>
-    ensures { IfOk result (λ all. all ≡ list_all (stays_or_goes (option_map (λ s. s.now) schema.entry) (lifecycle_of lifecycle.now)) (map member_of members.now)) }
-{
-    for member in members {
-        if !stays_or_goes(alloc, schema, lifecycle, member)? {
-            return Ok(false);
-        }
-    }
-    Ok(true)
-}
-
-/// Whether the configuration has a member, or its objects can be destroyed.
-fn stays_or_goes(
-    alloc: Global,
-    schema: Option<&Schema>,
-    lifecycle: &Lifecycle,
-    member: &Member<'_>,
-) -> Result<bool, AllocError>
-    ensures { IfOk result (λ fine. fine ≡ stays_or_goes (option_map (λ s. s.now) schema.entry) (lifecycle_of lifecycle.now) (member_of member.now)) }
-{
-    if member.is_declared {
-        return Ok(true);
-    }
-    match schema {
-        Some(schema) => {
-            let refusal = refuse_removal(alloc, schema, Some(lifecycle), member.records)?;
-            Ok(refusal.is_none())
-        }
-        None => Ok(false),
-    }
 }

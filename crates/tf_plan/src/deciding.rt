@@ -1,10 +1,13 @@
 //! What is planned of the instances of a configuration and a prior state together.
 
 ghost use Rattle.std.specs.Prelude.{◌≡◌, ℕ, IfOk, map};
+ghost use Rattle.tf_deciding.specs.Rows.{AreDecided, AreOnce, gathered, rows_of};
 ghost use Rattle.tf_deciding.specs.Stage.{deciding};
+ghost use Rattle.tf_names.specs.Needs.{order_in};
+ghost use Rattle.tf_plan_resources.specs.Numbering.{numbered};
 ghost use Rattle.tf_plan_data.specs.Words.{AreStandings, shapes_of, standings_of, StandingView};
 ghost use Rattle.tf_plan.specs.Given.{IsGiven, names_given, outputs_given, resources_given, variables_given};
-ghost use Rattle.tf_plan.specs.Planned.{IsPlanned, planned_in, planned_of};
+ghost use Rattle.tf_plan.specs.Planned.{IsPlanned, planned_of, with_outputs};
 ghost use Rattle.tf_plan.specs.Wanted.{IsWanted};
 
 use crate::outputs::add_outputs;
@@ -12,8 +15,8 @@ use crate::telling::refusals_of;
 use crate::wanted::wanted_names;
 use std::alloc::{AllocError, Global};
 use std::collections::BTreeMap;
-use tf_deciding::{Decided, DecidedObjects, Deciding, decide_all};
-use tf_environment::{Declarations, Shape, Standing, standings};
+use tf_deciding::{Decided, Deciding, InOrder, decide_in_order, gather};
+use tf_environment::{Declarations, Shape};
 use tf_plan_data::Action;
 use tf_plan_resources::{Numbering, address_order};
 use tf_protocol::Provider;
@@ -54,65 +57,58 @@ pub(crate) fn plan_instances(
     ensures { IfOk result (λ planned. IsPlanned (map meaning providers.now) (resources_given given.now) (variables_given given.now) (names_given given.now) (outputs_given given.now)
         (shapes_of shapes.now) (planned_of planned)) }
 {
-    let kept = stage_standings(alloc, given, shapes, providers)?;
+    let looked = look_at_names(alloc, given, shapes, providers)?;
     let places = address_order(alloc, given.numbering)?;
-    plan_places(
-        alloc,
-        given,
-        shapes,
-        providers,
-        kept.as_slice(),
-        places.as_slice(),
-    )
+    plan_places(alloc, given, providers, looked, places.as_slice())
 }
 
-/// What each wanted name stands for in the plan. No local is evaluated that no resource and no output needs, and no
-/// object is worked out that nobody refers to.
-fn stage_standings(
+/// What each wanted name stands for in the plan, and what is decided of each resource. No local is evaluated that no resource
+/// and no output needs, and each instance is evaluated and decided once.
+fn look_at_names(
     alloc: Global,
     given: &Given,
     shapes: &[Shape],
     providers: &[Box<dyn Provider + Sync>],
-) -> Result<Vec<Standing>, AllocError>
+) -> Result<InOrder, AllocError>
     requires { IsGiven given.now }
-    ensures { IfOk result (λ kept. (standings : ℕ → StandingView)
+    ensures standings { IfOk result (λ looked. (standings : ℕ → StandingView)
         → AreStandings (deciding (map meaning providers.now) (resources_given given.now) (shapes_of shapes.now)) (variables_given given.now) (names_given given.now) standings
-        → (n : ℕ) → IsWanted (names_given given.now) given.now.declared.now.dependence.now (outputs_given given.now) n → standings_of kept.items n ≡ standings n) }
+        → (n : ℕ) → IsWanted (names_given given.now) given.now.declared.now.dependence.now (outputs_given given.now) n → standings_of looked.standings.items n ≡ standings n) }
+    ensures rows { IfOk result (λ looked. AreDecided (map meaning providers.now) (resources_given given.now) (variables_given given.now) (names_given given.now) (shapes_of shapes.now)
+        (order_in given.now.declared.now.dependence.now) (rows_of looked.rows.items)) }
 {
     let stage = Deciding {
         shapes,
-        objects: DecidedObjects {
-            state: given.prior,
-            providers,
-        },
+        state: given.prior,
+        providers,
     };
     let wanted = wanted_names(alloc, given.declared, given.outputs)?;
-    standings(alloc, &stage, given.declared, wanted.as_slice())
+    decide_in_order(alloc, &stage, given.declared, wanted.as_slice())
 }
 
-/// Plans the instances of what stands at these places, in their order, where names stand for these standings.
+/// Plans the instances of what stands at these places, in their order, by what was decided of the names.
 fn plan_places(
     alloc: Global,
     given: &Given,
-    shapes: &[Shape],
     providers: &[Box<dyn Provider + Sync>],
-    kept: &[Standing],
+    looked: InOrder,
     places: &[usize],
 ) -> Result<PlannedInstances, AllocError>
-    requires { IsGiven given.now }
-    ensures { IfOk result (λ planned. planned_of planned ≡ planned_in (map meaning providers.now) (resources_given given.now) (variables_given given.now) (names_given given.now) (outputs_given given.now)
-        (shapes_of shapes.now) places.now (standings_of kept.now)) }
+    requires given { IsGiven given.now }
+    requires once { AreOnce places.now }
+    ensures { IfOk result (λ planned. planned_of planned ≡ with_outputs (variables_given given.now) (names_given given.now) (standings_of looked.standings.items) (outputs_given given.now)
+        (gathered (map meaning providers.now) (rows_of looked.rows.items) (numbered (names_given given.now) (resources_given given.now)) places.now)) }
 {
-    let stage = Deciding {
-        shapes,
-        objects: DecidedObjects {
-            state: given.prior,
-            providers,
-        },
-    };
-    let decided = decide_all(alloc, &stage, given.declared, kept, given.numbering, places)?;
+    let InOrder { standings, rows } = looked;
+    let decided = gather(alloc, rows, given.numbering, providers, places)?;
     let Decided { actions, refusals } = decided;
     let mut refusals = refusals_of(alloc, refusals)?;
-    add_outputs(alloc, &mut refusals, given.declared, kept, given.outputs)?;
+    add_outputs(
+        alloc,
+        &mut refusals,
+        given.declared,
+        standings.as_slice(),
+        given.outputs,
+    )?;
     Ok(PlannedInstances { actions, refusals })
 }
