@@ -1,6 +1,5 @@
 -- What some actions ask for, and what is listed for it.
-use Rattle.std.proofs.Common.{◌≡◌, ◌∙◌, ◌<◌, ◌+◌, ◌++◌, ◌∷◌, ℕ, Bool, true, List, [], length, map, get_or, take, sym, ap, subst, arith}
-use Rattle.std.proofs.lemmas.List.{map-append}
+use Rattle.std.proofs.Common.{◌≡◌, ◌<◌, ◌+◌, ◌∷◌, ℕ, Bool, true, List, [], length, map, get_or, take, arith}
 use Rattle.std.specs.List.{AllByRecursion}
 use Rattle.std.specs.Prelude.{Vec}
 use Rattle.tf_graph.specs.NodeSet.{has}
@@ -8,12 +7,8 @@ use Rattle.tf_plan_data.specs.Action.{ActionView}
 use Rattle.tf_plan_data.specs.Fits.{IsDeclared}
 use Rattle.tf_plan_data.specs.Plan.{PlanView, plan_names}
 use Rattle.tf_additions.proofs.Heads.{declared-within}
-use Rattle.tf_additions.proofs.Lists.{take-next}
+use Rattle.tf_additions.proofs.Lists.{all-next}
 use Rattle.tf_additions.specs.Needed.{AreListedAsked, IsAsked, IsListedFor}
-
-all_one_more : {A : Type 0} (P Q : A → Type 0) (xs : List A) (x : A) → ((y : A) → P y → Q y) → AllByRecursion P xs → Q x → AllByRecursion Q (xs ++ x ∷ [])
-all_one_more P Q [] x keep all one = (one, tt)
-all_one_more P Q (y ∷ ys) x keep all one = (keep y all.0, all_one_more P Q ys x keep all.1 one)
 
 still_asked : (old new : List Bool) (a : ActionView) → length new ≡ length old → ((k : ℕ) → has old k ≡ true → has new k ≡ true) → IsAsked old a → IsAsked new a
 still_asked old new a long kept asked applies inside = let before : a.resource < length old = omega (arith, long, inside) in kept a.resource (asked applies before)
@@ -21,9 +16,7 @@ still_asked old new a long kept asked applies inside = let before : a.resource <
 -- what was seen is still asked for, and so is one action more
 pub asked-next : {B : Type 0} (g : B → ActionView) (old new : List Bool) (xs : List B) (i : ℕ) (x : B) → i < length xs → x ≡ get_or xs i x → length new ≡ length old → ((k : ℕ) → has old k ≡ true → has new k ≡ true)
     → AllByRecursion (IsAsked old) (map g (take i xs)) → IsAsked new (g x) → AllByRecursion (IsAsked new) (map g (take (i + 1) xs))
-asked-next g old new xs i x below e long kept so_far one =
-    let seen : map g (take (i + 1) xs) ≡ map g (take i xs) ++ g x ∷ [] = ap (map g) (take-next xs i x below e) ∙ map-append g (take i xs) (x ∷ []) in
-    subst (AllByRecursion (IsAsked new)) (sym seen) (all_one_more (IsAsked old) (IsAsked new) (map g (take i xs)) (g x) (λ a. still_asked old new a long kept) so_far one)
+asked-next g old new xs i x below e long kept so_far one = all-next (IsAsked old) (IsAsked new) g xs i x below e (λ a. still_asked old new a long kept) so_far one
 
 -- what is asked for is listed
 pub listed-for : {A : Type 0} (plan : PlanView) (asked : List Bool) (lists : List (Vec ℕ A)) (actions : List ActionView) → length asked ≡ length (plan_names plan)

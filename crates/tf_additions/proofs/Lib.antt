@@ -3,7 +3,6 @@ pub mod Called
 pub mod Formed
 pub mod Gathered
 pub mod Heads
-pub mod Independent
 pub mod Judged
 pub mod Lines
 pub mod Lists

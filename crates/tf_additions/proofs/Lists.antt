@@ -25,6 +25,16 @@ all-at P f [] i x h e all = absurd (omega arith)
 all-at P f (y ∷ ys) zero x h e all = subst (λ z. P (f z)) (sym e) all.0
 all-at P f (y ∷ ys) (suc i) x h e all = all-at P f ys i x (omega arith) e all.1
 
+all_one_more : {A : Type 0} (P Q : A → Type 0) (xs : List A) (x : A) → ((y : A) → P y → Q y) → AllByRecursion P xs → Q x → AllByRecursion Q (xs ++ x ∷ [])
+all_one_more P Q [] x keep all one = (one, tt)
+all_one_more P Q (y ∷ ys) x keep all one = (keep y all.0, all_one_more P Q ys x keep all.1 one)
+
+-- what holds of those that were seen holds of one more
+pub all-next : {A B : Type 0} (P Q : B → Type 0) (f : A → B) (xs : List A) (i : ℕ) (x : A) → i < length xs → x ≡ get_or xs i x → ((y : B) → P y → Q y) → AllByRecursion P (map f (take i xs)) → Q (f x) → AllByRecursion Q (map f (take (i + 1) xs))
+all-next P Q f xs i x below e keep all one =
+    let seen : map f (take (i + 1) xs) ≡ map f (take i xs) ++ f x ∷ [] = ap (map f) (take-next xs i x below e) ∙ map-append f (take i xs) (x ∷ []) in
+    subst (AllByRecursion Q) (sym seen) (all_one_more P Q (map f (take i xs)) (f x) keep all one)
+
 range_push : (a n : ℕ) → range_with_len a (suc n) ≡ range_with_len a n ++ (a + n) ∷ []
 range_push a zero = let same : a ≡ a + 0 = omega arith in ap (λ k. k ∷ []) same
 range_push a (suc n) =

@@ -18,8 +18,9 @@ mod rooms;
 mod spreading;
 mod telling;
 
-pub use dependencies::dependencies_of;
+pub use dependencies::dependencies_listed;
 pub use diagnostic::Diagnostic;
 pub use gather::{Changes, add, conclude_all};
+pub use needed::needed_lists;
 pub use rooming::{is_late, op_of, rooms_for};
 pub use rooms::{Room, Target};

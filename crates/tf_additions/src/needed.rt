@@ -16,7 +16,7 @@ use tf_names::{Dependence, Named, Names};
 use tf_plan_data::{Action, Plan, Step};
 
 /// For each name the places of all resources that it needs, where an action makes or changes an object of it, in the order of
-/// the names. One pass over what needs what fills the lists of all.
+/// the names.
 pub(crate) fn needed_for(
     alloc: Global,
     plan: &Plan,
@@ -64,8 +64,13 @@ fn makes(step: &Step) -> bool
     }
 }
 
-/// For each name that is asked for, the places of all resources that it needs, in the order of the names.
-fn needed_lists(
+/// For each name that is asked for, the places of all resources that it needs, in the order of the names. One pass over what
+/// needs what fills the lists of all.
+///
+/// # Errors
+///
+/// Only where memory runs out.
+pub fn needed_lists(
     alloc: Global,
     names: &Names<'_>,
     dependence: &Dependence,

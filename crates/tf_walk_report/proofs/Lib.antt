@@ -8,6 +8,7 @@ pub mod Joined
 pub mod Judged
 pub mod Labels
 pub mod Sound
+pub mod Numbers
 pub mod Told
 pub mod Matching
 pub mod Telling

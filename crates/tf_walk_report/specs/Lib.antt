@@ -7,5 +7,6 @@ pub mod OutputsTold
 pub mod Report
 pub mod Savable
 pub mod Settling
+pub mod Standing
 pub mod Told
 pub mod Settled

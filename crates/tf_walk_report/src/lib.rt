@@ -15,6 +15,7 @@ mod outputs;
 mod renewing;
 mod report;
 mod settling;
+mod standing;
 mod texts;
 mod whole;
 

@@ -1,13 +1,16 @@
 //! The records of objects for which nothing is planned are given anew what their resources need, and whether those are late.
 
-ghost use Rattle.std.specs.Prelude.{◌≡◌, ◌<◌, ◌++◌, ◌∷◌, [], None, if◌then◌else◌, IfOk, OnOk, filter, length, map};
+ghost use Rattle.std.specs.Prelude.{◌≡◌, ◌++◌, ◌∷◌, [], None, if◌then◌else◌, IfOk, OnOk, filter, map};
 ghost use Rattle.std.specs.List.{flat_map, list_any};
-ghost use Rattle.tf_outcome.specs.Words.{action_of, deposed_key, instance_key_of, IsDependence, label_of, names_in, plan_names, plan_of, record_of, resource_of, step_of};
+ghost use Rattle.tf_outcome.specs.Words.{action_of, deposed_key, instance_key_of, label_of, names_in, plan_names, plan_of, record_of, resource_of, step_of};
+ghost use Rattle.tf_additions.specs.Needed.{IsListed};
 ghost use Rattle.tf_state_next.specs.Events.{renewal_of};
 ghost use Rattle.tf_walk_report.specs.Events.{is_about, is_none, renewal_of_record, renewals, renewals_at, stays};
+ghost use Rattle.tf_walk_report.specs.Standing.{IsNumberListed};
 
+use crate::standing::asked_numbers;
 use std::alloc::{AllocError, Global};
-use tf_additions::{dependencies_of, is_late};
+use tf_additions::{dependencies_listed, is_late, needed_lists};
 use tf_address::{InstanceKey, Label};
 use tf_names::Names;
 use tf_plan_data::{Action, Plan, Step};
@@ -27,35 +30,48 @@ pub fn renewals_for<'p>(
     names: &Names<'p>,
 ) -> Result<Vec<Renewal<'p>>, AllocError>
     requires names { names_in names.now ≡ plan_names (plan_of plan.now) }
-    requires dependence { IsDependence (plan_names (plan_of plan.now)) plan.now.dependence }
     ensures { IfOk result (λ found. map renewal_of found.items ≡ renewals (plan_of plan.now)) }
 {
     let numbering = Numbering::new(alloc, names, &plan.prior)?;
+    let resources = plan.prior.resources();
+    let asked = asked_numbers(alloc, &numbering, resources, names.len())?;
+    let lists = needed_lists(alloc, names, &plan.dependence, &asked)?;
     let mut found = Vec::new(alloc);
-    for resource in plan.prior.resources() {
+    for resource in resources {
         let number = numbering.place(resource.label());
-        add_resource(alloc, &mut found, plan, names, resource, number)?;
+        let lists = lists.as_slice();
+        add_resource(alloc, &mut found, plan, names, lists, resource, number)?;
     }
     Ok(found)
 }
 
-/// Adds the renewals of a resource, by its number.
+/// Adds the renewals of a resource, by its number and the lists of what others need.
 fn add_resource<'p>(
     alloc: Global,
     found: &mut Vec<Renewal<'p>>,
     plan: &'p Plan,
     names: &Names<'_>,
+    lists: &[Vec<usize>],
     resource: &'p Resource,
     number: Option<usize>,
 ) -> Result<(), AllocError>
     requires names { names_in names.now ≡ plan_names (plan_of plan.now) }
-    requires dependence { IsDependence (plan_names (plan_of plan.now)) plan.now.dependence }
+    requires listed { IsNumberListed (plan_of plan.now) lists.now number }
     ensures { OnOk result (map renewal_of found.new.items ≡ map renewal_of found.old.items ++ renewals_at (plan_of plan.now) (resource_of resource.now) number) }
 {
     match number {
         Some(number) if number < names.len() => {
             let label = resource.label();
-            add_records(alloc, found, plan, names, label, number, resource.records())
+            add_records(
+                alloc,
+                found,
+                plan,
+                names,
+                lists,
+                label,
+                number,
+                resource.records(),
+            )
         }
         _ => Ok(()),
     }
@@ -67,18 +83,18 @@ fn add_records<'p>(
     found: &mut Vec<Renewal<'p>>,
     plan: &'p Plan,
     names: &Names<'_>,
+    lists: &[Vec<usize>],
     label: &'p Label,
     number: usize,
     records: &[Record],
 ) -> Result<(), AllocError>
     requires names { names_in names.now ≡ plan_names (plan_of plan.now) }
-    requires dependence { IsDependence (plan_names (plan_of plan.now)) plan.now.dependence }
-    requires number { number < length (plan_names (plan_of plan.now)) }
+    requires listed { IsListed (plan_of plan.now).needs (plan_names (plan_of plan.now)) number lists.now }
     ensures { OnOk result (map renewal_of found.new.items ≡ map renewal_of found.old.items
         ++ map (renewal_of_record (plan_of plan.now) (label_of label.now) number) (filter (stays (plan_of plan.now) number) (map record_of records.now))) }
 {
     for kept in records {
-        add_record(alloc, found, plan, names, label, number, kept)?;
+        add_record(alloc, found, plan, names, lists, label, number, kept)?;
     }
     Ok(())
 }
@@ -89,19 +105,19 @@ fn add_record<'p>(
     found: &mut Vec<Renewal<'p>>,
     plan: &'p Plan,
     names: &Names<'_>,
+    lists: &[Vec<usize>],
     label: &'p Label,
     number: usize,
     kept: &Record,
 ) -> Result<(), AllocError>
     requires names { names_in names.now ≡ plan_names (plan_of plan.now) }
-    requires dependence { IsDependence (plan_names (plan_of plan.now)) plan.now.dependence }
-    requires number { number < length (plan_names (plan_of plan.now)) }
+    requires listed { IsListed (plan_of plan.now).needs (plan_names (plan_of plan.now)) number lists.now }
     ensures { OnOk result (map renewal_of found.new.items ≡ map renewal_of found.old.items
         ++ (if stays (plan_of plan.now) number (record_of kept.now)
         then renewal_of_record (plan_of plan.now) (label_of label.now) number (record_of kept.now) ∷ [] else [])) }
 {
     if stays(plan, number, kept) {
-        found.push(renewal_for(alloc, plan, names, label, number, kept)?)?;
+        found.push(renewal_for(alloc, plan, names, lists, label, number, kept)?)?;
     }
     Ok(())
 }
@@ -111,19 +127,19 @@ fn renewal_for<'p>(
     alloc: Global,
     plan: &Plan,
     names: &Names<'_>,
+    lists: &[Vec<usize>],
     label: &'p Label,
     number: usize,
     kept: &Record,
 ) -> Result<Renewal<'p>, AllocError>
     requires names { names_in names.now ≡ plan_names (plan_of plan.now) }
-    requires dependence { IsDependence (plan_names (plan_of plan.now)) plan.now.dependence }
-    requires number { number < length (plan_names (plan_of plan.now)) }
+    requires listed { IsListed (plan_of plan.now).needs (plan_names (plan_of plan.now)) number lists.now }
     ensures { IfOk result (λ renewal. renewal_of renewal ≡ renewal_of_record (plan_of plan.now) (label_of label.now) number (record_of kept.now)) }
 {
     let given = Given {
         key: kept.id.key.clone()?,
         schema_version: kept.schema_version,
-        dependencies: dependencies_of(alloc, names, &plan.dependence, label, number)?,
+        dependencies: dependencies_listed(alloc, names, lists, number)?,
         create_before_destroy: is_late(plan, number),
         deposed_key: None,
     };

@@ -8,4 +8,4 @@ use Rattle.tf_walk_report.specs.Events.{renewals_of}
 use Rattle.tf_walk_report.proofs.renewing.renewals_for.Given as goal
 
 abbrev pub invariant-loop-resource : goal.invariant-loop-resource
-invariant-loop-resource l = map renewal_of l.found.items ≡ flat_map (renewals_of (plan_of l.plan)) (map resource_of (take l.resource-index l.resource-items))
+invariant-loop-resource l = map renewal_of l.found.items ≡ flat_map (renewals_of (plan_of l.plan)) (map resource_of (take l.resource-index l.resources))
