@@ -16,7 +16,9 @@ use std::thread::Threads;
 use tf_cli::Stop;
 use tf_local::LocalFile;
 use tf_log::{Logged, OpenLog};
-use tf_program::{Given, LogSink, Options, Place, Program, Seen, carry_out_logged, hold, run};
+use tf_program::{
+    LogSink, Options, Place, Program, ProgramInput, Seen, carry_out_logged, hold, run,
+};
 use tf_progress::Progress;
 use tf_provider::Provider;
 use tf_sim::Sim;
@@ -66,7 +68,7 @@ fn apply_by<T: Threads + Wait + Sync, O: Write, E: Write>(
     threads: &T,
     place: &Place,
     file: &Arc<File>,
-    given: &Given,
+    given: &ProgramInput,
     out: &mut O,
     err: &mut E,
 ) -> io::Result<ExitCode> {
@@ -111,7 +113,7 @@ fn logged<P: Provider>(
 /// A provider of whose calls it is told, on standard error, where that is a terminal or the words ask for it.
 fn told<P: Provider>(
     rt: &HostRuntime,
-    given: &Given,
+    given: &ProgramInput,
     provider: P,
 ) -> Progress<P, Stderr, HostRuntime> {
     let err = rt.stderr();

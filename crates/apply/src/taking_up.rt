@@ -8,7 +8,7 @@ use std::sync::Wait;
 use std::thread::Threads;
 use tf_local::LocalFile;
 use tf_log::{Entry, Replayed, split};
-use tf_program::{Given, Past, Place, settle};
+use tf_program::{Past, Place, ProgramInput, settle};
 use tf_provider::Provider;
 use tf_sim::Sim;
 
@@ -19,7 +19,7 @@ pub fn take_up<T: Threads + Wait + Sync, O: Write, E: Write>(
     threads: &T,
     place: &Place,
     file: &File,
-    given: &mut Given,
+    given: &mut ProgramInput,
     past: &Past,
     entries: Vec<Entry>,
     out: &mut O,

@@ -14,7 +14,9 @@ use std::sync::{Arc, Wait};
 use std::thread::Threads;
 use tf_cli::Stop;
 use tf_log::{Logged, OpenLog};
-use tf_program::{Given, LogSink, Options, Place, Program, Seen, carry_out_logged, hold, run};
+use tf_program::{
+    LogSink, Options, Place, Program, ProgramInput, Seen, carry_out_logged, hold, run,
+};
 use tf_provider::Provider;
 
 fn main(rt: HostRuntime) -> io::Result<ExitCode> {
@@ -62,7 +64,7 @@ fn apply_by<T: Threads + Wait + Sync, O: Write, E: Write>(
     threads: &T,
     place: &Place,
     file: &Arc<File>,
-    given: &Given,
+    given: &ProgramInput,
     out: &mut O,
     err: &mut E,
 ) -> io::Result<ExitCode> {
@@ -91,7 +93,7 @@ fn carry_out_by<T: Threads + Wait + Sync, O: Write, E: Write>(
     place: &Place,
     file: &File,
     log: &OpenLog<LogSink<File>>,
-    given: &Given,
+    given: &ProgramInput,
     provider: Box<dyn Provider + Sync>,
     stop: &Stop,
     out: &mut O,

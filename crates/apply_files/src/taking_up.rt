@@ -7,7 +7,7 @@ use std::process::ExitCode;
 use std::sync::Wait;
 use std::thread::Threads;
 use tf_log::{Entry, Replayed, split};
-use tf_program::{Given, Past, Place, settle};
+use tf_program::{Past, Place, ProgramInput, settle};
 use tf_provider::Provider;
 use tf_sim::Sim;
 
@@ -18,7 +18,7 @@ pub fn take_up<T: Threads + Wait + Sync, O: Write, E: Write>(
     threads: &T,
     place: &Place,
     file: &File,
-    given: &mut Given,
+    given: &mut ProgramInput,
     past: &Past,
     entries: Vec<Entry>,
     out: &mut O,
@@ -44,7 +44,7 @@ fn settle_by<T: Threads + Wait + Sync, O: Write, E: Write>(
     threads: &T,
     place: &Place,
     file: &File,
-    given: &mut Given,
+    given: &mut ProgramInput,
     past: &Past,
     provider: Box<dyn Provider + Sync>,
     out: &mut O,

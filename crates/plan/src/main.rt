@@ -9,8 +9,8 @@ use std::thread::Threads;
 use tf_local::LocalFile;
 use tf_log::{Entry, Replayed, split};
 use tf_program::{
-    Given, GraphForm, Options, Past, Place, Program, Seen, foresee, print_graph, print_plan, run,
-    see,
+    GraphForm, Options, Past, Place, Program, ProgramInput, Seen, foresee, print_graph, print_plan,
+    run, see,
 };
 use tf_provider::Provider;
 use tf_sim::Sim;
@@ -65,7 +65,7 @@ fn look_back<T: Threads + Wait + Sync, E: Write>(
     rt: &HostRuntime,
     threads: &T,
     place: &Place,
-    given: &mut Given,
+    given: &mut ProgramInput,
     past: &Past,
     mut own: Vec<Vec<Entry>>,
     err: &mut E,

@@ -5,7 +5,7 @@ ghost use Rattle.tf_plan_data.specs.Words.{config_of, IsAcyclic, IsDependence, n
 
 use std::alloc::{AllocError, Global};
 use tf_config::{Config, read};
-use tf_names::{Dependence, Names, judge};
+use tf_names::{Declarations, Dependence, check_names};
 use tf_plan::{Planned, Refused, plan, plan_text};
 use tf_protocol::Provider;
 use tf_refusal::code::{BAD_STATE, LIMIT};
@@ -125,11 +125,11 @@ fn dependence_of(alloc: Global, config: &Config, prior: &State) -> Result<Depend
     ensures few { IfOk result (λ _. length (names_of (config_of config.now)) + length (state_of prior.now).resources ≤ 8000) }
 {
     // Whoever has read both knows that there are few.
-    let count = Names::new(alloc, config)?.len();
+    let count = Declarations::new(alloc, config)?.len();
     if count > 8000 || prior.resources().len() > 8000 - count {
         return Err(refusal_at(LIMIT, String::from_str(alloc, "names")?));
     }
-    let (_names, dependence) = judge(alloc, config)?;
+    let (_names, dependence) = check_names(alloc, config)?;
     Ok(dependence)
 }
 

@@ -1,7 +1,7 @@
 -- What one action more adds to a report.
 use Rattle.std.proofs.Common.{◌≡◌, ◌≤◌, suc, length, List, [], ◌∷◌, ◌++◌, map, Option, Some, None, option_map, refl, sym, ap, ◌∙◌, append_assoc, arith}
 use Rattle.std.proofs.lemmas.List.{length-append}
-use Rattle.tf_additions.specs.Addition.{listed}
+use Rattle.tf_additions.specs.ActionReport.{listed}
 use Rattle.tf_additions.specs.Diagnostics.{DiagnosticView, diagnostic_of}
 use Rattle.tf_state_next.specs.Events.{ApplyView, DestroyView}
 use Rattle.tf_additions.specs.Change.{ChangeView, an_apply, a_destroy, applies_in, destroys_in}

@@ -3,7 +3,7 @@ use Rattle.std.specs.Prelude.{ℕ, nat_lt, if◌then◌else◌, List, [], ◌∷
 use Rattle.tf_plan_data.specs.Action.{ActionView}
 use Rattle.tf_outcome.specs.Excuse.{Moment, by_stop}
 use Rattle.tf_outcome.specs.Message.{fault_message}
-use Rattle.tf_outcome.specs.Outcome.{Done, skipped, excused, faulted, called, op_of}
+use Rattle.tf_outcome.specs.Outcome.{ActionResultView, skipped, excused, faulted, called, op_of}
 use Rattle.tf_protocol.specs.Meaning.{Asked, Answer, failed}
 use Rattle.tf_protocol.specs.declared.request.Op.{Op}
 use Rattle.tf_protocol.specs.declared.verdict.Verdict.{Verdict}
@@ -57,13 +57,13 @@ diagnostics_of_excuse place op by_stop = told_at place op 27 (codes "left")
 diagnostics_of_excuse place op _ = told_at place op 26 (codes "no memory")
 
 -- what is wrong with a request is 24; a skipped action has none
-abbrev pub diagnostics_at : List ℕ → Op → Done → List DiagnosticView
+abbrev pub diagnostics_at : List ℕ → Op → ActionResultView → List DiagnosticView
 diagnostics_at place op skipped = []
 diagnostics_at place op (excused moment) = diagnostics_of_excuse place op moment
 diagnostics_at place op (faulted why) = told_at place op 24 (fault_message why)
 diagnostics_at place op (called asked answer v) = diagnostics_of_verdict place op asked answer v
 
 -- the diagnostics of actions, in their order
-abbrev pub action_diagnostics : List ActionView → List Done → List DiagnosticView
+abbrev pub action_diagnostics : List ActionView → List ActionResultView → List DiagnosticView
 action_diagnostics (a ∷ actions) (d ∷ done) = diagnostics_at (place_of a) (op_of a.step) d ++ action_diagnostics actions done
 action_diagnostics _ _ = []

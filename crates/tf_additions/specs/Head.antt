@@ -10,7 +10,7 @@ use Rattle.tf_plan_data.specs.Plan.{PlanView, plan_names}
 use Rattle.tf_protocol.specs.declared.request.Op.{Op}
 use Rattle.tf_state_next.specs.After.{object_at}
 use Rattle.tf_state_next.specs.DeposedKey.{IsDeposedKey}
-use Rattle.tf_state_next.specs.Ends.{GivenView}
+use Rattle.tf_state_next.specs.Ends.{RecordInputView}
 use Rattle.tf_state_data.specs.Record.{RecordView}
 use Rattle.tf_state_data.specs.State.{StateView, resource_at}
 use Rattle.tf_additions.specs.Dependencies.{dependencies}
@@ -19,7 +19,7 @@ use Rattle.tf_additions.specs.Place.{place_of}
 -- What an action is about: an instance, of which it makes or changes the current object, with what the record of that
 -- object is given; or an object that it destroys.
 pub data Target : Type 0 where
-  an_instance : GivenView → Target
+  an_instance : RecordInputView → Target
   an_object : ObjectIdView → Target
 
 -- Where a diagnostic of the action stands and what is to be done there; its resource, and what it is about.
@@ -32,7 +32,7 @@ pub record Head : Type 0 where
 -- What the records of a resource's objects are given, where its instance has a key, a new object follows a version of the
 -- schema, and an old one gets a key if it becomes deposed: what the resource needs by the configuration, and whether it is
 -- late.
-abbrev pub given_with : PlanView → ActionView → Option (List ℕ) → GivenView
+abbrev pub given_with : PlanView → ActionView → Option (List ℕ) → RecordInputView
 given_with plan a deposed =
     record {
       key = a.key;

@@ -1,4 +1,4 @@
-pub mod Addition
+pub mod ActionReport
 pub mod Change
 pub mod Dependencies
 pub mod Diagnostics
@@ -6,4 +6,4 @@ pub mod Head
 pub mod Needed
 pub mod Place
 pub mod Replied
-pub mod RoomHead
+pub mod BuffersHead

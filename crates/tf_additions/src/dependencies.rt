@@ -10,7 +10,7 @@ use std::alloc::{AllocError, Global};
 use std::collections::BTreeSet;
 use std::iter::FromIterator;
 use tf_address::Label;
-use tf_names::{Named, Names};
+use tf_names::{Declaration, Declarations};
 
 /// The addresses `TYPE.NAME` of the resources that the list of a place has, in byte order.
 ///
@@ -19,7 +19,7 @@ use tf_names::{Named, Names};
 /// Only where memory runs out.
 pub fn dependencies_listed(
     alloc: Global,
-    names: &Names<'_>,
+    names: &Declarations<'_>,
     lists: &[Vec<usize>],
     place: usize,
 ) -> Result<BTreeSet<String>, AllocError>
@@ -35,7 +35,7 @@ pub fn dependencies_listed(
 /// The addresses of the resources at some places.
 fn addresses_at(
     alloc: Global,
-    names: &Names<'_>,
+    names: &Declarations<'_>,
     places: &[usize],
 ) -> Result<Vec<String>, AllocError>
     requires { (m : ℕ) → Contains places.now m → m < length (names_in names.now) }
@@ -60,7 +60,7 @@ fn in_order(alloc: Global, texts: Vec<String>) -> Result<BTreeSet<String>, Alloc
 fn note(
     alloc: Global,
     found: &mut Vec<String>,
-    names: &Names<'_>,
+    names: &Declarations<'_>,
     place: usize,
 ) -> Result<(), AllocError>
     requires { place < length (names_in names.now) }
@@ -68,8 +68,8 @@ fn note(
         ≡ map string_bytes found.old.items ++ option_to_list (address_of (meant_at (names_in names.now) place))) }
 {
     match names.at(place) {
-        Named::Local(_, _) => Ok(()),
-        Named::Resource(label, _) => note_label(alloc, found, label),
+        Declaration::Local(_, _) => Ok(()),
+        Declaration::Resource(label, _) => note_label(alloc, found, label),
     }
 }
 

@@ -3,17 +3,17 @@
 ghost use Rattle.std.specs.List.{AllByRecursion};
 ghost use Rattle.std.specs.Prelude.{◌≡◌, ◌+◌, ◌++◌, ◌∷◌, ◌<◌, ◌≤◌, [], length, map, vec_capacity};
 ghost use Rattle.tf_state_next.specs.Events.{apply_of, destroy_of};
-ghost use Rattle.tf_outcome.specs.Ended.{dones_of};
-ghost use Rattle.tf_additions.specs.Addition.{AreJudged, change_of, listed, told_in};
+ghost use Rattle.tf_outcome.specs.ResultViews.{action_results_of};
+ghost use Rattle.tf_additions.specs.ActionReport.{AreJudged, change_of, listed, told_in};
 ghost use Rattle.tf_additions.specs.Change.{MayBeStored, applies_in, changes_in, destroys_in};
 ghost use Rattle.tf_additions.specs.Diagnostics.{diagnostic_of};
-ghost use Rattle.tf_additions.specs.RoomHead.{room_head};
+ghost use Rattle.tf_additions.specs.BuffersHead.{buffers_head};
 
-use crate::addition::{Addition, Change};
-use crate::conclude::conclude;
+use crate::buffers::ActionBuffers;
 use crate::diagnostic::Diagnostic;
-use crate::rooms::Room;
-use tf_outcome::Ended;
+use crate::report::{ActionReport, Change};
+use crate::reporting::report_action;
+use tf_outcome::ActionResult;
 use tf_provider::Provider;
 use tf_state_next::{Apply, Destroy};
 
@@ -26,14 +26,14 @@ pub struct Changes<'p> {
 }
 
 /// What the actions change and what is told of them, in action order.
-pub fn conclude_all<'p>(
+pub fn report_actions<'p>(
     providers: &[Box<dyn Provider + Sync>],
-    rooms: Vec<Room<'p>>,
-    results: Vec<Option<Ended>>,
+    rooms: Vec<ActionBuffers<'p>>,
+    results: Vec<Option<ActionResult>>,
     changes: &mut Changes<'p>,
     diagnostics: &mut Vec<Diagnostic>,
 )
-    requires judged { AreJudged (map meaning providers.now) (map (λ h. h.op) (map room_head rooms.items)) (dones_of results.items) }
+    requires judged { AreJudged (map meaning providers.now) (map (λ h. h.op) (map buffers_head rooms.items)) (action_results_of results.items) }
     requires paired { length rooms.items ≡ length results.items }
     requires no_applies { changes.old.applies.items ≡ [] }
     requires no_destroys { changes.old.destroys.items ≡ [] }
@@ -41,10 +41,10 @@ pub fn conclude_all<'p>(
     requires room_for_applies { length results.items ≤ vec_capacity changes.old.applies }
     requires room_for_destroys { length results.items ≤ vec_capacity changes.old.destroys }
     requires room_for_diagnostics { length results.items ≤ vec_capacity diagnostics.old }
-    ensures applies { map apply_of changes.new.applies.items ≡ applies_in (changes_in (map meaning providers.now) (map room_head rooms.entry.items) (dones_of results.items)) }
-    ensures destroys { map destroy_of changes.new.destroys.items ≡ destroys_in (changes_in (map meaning providers.now) (map room_head rooms.entry.items) (dones_of results.items)) }
-    ensures tells { map diagnostic_of diagnostics.new.items ≡ told_in (map room_head rooms.entry.items) (dones_of results.items) }
-    ensures stored { AllByRecursion MayBeStored (changes_in (map meaning providers.now) (map room_head rooms.entry.items) (dones_of results.items)) }
+    ensures applies { map apply_of changes.new.applies.items ≡ applies_in (changes_in (map meaning providers.now) (map buffers_head rooms.entry.items) (action_results_of results.items)) }
+    ensures destroys { map destroy_of changes.new.destroys.items ≡ destroys_in (changes_in (map meaning providers.now) (map buffers_head rooms.entry.items) (action_results_of results.items)) }
+    ensures tells { map diagnostic_of diagnostics.new.items ≡ told_in (map buffers_head rooms.entry.items) (action_results_of results.items) }
+    ensures stored { AllByRecursion MayBeStored (changes_in (map meaning providers.now) (map buffers_head rooms.entry.items) (action_results_of results.items)) }
     ensures few { length diagnostics.new.items ≤ length results.items }
     ensures capacity { vec_capacity diagnostics.old ≤ vec_capacity diagnostics.new }
 {
@@ -53,7 +53,7 @@ pub fn conclude_all<'p>(
         let Some(ended) = ends.next() else {
             unreachable!()
         };
-        let Addition { change, diagnostic } = conclude(providers, room, ended);
+        let ActionReport { change, diagnostic } = report_action(providers, room, ended);
         keep(changes, change);
         add(diagnostics, diagnostic);
     }

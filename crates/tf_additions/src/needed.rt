@@ -12,7 +12,7 @@ ghost use Rattle.tf_additions.specs.Needed.{AreListedAsked, IsAsked, IsListedFor
 use crate::spreading::{empty_lists, spread};
 use std::alloc::{AllocError, Global};
 use tf_graph::NodeSet;
-use tf_names::{Dependence, Named, Names};
+use tf_names::{Declaration, Declarations, Dependence};
 use tf_plan_data::{Action, Plan, Step};
 
 /// For each name the places of all resources that it needs, where an action makes or changes an object of it, in the order of
@@ -20,7 +20,7 @@ use tf_plan_data::{Action, Plan, Step};
 pub(crate) fn needed_for(
     alloc: Global,
     plan: &Plan,
-    names: &Names<'_>,
+    names: &Declarations<'_>,
 ) -> Result<Vec<Vec<usize>>, AllocError>
     requires names { names_in names.now ≡ plan_names (plan_of plan.now) }
     requires declared { AllByRecursion (IsDeclared (plan_names (plan_of plan.now))) (map action_of plan.now.actions.items) }
@@ -59,8 +59,8 @@ fn makes(step: &Step) -> bool
     ensures { result ≡ is_apply (step_of step.now) }
 {
     match step {
-        Step::Create(_) | Step::Update(_, _, _) | Step::Replacement(_, _) => true,
-        Step::Replaced(_) | Step::Destroy(_) | Step::DestroyDeposed(_, _) => false,
+        Step::Create(_) | Step::Update(_, _, _) | Step::CreateReplacement(_, _) => true,
+        Step::DestroyReplaced(_) | Step::Destroy(_) | Step::DestroyDeposed(_, _) => false,
     }
 }
 
@@ -72,7 +72,7 @@ fn makes(step: &Step) -> bool
 /// Only where memory runs out.
 pub fn needed_lists(
     alloc: Global,
-    names: &Names<'_>,
+    names: &Declarations<'_>,
     dependence: &Dependence,
     asked: &NodeSet,
 ) -> Result<Vec<Vec<usize>>, AllocError>
@@ -89,7 +89,7 @@ pub fn needed_lists(
 /// Adds a place to the list of each name that is asked for and needs the name there, where that is a resource.
 fn note_needed(
     lists: &mut [Vec<usize>],
-    names: &Names<'_>,
+    names: &Declarations<'_>,
     dependence: &Dependence,
     asked: &NodeSet,
     place: usize,
@@ -103,8 +103,8 @@ fn note_needed(
         ++ (if needs_in dependence.now p place then option_to_list (address_of (meant_at (names_in names.now) place)) else [])) }
 {
     match names.at(place) {
-        Named::Local(_, _) => Ok(()),
-        Named::Resource(_, _) => {
+        Declaration::Local(_, _) => Ok(()),
+        Declaration::Resource(_, _) => {
             spread(lists, dependence.table(), asked, place)?;
             Ok(())
         }

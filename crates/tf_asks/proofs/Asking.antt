@@ -8,10 +8,10 @@ use Rattle.tf_change.specs.Instance.{InstanceFaultView, instance_of}
 use Rattle.tf_change.specs.declared.instance.InstanceFault.{InstanceFault}
 use Rattle.tf_config_data.specs.Names.{NameView, directly_before}
 use Rattle.tf_environment.proofs.Places.{names_stay}
-use Rattle.tf_environment.specs.Laws.{StandingsAreOne, StandingsExist}
-use Rattle.tf_environment.specs.Shape.{ShapeView}
+use Rattle.tf_environment.specs.Laws.{ResolvedNamesAreOne, ResolvedNamesExist}
+use Rattle.tf_environment.specs.InstanceKeys.{InstanceKeysView}
 use Rattle.tf_environment.specs.Stages.{applying}
-use Rattle.tf_environment.specs.Standing.{environment, rule}
+use Rattle.tf_environment.specs.Resolved.{environment, rule}
 use Rattle.tf_graph.proofs.Solving.{solution-exists, solution-unique}
 use Rattle.tf_graph.specs.Solutions.{Ranked}
 use Rattle.tf_plan_data.specs.Action.{ActionView}
@@ -25,7 +25,7 @@ use Rattle.tf_value.specs.Tree.{Tree, tree_of}
 use Rattle.tf_value.specs.declared.value.Value.{Value}
 use Rattle.tf_outcome.proofs.Requests.{requests_exist}
 use Rattle.tf_outcome.specs.Asked.{asked_for}
-use Rattle.tf_outcome.specs.Outcome.{Done, skipped, Requests, AreRequests, call_with, comes_of}
+use Rattle.tf_outcome.specs.Outcome.{ActionResultView, skipped, Requests, AreRequests, call_with, comes_of}
 
 -- what is asked by the definition is what any requests say
 pub is_requested : (plan : PlanView) (requests : Requests) → Ranked (directly_before (plan_names plan)) → AreRequests plan requests
@@ -33,16 +33,16 @@ pub is_requested : (plan : PlanView) (requests : Requests) → Ranked (directly_
     → IsRequest plan.variables (plan_names plan) plan.shapes objects a.resource a.key schema request → request ≡ requests objects a schema
 is_requested plan requests ranked are objects a schema request resource h =
     let names = plan_names plan in
-    let standings = solution-exists (length names) (directly_before names) (rule (applying plan.shapes objects) plan.variables names) ranked in
-    h standings.0 resource.block standings.1 resource.stands ∙ sym (are objects a schema standings.0 resource.block standings.1 resource.stands)
+    let resolved_names = solution-exists (length names) (directly_before names) (rule (applying plan.shapes objects) plan.variables names) ranked in
+    h resolved_names.0 resource.block resolved_names.1 resource.stands ∙ sym (are objects a schema resolved_names.0 resource.block resolved_names.1 resource.stands)
 
 -- and it has exactly the schema's attributes
 pub has_all : (plan : PlanView) → Ranked (directly_before (plan_names plan)) → (objects : ℕ → InstanceKeyView → Tree) (a : ActionView) (schema : SchemaView) (t : Tree) → IsOfBlock (plan_names plan) a
     → IsRequest plan.variables (plan_names plan) plan.shapes objects a.resource a.key schema (Ok t) → has_attributes schema t ≡ true
 has_all plan ranked objects a schema t resource h =
     let names = plan_names plan in
-    let standings = solution-exists (length names) (directly_before names) (rule (applying plan.shapes objects) plan.variables names) ranked in
-    instances_named schema resource.block a.key (environment plan.variables names standings.0) t (sym (h standings.0 resource.block standings.1 resource.stands))
+    let resolved_names = solution-exists (length names) (directly_before names) (rule (applying plan.shapes objects) plan.variables names) ranked in
+    instances_named schema resource.block a.key (environment plan.variables names resolved_names.0) t (sym (h resolved_names.0 resource.block resolved_names.1 resource.stands))
 
 -- what follows of each good result
 pub if_ok-weaker : {A E : Type 0} (P Q : A → Type 0) (r : Result A E) → ((x : A) → P x → Q x) → IfOk r P → IfOk r Q
@@ -50,18 +50,18 @@ if_ok-weaker P Q (Ok x) f h = f x h
 if_ok-weaker P Q (Err e) f h = h
 
 -- what is asked for by the same names and shapes
-pub asked_by_plan : (plan : PlanView) (names : List NameView) (shapes : ℕ → ShapeView) (objects : ℕ → InstanceKeyView → Tree) (place : ℕ) (key : InstanceKeyView) (schema : SchemaView) (request : Result Tree InstanceFaultView)
+pub asked_by_plan : (plan : PlanView) (names : List NameView) (shapes : ℕ → InstanceKeysView) (objects : ℕ → InstanceKeyView → Tree) (place : ℕ) (key : InstanceKeyView) (schema : SchemaView) (request : Result Tree InstanceFaultView)
     → names ≡ plan_names plan → shapes ≡ plan.shapes
     → IsRequest plan.variables names shapes objects place key schema request → IsRequest plan.variables (plan_names plan) plan.shapes objects place key schema request
 asked_by_plan plan names shapes objects place key schema request same alike h =
     subst (λ (ns : List NameView). IsRequest plan.variables ns plan.shapes objects place key schema request) same
-    (subst (λ (ss : ℕ → ShapeView). IsRequest plan.variables names ss objects place key schema request) alike h)
+    (subst (λ (ss : ℕ → InstanceKeysView). IsRequest plan.variables names ss objects place key schema request) alike h)
 
-standings_exist : StandingsExist
+standings_exist : ResolvedNamesExist
 standings_exist stage variables names ranked = solution-exists (length names) (directly_before names) (rule stage variables names) ranked
 
-standings_one : StandingsAreOne
-standings_one stage variables names standings others ranked s t n h = solution-unique (length names) (directly_before names) (rule stage variables names) standings others ranked (names_stay names) s t n h
+standings_one : ResolvedNamesAreOne
+standings_one stage variables names resolved_names others ranked s t n h = solution-unique (length names) (directly_before names) (rule stage variables names) resolved_names others ranked (names_stay names) s t n h
 
 -- there are requests
 pub some_requests : (plan : PlanView) → Ranked (directly_before (plan_names plan)) → (requests : Requests) × AreRequests plan requests
@@ -74,7 +74,7 @@ has_all-made plan ranked objects a schema (Ok v) block h = has_all plan ranked o
 has_all-made plan ranked objects a schema (Err e) block h = search
 
 -- What is made by the same names and shapes as the plan's.
-module _ (plan : PlanView) (ranked : Ranked (directly_before (plan_names plan))) (names : List NameView) (shapes : ℕ → ShapeView) (same : names ≡ plan_names plan) (alike : shapes ≡ plan.shapes)
+module _ (plan : PlanView) (ranked : Ranked (directly_before (plan_names plan))) (names : List NameView) (shapes : ℕ → InstanceKeysView) (same : names ≡ plan_names plan) (alike : shapes ≡ plan.shapes)
     (objects : ℕ → InstanceKeyView → Tree) (a : ActionView) (schema : SchemaView) (block : IsOfBlock (plan_names plan) a) (result : Result (Result Value InstanceFault) AllocError)
     (made_by : IfOk result (λ made. IsRequest plan.variables names shapes objects a.resource a.key schema (instance_of made))) where
   -- it is what any requests say
@@ -94,4 +94,4 @@ pub asked-with : (ms : List Meaning) (requests : Requests) (plan : PlanView) (ob
     → schema_in a.label.type_name ms ≡ Some schema → made ≡ asked_for (plan_names plan) schema a (requests objects a schema) → comes_of ms made ≡ call_with ms requests plan objects a
 asked-with ms requests plan objects a schema made there e =
     ap (comes_of ms) e
-    ∙ sym (ap (λ (o : Option SchemaView). option_map_or {U = Done} (λ s. comes_of ms (asked_for (plan_names plan) s a (requests objects a s))) o skipped) there)
+    ∙ sym (ap (λ (o : Option SchemaView). option_map_or {U = ActionResultView} (λ s. comes_of ms (asked_for (plan_names plan) s a (requests objects a s))) o skipped) there)

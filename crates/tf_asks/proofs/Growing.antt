@@ -10,10 +10,10 @@ use Rattle.tf_decision.specs.Kept.{kept_object}
 use Rattle.tf_decision.specs.Laws.{UpdatesGrow}
 use Rattle.tf_deciding.specs.Stage.{all_can_go, decided_object, deciding}
 use Rattle.tf_environment.proofs.Refining.{ObjectsRefine, together_grows}
-use Rattle.tf_environment.specs.Laws.{Grows, HaveGrown, StandingsExist, StandingsGrow}
-use Rattle.tf_environment.specs.Shape.{ShapeView}
+use Rattle.tf_environment.specs.Laws.{Grows, HaveGrown, ResolvedNamesExist, ResolvedNamesGrow}
+use Rattle.tf_environment.specs.InstanceKeys.{InstanceKeysView}
 use Rattle.tf_environment.specs.Stages.{applying}
-use Rattle.tf_environment.specs.Standing.{StandingView, AreStandings, environment, environment_at, together}
+use Rattle.tf_environment.specs.Resolved.{ResolvedView, AreResolvedNames, environment, environment_at, together}
 use Rattle.tf_plan_data.specs.Plan.{PlanView, plan_names}
 use Rattle.tf_protocol.specs.Meaning.{Asked, Meaning}
 use Rattle.tf_protocol.specs.Schema.{SchemaView}
@@ -27,19 +27,19 @@ use Rattle.tf_outcome.specs.Asked.{asked_by_step, create_of, ignored_by, unless_
 
 -- ---- what names stand for
 
-decided_grows : (b : Bool) (shape : ShapeView) (f g : InstanceKeyView → Option Tree) → ObjectsRefine f g → Grows (together (if b then Some shape else None) f) (together (Some shape) g)
+decided_grows : (b : Bool) (shape : InstanceKeysView) (f g : InstanceKeyView → Option Tree) → ObjectsRefine f g → Grows (together (if b then Some shape else None) f) (together (Some shape) g)
 decided_grows true shape f g h v w p q = together_grows shape f g h v w p q
 decided_grows false shape f g h v w p q = absurd (cc)
 
-plan_grows : StandingsGrow → (ms : List Meaning) (plan : PlanView) (objects : ℕ → InstanceKeyView → Tree) (standings others : ℕ → StandingView)
-    → IsAnsweredPlan ms plan objects standings → AreStandings (applying plan.shapes objects) plan.variables (plan_names plan) others
-    → HaveGrown plan.variables (plan_names plan) standings others
-plan_grows grow ms plan objects standings others is apply =
+plan_grows : ResolvedNamesGrow → (ms : List Meaning) (plan : PlanView) (objects : ℕ → InstanceKeyView → Tree) (resolved_names others : ℕ → ResolvedView)
+    → IsAnsweredPlan ms plan objects resolved_names → AreResolvedNames (applying plan.shapes objects) plan.variables (plan_names plan) others
+    → HaveGrown plan.variables (plan_names plan) resolved_names others
+plan_grows grow ms plan objects resolved_names others is apply =
     let names = plan_names plan in
-    grow (deciding ms plan.prior.resources plan.shapes) (applying plan.shapes objects) plan.variables names standings others is.ranked is.planned apply
+    grow (deciding ms plan.prior.resources plan.shapes) (applying plan.shapes objects) plan.variables names resolved_names others is.ranked is.planned apply
     (λ n block meant more.
     decided_grows (all_can_go ms plan.prior.resources (plan.shapes n) block) (plan.shapes n)
-    (decided_object ms plan.prior.resources n block (environment_at plan.variables names standings n)) (λ key. Some (objects n key))
+    (decided_object ms plan.prior.resources n block (environment_at plan.variables names resolved_names n)) (λ key. Some (objects n key))
     (λ key t u a b. let e : objects n key ≡ u = (cc) in rw (← e) (is.answered n block key t meant a)))
 
 -- ---- requests
@@ -70,12 +70,12 @@ steps_grow updates ignored schema a p q (replaced prior) planned made h x y = sa
 steps_grow updates ignored schema a p q (destroyed prior) planned made h x y = same_asked _ planned made refl x y
 steps_grow updates ignored schema a p q (deposed_destroyed key prior) planned made h x y = same_asked _ planned made refl x y
 
-pub requests_refine : StandingsExist → StandingsGrow → InstancesGrow → UpdatesGrow → RequestsRefine
-requests_refine exist grow instances updates ms plan objects standings requests is are block a schema planned made meant x y =
+pub requests_refine : ResolvedNamesExist → ResolvedNamesGrow → InstancesGrow → UpdatesGrow → RequestsRefine
+requests_refine exist grow instances updates ms plan objects resolved_names requests is are block a schema planned made meant x y =
     let names = plan_names plan in
     let apply = exist (applying plan.shapes objects) plan.variables names is.ranked in
-    let grown = plan_grows grow ms plan objects standings apply.0 is apply.1 in
-    let one = environment plan.variables names standings in
+    let grown = plan_grows grow ms plan objects resolved_names apply.0 is apply.1 in
+    let one = environment plan.variables names resolved_names in
     let other = environment plan.variables names apply.0 in
     let same = are objects a schema apply.0 block apply.1 meant in
     steps_grow updates (ignored_by (meant_at names a.resource)) schema a (instance_object schema block a.key one) (requests objects a schema) a.step planned made
@@ -89,5 +89,5 @@ known_where stays name (Some t) None v h is p = absurd h
 known_where stays name (Some t) (Some u) v h is p = part_known stays name t u v h is p
 
 pub known_stay : KnownStays → RequestsRefine → KnownAttributesStay
-known_stay stays refine ms plan objects standings requests is are block a schema planned made meant x y name v p k =
-    known_where stays name planned.object made.object v (refine ms plan objects standings requests is are block a schema planned made meant x y) k p
+known_stay stays refine ms plan objects resolved_names requests is are block a schema planned made meant x y name v p k =
+    known_where stays name planned.object made.object v (refine ms plan objects resolved_names requests is are block a schema planned made meant x y) k p

@@ -7,12 +7,12 @@ use Rattle.tf_config_data.specs.Config.{LifecycleView}
 use Rattle.tf_config_data.specs.Names.{meant_at}
 use Rattle.tf_deciding.specs.Steps.{current_steps, decided_steps, deposed_step, destroy_if_deposed}
 use Rattle.tf_decision.specs.Decision as decision
-use Rattle.tf_decision.specs.Decision.{DecisionView, RefusalView, change, current, decided, unless_prevented, unless_unfit}
+use Rattle.tf_decision.specs.Decision.{DecisionView, DecisionFaultView, change, current, decided, unless_prevented, unless_unfit}
 use Rattle.tf_decision.specs.Ignored.{heeding, ignored_fault}
 use Rattle.tf_decision.specs.Kept.{kept_object}
 use Rattle.tf_decision.specs.Laws.{CreatesAreFirst, ReplacesHaveACause, UpdatesDiffer}
 use Rattle.tf_decision.specs.Prior.{PriorFaultView, first_unfit}
-use Rattle.tf_environment.specs.Standing.{environment}
+use Rattle.tf_environment.specs.Resolved.{environment}
 use Rattle.tf_plan_data.specs.Plan.{plan_names}
 use Rattle.tf_protocol.specs.Meaning.{Asked}
 use Rattle.tf_protocol.specs.Schema.{SchemaView}
@@ -23,7 +23,7 @@ use Rattle.tf_outcome.specs.Asked.{asked_by_step, create_of, destroy_of, ignored
 
 -- ---- what was decided
 
-pub fit_decided : (o : Option PriorFaultView) (r : Result DecisionView RefusalView) (d : DecisionView) → unless_unfit o r ≡ Ok d → r ≡ Ok d
+pub fit_decided : (o : Option PriorFaultView) (r : Result DecisionView DecisionFaultView) (d : DecisionView) → unless_unfit o r ≡ Ok d → r ≡ Ok d
 fit_decided None r d e = e
 fit_decided (Some fault) r d e = absurd (cc)
 
@@ -98,8 +98,8 @@ at_place P (y ∷ ys) x zero h e all = subst P e all.0
 at_place P (y ∷ ys) x (suc i) h e all = at_place P ys x i (omega (arith, h)) e all.1
 
 pub planned_asked : CreatesAreFirst → UpdatesDiffer → ReplacesHaveACause → PlannedObjectsAreAsked
-planned_asked creates updates replaces plan standings block a schema records d planned meant decides held asks =
-    let p = instance_object schema block a.key (environment plan.variables (plan_names plan) standings) in
+planned_asked creates updates replaces plan resolved_names block a schema records d planned meant decides held asks =
+    let p = instance_object schema block a.key (environment plan.variables (plan_names plan) resolved_names) in
     let found = decision_is schema block.lifecycle records p d decides in
     let ignored : ignored_by (meant_at (plan_names plan) a.resource) ≡ block.lifecycle.ignore_changes = ap ignored_by meant in
     let by_block : asked_by_step block.lifecycle.ignore_changes schema a p a.step ≡ Ok planned =

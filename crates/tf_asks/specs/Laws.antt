@@ -9,7 +9,7 @@ use Rattle.tf_deciding.specs.Stage.{decided_object, deciding}
 use Rattle.tf_deciding.specs.Steps.{decided_steps}
 use Rattle.tf_decision.specs.Decision.{DecisionView, decision}
 use Rattle.tf_environment.specs.Laws.{AreAnswered}
-use Rattle.tf_environment.specs.Standing.{StandingView, AreStandings, environment}
+use Rattle.tf_environment.specs.Resolved.{ResolvedView, AreResolvedNames, environment}
 use Rattle.tf_graph.specs.Solutions.{Ranked}
 use Rattle.tf_plan_data.specs.Plan.{PlanView, plan_names}
 use Rattle.tf_protocol.specs.Meaning.{Asked, Meaning}
@@ -22,23 +22,23 @@ use Rattle.tf_outcome.specs.Asked.{AreRequests, Requests, asked_for}
 
 -- No name needs itself, names stand in the plan for so much, and the object that each instance stands for there refines to
 -- the one that it stands for in the apply: what its provider answered, or the prior one where nothing is planned for it.
-pub record IsAnsweredPlan (ms : List Meaning) (plan : PlanView) (objects : ℕ → InstanceKeyView → Tree) (standings : ℕ → StandingView) : Type 0 where
+pub record IsAnsweredPlan (ms : List Meaning) (plan : PlanView) (objects : ℕ → InstanceKeyView → Tree) (resolved_names : ℕ → ResolvedView) : Type 0 where
   pub ranked : Ranked (directly_before (plan_names plan))
-  pub planned : AreStandings (deciding ms plan.prior.resources plan.shapes) plan.variables (plan_names plan) standings
-  pub answered : AreAnswered plan.variables (plan_names plan) (decided_object ms plan.prior.resources) objects standings
+  pub planned : AreResolvedNames (deciding ms plan.prior.resources plan.shapes) plan.variables (plan_names plan) resolved_names
+  pub answered : AreAnswered plan.variables (plan_names plan) (decided_object ms plan.prior.resources) objects resolved_names
 
 -- what an action would ask by what its block makes in the plan, or what is wrong with it
-abbrev pub asked_in_plan : PlanView → (ℕ → StandingView) → BlockView → SchemaView → ActionView → Result Asked InstanceFaultView
-asked_in_plan plan standings block schema a =
-    asked_for (plan_names plan) schema a (instance_object schema block a.key (environment plan.variables (plan_names plan) standings))
+abbrev pub asked_in_plan : PlanView → (ℕ → ResolvedView) → BlockView → SchemaView → ActionView → Result Asked InstanceFaultView
+asked_in_plan plan resolved_names block schema a =
+    asked_for (plan_names plan) schema a (instance_object schema block a.key (environment plan.variables (plan_names plan) resolved_names))
 
 -- What holds of what an action would ask by the plan and of what it asks, where instances stand for such objects.
 abbrev pub OfRequests : (Asked → Asked → Type 0) → Type 0
 OfRequests Holds =
-    (ms : List Meaning) (plan : PlanView) (objects : ℕ → InstanceKeyView → Tree) (standings : ℕ → StandingView) (requests : Requests)
-    → IsAnsweredPlan ms plan objects standings → AreRequests plan requests
+    (ms : List Meaning) (plan : PlanView) (objects : ℕ → InstanceKeyView → Tree) (resolved_names : ℕ → ResolvedView) (requests : Requests)
+    → IsAnsweredPlan ms plan objects resolved_names → AreRequests plan requests
     → (block : BlockView) (a : ActionView) (schema : SchemaView) (planned made : Asked) → meant_at (plan_names plan) a.resource ≡ Some (a_block block)
-    → asked_in_plan plan standings block schema a ≡ Ok planned
+    → asked_in_plan plan resolved_names block schema a ≡ Ok planned
     → asked_for (plan_names plan) schema a (requests objects a schema) ≡ Ok made
     → Holds planned made
 
@@ -68,9 +68,9 @@ planned_object _ = None
 -- about its instance, by what the block makes of it in the plan.
 abbrev pub PlannedObjectsAreAsked : Type 0
 PlannedObjectsAreAsked =
-    (plan : PlanView) (standings : ℕ → StandingView) (block : BlockView) (a : ActionView) (schema : SchemaView) (records : List RecordView) (d : DecisionView) (planned : Asked)
+    (plan : PlanView) (resolved_names : ℕ → ResolvedView) (block : BlockView) (a : ActionView) (schema : SchemaView) (records : List RecordView) (d : DecisionView) (planned : Asked)
     → meant_at (plan_names plan) a.resource ≡ Some (a_block block)
-    → decision schema block.lifecycle records (instance_object schema block a.key (environment plan.variables (plan_names plan) standings)) ≡ Ok d
+    → decision schema block.lifecycle records (instance_object schema block a.key (environment plan.variables (plan_names plan) resolved_names)) ≡ Ok d
     → Contains (decided_steps records d) a.step
-    → asked_in_plan plan standings block schema a ≡ Ok planned
+    → asked_in_plan plan resolved_names block schema a ≡ Ok planned
     → planned.object ≡ planned_object a.step

@@ -1,13 +1,13 @@
 -- What names stand for so far, while an action's request is made.
 use Rattle.std.specs.Prelude.{ℕ, List}
 use Rattle.tf_address.specs.ObjectId.{InstanceKeyView}
-use Rattle.tf_environment.specs.Views.{standings_of}
-use Rattle.tf_environment.specs.declared.standing.Standing.{Standing}
+use Rattle.tf_environment.specs.Views.{resolved_names_of}
+use Rattle.tf_environment.specs.declared.resolved.Resolved.{Resolved}
 use Rattle.tf_plan_data.specs.Plan.{PlanView, plan_names}
-use Rattle.tf_request.specs.Requests.{AreStandingsSoFar}
+use Rattle.tf_request.specs.Requests.{AreResolvedSoFar}
 use Rattle.tf_value.specs.Tree.{Tree}
 
 -- What stands in the list, by place, is what the names of a plan's configuration stand for where instances stand for these
 -- objects. Where nothing stands nothing is said.
-abbrev pub StandSoFar : PlanView → (ℕ → InstanceKeyView → Tree) → List Standing → Type 0
-StandSoFar plan objects kept = AreStandingsSoFar plan.variables (plan_names plan) plan.shapes objects (standings_of kept)
+abbrev pub ResolvedSoFar : PlanView → (ℕ → InstanceKeyView → Tree) → List Resolved → Type 0
+ResolvedSoFar plan objects kept = AreResolvedSoFar plan.variables (plan_names plan) plan.shapes objects (resolved_names_of kept)

@@ -4,7 +4,7 @@ ghost use Rattle.tf_asks.specs.Laws.{KnownAttributesStay, PlannedObjectsAreAsked
 
 use tf_change::laws::objects_grow;
 use tf_decision::laws::{changes_have_a_cause, updates_grow};
-use tf_environment::laws::{standings_are_one, standings_grow};
+use tf_environment::laws::{resolved_names_are_one, resolved_names_grow};
 use tf_value::known_values_stay;
 
 /// Where what instances stand for in the plan refines to what they stand for in the apply, the object that an action would
@@ -15,8 +15,8 @@ pub fn requests_grow()
     ensures known { KnownAttributesStay }
 {
     known_values_stay();
-    standings_are_one();
-    standings_grow();
+    resolved_names_are_one();
+    resolved_names_grow();
     objects_grow();
     updates_grow();
 }

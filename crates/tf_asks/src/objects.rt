@@ -1,14 +1,14 @@
 //! The objects that are asked for.
 
 ghost use Rattle.std.specs.Prelude.{◌≡◌, ◌<◌, true, IfOk, length, map, string_bytes};
-ghost use Rattle.tf_asks.specs.SoFar.{StandSoFar};
+ghost use Rattle.tf_asks.specs.SoFar.{ResolvedSoFar};
 ghost use Rattle.tf_outcome.specs.Words.{action_of, AreRequests, config_of, FitsTogether, has_attributes, has_planned_attributes, ignored_by, instance_of, IsOfBlock, kept_object, meant_at, names_in, names_of, plan_of, Requests, tree_of};
 
 use std::alloc::{AllocError, Global};
 use tf_change::InstanceFault;
 use tf_decision::kept_object;
-use tf_environment::{Declarations, Standing};
-use tf_names::{Named, Names};
+use tf_environment::{Module, Resolved};
+use tf_names::{Declaration, Declarations};
 use tf_plan_data::{Action, Plan};
 use tf_protocol::Schema;
 use tf_request::{Results, request};
@@ -20,7 +20,7 @@ use tf_value::Value;
 pub(crate) struct Task<'a, 'n, R> {
     pub alloc: Global,
     pub plan: &'a Plan,
-    pub names: &'a Names<'n>,
+    pub names: &'a Declarations<'n>,
     pub schema: &'a Schema,
     pub action: &'a Action,
     pub results: &'a R,
@@ -30,20 +30,20 @@ impl<R: Results> Task<'_, '_, R> {
     /// What the block of the action's instance makes of it, or what is wrong with it. `kept` has what names stand for so far.
     pub(crate) fn made_object(
         &self,
-        kept: &mut Vec<Standing>,
+        kept: &mut Vec<Resolved>,
     ) -> Result<Result<Value, InstanceFault>, AllocError>
         requires fits { FitsTogether self.now.plan.now }
         requires names { names_in self.now.names.now ≡ names_of (config_of self.now.plan.now.config) }
         requires block { IsOfBlock (names_of (config_of self.now.plan.now.config)) (action_of self.now.action.now) }
-        requires so_far { StandSoFar (plan_of self.now.plan.now) (R.objects self.now.results.now) kept.old.items }
+        requires so_far { ResolvedSoFar (plan_of self.now.plan.now) (R.objects self.now.results.now) kept.old.items }
         ensures made { IfOk result (λ made. (requests : Requests) → AreRequests (plan_of self.now.plan.now) requests
             → instance_of made ≡ requests (R.objects self.now.results.now) (action_of self.now.action.now) self.now.schema.now) }
         ensures fully { IfOk result (λ made. IfOk made (λ object. has_attributes self.now.schema.now (tree_of object) ≡ true)) }
         ensures within { IfOk result (λ made. IfOk made (λ object. has_planned_attributes (tree_of object) ≡ true)) }
-        ensures so_far { StandSoFar (plan_of self.now.plan.now) (R.objects self.now.results.now) kept.new.items }
+        ensures so_far { ResolvedSoFar (plan_of self.now.plan.now) (R.objects self.now.results.now) kept.new.items }
     {
         let action = self.action;
-        let declared = Declarations {
+        let declared = Module {
             variables: &self.plan.variables,
             names: self.names,
             dependence: &self.plan.dependence,
@@ -72,12 +72,12 @@ impl<R: Results> Task<'_, '_, R> {
 }
 
 /// The names of the attributes whose changes the block of a resource ignores.
-fn ignored_by<'a>(names: &Names<'a>, place: usize) -> &'a [String]
+fn ignored_by<'a>(names: &Declarations<'a>, place: usize) -> &'a [String]
     requires { place < length (names_in names.now) }
     ensures { map string_bytes result.now ≡ ignored_by (meant_at (names_in names.now) place) }
 {
     match names.at(place) {
-        Named::Resource(_, block) => block.lifecycle.ignore_changes.as_slice(),
-        Named::Local(_, _) => &[],
+        Declaration::Resource(_, block) => block.lifecycle.ignore_changes.as_slice(),
+        Declaration::Local(_, _) => &[],
     }
 }

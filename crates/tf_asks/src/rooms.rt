@@ -18,7 +18,7 @@ pub(crate) fn fallback_for(alloc: Global, object: &Value) -> Result<Object, Allo
 }
 
 /// An empty text with room for each message about a reply to a request for this object.
-pub(crate) fn message_room(alloc: Global, object: &Value) -> Result<String, AllocError>
+pub(crate) fn reserve_message(alloc: Global, object: &Value) -> Result<String, AllocError>
     ensures blank { IfOk result (λ text. string_bytes text ≡ []) }
     ensures fits { IfOk result (λ text. message_fits (string_capacity text) (Some (tree_of object.now)) ≡ true) }
 {

@@ -9,7 +9,7 @@ use crate::object::{NamedFault, plan_object};
 use std::alloc::{AllocError, Global};
 use tf_address::InstanceKey;
 use tf_config_data::Block;
-use tf_environment::{Bound, instance_constants};
+use tf_environment::{InstanceScope, instance_constants};
 use tf_eval::{EvalFault, Scope};
 use tf_protocol::Schema;
 use tf_value::Value;
@@ -44,7 +44,7 @@ pub fn plan_instance<S: Scope>(
 {
     match instance_constants(alloc, &block.repetition, key, scope) {
         Ok(constants) => {
-            let bound = Bound {
+            let bound = InstanceScope {
                 constants: &constants,
                 around: scope,
             };

@@ -7,7 +7,7 @@ use Rattle.tf_plan.specs.declared.refused.Refused.{Refused}
 use Rattle.tf_plan.specs.declared.refused.Refused.TheVariants.{NoMemory, These}
 use Rattle.tf_plan_data.specs.Plan.{PlanView}
 use Rattle.tf_protocol.specs.Meaning.{Meaning}
-use Rattle.tf_refusal.specs.Refusal.{Told, no_memory, workers}
+use Rattle.tf_refusal.specs.Refusal.{RefusalView, no_memory, workers}
 use Rattle.tf_run.specs.Run.{are_workers}
 use Rattle.tf_cli.specs.Applies.{IsPlanOf}
 use Rattle.tf_cli.specs.Refusals.{AreApplyRefusals, AreRefusals, RefusesBy}
@@ -22,14 +22,14 @@ module _ (ms : List Meaning) (texts : Texts) (lineage : List ℕ) (count : ℕ) 
   refused-first (Ok t) tells = tt
   refused-first (Err refused) tells = refused-anyway refused tells
 
-  by_number : (plan : PlanView) → IsPlanOf ms texts lineage plan → (b : Bool) → are_workers count ≡ b → (t : Told) → MatchBool b (t ≡ no_memory) (t ≡ workers)
+  by_number : (plan : PlanView) → IsPlanOf ms texts lineage plan → (b : Bool) → are_workers count ≡ b → (t : RefusalView) → MatchBool b (t ≡ no_memory) (t ≡ workers)
       → (refused : Refused) → RefusesBy t refused → Tells (AreApplyRefusals ms texts lineage count) refused
   by_number plan planned b is t why NoMemory by = tt
   by_number plan planned true is t why (These refusals) by = absurd (by.1 why)
   by_number plan planned false is t why (These refusals) by =
-      inr (record { plan = plan; planned = planned; wrong = is; alone = by.0 ∙ ap (λ (x : Told). x ∷ []) why })
+      inr (record { plan = plan; planned = planned; wrong = is; alone = by.0 ∙ ap (λ (x : RefusalView). x ∷ []) why })
 
   -- a plan that a walk refuses is refused for want of memory, or since the number of workers is wrong
-  pub refused-walk : (plan : PlanView) → IsPlanOf ms texts lineage plan → (t : Told) → MatchBool (are_workers count) (t ≡ no_memory) (t ≡ workers)
+  pub refused-walk : (plan : PlanView) → IsPlanOf ms texts lineage plan → (t : RefusalView) → MatchBool (are_workers count) (t ≡ no_memory) (t ≡ workers)
       → (refused : Refused) → RefusesBy t refused → Tells (AreApplyRefusals ms texts lineage count) refused
   refused-walk plan planned t why refused by = by_number plan planned (are_workers count) refl t why refused by

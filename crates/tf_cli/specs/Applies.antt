@@ -3,7 +3,7 @@ use Rattle.std.specs.Prelude.{◌≡◌, ◌↔◌, ℕ, false, if◌then◌else
 use Rattle.std.specs.Result.{result_ok}
 use Rattle.tf_cli.specs.declared.applied.Applied.{Applied}
 use Rattle.tf_config_data.specs.Config.{ConfigView}
-use Rattle.tf_inputs.specs.Texts.{Texts, StandFor}
+use Rattle.tf_inputs.specs.Texts.{Texts, ReadAs}
 use Rattle.tf_plan.specs.declared.refused.Refused.{Refused}
 use Rattle.tf_plan.specs.Plan.{IsPlan}
 use Rattle.tf_plan_data.specs.Plan.{PlanView}
@@ -16,12 +16,12 @@ use Rattle.tf_state.specs.Text.{state_text}
 use Rattle.tf_state.specs.Valid.{IsValid}
 use Rattle.tf_value.specs.Tree.{Entries}
 
--- The texts stand for a configuration, the values of its variables and a prior state, and this is their plan.
+-- The texts read as a configuration, the values of its variables and a prior state, and this is their plan.
 pub record IsPlanOf (ms : List Meaning) (texts : Texts) (lineage : List ℕ) (plan : PlanView) : Type 0 where
   pub config : ConfigView
   pub values : Entries
   pub prior : StateView
-  pub stand : StandFor texts lineage config values prior
+  pub stand : ReadAs texts lineage config values prior
   pub planned : IsPlan ms config values prior plan
 
 -- the text that shows the plan of such texts

@@ -2,50 +2,50 @@
 use Rattle.std.specs.Prelude.{◌≡◌, ◌≢◌, ◌⊎◌, false, List, [], ◌∷◌, map, ℕ}
 use Rattle.tf_config_data.specs.Config.{ConfigView}
 use Rattle.tf_inputs.specs.Refusals.{IsToldOf}
-use Rattle.tf_inputs.specs.Texts.{Texts, StandFor}
+use Rattle.tf_inputs.specs.Texts.{Texts, ReadAs}
 use Rattle.tf_plan.specs.Refused.{AreRefused}
 use Rattle.tf_plan.specs.declared.refused.Refused.{Refused}
 use Rattle.tf_plan.specs.declared.refused.Refused.TheVariants.{NoMemory, These}
 use Rattle.tf_protocol.specs.Meaning.{Meaning}
 use Rattle.tf_plan_data.specs.Plan.{PlanView}
-use Rattle.tf_refusal.specs.Refusal.{Told, no_memory, told, workers}
+use Rattle.tf_refusal.specs.Refusal.{RefusalView, no_memory, refusal_of, workers}
 use Rattle.tf_run.specs.Run.{are_workers}
 use Rattle.tf_state_data.specs.State.{StateView}
 use Rattle.tf_value.specs.Tree.{Entries}
 use Rattle.tf_cli.specs.Applies.{IsPlanOf}
 
 -- Texts that can't be read are refused by what is told of them, alone.
-pub record IsRefusedAlone (texts : Texts) (tolds : List Told) : Type 0 where
-  pub refusal : Told
+pub record IsRefusedAlone (texts : Texts) (refusal_views : List RefusalView) : Type 0 where
+  pub refusal : RefusalView
   pub said : IsToldOf texts refusal
   pub some : refusal ≢ no_memory
-  pub alone : tolds ≡ refusal ∷ []
+  pub alone : refusal_views ≡ refusal ∷ []
 
 -- The texts can be read, and their plan is refused, by all that there is to refuse.
-pub record IsPlanRefused (ms : List Meaning) (texts : Texts) (tolds : List Told) : Type 0 where
+pub record IsPlanRefused (ms : List Meaning) (texts : Texts) (refusal_views : List RefusalView) : Type 0 where
   pub lineage : List ℕ
   pub config : ConfigView
   pub values : Entries
   pub prior : StateView
-  pub stand : StandFor texts lineage config values prior
-  pub refused : AreRefused ms config values prior tolds
+  pub stand : ReadAs texts lineage config values prior
+  pub refused : AreRefused ms config values prior refusal_views
 
 -- what is refused of texts, in the order of tests
-abbrev pub AreRefusals : List Meaning → Texts → List Told → Type 0
-AreRefusals ms texts tolds = IsRefusedAlone texts tolds ⊎ IsPlanRefused ms texts tolds
+abbrev pub AreRefusals : List Meaning → Texts → List RefusalView → Type 0
+AreRefusals ms texts refusal_views = IsRefusedAlone texts refusal_views ⊎ IsPlanRefused ms texts refusal_views
 
 -- The texts have a plan, and it may not be carried out by so many workers; nothing else is refused.
-pub record IsRefusedByNumber (ms : List Meaning) (texts : Texts) (lineage : List ℕ) (count : ℕ) (tolds : List Told) : Type 0 where
+pub record IsRefusedByNumber (ms : List Meaning) (texts : Texts) (lineage : List ℕ) (count : ℕ) (refusal_views : List RefusalView) : Type 0 where
   pub plan : PlanView
   pub planned : IsPlanOf ms texts lineage plan
   pub wrong : are_workers count ≡ false
-  pub alone : tolds ≡ workers ∷ []
+  pub alone : refusal_views ≡ workers ∷ []
 
 -- what is refused of an apply of texts by so many workers
-abbrev pub AreApplyRefusals : List Meaning → Texts → List ℕ → ℕ → List Told → Type 0
-AreApplyRefusals ms texts lineage count tolds = AreRefusals ms texts tolds ⊎ IsRefusedByNumber ms texts lineage count tolds
+abbrev pub AreApplyRefusals : List Meaning → Texts → List ℕ → ℕ → List RefusalView → Type 0
+AreApplyRefusals ms texts lineage count refusal_views = AreRefusals ms texts refusal_views ⊎ IsRefusedByNumber ms texts lineage count refusal_views
 
 -- the one refusal of texts, or want of memory
-abbrev pub RefusesBy : Told → Refused → Type 0
+abbrev pub RefusesBy : RefusalView → Refused → Type 0
 RefusesBy t NoMemory = Unit {0}
-RefusesBy t (These refusals) = (map told refusals.items ≡ t ∷ []) × (t ≢ no_memory)
+RefusesBy t (These refusals) = (map refusal_of refusals.items ≡ t ∷ []) × (t ≢ no_memory)

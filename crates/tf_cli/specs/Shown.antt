@@ -1,7 +1,7 @@
 -- What an apply prints before it writes the state, and its status.
 use Rattle.std.specs.Prelude.{ℕ, Bool, true, false, not, ◌&&◌, if◌then◌else◌, List, [], ◌∷◌, ◌++◌, codes, decimal, Option, Some, None, Result, Ok, Err, is_err, string_bytes}
 use Rattle.std.specs.List.{flat_map, list_all}
-use Rattle.tf_refusal.specs.Refusal.{Told, no_memory, told}
+use Rattle.tf_refusal.specs.Refusal.{RefusalView, no_memory, refusal_of}
 use Rattle.tf_refusal.specs.Text.{refusal_text}
 use Rattle.tf_protocol.specs.declared.request.Op.{Op}
 use Rattle.tf_protocol.specs.declared.request.Op.TheVariants as op
@@ -25,7 +25,7 @@ is_torn (Torn report) = true
 -- ---- refusals
 
 -- a refusal has a line
-abbrev pub refusal_line : Told → List ℕ
+abbrev pub refusal_line : RefusalView → List ℕ
 refusal_line t = refusal_text t ++ 10 ∷ []
 
 -- `error CODE at PLACE: NAME`, up to what stands behind the name
@@ -35,7 +35,7 @@ fault_opening code place name = codes "error " ++ (decimal code ++ (codes " at "
 -- each refusal in a line, in order
 abbrev pub refused_errors : Refused → List ℕ
 refused_errors NoMemory = refusal_line no_memory
-refused_errors (These refusals) = flat_map (λ r. refusal_line (told r)) refusals.items
+refused_errors (These refusals) = flat_map (λ r. refusal_line (refusal_of r)) refusals.items
 
 -- ---- diagnostics
 

@@ -6,7 +6,7 @@ ghost use Rattle.tf_cli.specs.Applies.{IsPlanOf, IsPlanText};
 ghost use Rattle.tf_cli.specs.Refusals.{AreRefusals, RefusesBy};
 ghost use Rattle.tf_inputs.specs.Texts.{the_texts};
 ghost use Rattle.tf_plan.specs.Refused.{Tells};
-ghost use Rattle.tf_refusal.specs.Refusal.{told};
+ghost use Rattle.tf_refusal.specs.Refusal.{refusal_of};
 ghost use Rattle.tf_state.specs.Valid.{IsValid};
 
 use std::alloc::Global;
@@ -86,7 +86,7 @@ pub fn plan_of_texts(
 
 /// The list of one refusal, or want of memory.
 pub fn one_refusal(alloc: Global, refusal: Refusal) -> Refused
-    ensures { RefusesBy (told refusal) result }
+    ensures { RefusesBy (refusal_of refusal) result }
 {
     match refusal {
         Refusal::OutOfMemory => Refused::NoMemory,

@@ -6,7 +6,7 @@ ghost use Rattle.std.specs.Prelude.{◌≡◌, ◌++◌, OnOk, codes, decimal, m
 ghost use Rattle.tf_cli.specs.Saved.{AppendsStart};
 ghost use Rattle.tf_cli.specs.Shown.{fault_opening, refusal_line};
 ghost use Rattle.tf_operators.specs.EvalFault.{eval_fault_name};
-ghost use Rattle.tf_refusal.specs.Refusal.{detail_of, told};
+ghost use Rattle.tf_refusal.specs.Refusal.{detail_of, refusal_of};
 ghost use Rattle.tf_refusal.specs.Text.{detail_text, names_text, refusal_name};
 
 use crate::saving::{SaveFault, save, save_all};
@@ -16,8 +16,8 @@ use tf_refusal::{Detail, EvalFault, Refusal};
 
 /// Prints each refusal in a line. Where a write fails, what was written is a beginning of that.
 pub fn print_refusals<E: Write>(refusals: &[Refusal], err: &mut E) -> Result<(), SaveFault>
-    ensures whole { OnOk result (Appends (E.contents err.old) (E.contents err.new) (flat_map (λ r. refusal_line (told r)) refusals.now)) }
-    ensures part { AppendsStart (E.contents err.old) (E.contents err.new) (flat_map (λ r. refusal_line (told r)) refusals.now) }
+    ensures whole { OnOk result (Appends (E.contents err.old) (E.contents err.new) (flat_map (λ r. refusal_line (refusal_of r)) refusals.now)) }
+    ensures part { AppendsStart (E.contents err.old) (E.contents err.new) (flat_map (λ r. refusal_line (refusal_of r)) refusals.now) }
 {
     for refusal in refusals {
         print_refusal(refusal, err)?;
@@ -26,8 +26,8 @@ pub fn print_refusals<E: Write>(refusals: &[Refusal], err: &mut E) -> Result<(),
 }
 
 fn print_refusal<E: Write>(refusal: &Refusal, err: &mut E) -> Result<(), SaveFault>
-    ensures whole { OnOk result (Appends (E.contents err.old) (E.contents err.new) (refusal_line (told refusal.now))) }
-    ensures part { AppendsStart (E.contents err.old) (E.contents err.new) (refusal_line (told refusal.now)) }
+    ensures whole { OnOk result (Appends (E.contents err.old) (E.contents err.new) (refusal_line (refusal_of refusal.now))) }
+    ensures part { AppendsStart (E.contents err.old) (E.contents err.new) (refusal_line (refusal_of refusal.now)) }
 {
     match refusal {
         Refusal::OutOfMemory => save(err, "error 15 at memory: OutOfMemory\n"),

@@ -7,7 +7,7 @@ use Rattle.tf_config.specs.Demand.{AreMet, Refuses, TellsAt, bad_shape, holds}
 use Rattle.tf_config.specs.Parts.{number_checks, literal_checks}
 use Rattle.tf_json_path.specs.Check.{demanded}
 use Rattle.tf_json_path.specs.Place.{dotted}
-use Rattle.tf_refusal.specs.Refusal.{Told, no_memory, workers, fault}
+use Rattle.tf_refusal.specs.Refusal.{RefusalView, no_memory, workers, fault}
 use Rattle.tf_value.proofs.Storing.{within-limits}
 use Rattle.tf_value.specs.Json.{tree_from, IsUnread}
 use Rattle.tf_value.specs.Known.{known}
@@ -16,7 +16,7 @@ use Rattle.tf_value.specs.Tree.{Tree}
 use Rattle.tf_value.specs.declared.json.JsonFault.TheVariants.{NotWhole, TooLarge}
 
 -- a condition that doesn't hold is told
-pub Refuses-holds : (place : List (List ℕ)) (condition : Bool) (t : Told) → condition ≡ false → TellsAt (dotted place) bad_shape t → Refuses (demanded place (holds condition)) t
+pub Refuses-holds : (place : List (List ℕ)) (condition : Bool) (t : RefusalView) → condition ≡ false → TellsAt (dotted place) bad_shape t → Refuses (demanded place (holds condition)) t
 Refuses-holds place condition no_memory is h = tt
 Refuses-holds place condition workers is h = absurd h
 Refuses-holds place condition (fault code at detail) is h = inl (h.0, (is, h.1))
@@ -28,7 +28,7 @@ within_false false h = refl
 apart : (t : Tree) → IsTooLarge t → IsWithinLimits t → ⊥
 apart t h w = elim h [ inl heavy ↦ absurd (omega (arith, heavy, w.0)) | inr deep ↦ absurd (omega (arith, deep, w.1)) ]
 
-pub too_large : (place : List (List ℕ)) (d : Data) (t : Told) → AreMet (number_checks place d) → IsUnread d TooLarge → TellsAt (dotted place) bad_shape t → Refuses (literal_checks place d) t
+pub too_large : (place : List (List ℕ)) (d : Data) (t : RefusalView) → AreMet (number_checks place d) → IsUnread d TooLarge → TellsAt (dotted place) bad_shape t → Refuses (literal_checks place d) t
 too_large place d t met h tells =
     let is = known_value (known (tree_from d)) (tree_from d) h.0 h.1 in
     Refuses-right (number_checks place d) (demanded place (holds (is_within (tree_from d)))) t met

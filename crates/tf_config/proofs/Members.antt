@@ -12,7 +12,7 @@ use Rattle.tf_config.proofs.Refusals.{Refuses-at, Refuses-at_item}
 use Rattle.tf_config.specs.Configuration.{PropertyChecks, below, IsSound}
 use Rattle.tf_config.specs.Demand.{IsMet, Refuses}
 use Rattle.tf_config.specs.Parts.{PartChecks, IsPartSound, element_checks, EachSays}
-use Rattle.tf_refusal.specs.Refusal.{Told}
+use Rattle.tf_refusal.specs.Refusal.{RefusalView}
 
 -- some members were passed, left is what comes behind them, and this holds of those passed
 abbrev pub ArePassed : (List Entry → Type 0) → (all left : List Entry) → Type 0
@@ -24,7 +24,7 @@ module _ (B : Type 0) (Step : List ℕ → Data → B → B → Type 0) (a : B) 
   AreRead all left b = ArePassed (λ done. Builds Step (members_view done) a b) all left
 
   -- the first fault of an object is that of the next member, where that can't be read
-  pub refused_next : (checks : PropertyChecks) → IsSound Step checks → (place : List (List ℕ)) (all left : List Entry) (e : Entry) (more : List Entry) (b : B) (t : Told)
+  pub refused_next : (checks : PropertyChecks) → IsSound Step checks → (place : List (List ℕ)) (all left : List Entry) (e : Entry) (more : List Entry) (b : B) (t : RefusalView)
       → AreRead all left b → left ≡ e ∷ more → Refuses (checks (string_bytes e.0 ∷ place) (string_bytes e.0) (view e.1)) t → Refuses (each (below checks place) (members_view all)) t
   refused_next checks sound place all left e more b t (done, is, builds) steps first =
       rw (is ∙ ap (λ es. done ++ es) steps)
@@ -55,7 +55,7 @@ module _ (A : Type 0) (checks : PartChecks) (Says : Data → A → Type 0)
   element_more x more = says_more Says vs xs i v x within is read more
 
   -- the first fault of an array is that of the next element, where that can't be read
-  pub element_refused : IsPartSound Says checks → (place : List (List ℕ)) (t : Told) → Refuses (checks (decimal i ∷ place) (view v)) t → Refuses (each_item (element_checks checks place) 0 (items_view vs)) t
+  pub element_refused : IsPartSound Says checks → (place : List (List ℕ)) (t : RefusalView) → Refuses (checks (decimal i ∷ place) (view v)) t → Refuses (each_item (element_checks checks place) 0 (items_view vs)) t
   element_refused sound place t first =
       let here : 0 + i ≡ i = omega arith in
       let at_place : element_checks checks place i (view v) ≡ element_checks checks place (0 + i) (view (get_or vs i v)) = rw (here, ← is) refl in

@@ -13,7 +13,7 @@ use Rattle.tf_expr.specs.declared.fault.Cause.TheVariants.{BadShape, At, TooDeep
 use Rattle.tf_json_path.proofs.Checks.{IsFirst-unmet}
 use Rattle.tf_json_path.specs.Check.{IsFirst}
 use Rattle.tf_refusal.specs.OfExpression.{Way, way_of}
-use Rattle.tf_refusal.specs.Refusal.{DetailView, Told, fault}
+use Rattle.tf_refusal.specs.Refusal.{DetailView, RefusalView, fault}
 
 -- ---- demands
 
@@ -110,7 +110,7 @@ module _ (bytes : List ℕ) (code code' : ℕ) (place place' : List ℕ) (detail
   both_too_many : HasTooMany bytes (fault code place detail) → HasTooMany bytes (fault code' place' detail') → Once
   both_too_many h k = once (h.5 ∙ sym k.5)
 
-  abbrev IsRead : Told → Type 0
+  abbrev IsRead : RefusalView → Type 0
   IsRead refusal = IsMisshapen bytes refusal ⊎ HasTooMany bytes refusal
 
   read_once : IsRead (fault code place detail) → IsRead (fault code' place' detail') → Once
@@ -120,7 +120,7 @@ module _ (bytes : List ℕ) (code code' : ℕ) (place place' : List ℕ) (detail
         | inr many ↦ elim k [ inl misshapen ↦ absurd (standing bytes code' place' detail' many.0 many.2 many.1 many.3 misshapen) | inr other ↦ both_too_many many other ]
       ]
 
-  read_tree : (refusal : Told) → IsRead refusal → (tree : Data) × IsTree bytes tree
+  read_tree : (refusal : RefusalView) → IsRead refusal → (tree : Data) × IsTree bytes tree
   read_tree refusal h = elim h [ inl misshapen ↦ (misshapen.0, misshapen.1) | inr many ↦ (many.0, many.1) ]
 
   text_once : IsNotJson bytes (fault code place detail) ⊎ IsRead (fault code place detail) → IsNotJson bytes (fault code' place' detail') ⊎ IsRead (fault code' place' detail') → Once

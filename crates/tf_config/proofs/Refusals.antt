@@ -13,27 +13,27 @@ use Rattle.tf_json_path.proofs.Walks.{fails_at, fails_at_item}
 use Rattle.tf_json_path.specs.Walk.{each, each_item}
 use Rattle.tf_config.specs.Demand.{Checks, AreMet, IsMet, Fails, Refuses, of_expression}
 use Rattle.tf_refusal.specs.OfExpression.{refused_expression, way_of}
-use Rattle.tf_refusal.specs.Refusal.{Told, no_memory, workers, fault}
+use Rattle.tf_refusal.specs.Refusal.{RefusalView, no_memory, workers, fault}
 
-pub Refuses-left : (xs ys : Checks) (t : Told) → Refuses xs t → Refuses (xs ++ ys) t
+pub Refuses-left : (xs ys : Checks) (t : RefusalView) → Refuses xs t → Refuses (xs ++ ys) t
 Refuses-left xs ys no_memory h = tt
 Refuses-left xs ys workers h = absurd h
 Refuses-left xs ys (fault code place detail) h = IsFirst-left IsMet Fails place (code, detail) xs ys h
 
-pub Refuses-right : (xs ys : Checks) (t : Told) → AreMet xs → Refuses ys t → Refuses (xs ++ ys) t
+pub Refuses-right : (xs ys : Checks) (t : RefusalView) → AreMet xs → Refuses ys t → Refuses (xs ++ ys) t
 Refuses-right xs ys no_memory met h = tt
 Refuses-right xs ys workers met h = absurd h
 Refuses-right xs ys (fault code place detail) met h = IsFirst-right IsMet Fails place (code, detail) xs ys met h
 
 -- what is told of the first member that has a fault is told of all
-pub Refuses-at : (checks : List ℕ → Data → Checks) (done : List Entry) (e : Entry) (more : List Entry) (t : Told)
+pub Refuses-at : (checks : List ℕ → Data → Checks) (done : List Entry) (e : Entry) (more : List Entry) (t : RefusalView)
     → AreMet (each checks (members_view done)) → Refuses (checks (string_bytes e.0) (view e.1)) t → Refuses (each checks (members_view (done ++ e ∷ more))) t
 Refuses-at checks done e more no_memory met h = tt
 Refuses-at checks done e more workers met h = absurd h
 Refuses-at checks done e more (fault code place detail) met h = fails_at IsMet Fails place (code, detail) checks done e more met h
 
 -- and so of the first element
-pub Refuses-at_item : (checks : ℕ → Data → Checks) (vs : List Value) (n i : ℕ) (d : Value) (t : Told) → i < length vs
+pub Refuses-at_item : (checks : ℕ → Data → Checks) (vs : List Value) (n i : ℕ) (d : Value) (t : RefusalView) → i < length vs
     → AreMet (each_item checks n (items_view (take i vs))) → Refuses (checks (n + i) (view (get_or vs i d))) t → Refuses (each_item checks n (items_view vs)) t
 Refuses-at_item checks vs n i d no_memory within met h = tt
 Refuses-at_item checks vs n i d workers within met h = absurd h

@@ -4,7 +4,7 @@ use Rattle.tf_json_path.proofs.Checks.{AllMet-append, IsFirst-left, IsFirst-righ
 use Rattle.tf_json_path.specs.Check.{Check, AllMet}
 use Rattle.tf_config.specs.Demand.{RefusesBy}
 use Rattle.tf_refusal.specs.OfExpression.{Way}
-use Rattle.tf_refusal.specs.Refusal.{Told, no_memory, workers, fault}
+use Rattle.tf_refusal.specs.Refusal.{RefusalView, no_memory, workers, fault}
 
 -- what is left of a list, one element further on
 pub drop_next : {A : Type 0} → (all : List A) (i : ℕ) (x : A) → i < length all → x ≡ get_or all i x → drop i all ≡ x ∷ drop (i + 1) all
@@ -25,11 +25,11 @@ module _ {D : Type 0} (IsMet : D → Type 0) where
   left_none all h = subst (AllMet IsMet) (sym h.1) (AllMet-append IsMet h.0 [] h.2 tt)
 
 module _ {D : Type 0} (IsMet : D → Type 0) (Fails : D → Way → Type 0) where
-  refused_behind : (met own left : List (Check D)) (t : Told) → AllMet IsMet met → RefusesBy IsMet Fails own t → RefusesBy IsMet Fails (met ++ (own ++ left)) t
+  refused_behind : (met own left : List (Check D)) (t : RefusalView) → AllMet IsMet met → RefusesBy IsMet Fails own t → RefusesBy IsMet Fails (met ++ (own ++ left)) t
   refused_behind met own left no_memory known h = tt
   refused_behind met own left workers known h = absurd h
   refused_behind met own left (fault code place detail) known h = IsFirst-right IsMet Fails place (code, detail) met (own ++ left) known (IsFirst-left IsMet Fails place (code, detail) own left h)
 
   -- the first fault among the checks that are left is the first of all
-  pub left_refused : (all own left : List (Check D)) (t : Told) → IsLeft IsMet all (own ++ left) → RefusesBy IsMet Fails own t → RefusesBy IsMet Fails all t
+  pub left_refused : (all own left : List (Check D)) (t : RefusalView) → IsLeft IsMet all (own ++ left) → RefusesBy IsMet Fails own t → RefusesBy IsMet Fails all t
   left_refused all own left t h first = subst (λ checks. RefusesBy IsMet Fails checks t) (sym h.1) (refused_behind h.0 own left t h.2 first)

@@ -6,7 +6,7 @@ use Rattle.tf_expr.specs.declared.fault.Cause.{Cause}
 use Rattle.tf_json_path.specs.Check.{Check, AllMet, IsFirst}
 use Rattle.tf_refusal.specs.Code as code
 use Rattle.tf_refusal.specs.OfExpression.{Way, way_of}
-use Rattle.tf_refusal.specs.Refusal.{bare, Told, no_memory, workers, fault, told}
+use Rattle.tf_refusal.specs.Refusal.{bare, RefusalView, no_memory, workers, fault, refusal_of}
 use Rattle.tf_config.specs.Words.{is_type_name}
 use Rattle.tf_refusal.specs.declared.refusal.Refusal.{Refusal}
 
@@ -50,25 +50,25 @@ Fails (holds condition) way = (condition ≡ false) × (way ≡ bad_shape)
 Fails (of_expression demand) way = (cause : Cause) × expr.Fails demand cause × (way ≡ way_of cause)
 
 -- The first fault of some checks is what is told, or there was no memory.
-abbrev pub RefusesBy : {D : Type 0} → (D → Type 0) → (D → Way → Type 0) → List (Check D) → Told → Type 0
+abbrev pub RefusesBy : {D : Type 0} → (D → Type 0) → (D → Way → Type 0) → List (Check D) → RefusalView → Type 0
 RefusesBy IsMet Fails checks no_memory = Unit {0}
 RefusesBy IsMet Fails checks workers = ⊥
 RefusesBy IsMet Fails checks (fault code place detail) = IsFirst IsMet Fails place (code, detail) checks
 
 -- the same of what the format demands
-abbrev pub Refuses : Checks → Told → Type 0
+abbrev pub Refuses : Checks → RefusalView → Type 0
 Refuses = RefusesBy IsMet Fails
 
 -- An answer that is fine where something holds: that does, or the first fault of some checks is told.
 abbrev pub FineOrRefuses : {T : Type 0} → Type 0 → Checks → Result T Refusal → Type 0
-FineOrRefuses Holds checks answer = MatchResult answer (λ _. Holds) (λ refusal. Refuses checks (told refusal))
+FineOrRefuses Holds checks answer = MatchResult answer (λ _. Holds) (λ refusal. Refuses checks (refusal_of refusal))
 
 -- An answer that only judges: all checks are met, or the first fault is told.
 abbrev pub Judges : {T : Type 0} → Checks → Result T Refusal → Type 0
 Judges checks = FineOrRefuses (AreMet checks) checks
 
 -- a fault at the place, or there was no memory to say so
-abbrev pub TellsAt : List ℕ → Way → Told → Type 0
+abbrev pub TellsAt : List ℕ → Way → RefusalView → Type 0
 TellsAt place way no_memory = Unit {0}
 TellsAt place way workers = ⊥
 TellsAt place way (fault code place' detail) = (place' ≡ place) × ((code, detail) ≡ way)

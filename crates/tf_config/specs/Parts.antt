@@ -13,7 +13,7 @@ use Rattle.tf_json_path.specs.Walk.{each_item}
 use Rattle.tf_value.specs.Json.{tree_from, value_from}
 use Rattle.tf_value.specs.Measure.{is_within, IsWithinLimits}
 use Rattle.tf_value.specs.Tree as values
-use Rattle.tf_refusal.specs.Refusal.{told}
+use Rattle.tf_refusal.specs.Refusal.{refusal_of}
 use Rattle.tf_refusal.specs.declared.refusal.Refusal.{Refusal}
 use Rattle.tf_config.specs.Demand.{Checks, AreMet, Refuses, nothing_fits, holds, a_name, of_expression}
 use Rattle.tf_config.specs.Words.{label_in, type_in}
@@ -32,7 +32,7 @@ IsPartSound {A} Says checks = (place : List (List ℕ)) (value : Data) (said : A
 
 -- What is read at a place is what stands there, or the first fault in it is told.
 abbrev pub Reads : {A T : Type 0} → (Data → A → Type 0) → PartChecks → (T → A) → List (List ℕ) → Data → Result T Refusal → Type 0
-Reads Says checks told_by place value answer = MatchResult answer (λ read. Says value (told_by read)) (λ refusal. Refuses (checks place value) (told refusal))
+Reads Says checks out_view place value answer = MatchResult answer (λ read. Says value (out_view read)) (λ refusal. Refuses (checks place value) (refusal_of refusal))
 
 -- ---- scalars
 

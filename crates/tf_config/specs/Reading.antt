@@ -8,7 +8,7 @@ use Rattle.tf_config.specs.Config.{names_in}
 use Rattle.tf_config.specs.Configuration.{configuration_checks, whole_file, IsConfiguration}
 use Rattle.tf_config.specs.Demand.{Refuses}
 use Rattle.tf_refusal.specs.Code.{not_json, limit}
-use Rattle.tf_refusal.specs.Refusal.{bare, Told, no_memory, workers, fault}
+use Rattle.tf_refusal.specs.Refusal.{bare, RefusalView, no_memory, workers, fault}
 
 -- the text is UTF-8, and is this tree as `serde_json` reads it
 abbrev pub IsTree : List ℕ → Data → Type 0
@@ -28,35 +28,35 @@ IsWithinCounts c =
     (length c.variables ≤ max_declared) × (length (names_in c.locals) ≤ max_declared) × (length (names_in c.outputs) ≤ max_declared) × (length c.blocks ≤ max_declared)
 
 -- a bare fault at the whole file
-abbrev pub whole_fault : ℕ → Told
+abbrev pub whole_fault : ℕ → RefusalView
 whole_fault code = fault code (dotted whole_file) bare
 
 -- A file's text is no tree: 1, NotJson.
-abbrev pub IsNotJsonAt : List (List ℕ) → List ℕ → Told → Type 0
+abbrev pub IsNotJsonAt : List (List ℕ) → List ℕ → RefusalView → Type 0
 IsNotJsonAt file bytes refusal = ((tree : Data) → ¬ IsTree bytes tree) × (refusal ≡ fault not_json (dotted file) bare)
 
 -- That is told, or that there was no memory.
-abbrev pub TellsNotJson : List (List ℕ) → List ℕ → Told → Type 0
+abbrev pub TellsNotJson : List (List ℕ) → List ℕ → RefusalView → Type 0
 TellsNotJson file bytes no_memory = Unit {0}
 TellsNotJson file bytes workers = ⊥
 TellsNotJson file bytes (fault code place detail) = IsNotJsonAt file bytes (fault code place detail)
 
 -- the same of a configuration
-abbrev pub IsNotJson : List ℕ → Told → Type 0
+abbrev pub IsNotJson : List ℕ → RefusalView → Type 0
 IsNotJson = IsNotJsonAt whole_file
 
 -- The text has a fault in its shape, and this is the first in walk order.
-abbrev pub IsMisshapen : List ℕ → Told → Type 0
+abbrev pub IsMisshapen : List ℕ → RefusalView → Type 0
 IsMisshapen bytes refusal = (tree : Data) × IsTree bytes tree × Refuses (configuration_checks tree) refusal
 
--- The text stands for a configuration, and there are too many variables, locals, outputs or blocks: 14, Limit.
-abbrev pub HasTooMany : List ℕ → Told → Type 0
+-- The text reads as a configuration, and there are too many variables, locals, outputs or blocks: 14, Limit.
+abbrev pub HasTooMany : List ℕ → RefusalView → Type 0
 HasTooMany bytes refusal =
     (tree : Data) × IsTree bytes tree × (config : ConfigView) × IsConfiguration tree config × (¬ IsWithinCounts config) × (refusal ≡ whole_fault limit)
 
 -- What is told of a text, in the order of tests: it is longer than it may be, 14; it is no JSON; it has a fault in its
 -- shape; there is too much of something in it. That there was no memory may be told of any text.
-abbrev pub IsRefused : List ℕ → Told → Type 0
+abbrev pub IsRefused : List ℕ → RefusalView → Type 0
 IsRefused bytes no_memory = Unit {0}
 IsRefused bytes workers = ⊥
 IsRefused bytes (fault code place detail) =

@@ -9,7 +9,7 @@ ghost use Rattle.tf_config.specs.Parts.{address_checks, array_checks, element_ch
 ghost use Rattle.tf_config.specs.Words.{label_in, label_of_names};
 ghost use Rattle.tf_json_path.specs.Place.{place_of};
 ghost use Rattle.tf_json_path.specs.Walk.{each_item};
-ghost use Rattle.tf_refusal.specs.Refusal.{told};
+ghost use Rattle.tf_refusal.specs.Refusal.{refusal_of};
 
 use crate::demand::{bad_shape, demand_name};
 use crate::objects::Part;
@@ -22,11 +22,11 @@ use tf_refusal::Refusal;
 
 /// What one kind of array holds.
 pub(crate) trait Listed: Drop + Sized {
-    ghost Told: { Type 0 };
+    ghost OutView: { Type 0 };
 
-    ghost told_by: { Self → Told };
+    ghost out_view: { Self → OutView };
 
-    ghost says: { Data → Told → Type 0 };
+    ghost says: { Data → OutView → Type 0 };
 
     ghost checks: { PartChecks };
 
@@ -36,18 +36,18 @@ pub(crate) trait Listed: Drop + Sized {
     ///
     /// The first fault in it, in walk order, or `OutOfMemory`.
     fn read(part: &Part<'_>) -> Result<Self, Refusal>
-        ensures ok { IfOk result (λ said. says (view part.now.value.now) (told_by said)) }
+        ensures ok { IfOk result (λ said. says (view part.now.value.now) (out_view said)) }
         ensures fault { IfErr result (λ refusal.
-            Refuses (checks (place_of part.now.path.now) (view part.now.value.now)) (told refusal)) };
+            Refuses (checks (place_of part.now.path.now) (view part.now.value.now)) (refusal_of refusal)) };
 }
 
 /// What the elements of an array say, in order. Anything but an array is refused with 2.
 pub(crate) fn read_array<E: Listed>(part: &Part<'_>) -> Result<Vec<E>, Refusal>
     requires sound { IsPartSound E.says E.checks }
     ensures ok { IfOk result (λ all.
-        SaysList E.says (view part.now.value.now) (map E.told_by all.items)) }
+        SaysList E.says (view part.now.value.now) (map E.out_view all.items)) }
     ensures fault { IfErr result (λ refusal.
-        Refuses (array_checks E.checks (place_of part.now.path.now) (view part.now.value.now)) (told refusal)) }
+        Refuses (array_checks E.checks (place_of part.now.path.now) (view part.now.value.now)) (refusal_of refusal)) }
 {
     match part.value {
         Value::Array(items) => read_each(part.alloc, part.path, items),
@@ -62,10 +62,10 @@ fn read_each<'a, E: Listed>(
 ) -> Result<Vec<E>, Refusal>
     requires sound { IsPartSound E.says E.checks }
     ensures ok { IfOk result (λ all.
-        EachSays E.says (items_view items.now.items) (map E.told_by all.items)) }
+        EachSays E.says (items_view items.now.items) (map E.out_view all.items)) }
     ensures fault { IfErr result (λ refusal.
         Refuses (each_item (element_checks E.checks (place_of path.now)) 0 (items_view items.now.items))
-        (told refusal)) }
+        (refusal_of refusal)) }
 {
     let mut all = Vec::with_capacity(alloc, items.len())?;
     for (position, value) in items.iter().enumerate() {
@@ -78,9 +78,9 @@ fn read_each<'a, E: Listed>(
 
 /// A text that is a name.
 impl Listed for String {
-    ghost Told = { List ℕ };
+    ghost OutView = { List ℕ };
 
-    ghost told_by = { λ name. string_bytes name };
+    ghost out_view = { λ name. string_bytes name };
 
     ghost says = { IsNameText };
 
@@ -99,9 +99,9 @@ impl Listed for String {
 
 /// A text that is the address of a resource.
 impl Listed for Label {
-    ghost Told = { LabelView };
+    ghost OutView = { LabelView };
 
-    ghost told_by = { λ label. label_of label };
+    ghost out_view = { λ label. label_of label };
 
     ghost says = { IsAddressText };
 

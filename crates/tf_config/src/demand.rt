@@ -1,6 +1,6 @@
 ghost use Rattle.tf_config.specs.Demand.{Judges, TellsAt, bad_shape, a_name, a_type_name};
 ghost use Rattle.tf_config.specs.Configuration.{whole_file};
-ghost use Rattle.tf_refusal.specs.Refusal.{bare, told, detail_of};
+ghost use Rattle.tf_refusal.specs.Refusal.{bare, refusal_of, detail_of};
 ghost use Rattle.tf_json_path.specs.Check.{demanded};
 ghost use Rattle.tf_json_path.specs.Place.{dotted, place_of};
 ghost use Rattle.serde_json.specs.View.{number_view, view};
@@ -22,7 +22,7 @@ pub(crate) const CONFIGURATION: &str = "configuration";
 
 /// A fault at a place, or that there is no memory to write the place out.
 pub fn fault_at(alloc: Global, path: &Path<'_>, code: u8, detail: Detail) -> Refusal
-    ensures { TellsAt (dotted (place_of path.now)) (code, detail_of detail) (told result) }
+    ensures { TellsAt (dotted (place_of path.now)) (code, detail_of detail) (refusal_of result) }
 {
     match path.text(alloc) {
         Ok(place) => Refusal::Fault {
@@ -36,7 +36,7 @@ pub fn fault_at(alloc: Global, path: &Path<'_>, code: u8, detail: Detail) -> Ref
 
 /// A fault of a whole file, by what it is called, which has nothing behind its name.
 pub fn file_fault(alloc: Global, file: &str, code: u8) -> Refusal
-    ensures { TellsAt (dotted (file.now ∷ [])) (code, bare) (told result) }
+    ensures { TellsAt (dotted (file.now ∷ [])) (code, bare) (refusal_of result) }
 {
     let path = Path::Member(&Path::Root, file);
     fault_at(alloc, &path, code, Detail::Bare)
@@ -44,14 +44,14 @@ pub fn file_fault(alloc: Global, file: &str, code: u8) -> Refusal
 
 /// A fault of the whole configuration.
 pub(crate) fn whole_file_fault(alloc: Global, code: u8) -> Refusal
-    ensures { TellsAt (dotted whole_file) (code, bare) (told result) }
+    ensures { TellsAt (dotted whole_file) (code, bare) (refusal_of result) }
 {
     file_fault(alloc, CONFIGURATION, code)
 }
 
 /// Nothing is allowed at the place.
 pub(crate) fn bad_shape(alloc: Global, path: &Path<'_>) -> Refusal
-    ensures { TellsAt (dotted (place_of path.now)) bad_shape (told result) }
+    ensures { TellsAt (dotted (place_of path.now)) bad_shape (refusal_of result) }
 {
     fault_at(alloc, path, BAD_SHAPE, Detail::Bare)
 }

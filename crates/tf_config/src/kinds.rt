@@ -27,11 +27,11 @@ use tf_syntax::Expr;
 pub(crate) struct Sections;
 
 impl Members for Sections {
-    type Said = Config;
+    type Out = Config;
 
-    ghost Told = { ConfigView };
+    ghost OutView = { ConfigView };
 
-    ghost told_by = { λ config. config_of config };
+    ghost out_view = { λ config. config_of config };
 
     ghost adds = { λ _. AddsSection };
 
@@ -42,7 +42,7 @@ impl Members for Sections {
             Section::Comment => Ok(()),
             Section::Variables => add_members(&Variables, part, &mut config.variables),
             Section::Locals => add_members(&Locals, part, &mut config.locals),
-            Section::Outputs => add_members(&Outputs, part, &mut config.outputs),
+            Section::Outputs => add_members(&OutputsSection, part, &mut config.outputs),
             Section::Resources => add_members(&Types, part, &mut config.resources),
             Section::Other => Err(bad_shape(part.alloc, part.path)),
         }
@@ -54,11 +54,11 @@ impl Members for Sections {
 struct Variables;
 
 impl Members for Variables {
-    type Said = BTreeMap<String, Variable>;
+    type Out = BTreeMap<String, Variable>;
 
-    ghost Told = { List VariableView };
+    ghost OutView = { List VariableView };
 
-    ghost told_by = { λ variables. variables_of variables.entries };
+    ghost out_view = { λ variables. variables_of variables.entries };
 
     ghost adds = { λ _. AddsVariable };
 
@@ -83,11 +83,11 @@ impl Members for Variables {
 pub(crate) struct VariableProperties;
 
 impl Members for VariableProperties {
-    type Said = Variable;
+    type Out = Variable;
 
-    ghost Told = { VariableBody };
+    ghost OutView = { VariableBody };
 
-    ghost told_by = { λ variable. variable_body variable };
+    ghost out_view = { λ variable. variable_body variable };
 
     ghost adds = { λ _. AddsVariableProperty };
 
@@ -115,11 +115,11 @@ impl Members for VariableProperties {
 struct Locals;
 
 impl Members for Locals {
-    type Said = BTreeMap<String, Expr>;
+    type Out = BTreeMap<String, Expr>;
 
-    ghost Told = { Entries };
+    ghost OutView = { Entries };
 
-    ghost told_by = { λ locals. entries_view locals.entries };
+    ghost out_view = { λ locals. entries_view locals.entries };
 
     ghost adds = { λ _. AddsLocal };
 
@@ -140,14 +140,14 @@ impl Members for Locals {
 
 /// The members at `output`: bodies below their names.
 #[derive(Drop)]
-struct Outputs;
+struct OutputsSection;
 
-impl Members for Outputs {
-    type Said = BTreeMap<String, Expr>;
+impl Members for OutputsSection {
+    type Out = BTreeMap<String, Expr>;
 
-    ghost Told = { Entries };
+    ghost OutView = { Entries };
 
-    ghost told_by = { λ outputs. entries_view outputs.entries };
+    ghost out_view = { λ outputs. entries_view outputs.entries };
 
     ghost adds = { λ _. AddsOutput };
 
@@ -172,11 +172,11 @@ impl Members for Outputs {
 pub(crate) struct OutputProperties;
 
 impl Members for OutputProperties {
-    type Said = Option<Expr>;
+    type Out = Option<Expr>;
 
-    ghost Told = { Option Tree };
+    ghost OutView = { Option Tree };
 
-    ghost told_by = { λ found. option_map tree_of found };
+    ghost out_view = { λ found. option_map tree_of found };
 
     ghost adds = { λ _. AddsOutputProperty };
 
@@ -200,11 +200,11 @@ impl Members for OutputProperties {
 struct Types;
 
 impl Members for Types {
-    type Said = BTreeMap<Label, Block>;
+    type Out = BTreeMap<Label, Block>;
 
-    ghost Told = { Blocks };
+    ghost OutView = { Blocks };
 
-    ghost told_by = { λ resources. blocks_of resources.entries };
+    ghost out_view = { λ resources. blocks_of resources.entries };
 
     ghost adds = { λ _. AddsType };
 
@@ -228,11 +228,11 @@ struct Resources<'a> {
 }
 
 impl Members for Resources<'_> {
-    type Said = BTreeMap<Label, Block>;
+    type Out = BTreeMap<Label, Block>;
 
-    ghost Told = { Blocks };
+    ghost OutView = { Blocks };
 
-    ghost told_by = { λ resources. blocks_of resources.entries };
+    ghost out_view = { λ resources. blocks_of resources.entries };
 
     ghost adds = { λ members. AddsResource members.type_name.now };
 
@@ -258,11 +258,11 @@ impl Members for Resources<'_> {
 pub(crate) struct BlockProperties;
 
 impl Members for BlockProperties {
-    type Said = Block;
+    type Out = Block;
 
-    ghost Told = { BlockBody };
+    ghost OutView = { BlockBody };
 
-    ghost told_by = { λ block. block_body block };
+    ghost out_view = { λ block. block_body block };
 
     ghost adds = { λ _. AddsBlockProperty };
 
@@ -299,11 +299,11 @@ impl Members for BlockProperties {
 pub(crate) struct LifecycleProperties;
 
 impl Members for LifecycleProperties {
-    type Said = Lifecycle;
+    type Out = Lifecycle;
 
-    ghost Told = { LifecycleView };
+    ghost OutView = { LifecycleView };
 
-    ghost told_by = { λ lifecycle. lifecycle_of lifecycle };
+    ghost out_view = { λ lifecycle. lifecycle_of lifecycle };
 
     ghost adds = { λ _. AddsLifecycleProperty };
 

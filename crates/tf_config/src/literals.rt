@@ -6,7 +6,7 @@ ghost use Rattle.tf_config.specs.Demand.{Judges, Refuses};
 ghost use Rattle.tf_config.specs.Parts.{expression_checks, flag_checks, item_number_checks, literal_checks, member_number_checks, number_checks, text_checks, type_text_checks, IsFlag, IsLiteral, IsText, NamesType, Reads};
 ghost use Rattle.tf_expr.specs.Reading.{IsExpr};
 ghost use Rattle.tf_json_path.specs.Place.{place_of};
-ghost use Rattle.tf_refusal.specs.Refusal.{told};
+ghost use Rattle.tf_refusal.specs.Refusal.{refusal_of};
 ghost use Rattle.tf_syntax.specs.ExprTree.{tree_of};
 ghost use Rattle.tf_value.specs.Tree as values;
 
@@ -34,7 +34,7 @@ pub(crate) fn read_expression(part: &Part<'_>) -> Result<Expr, Refusal>
 pub(crate) fn demand_text(part: &Part<'_>) -> Result<(), Refusal>
     ensures ok { OnOk result ((text : List ℕ) × IsText (view part.now.value.now) text) }
     ensures fault { IfErr result (λ refusal.
-        Refuses (text_checks (place_of part.now.path.now) (view part.now.value.now)) (told refusal)) }
+        Refuses (text_checks (place_of part.now.path.now) (view part.now.value.now)) (refusal_of refusal)) }
 {
     match part.value {
         Json::String(_) => Ok(()),
@@ -74,7 +74,7 @@ pub(crate) fn read_type(part: &Part<'_>) -> Result<VariableType, Refusal>
 pub fn read_literal<'a>(alloc: Global, path: &'a Path<'a>, json: &'a Json) -> Result<Value, Refusal>
     ensures ok { IfOk result (λ value. IsLiteral (view json.now) (values.tree_of value)) }
     ensures fault { IfErr result (λ refusal.
-        Refuses (literal_checks (place_of path.now) (view json.now)) (told refusal)) }
+        Refuses (literal_checks (place_of path.now) (view json.now)) (refusal_of refusal)) }
 {
     demand_numbers(alloc, path, json)?;
     match from_json(alloc, json) {

@@ -28,13 +28,13 @@ pub(crate) struct Part<'a> {
 /// What the members of one kind of object say, and what is demanded of them.
 pub(crate) trait Members {
     /// What they say together.
-    type Said;
+    type Out;
 
-    ghost Told: { Type 0 };
+    ghost OutView: { Type 0 };
 
-    ghost told_by: { Self.Said → Told };
+    ghost out_view: { Self.Out → OutView };
 
-    ghost adds: { Self → List ℕ → Data → Told → Told → Type 0 };
+    ghost adds: { Self → List ℕ → Data → OutView → OutView → Type 0 };
 
     ghost checks: { Self → PropertyChecks };
 
@@ -43,8 +43,8 @@ pub(crate) trait Members {
     /// # Errors
     ///
     /// The first fault in it, in walk order, or `OutOfMemory`.
-    fn add(&self, name: &str, part: &Part<'_>, said: &mut Self::Said) -> Result<(), Refusal>
-        ensures { FineOrRefuses (adds self.now name.now (view part.now.value.now) (told_by said.old) (told_by said.new))
+    fn add(&self, name: &str, part: &Part<'_>, said: &mut Self::Out) -> Result<(), Refusal>
+        ensures { FineOrRefuses (adds self.now name.now (view part.now.value.now) (out_view said.old) (out_view said.new))
             (checks self.now (place_of part.now.path.now) name.now (view part.now.value.now)) result };
 }
 
@@ -52,10 +52,10 @@ pub(crate) trait Members {
 pub(crate) fn add_members<M: Members>(
     members: &M,
     part: &Part<'_>,
-    said: &mut M::Said,
+    said: &mut M::Out,
 ) -> Result<(), Refusal>
     requires sound { IsSound (M.adds members.now) (M.checks members.now) }
-    ensures { FineOrRefuses (BuildsFrom (M.adds members.now) (view part.now.value.now) (M.told_by said.old) (M.told_by said.new))
+    ensures { FineOrRefuses (BuildsFrom (M.adds members.now) (view part.now.value.now) (M.out_view said.old) (M.out_view said.new))
         (object_checks (M.checks members.now) (place_of part.now.path.now) (view part.now.value.now)) result }
 {
     match part.value {
@@ -70,10 +70,10 @@ pub(crate) fn add_each_member<'a, M: Members>(
     alloc: Global,
     path: &'a Path<'a>,
     object: &'a Map<String, Value>,
-    said: &mut M::Said,
+    said: &mut M::Out,
 ) -> Result<(), Refusal>
     requires sound { IsSound (M.adds members.now) (M.checks members.now) }
-    ensures { FineOrRefuses (Builds (M.adds members.now) (members_view object.now.entries) (M.told_by said.old) (M.told_by said.new))
+    ensures { FineOrRefuses (Builds (M.adds members.now) (members_view object.now.entries) (M.out_view said.old) (M.out_view said.new))
         (each (below (M.checks members.now) (place_of path.now)) (members_view object.now.entries)) result }
 {
     for (key, value) in object.iter() {

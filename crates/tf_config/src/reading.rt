@@ -8,7 +8,7 @@ ghost use Rattle.tf_config.specs.Reading.{max_bytes, max_declared, IsRefused, Is
 ghost use Rattle.tf_config_data.specs.Config.{config_of};
 ghost use Rattle.tf_json_path.specs.Place.{dotted, place_of};
 ghost use Rattle.tf_json_path.specs.Walk.{each, Builds};
-ghost use Rattle.tf_refusal.specs.Refusal.{bare, told};
+ghost use Rattle.tf_refusal.specs.Refusal.{bare, refusal_of};
 ghost use Rattle.tf_refusal.specs.Code.{limit};
 
 use crate::demand::{CONFIGURATION, file_fault, whole_file_fault};
@@ -53,7 +53,7 @@ pub fn read(alloc: Global, bytes: &[u8]) -> Result<Config, Refusal>
         × IsWithinCounts (config_of config)) }
 
     // What is told is the first fault, or that there was no memory.
-    ensures fault { IfErr result (λ refusal. IsRefused bytes.now (told refusal)) }
+    ensures fault { IfErr result (λ refusal. IsRefused bytes.now (refusal_of refusal)) }
 {
     if bytes.len() > MAX_BYTES {
         return Err(whole_file_fault(alloc, LIMIT));
@@ -68,7 +68,7 @@ pub fn read(alloc: Global, bytes: &[u8]) -> Result<Config, Refusal>
 fn demand_counts(alloc: Global, config: &Config) -> Result<(), Refusal>
     ensures ok { OnOk result (IsWithinCounts (config_of config.now)) }
     ensures fault { IfErr result (λ refusal. (¬ IsWithinCounts (config_of config.now))
-        × TellsAt (dotted whole_file) (limit, bare) (told refusal)) }
+        × TellsAt (dotted whole_file) (limit, bare) (refusal_of refusal)) }
 {
     demand_count(alloc, config.variables.len())?;
     demand_count(alloc, config.locals.len())?;
@@ -80,7 +80,7 @@ fn demand_counts(alloc: Global, config: &Config) -> Result<(), Refusal>
 fn demand_count(alloc: Global, count: usize) -> Result<(), Refusal>
     ensures ok { OnOk result (count ≤ max_declared) }
     ensures fault { IfErr result (λ refusal. (max_declared < count)
-        × TellsAt (dotted whole_file) (limit, bare) (told refusal)) }
+        × TellsAt (dotted whole_file) (limit, bare) (refusal_of refusal)) }
 {
     if count > MAX_DECLARED {
         Err(whole_file_fault(alloc, LIMIT))
@@ -96,7 +96,7 @@ fn demand_count(alloc: Global, count: usize) -> Result<(), Refusal>
 /// 1 at the file where the text is no JSON as `serde_json` reads it, which takes UTF-8 alone, or `OutOfMemory`.
 pub fn read_tree(alloc: Global, bytes: &[u8], file: &str) -> Result<Value, Refusal>
     ensures ok { IfOk result (λ tree. IsTree bytes.now (view tree)) }
-    ensures fault { IfErr result (λ refusal. TellsNotJson (file.now ∷ []) bytes.now (told refusal)) }
+    ensures fault { IfErr result (λ refusal. TellsNotJson (file.now ∷ []) bytes.now (refusal_of refusal)) }
 {
     match Value::from_slice(alloc, bytes) {
         Ok(tree) => Ok(tree),
@@ -108,7 +108,7 @@ pub fn read_tree(alloc: Global, bytes: &[u8], file: &str) -> Result<Value, Refus
 fn read_configuration(alloc: Global, tree: &Value) -> Result<Config, Refusal>
     ensures ok { IfOk result (λ config. IsConfiguration (view tree.now) (config_of config)) }
     ensures fault { IfErr result (λ refusal.
-        Refuses (configuration_checks (view tree.now)) (told refusal)) }
+        Refuses (configuration_checks (view tree.now)) (refusal_of refusal)) }
 {
     match tree {
         Value::Object(members) => read_sections(alloc, &Path::Root, members),
@@ -126,7 +126,7 @@ fn read_sections<'a>(
         Builds AddsSection (members_view members.now.entries) plain_config (config_of config)) }
     ensures fault { IfErr result (λ refusal.
         Refuses (each (below section_checks (place_of path.now)) (members_view members.now.entries))
-        (told refusal)) }
+        (refusal_of refusal)) }
 {
     let mut config = Config {
         variables: BTreeMap::new(alloc),

@@ -3,14 +3,14 @@ use Rattle.std.proofs.Common.{◌≡◌, ℕ, List, Option, Result, Ok, Err, OnO
 use Rattle.tf_address.specs.Label.{LabelView}
 use Rattle.tf_deciding.specs.Deciding.{DecidedView, OfView, version_of, with_members}
 use Rattle.tf_deciding.specs.Outcome.{orphan_outcome}
-use Rattle.tf_plan_resources.specs.Members.{MemberView}
+use Rattle.tf_plan_resources.specs.Members.{InstanceToPlanView}
 use Rattle.tf_protocol.specs.Schema.{SchemaView}
 
 module _ (n : ℕ) (own label : LabelView) (version : ℕ) (schema found : Option SchemaView) (named : own ≡ label) (versioned : version ≡ version_of schema) (same : schema ≡ found) where
   as_named : ◌≡◌ {A = OfView} (record { resource = n; label = own; version = version }) (record { resource = n; label = label; version = version_of found })
   as_named = let v = versioned ∙ ap version_of same in (λ i. record { resource = n; label = named i; version = v i })
 
-  pub orphan_added : {E : Type 0} (result : Result (Unit {0}) E) (new old : DecidedView) (ms ns : List MemberView) → ms ≡ ns
+  pub orphan_added : {E : Type 0} (result : Result (Unit {0}) E) (new old : DecidedView) (ms ns : List InstanceToPlanView) → ms ≡ ns
       → OnOk result (new ≡ with_members (record { resource = n; label = own; version = version }) (orphan_outcome schema) 0 ms old)
       → OnOk result (new ≡ with_members (record { resource = n; label = label; version = version_of found }) (orphan_outcome found) 0 ns old)
   orphan_added (Ok u) new old ms ns e h =

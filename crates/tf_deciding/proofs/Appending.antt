@@ -9,12 +9,12 @@ use Rattle.tf_deciding.specs.Outcome.{OutcomeView, member_outcome}
 use Rattle.tf_deciding.specs.Rows.{followed_by, gathered, row, with_row}
 use Rattle.tf_deciding.specs.Stage.{block_members}
 use Rattle.tf_deciding.specs.Whole.{decided, nothing_decided, with_meant, with_numbered}
-use Rattle.tf_environment.specs.Shape.{ShapeView}
-use Rattle.tf_environment.specs.Standing.{StandingView, all_stand, environment}
+use Rattle.tf_environment.specs.InstanceKeys.{InstanceKeysView}
+use Rattle.tf_environment.specs.Resolved.{ResolvedView, all_stand, environment}
 use Rattle.tf_eval.specs.Environment.{Environment}
 use Rattle.tf_graph.specs.Solutions.{seen_by}
-use Rattle.tf_plan_resources.specs.Members.{MemberView}
-use Rattle.tf_plan_resources.specs.Numbering.{NumberedView, a_name, an_orphan}
+use Rattle.tf_plan_resources.specs.Members.{InstanceToPlanView}
+use Rattle.tf_plan_resources.specs.ResourceIndex.{ResourceRefView, a_name, an_orphan}
 use Rattle.tf_protocol.specs.Meaning.{Meaning, schema_in}
 use Rattle.tf_state_data.specs.Resource.{ResourceView}
 use Rattle.tf_value.specs.Tree.{Entries}
@@ -23,7 +23,7 @@ outcome_followed : (of : OfView) (i : ℕ) (key : InstanceKeyView) (o : OutcomeV
 outcome_followed of i key (Ok steps) d e = (λ j. record { actions = append_assoc d.actions e.actions (map (action of i key) steps) j; refusals = d.refusals ++ e.refusals })
 outcome_followed of i key (Err why) d e = (λ j. record { actions = d.actions ++ e.actions; refusals = append_assoc d.refusals e.refusals (record { label = of.label; key = key; why = why } ∷ []) j })
 
-members_followed : (of : OfView) (becomes : MemberView → OutcomeView) (i : ℕ) (ms : List MemberView) (d e : DecidedView) → with_members of becomes i ms (followed_by d e) ≡ followed_by d (with_members of becomes i ms e)
+members_followed : (of : OfView) (becomes : InstanceToPlanView → OutcomeView) (i : ℕ) (ms : List InstanceToPlanView) (d e : DecidedView) → with_members of becomes i ms (followed_by d e) ≡ followed_by d (with_members of becomes i ms e)
 members_followed of becomes i [] d e = refl
 members_followed of becomes i (m ∷ ms) d e =
     ap (with_members of becomes (i + 1) ms) (outcome_followed of i m.key (becomes m) d e) ∙ members_followed of becomes (i + 1) ms d (with_outcome of i m.key (becomes m) e)
@@ -31,7 +31,7 @@ members_followed of becomes i (m ∷ ms) d e =
 nothing_followed : (d : DecidedView) → followed_by d nothing_decided ≡ d
 nothing_followed d = (λ j. record { actions = append-nil d.actions j; refusals = append-nil d.refusals j })
 
-block_followed : (ms : List Meaning) (resources : List ResourceView) (n : ℕ) (block : BlockView) (env : Environment) (shape : ShapeView) (d : DecidedView)
+block_followed : (ms : List Meaning) (resources : List ResourceView) (n : ℕ) (block : BlockView) (env : Environment) (shape : InstanceKeysView) (d : DecidedView)
     → with_block ms resources n block env shape d ≡ followed_by d (with_block ms resources n block env shape nothing_decided)
 block_followed ms resources n block env shape d =
     let schema = schema_in block.label.type_name ms in
@@ -40,25 +40,25 @@ block_followed ms resources n block env shape d =
     let all = block_members shape block resources in
     ap (with_members of becomes 0 all) (sym (nothing_followed d)) ∙ members_followed of becomes 0 all d nothing_decided
 
-module _ (ms : List Meaning) (resources : List ResourceView) (variables : Entries) (names : List NameView) (shapes : ℕ → ShapeView) (standings : ℕ → StandingView) where
+module _ (ms : List Meaning) (resources : List ResourceView) (variables : Entries) (names : List NameView) (shapes : ℕ → InstanceKeysView) (resolved_names : ℕ → ResolvedView) where
   meant_followed : (n : ℕ) (m : Meant) (d : DecidedView)
-      → followed_by d (with_meant ms resources variables names shapes standings n m nothing_decided) ≡ with_meant ms resources variables names shapes standings n m d
+      → followed_by d (with_meant ms resources variables names shapes resolved_names n m nothing_decided) ≡ with_meant ms resources variables names shapes resolved_names n m d
   meant_followed n (a_local e) d = nothing_followed d
-  meant_followed n (a_block block) d = by_test (all_stand (seen_by standings (directly_before names n)))
+  meant_followed n (a_block block) d = by_test (all_stand (seen_by resolved_names (directly_before names n)))
     where
       by_test : (b : Bool)
-          → followed_by d (if b then with_block ms resources n block (environment variables names standings) (shapes n) nothing_decided else nothing_decided)
-          ≡ (if b then with_block ms resources n block (environment variables names standings) (shapes n) d else d)
-      by_test true = sym (block_followed ms resources n block (environment variables names standings) (shapes n) d)
+          → followed_by d (if b then with_block ms resources n block (environment variables names resolved_names) (shapes n) nothing_decided else nothing_decided)
+          ≡ (if b then with_block ms resources n block (environment variables names resolved_names) (shapes n) d else d)
+      by_test true = sym (block_followed ms resources n block (environment variables names resolved_names) (shapes n) d)
       by_test false = nothing_followed d
 
-  module _ (rows : ℕ → DecidedView) (all : List NumberedView)
-      (right : (n : ℕ) (name : NameView) → slice_get all n ≡ Some (a_name name) → rows n ≡ row ms resources variables names shapes standings n (Some name.meant)) where
-    placed : (n : ℕ) (o : Option NumberedView) (d : DecidedView) → slice_get all n ≡ o → with_row ms rows n o d ≡ with_numbered ms resources variables names shapes standings n o d
+  module _ (rows : ℕ → DecidedView) (all : List ResourceRefView)
+      (right : (n : ℕ) (name : NameView) → slice_get all n ≡ Some (a_name name) → rows n ≡ row ms resources variables names shapes resolved_names n (Some name.meant)) where
+    placed : (n : ℕ) (o : Option ResourceRefView) (d : DecidedView) → slice_get all n ≡ o → with_row ms rows n o d ≡ with_numbered ms resources variables names shapes resolved_names n o d
     placed n None d e = refl
     placed n (Some (a_name name)) d e = ap (followed_by d) (right n name e) ∙ meant_followed n name.meant d
     placed n (Some (an_orphan r)) d e = refl
 
     -- What is gathered of what is kept of each name is what is decided of all.
-    pub gathered_is : (order : List ℕ) → gathered ms rows all order ≡ decided ms resources variables names shapes standings all order
+    pub gathered_is : (order : List ℕ) → gathered ms rows all order ≡ decided ms resources variables names shapes resolved_names all order
     gathered_is order = (λ i. fold (λ d n. placed n (slice_get all n) d refl i) nothing_decided order)

@@ -16,16 +16,16 @@ use Rattle.tf_deciding.specs.Steps.{current_steps, deposed_step, destroy_if_depo
 use Rattle.tf_deciding.specs.Whole.{nothing_decided}
 use Rattle.tf_deciding.specs.declared.settling.Settled.{Settled}
 use Rattle.tf_decision.specs.Decision as decision
-use Rattle.tf_decision.specs.Decision.{DecisionView, RefusalView, current, decided, removal_refusal, unless_prevented, unless_unfit}
+use Rattle.tf_decision.specs.Decision.{DecisionView, DecisionFaultView, current, decided, removal_fault, unless_prevented, unless_unfit}
 use Rattle.tf_decision.specs.Ignored.{heeding, ignored_fault}
 use Rattle.tf_decision.specs.Prior.{PriorFaultView, first_unfit}
-use Rattle.tf_environment.specs.Shape.{ShapeView, one, many, named, instance_keys, list_of, map_under, objects_at}
-use Rattle.tf_environment.specs.Standing.{StandingView, together}
+use Rattle.tf_environment.specs.InstanceKeys.{InstanceKeysView, one, many, named, instance_keys, list_of, map_under, objects_at}
+use Rattle.tf_environment.specs.Resolved.{ResolvedView, together}
 use Rattle.tf_eval.specs.Environment.{Environment}
 use Rattle.tf_operators.specs.Answer.{limited}
 use Rattle.tf_plan_resources.proofs.InstanceOrder.{key_exact, key_total, same_ordered}
 use Rattle.tf_plan_resources.proofs.Listing.{are_there}
-use Rattle.tf_plan_resources.specs.Members.{MemberView, all_keys, is_among, is_recorded, keys_of, member, members, records_of}
+use Rattle.tf_plan_resources.specs.Members.{InstanceToPlanView, all_keys, is_among, is_recorded, keys_of, member, members, records_of}
 use Rattle.tf_protocol.specs.Meaning.{Meaning, schema_in}
 use Rattle.tf_protocol.specs.Schema.{SchemaView}
 use Rattle.tf_state_data.proofs.Edits.{Keeping}
@@ -40,12 +40,12 @@ pub one_settled : (old new : List Settled) (x : Settled) (s : SettledView) (rest
 one_settled [] new x s rest e is = ap (λ xs. map settled_of xs ++ rest) e ∙ ap (λ y. y ∷ rest) is
 one_settled (y ∷ old) new x s rest e is = ap (λ xs. map settled_of xs ++ rest) e ∙ ap (λ ys. settled_of y ∷ ys) (one_settled old (old ++ x ∷ []) x s rest refl is)
 
-module _ (becomes : MemberView → OutcomeView) where
-  pub with_settled_from : (of : OfView) (i : ℕ) (ms : List MemberView) (d : DecidedView) → with_settled of (settled_from becomes i ms) d ≡ with_members of becomes i ms d
+module _ (becomes : InstanceToPlanView → OutcomeView) where
+  pub with_settled_from : (of : OfView) (i : ℕ) (ms : List InstanceToPlanView) (d : DecidedView) → with_settled of (settled_from becomes i ms) d ≡ with_members of becomes i ms d
   with_settled_from of i [] d = refl
   with_settled_from of i (m ∷ ms) d = with_settled_from of (i + 1) ms (with_outcome of i m.key (becomes m) d)
 
-  pub keys_settled : (i : ℕ) (ms : List MemberView) → map settled_key (settled_from becomes i ms) ≡ keys_of ms
+  pub keys_settled : (i : ℕ) (ms : List InstanceToPlanView) → map settled_key (settled_from becomes i ms) ≡ keys_of ms
   keys_settled i [] = refl
   keys_settled i (m ∷ ms) = ap (λ ks. m.key ∷ ks) (keys_settled (i + 1) ms)
 
@@ -61,7 +61,7 @@ found_later : {A : Type 0} (test : A → Bool) (x : A) (xs : List A) → test x 
 found_later test x xs e = ap (λ b. cond b (Some x) (find test xs)) e
 
 -- what is found of an instance is what becomes of it
-module _ (becomes : MemberView → OutcomeView) (own : List InstanceKeyView) (records : List RecordView) (key : InstanceKeyView) where
+module _ (becomes : InstanceToPlanView → OutcomeView) (own : List InstanceKeyView) (records : List RecordView) (key : InstanceKeyView) where
   looked : (ks : List InstanceKeyView) (i : ℕ) → is_among (keys_of (map (member own records) ks)) key ≡ true
       → settled_object (settled_from becomes i (map (member own records) ks)) key ≡ stood_for (records_of key records) (becomes (member own records key))
   looked [] i h = absurd (cc)
@@ -114,7 +114,7 @@ module _ (schema : SchemaView) (lifecycle : LifecycleView) where
     by_current (Some r) (decision.replace t names) makes = refl
 
     -- what is decided of an instance says what it stands for
-    stood_is : (r : Result DecisionView RefusalView) → decision.decision schema lifecycle records planned ≡ r → stood_for records (by_decision records r) ≡ object_unless_refused records r
+    stood_is : (r : Result DecisionView DecisionFaultView) → decision.decision schema lifecycle records planned ≡ r → stood_for records (by_decision records r) ≡ object_unless_refused records r
     stood_is (Err why) e = refl
     stood_is (Ok d) e =
         by_current (current records) d
@@ -149,27 +149,27 @@ objects_on f g (k ∷ ks) h =
     let rest : objects_at f ks ≡ objects_at g ks = objects_on f g ks h.1 in
     rw (first, rest) refl
 
-together_on : (f g : InstanceKeyView → Option Tree) (shape : ShapeView) → AllByRecursion (λ k. f k ≡ g k) (instance_keys shape) → together (Some shape) f ≡ together (Some shape) g
+together_on : (f g : InstanceKeyView → Option Tree) (shape : InstanceKeysView) → AllByRecursion (λ k. f k ≡ g k) (instance_keys shape) → together (Some shape) f ≡ together (Some shape) g
 together_on f g one h = ap (option_map limited) h.0
 together_on f g (many n) h = ap (λ (o : Option (List Tree)). option_map limited (option_map list_of o)) (objects_on f g (instance_keys (many n)) h)
 together_on f g (named names) h = ap (λ (o : Option (List Tree)). option_map limited (option_map (map_under names) o)) (objects_on f g (instance_keys (named names)) h)
 
 module _ (block : BlockView) (env : Environment) where
   -- a member is refused that the configuration doesn't have where it can't go
-  free_same : (found : Option SchemaView) (m : MemberView) → (m.is_declared || is_ok (member_outcome found block env m)) ≡ stays_or_goes found block.lifecycle m
+  free_same : (found : Option SchemaView) (m : InstanceToPlanView) → (m.is_declared || is_ok (member_outcome found block env m)) ≡ stays_or_goes found block.lifecycle m
   free_same None m = refl
   free_same (Some schema) m = by_declared m.is_declared
     where
-      by_refusal : (o : Option RefusalView) → is_ok (by_removal m.records o) ≡ is_none o
+      by_refusal : (o : Option DecisionFaultView) → is_ok (by_removal m.records o) ≡ is_none o
       by_refusal None = refl
       by_refusal (Some why) = refl
 
       by_declared : (b : Bool)
-          → (b || is_ok (if b then declared_outcome schema block env m else removal_outcome schema (Some block.lifecycle) m)) ≡ (b || is_none (removal_refusal schema (Some block.lifecycle) m.records))
+          → (b || is_ok (if b then declared_outcome schema block env m else removal_outcome schema (Some block.lifecycle) m)) ≡ (b || is_none (removal_fault schema (Some block.lifecycle) m.records))
       by_declared true = refl
-      by_declared false = by_refusal (removal_refusal schema (Some block.lifecycle) m.records)
+      by_declared false = by_refusal (removal_fault schema (Some block.lifecycle) m.records)
 
-  all_same : (found : Option SchemaView) (i : ℕ) (ms : List MemberView) → all_free (settled_from (member_outcome found block env) i ms) ≡ list_all (stays_or_goes found block.lifecycle) ms
+  all_same : (found : Option SchemaView) (i : ℕ) (ms : List InstanceToPlanView) → all_free (settled_from (member_outcome found block env) i ms) ≡ list_all (stays_or_goes found block.lifecycle) ms
   all_same found i [] = refl
   all_same found i (m ∷ ms) = ap₂ (λ a b. a && b) (free_same found m) (all_same found (i + 1) ms)
 
@@ -189,7 +189,7 @@ module _ (block : BlockView) (env : Environment) where
         ∙ declared_stood found key among
 
   -- what becomes of its members says what a resource stands for
-  pub settled_stands : (ms : List Meaning) (resources : List ResourceView) (n : ℕ) (shape : ShapeView)
+  pub settled_stands : (ms : List Meaning) (resources : List ResourceView) (n : ℕ) (shape : InstanceKeysView)
       → settled_standing shape (settled_from (member_outcome (schema_in block.label.type_name ms) block env) 0 (block_members shape block resources)) ≡ block_standing ms resources n shape block env
   settled_stands ms resources n shape =
       let found = schema_in block.label.type_name ms in
@@ -205,7 +205,7 @@ module _ (block : BlockView) (env : Environment) where
       by_test f g false h = refl
 
 -- the members of a block stand in address order
-pub block_sorted : (becomes : MemberView → OutcomeView) (shape : ShapeView) (block : BlockView) (resources : List ResourceView)
+pub block_sorted : (becomes : InstanceToPlanView → OutcomeView) (shape : InstanceKeysView) (block : BlockView) (resources : List ResourceView)
     → IsStrictlySortedBy instance_key_cmp (map settled_key (settled_from becomes 0 (block_members shape block resources)))
 block_sorted becomes shape block resources =
     subst (IsStrictlySortedBy instance_key_cmp) (sym (keys_settled becomes 0 (block_members shape block resources))) (are_there (instance_keys shape) (records_at block.label resources)).sorted
@@ -216,9 +216,9 @@ by_instance = record { seen = settled_of; key = settled_key; cmp = instance_key_
 
 -- ---- what was worked out of a block
 
-module _ (ms : List Meaning) (resources : List ResourceView) (n : ℕ) (block : BlockView) (env : Environment) (shape : ShapeView) (found : Option SchemaView) (all : List SettledView) (same : found ≡ schema_in block.label.type_name ms)
+module _ (ms : List Meaning) (resources : List ResourceView) (n : ℕ) (block : BlockView) (env : Environment) (shape : InstanceKeysView) (found : Option SchemaView) (all : List SettledView) (same : found ≡ schema_in block.label.type_name ms)
     (settled : all ≡ settled_from (member_outcome found block env) 0 (block_members shape block resources)) where
-  pub standing_by : (is_wanted : Bool) (s : StandingView) → s ≡ (if is_wanted then settled_standing shape all else None) → s ≡ (if is_wanted then block_standing ms resources n shape block env else None)
+  pub standing_by : (is_wanted : Bool) (s : ResolvedView) → s ≡ (if is_wanted then settled_standing shape all else None) → s ≡ (if is_wanted then block_standing ms resources n shape block env else None)
   standing_by true s h =
       h ∙ (ap (settled_standing shape) settled ∙ (ap (λ (o : Option SchemaView). settled_standing shape (settled_from (member_outcome o block env) 0 (block_members shape block resources))) same ∙ settled_stands block env ms resources n shape))
   standing_by false s h = h

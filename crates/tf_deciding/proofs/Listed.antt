@@ -4,10 +4,10 @@ use Rattle.tf_address.specs.ObjectId.{InstanceKeyView}
 use Rattle.tf_plan_resources.proofs.Listing.{those_members}
 use Rattle.tf_plan_resources.specs.Members.{AreMembers, members}
 use Rattle.tf_plan_resources.specs.MemberViews.{member_of}
-use Rattle.tf_plan_resources.specs.declared.member.Member.{Member}
+use Rattle.tf_plan_resources.specs.declared.instance_to_plan.InstanceToPlan.{InstanceToPlan}
 use Rattle.tf_state_data.specs.Record.{RecordView}
 
-pub listed : {E : Type 0} (keys own : List InstanceKeyView) (records kept : List RecordView) (result : Result (Vec Member Global) E) → keys ≡ own → records ≡ kept
+pub listed : {E : Type 0} (keys own : List InstanceKeyView) (records kept : List RecordView) (result : Result (Vec InstanceToPlan Global) E) → keys ≡ own → records ≡ kept
     → IfOk result (λ ms. AreMembers keys records (map member_of ms.items)) → IfOk result (λ ms. map member_of ms.items ≡ members own kept)
 listed keys own records kept (Ok ms) e f are = those_members keys records (map member_of ms.items) are ∙ ap₂ members e f
 listed keys own records kept (Err why) e f are = are

@@ -14,8 +14,8 @@ use Rattle.tf_environment.proofs.Locals.{together_same}
 use Rattle.tf_eval.proofs.Locality.{expressions_local}
 use Rattle.tf_eval.specs.Environment.{Environment}
 use Rattle.tf_eval.specs.Locality.{AgreeOn}
-use Rattle.tf_environment.specs.Shape.{ShapeView}
-use Rattle.tf_plan_resources.specs.Members.{MemberView, records_of}
+use Rattle.tf_environment.specs.InstanceKeys.{InstanceKeysView}
+use Rattle.tf_plan_resources.specs.Members.{InstanceToPlanView, records_of}
 use Rattle.tf_protocol.specs.Meaning.{Meaning, schema_in}
 use Rattle.tf_protocol.specs.Schema.{SchemaView}
 use Rattle.tf_state_data.specs.Record.{RecordView}
@@ -37,15 +37,15 @@ stage_local ms resources shapes n block e f agree =
     (λ key. by_schema (schema_in block.label.type_name ms) block (records_of key (records_at block.label resources)) e f key agree)
 
 -- what a block refers to decides what becomes of its members
-outcome_local : (found : Option SchemaView) (block : BlockView) (e f : Environment) (m : MemberView) → AgreeOn e f (block_refers block) → member_outcome found block e m ≡ member_outcome found block f m
+outcome_local : (found : Option SchemaView) (block : BlockView) (e f : Environment) (m : InstanceToPlanView) → AgreeOn e f (block_refers block) → member_outcome found block e m ≡ member_outcome found block f m
 outcome_local None block e f m agree = refl
 outcome_local (Some schema) block e f m agree =
     ap (λ planned. if m.is_declared then by_decision m.records (decision schema block.lifecycle m.records planned) else removal_outcome schema (Some block.lifecycle) m)
     (instances_local expressions_local schema block m.key e f agree)
 
-pub block_local : (ms : List Meaning) (resources : List ResourceView) (n : ℕ) (block : BlockView) (e f : Environment) (shape : ShapeView) (d : DecidedView) → AgreeOn e f (block_refers block)
+pub block_local : (ms : List Meaning) (resources : List ResourceView) (n : ℕ) (block : BlockView) (e f : Environment) (shape : InstanceKeysView) (d : DecidedView) → AgreeOn e f (block_refers block)
     → with_block ms resources n block e shape d ≡ with_block ms resources n block f shape d
 block_local ms resources n block e f shape d agree =
     let schema = schema_in block.label.type_name ms in
-    let each = λ (m : MemberView). outcome_local schema block e f m agree in
+    let each = λ (m : InstanceToPlanView). outcome_local schema block e f m agree in
     (λ i. with_members (record { resource = n; label = block.label; version = version_of schema }) (λ m. each m i) 0 (block_members shape block resources) d)

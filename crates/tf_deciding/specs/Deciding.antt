@@ -9,17 +9,17 @@ use Rattle.tf_deciding.specs.Outcome.{OutcomeView, WhyView, member_outcome, orph
 use Rattle.tf_deciding.specs.Stage.{block_members}
 use Rattle.tf_deciding.specs.Views.{why_of}
 use Rattle.tf_deciding.specs.declared.collecting.Decided.{Decided}
-use Rattle.tf_deciding.specs.declared.collecting.Of.{Of}
-use Rattle.tf_deciding.specs.declared.collecting.Refused.{Refused}
-use Rattle.tf_environment.specs.Shape.{ShapeView}
+use Rattle.tf_deciding.specs.declared.collecting.OutcomeOf.{OutcomeOf}
+use Rattle.tf_deciding.specs.declared.collecting.RefusedInstance.{RefusedInstance}
+use Rattle.tf_environment.specs.InstanceKeys.{InstanceKeysView}
 use Rattle.tf_eval.specs.Environment.{Environment}
-use Rattle.tf_plan_resources.specs.Members.{MemberView, members}
+use Rattle.tf_plan_resources.specs.Members.{InstanceToPlanView, members}
 use Rattle.tf_protocol.specs.Meaning.{Meaning, schema_in}
 use Rattle.tf_protocol.specs.Schema.{SchemaView}
 use Rattle.tf_state_data.specs.Resource.{ResourceView}
 
 -- a refused instance, and why it is
-pub record RefusedView : Type 0 where
+pub record RefusedInstanceView : Type 0 where
   pub label : LabelView
   pub key : InstanceKeyView
   pub why : WhyView
@@ -27,7 +27,7 @@ pub record RefusedView : Type 0 where
 -- what is done, and what is refused
 pub record DecidedView : Type 0 where
   pub actions : List ActionView
-  pub refusals : List RefusedView
+  pub refusals : List RefusedInstanceView
 
 -- a resource as its actions name it: by its number and its address, with the version of the schema of its type
 pub record OfView : Type 0 where
@@ -45,7 +45,7 @@ with_outcome of i key (Ok steps) d = record { actions = d.actions ++ map (action
 with_outcome of i key (Err why) d = record { actions = d.actions; refusals = d.refusals ++ record { label = of.label; key = key; why = why } ∷ [] }
 
 -- what is decided so far with what becomes of members, one after another, which are numbered from one number on
-abbrev pub with_members : OfView → (MemberView → OutcomeView) → ℕ → List MemberView → DecidedView → DecidedView
+abbrev pub with_members : OfView → (InstanceToPlanView → OutcomeView) → ℕ → List InstanceToPlanView → DecidedView → DecidedView
 with_members of becomes i [] d = d
 with_members of becomes i (m ∷ ms) d = with_members of becomes (i + 1) ms (with_outcome of i m.key (becomes m) d)
 
@@ -54,7 +54,7 @@ abbrev pub version_of : Option SchemaView → ℕ
 version_of schema = option_map_or (λ s. s.version) schema 0
 
 -- What is decided so far with the members of a resource whose block stands, numbered from 0 on.
-abbrev pub with_block : List Meaning → List ResourceView → ℕ → BlockView → Environment → ShapeView → DecidedView → DecidedView
+abbrev pub with_block : List Meaning → List ResourceView → ℕ → BlockView → Environment → InstanceKeysView → DecidedView → DecidedView
 with_block ms resources n block env shape d =
     let schema = schema_in block.label.type_name ms in
     with_members (record { resource = n; label = block.label; version = version_of schema }) (member_outcome schema block env) 0 (block_members shape block resources) d
@@ -66,11 +66,11 @@ with_orphan ms n r d =
     with_members (record { resource = n; label = r.label; version = version_of schema }) (orphan_outcome schema) 0 (members [] r.records) d
 
 -- without where they lie in memory
-abbrev pub refused_of : Refused → RefusedView
+abbrev pub refused_of : RefusedInstance → RefusedInstanceView
 refused_of r = record { label = label_of r.label; key = instance_key_of r.key; why = why_of r.why }
 
 abbrev pub decided_of : Decided → DecidedView
 decided_of d = record { actions = map action_of d.actions.items; refusals = map refused_of d.refusals.items }
 
-abbrev pub of_view : Of → OfView
+abbrev pub of_view : OutcomeOf → OfView
 of_view of = record { resource = of.resource; label = label_of of.label.now; version = of.version }

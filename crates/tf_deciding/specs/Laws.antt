@@ -2,10 +2,10 @@
 use Rattle.std.specs.Prelude.{ℕ, List}
 use Rattle.tf_deciding.specs.Stage.{deciding}
 use Rattle.tf_environment.specs.Laws.{IsLocal}
-use Rattle.tf_environment.specs.Shape.{ShapeView}
+use Rattle.tf_environment.specs.InstanceKeys.{InstanceKeysView}
 use Rattle.tf_protocol.specs.Meaning.{Meaning}
 use Rattle.tf_state_data.specs.Resource.{ResourceView}
 
 -- A block stands for the same in environments that agree on what it refers to, whatever the state has.
 abbrev pub DecidingIsLocal : Type 0
-DecidingIsLocal = (ms : List Meaning) (resources : List ResourceView) (shapes : ℕ → ShapeView) → IsLocal (deciding ms resources shapes)
+DecidingIsLocal = (ms : List Meaning) (resources : List ResourceView) (shapes : ℕ → InstanceKeysView) → IsLocal (deciding ms resources shapes)

@@ -8,11 +8,11 @@ use Rattle.tf_deciding.specs.Outcome.{OutcomeView}
 use Rattle.tf_deciding.specs.Views.{outcome_of}
 use Rattle.tf_deciding.specs.declared.settling.Settled.{Settled}
 use Rattle.tf_decision.specs.Decision.{current}
-use Rattle.tf_environment.specs.Shape.{ShapeView}
-use Rattle.tf_environment.specs.Standing.{StandingView, together}
+use Rattle.tf_environment.specs.InstanceKeys.{InstanceKeysView}
+use Rattle.tf_environment.specs.Resolved.{ResolvedView, together}
 use Rattle.tf_plan_data.specs.Action.{StepView, create, update, replacement}
 use Rattle.tf_plan_resources.specs.MemberViews.{member_of}
-use Rattle.tf_plan_resources.specs.Members.{MemberView}
+use Rattle.tf_plan_resources.specs.Members.{InstanceToPlanView}
 use Rattle.tf_state_data.specs.Order.{at_key}
 use Rattle.tf_state_data.specs.Record.{RecordView}
 use Rattle.tf_value.specs.Tree.{Tree}
@@ -20,7 +20,7 @@ use Rattle.tf_value.specs.Tree.{Tree}
 -- A member of a resource under its number, and what becomes of it.
 pub record SettledView : Type 0 where
   pub instance : ℕ
-  pub member : MemberView
+  pub member : InstanceToPlanView
   pub outcome : OutcomeView
 
 -- without where it lies in memory
@@ -28,7 +28,7 @@ abbrev pub settled_of : Settled → SettledView
 settled_of s = record { instance = s.instance; member = member_of s.member.now; outcome = outcome_of s.outcome }
 
 -- members, which are numbered from one number on, with what becomes of each
-abbrev pub settled_from : (MemberView → OutcomeView) → ℕ → List MemberView → List SettledView
+abbrev pub settled_from : (InstanceToPlanView → OutcomeView) → ℕ → List InstanceToPlanView → List SettledView
 settled_from becomes i [] = []
 settled_from becomes i (m ∷ ms) = record { instance = i; member = m; outcome = becomes m } ∷ settled_from becomes (i + 1) ms
 
@@ -76,5 +76,5 @@ abbrev pub all_free : List SettledView → Bool
 all_free ss = list_all is_free ss
 
 -- what a resource stands for, by what becomes of its members
-abbrev pub settled_standing : ShapeView → List SettledView → StandingView
+abbrev pub settled_standing : InstanceKeysView → List SettledView → ResolvedView
 settled_standing shape ss = together (if all_free ss then Some shape else None) (settled_object ss)

@@ -3,14 +3,14 @@ use Rattle.std.specs.Prelude.{List, map, Result, Ok, Err, Vec}
 use Rattle.std.specs.declared.alloc.Global.{Global}
 use Rattle.tf_plan_data.specs.Action.{StepView, step_of}
 use Rattle.tf_plan_data.specs.declared.step.Step.{Step}
-use Rattle.tf_decision.specs.Answer.{refusal_of}
+use Rattle.tf_decision.specs.Answer.{decision_fault_of}
 use Rattle.tf_deciding.specs.Outcome.{OutcomeView, WhyView, no_provider, refused}
 use Rattle.tf_deciding.specs.declared.outcome.Why.{Why}
 use Rattle.tf_deciding.specs.declared.outcome.Why.TheVariants.{NoProvider, Refused}
 
 abbrev pub why_of : Why → WhyView
 why_of NoProvider = no_provider
-why_of (Refused why) = refused (refusal_of why)
+why_of (Refused why) = refused (decision_fault_of why)
 
 -- steps as plain data
 abbrev pub steps_of : List Step → List StepView

@@ -17,12 +17,12 @@ use crate::settling::Settled;
 use std::alloc::{AllocError, Global};
 use tf_address::{InstanceKey, Label};
 use tf_plan_data::{Action, Step};
-use tf_plan_resources::{Member, members};
+use tf_plan_resources::{InstanceToPlan, members};
 use tf_protocol::{Provider, Schema, schema_for};
 
 /// An instance that is refused.
 #[derive(Debug, Drop)]
-pub struct Refused {
+pub struct RefusedInstance {
     /// Its resource.
     pub label: Label,
     /// Which instance it is.
@@ -38,12 +38,12 @@ pub struct Decided {
     /// and the destroys of deposed ones by their keys.
     pub actions: Vec<Action>,
     /// The instances that are refused, in the order in which they were decided.
-    pub refusals: Vec<Refused>,
+    pub refusals: Vec<RefusedInstance>,
 }
 
 /// A resource, as its actions name it.
 #[derive(Drop)]
-pub(crate) struct Of<'a> {
+pub(crate) struct OutcomeOf<'a> {
     /// The number of the resource.
     pub(crate) resource: usize,
     /// Its address.
@@ -78,7 +78,7 @@ impl Decided {
     /// Adds what becomes of the members of a resource whose block stands.
     pub(crate) fn add_settled(
         &mut self,
-        of: &Of<'_>,
+        of: &OutcomeOf<'_>,
         settled: Vec<Settled<'_>>,
     ) -> Result<(), AllocError>
         ensures { OnOk result (decided_of self.new ≡ with_settled (of_view of.now) (map settled_of settled.entry.items) (decided_of self.old)) }
@@ -110,7 +110,7 @@ impl Decided {
     {
         let schema = schema_for(providers, orphan.label().type_name.as_str());
         let members = members(alloc, &[], orphan.records())?;
-        let of = Of {
+        let of = OutcomeOf {
             resource: place,
             label: orphan.label(),
             version: version_of(schema),
@@ -133,9 +133,9 @@ pub(crate) fn version_of(schema: Option<&Schema>) -> u32
 fn add_gone(
     alloc: Global,
     decided: &mut Decided,
-    of: &Of<'_>,
+    of: &OutcomeOf<'_>,
     schema: Option<&Schema>,
-    members: &[Member<'_>],
+    members: &[InstanceToPlan<'_>],
 ) -> Result<(), AllocError>
     ensures { OnOk result (decided_of decided.new ≡ with_members (of_view of.now) (orphan_outcome (option_map (λ s. s.now) schema.entry))
         0 (map member_of members.now) (decided_of decided.old)) }
@@ -151,7 +151,7 @@ fn add_gone(
 /// Adds what becomes of an instance.
 fn add_outcome(
     decided: &mut Decided,
-    of: &Of<'_>,
+    of: &OutcomeOf<'_>,
     instance: usize,
     key: &InstanceKey,
     outcome: Result<Vec<Step>, Why>,
@@ -161,7 +161,7 @@ fn add_outcome(
     match outcome {
         Ok(steps) => add_steps(decided, of, instance, key, steps),
         Err(why) => {
-            decided.refusals.push(Refused {
+            decided.refusals.push(RefusedInstance {
                 label: of.label.clone()?,
                 key: key.clone()?,
                 why,
@@ -174,7 +174,7 @@ fn add_outcome(
 /// Adds the actions of an instance.
 fn add_steps(
     decided: &mut Decided,
-    of: &Of<'_>,
+    of: &OutcomeOf<'_>,
     instance: usize,
     key: &InstanceKey,
     steps: Vec<Step>,

@@ -8,12 +8,12 @@ mod collecting;
 pub mod laws;
 mod objects;
 mod outcome;
+mod planned_values;
 mod settling;
-mod stage;
 mod steps;
 mod whole;
 
-pub use collecting::{Decided, Refused};
+pub use collecting::{Decided, RefusedInstance};
 pub use outcome::{Why, member_outcome, orphan_outcome};
-pub use stage::Deciding;
+pub use planned_values::PlannedValues;
 pub use whole::{InOrder, decide_in_order, gather};

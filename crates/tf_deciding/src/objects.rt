@@ -3,7 +3,7 @@
 ghost use Rattle.std.specs.List.Sorted.{IsStrictlySortedBy, IsStrictlySortedBy-prop};
 ghost use Rattle.std.specs.Prelude.{◌≡◌, if◌then◌else◌, IfOk, map, None, option_map};
 ghost use Rattle.tf_address.specs.ObjectId.{instance_key_cmp};
-ghost use Rattle.tf_environment.specs.Words.{instance_key_of, label_of, shape_of, standing_of, tree_of};
+ghost use Rattle.tf_environment.specs.Words.{instance_key_of, label_of, shape_of, resolved_of, tree_of};
 ghost use Rattle.tf_deciding.specs.Settling.{all_free, asked_by, asked_in, is_free, settled_at, settled_key, settled_object, settled_of, settled_standing, stood_for};
 ghost use Rattle.tf_deciding.specs.Stage.{records_at};
 ghost use Rattle.tf_deciding.specs.Views.{outcome_of, steps_of};
@@ -17,7 +17,7 @@ use crate::settling::Settled;
 use std::alloc::{AllocError, Global};
 use tf_address::{InstanceKey, Label};
 use tf_decision::current;
-use tf_environment::{Keyed, Shape, Standing, lay_out};
+use tf_environment::{InstanceKeys, Keyed, Resolved, collect_instances};
 use tf_plan_data::Step;
 use tf_state_data::{Record, State};
 use tf_value::Value;
@@ -55,19 +55,19 @@ impl Keyed for SettledObjects<'_> {
 /// have, and where it isn't wanted.
 pub(crate) fn settled_standing(
     alloc: Global,
-    shape: &Shape,
+    shape: &InstanceKeys,
     settled: &[Settled<'_>],
     is_wanted: bool,
-) -> Result<Standing, AllocError>
+) -> Result<Resolved, AllocError>
     requires { IsStrictlySortedBy instance_key_cmp (map settled_key (map settled_of settled.now)) }
-    ensures { IfOk result (λ standing. standing_of standing
+    ensures { IfOk result (λ resolved. resolved_of resolved
         ≡ (if is_wanted then settled_standing (shape_of shape.now) (map settled_of settled.now) else None)) }
 {
     if !is_wanted || !all_free(settled) {
-        return Ok(Standing::Nothing);
+        return Ok(Resolved::Nothing);
     }
     let objects = SettledObjects { settled };
-    lay_out(alloc, shape, &objects)
+    collect_instances(alloc, shape, &objects)
 }
 
 /// Whether no member is refused that the configuration doesn't have.
@@ -133,7 +133,7 @@ fn asked_in(step: &Step) -> Option<&Value>
     match step {
         Step::Create(asked) => Some(asked),
         Step::Update(_, asked, _) => Some(asked),
-        Step::Replacement(asked, _) => Some(asked),
+        Step::CreateReplacement(asked, _) => Some(asked),
         _ => None,
     }
 }

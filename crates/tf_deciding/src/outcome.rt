@@ -11,10 +11,10 @@ use crate::steps::{decided_steps, removal_steps};
 use std::alloc::{AllocError, Global};
 use tf_change::plan_instance;
 use tf_config_data::{Block, Lifecycle};
-use tf_decision::{Refusal, decide, refuse_removal};
+use tf_decision::{DecisionFault, decide, removal_fault_of};
 use tf_eval::Scope;
 use tf_plan_data::Step;
-use tf_plan_resources::Member;
+use tf_plan_resources::InstanceToPlan;
 use tf_protocol::Schema;
 
 /// Why an instance is refused.
@@ -23,7 +23,7 @@ pub enum Why {
     /// No provider has its type.
     NoProvider,
     /// Something is wrong with it, or with what exists of it; or it may not be destroyed.
-    Refused(Refusal),
+    Refused(DecisionFault),
 }
 
 /// What becomes of a member of a resource whose block stands, by the schema of its type, where references stand for what the
@@ -38,7 +38,7 @@ pub fn member_outcome<S: Scope>(
     schema: Option<&Schema>,
     block: &Block,
     scope: &S,
-    member: &Member<'_>,
+    member: &InstanceToPlan<'_>,
 ) -> Result<Result<Vec<Step>, Why>, AllocError>
     ensures { (label : LabelView) → IfOk result (λ outcome. outcome_of outcome
         ≡ member_outcome (option_map (λ s. s.now) schema.entry) (block_at label block.now) (S.environment scope.now) (member_of member.now)) }
@@ -61,7 +61,7 @@ pub fn member_outcome<S: Scope>(
 pub fn orphan_outcome(
     alloc: Global,
     schema: Option<&Schema>,
-    member: &Member<'_>,
+    member: &InstanceToPlan<'_>,
 ) -> Result<Result<Vec<Step>, Why>, AllocError>
     ensures { IfOk result (λ outcome. outcome_of outcome
         ≡ orphan_outcome (option_map (λ s. s.now) schema.entry) (member_of member.now)) }
@@ -78,7 +78,7 @@ fn declared_outcome<S: Scope>(
     schema: &Schema,
     block: &Block,
     scope: &S,
-    member: &Member<'_>,
+    member: &InstanceToPlan<'_>,
 ) -> Result<Result<Vec<Step>, Why>, AllocError>
     ensures { (label : LabelView) → IfOk result (λ outcome. outcome_of outcome
         ≡ declared_outcome schema.now (block_at label block.now) (S.environment scope.now) (member_of member.now)) }
@@ -95,12 +95,12 @@ fn removal_outcome(
     alloc: Global,
     schema: &Schema,
     lifecycle: Option<&Lifecycle>,
-    member: &Member<'_>,
+    member: &InstanceToPlan<'_>,
 ) -> Result<Result<Vec<Step>, Why>, AllocError>
     ensures { IfOk result (λ outcome. outcome_of outcome
         ≡ removal_outcome schema.now (option_map (λ l. lifecycle_of l.now) lifecycle.entry) (member_of member.now)) }
 {
-    match refuse_removal(alloc, schema, lifecycle, member.records)? {
+    match removal_fault_of(alloc, schema, lifecycle, member.records)? {
         Some(why) => Ok(Err(Why::Refused(why))),
         None => Ok(Ok(removal_steps(alloc, member.records)?)),
     }

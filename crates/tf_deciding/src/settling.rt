@@ -8,10 +8,10 @@ ghost use Rattle.tf_plan_resources.specs.MemberViews.{member_of};
 
 use crate::outcome::{Why, member_outcome};
 use std::alloc::{AllocError, Global};
-use tf_environment::Resource;
+use tf_environment::ResourceInScope;
 use tf_eval::Scope;
 use tf_plan_data::Step;
-use tf_plan_resources::Member;
+use tf_plan_resources::InstanceToPlan;
 use tf_protocol::Schema;
 
 /// A member of a resource, and what becomes of it.
@@ -20,7 +20,7 @@ pub(crate) struct Settled<'a> {
     /// The number of the member among those of its resource.
     pub(crate) instance: usize,
     /// The member.
-    pub(crate) member: &'a Member<'a>,
+    pub(crate) member: &'a InstanceToPlan<'a>,
     /// What is done, step by step, or why it is refused.
     pub(crate) outcome: Result<Vec<Step>, Why>,
 }
@@ -29,8 +29,8 @@ pub(crate) struct Settled<'a> {
 pub(crate) fn settle<'a, S: Scope>(
     alloc: Global,
     schema: Option<&Schema>,
-    resource: &Resource<'_, S>,
-    members: &'a [Member<'a>],
+    resource: &ResourceInScope<'_, S>,
+    members: &'a [InstanceToPlan<'a>],
 ) -> Result<Vec<Settled<'a>>, AllocError>
     ensures { IfOk result (λ settled. map settled_of settled.items
         ≡ settled_from (member_outcome (option_map (λ s. s.now) schema.entry) (block_at (label_of resource.now.label.now) resource.now.block.now) (S.environment resource.now.scope.now))

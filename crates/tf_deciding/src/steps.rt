@@ -56,8 +56,8 @@ fn current_steps(
         }
         (Decision::Replace(asked, names), Some(record)) => {
             let old = record.attributes.clone()?;
-            steps.push(Step::Replacement(asked, names))?;
-            steps.push(Step::Replaced(old))?;
+            steps.push(Step::CreateReplacement(asked, names))?;
+            steps.push(Step::DestroyReplaced(old))?;
         }
         _ => {}
     }

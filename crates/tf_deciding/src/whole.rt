@@ -6,8 +6,8 @@ ghost use Rattle.tf_deciding.specs.Deciding.{decided_of};
 ghost use Rattle.tf_deciding.specs.Rows.{AreDecided, AreOnce, gathered, NeedsAreWanted, row, rows_of, with_row};
 ghost use Rattle.tf_deciding.specs.Stage.{deciding};
 ghost use Rattle.tf_environment.specs.Kept.{AreClosed};
-ghost use Rattle.tf_environment.specs.Standing.{all_stand as all_that_stand, stands_at, where_all};
-ghost use Rattle.tf_environment.specs.Words.{entries_view, environment, has, HaveStandings, IsDependence, IsInOrder, names_in, order_in, seen_by, shapes_of, standing_of, standings_of};
+ghost use Rattle.tf_environment.specs.Resolved.{all_stand as all_that_stand, stands_at, where_all};
+ghost use Rattle.tf_environment.specs.Words.{entries_view, environment, has, AreResolved, IsDependence, IsInOrder, names_in, order_in, seen_by, shapes_of, resolved_of, resolved_names_of};
 ghost use Rattle.tf_eval.specs.ExprMeaning.{meaning as meaning_of};
 ghost use Rattle.tf_syntax.specs.ExprTree.{tree_of};
 ghost use Rattle.tf_deciding.specs.Whole.{nothing_decided};
@@ -15,15 +15,16 @@ ghost use Rattle.tf_plan_resources.specs.Table.{numbered_in};
 ghost use Rattle.tf_state_data.specs.State.{state_of};
 
 use crate::collecting::Decided;
-use crate::stage::{Deciding, Looked, decide_block};
+use crate::planned_values::{Looked, PlannedValues, decide_block};
 use std::alloc::{AllocError, Global};
 use std::mem;
 use tf_environment::{
-    Declarations, NamesScope, Resource, Shape, Standing, all_stand, evaluated, no_standings,
+    InstanceKeys, Module, NamesScope, Resolved, ResourceInScope, all_stand, evaluated,
+    unresolved_names,
 };
 use tf_eval::Scope;
-use tf_names::Named;
-use tf_plan_resources::{Numbered, Numbering};
+use tf_names::Declaration;
+use tf_plan_resources::{ResourceIndex, ResourceRef};
 use tf_protocol::Provider;
 use tf_syntax::Expr;
 
@@ -31,7 +32,7 @@ use tf_syntax::Expr;
 #[derive(Drop)]
 pub struct InOrder {
     /// What each wanted name stands for.
-    pub standings: Vec<Standing>,
+    pub resolved_names: Vec<Resolved>,
     /// What is decided of the instances of each name.
     pub rows: Vec<Decided>,
 }
@@ -45,15 +46,15 @@ pub struct InOrder {
 /// Only where memory runs out.
 pub fn decide_in_order(
     alloc: Global,
-    stage: &Deciding<'_>,
-    declared: &Declarations,
+    stage: &PlannedValues<'_>,
+    declared: &Module,
     wanted: &[bool],
 ) -> Result<InOrder, AllocError>
     requires dependence { IsDependence (names_in declared.now.names.now) declared.now.dependence.now }
     requires closed { AreClosed (names_in declared.now.names.now) wanted.now }
     requires needed { NeedsAreWanted (names_in declared.now.names.now) wanted.now }
-    ensures standings { IfOk result (λ r. HaveStandings (deciding (map meaning stage.now.providers.now) (state_of stage.now.state.now).resources (shapes_of stage.now.shapes.now))
-        (entries_view declared.now.variables.now.entries) (names_in declared.now.names.now) (order_in declared.now.dependence.now) wanted.now (standings_of r.standings.items)) }
+    ensures resolved_names { IfOk result (λ r. AreResolved (deciding (map meaning stage.now.providers.now) (state_of stage.now.state.now).resources (shapes_of stage.now.shapes.now))
+        (entries_view declared.now.variables.now.entries) (names_in declared.now.names.now) (order_in declared.now.dependence.now) wanted.now (resolved_names_of r.resolved_names.items)) }
     ensures rows { IfOk result (λ r. AreDecided (map meaning stage.now.providers.now) (state_of stage.now.state.now).resources (entries_view declared.now.variables.now.entries)
         (names_in declared.now.names.now) (shapes_of stage.now.shapes.now) (order_in declared.now.dependence.now) (rows_of r.rows.items)) }
 {
@@ -63,8 +64,8 @@ pub fn decide_in_order(
 /// The same, of the names in a list in which each stands after all that it needs.
 fn decide_along(
     alloc: Global,
-    stage: &Deciding<'_>,
-    declared: &Declarations,
+    stage: &PlannedValues<'_>,
+    declared: &Module,
     order: &[usize],
     wanted: &[bool],
 ) -> Result<InOrder, AllocError>
@@ -73,22 +74,22 @@ fn decide_along(
     requires within { (n : ℕ) → Contains order.now n → n < length (names_in declared.now.names.now) }
     requires closed { AreClosed (names_in declared.now.names.now) wanted.now }
     requires needed { NeedsAreWanted (names_in declared.now.names.now) wanted.now }
-    ensures standings { IfOk result (λ r. HaveStandings (deciding (map meaning stage.now.providers.now) (state_of stage.now.state.now).resources (shapes_of stage.now.shapes.now))
-        (entries_view declared.now.variables.now.entries) (names_in declared.now.names.now) order.now wanted.now (standings_of r.standings.items)) }
+    ensures resolved_names { IfOk result (λ r. AreResolved (deciding (map meaning stage.now.providers.now) (state_of stage.now.state.now).resources (shapes_of stage.now.shapes.now))
+        (entries_view declared.now.variables.now.entries) (names_in declared.now.names.now) order.now wanted.now (resolved_names_of r.resolved_names.items)) }
     ensures rows { IfOk result (λ r. AreDecided (map meaning stage.now.providers.now) (state_of stage.now.state.now).resources (entries_view declared.now.variables.now.entries)
         (names_in declared.now.names.now) (shapes_of stage.now.shapes.now) order.now (rows_of r.rows.items)) }
 {
-    let mut kept = no_standings(alloc, declared.names.len())?;
+    let mut kept = unresolved_names(alloc, declared.names.len())?;
     let mut rows = no_rows(alloc, declared.names.len())?;
     for place in order {
         let is_wanted = contains(wanted, *place);
         let looked = look_at(alloc, stage, declared, kept.as_slice(), *place, is_wanted)?;
-        let Looked { standing, decided } = looked;
-        kept[*place] = standing;
+        let Looked { resolved, decided } = looked;
+        kept[*place] = resolved;
         rows[*place] = decided;
     }
     Ok(InOrder {
-        standings: kept,
+        resolved_names: kept,
         rows,
     })
 }
@@ -115,22 +116,22 @@ fn contains(wanted: &[bool], place: usize) -> bool
 /// it needs was refused.
 fn look_at(
     alloc: Global,
-    stage: &Deciding<'_>,
-    declared: &Declarations,
-    kept: &[Standing],
+    stage: &PlannedValues<'_>,
+    declared: &Module,
+    kept: &[Resolved],
     place: usize,
     is_wanted: bool,
 ) -> Result<Looked, AllocError>
     requires place { place < length (names_in declared.now.names.now) }
     requires dependence { IsDependence (names_in declared.now.names.now) declared.now.dependence.now }
-    ensures standing { IfOk result (λ looked. standing_of looked.standing ≡ (if is_wanted
-        then where_all (all_that_stand (seen_by (standings_of kept.now) (directly_before (names_in declared.now.names.now) place)))
+    ensures resolved { IfOk result (λ looked. resolved_of looked.resolved ≡ (if is_wanted
+        then where_all (all_that_stand (seen_by (resolved_names_of kept.now) (directly_before (names_in declared.now.names.now) place)))
         (stands_at (deciding (map meaning stage.now.providers.now) (state_of stage.now.state.now).resources (shapes_of stage.now.shapes.now)) place (meant_at (names_in declared.now.names.now) place)
-        (environment (entries_view declared.now.variables.now.entries) (names_in declared.now.names.now) (standings_of kept.now)))
+        (environment (entries_view declared.now.variables.now.entries) (names_in declared.now.names.now) (resolved_names_of kept.now)))
         else None)) }
     ensures decided { IfOk result (λ looked. decided_of looked.decided
         ≡ row (map meaning stage.now.providers.now) (state_of stage.now.state.now).resources (entries_view declared.now.variables.now.entries) (names_in declared.now.names.now)
-        (shapes_of stage.now.shapes.now) (standings_of kept.now) place (meant_at (names_in declared.now.names.now) place)) }
+        (shapes_of stage.now.shapes.now) (resolved_names_of kept.now) place (meant_at (names_in declared.now.names.now) place)) }
 {
     if !all_stand(kept, declared.dependence.before(place)) {
         return Ok(nothing_looked_at(alloc));
@@ -138,12 +139,12 @@ fn look_at(
     let scope = NamesScope {
         variables: declared.variables,
         names: declared.names,
-        standings: kept,
+        resolved_names: kept,
     };
     match declared.names.at(place) {
-        Named::Local(_, expr) => look_at_local(alloc, expr, &scope, is_wanted),
-        Named::Resource(label, block) => {
-            let resource = Resource {
+        Declaration::Local(_, expr) => look_at_local(alloc, expr, &scope, is_wanted),
+        Declaration::Resource(label, block) => {
+            let resource = ResourceInScope {
                 place,
                 label,
                 block,
@@ -151,7 +152,7 @@ fn look_at(
             };
             match stage.shapes.get(place) {
                 Some(shape) => decide_block(alloc, stage, &resource, shape, is_wanted),
-                None => decide_block(alloc, stage, &resource, &Shape::One, is_wanted),
+                None => decide_block(alloc, stage, &resource, &InstanceKeys::One, is_wanted),
             }
         }
     }
@@ -159,11 +160,11 @@ fn look_at(
 
 /// Nothing stands there, and nothing is decided.
 fn nothing_looked_at(alloc: Global) -> Looked
-    ensures standing { standing_of result.standing ≡ None }
+    ensures resolved { resolved_of result.resolved ≡ None }
     ensures decided { decided_of result.decided ≡ nothing_decided }
 {
     Looked {
-        standing: Standing::Nothing,
+        resolved: Resolved::Nothing,
         decided: Decided::nothing(alloc),
     }
 }
@@ -175,14 +176,14 @@ fn look_at_local<S: Scope>(
     scope: &S,
     is_wanted: bool,
 ) -> Result<Looked, AllocError>
-    ensures standing { IfOk result (λ looked. standing_of looked.standing ≡ (if is_wanted then Some (meaning_of (S.environment scope.now) (tree_of expr.now)) else None)) }
+    ensures resolved { IfOk result (λ looked. resolved_of looked.resolved ≡ (if is_wanted then Some (meaning_of (S.environment scope.now) (tree_of expr.now)) else None)) }
     ensures decided { IfOk result (λ looked. decided_of looked.decided ≡ nothing_decided) }
 {
     if !is_wanted {
         return Ok(nothing_looked_at(alloc));
     }
     Ok(Looked {
-        standing: evaluated(alloc, expr, scope)?,
+        resolved: evaluated(alloc, expr, scope)?,
         decided: Decided::nothing(alloc),
     })
 }
@@ -196,17 +197,24 @@ fn look_at_local<S: Scope>(
 pub fn gather(
     alloc: Global,
     rows: Vec<Decided>,
-    numbering: &Numbering<'_>,
+    resource_index: &ResourceIndex<'_>,
     providers: &[Box<dyn Provider + Sync>],
     order: &[usize],
 ) -> Result<Decided, AllocError>
     requires { AreOnce order.now }
-    ensures { IfOk result (λ d. decided_of d ≡ gathered (map meaning providers.now) (rows_of rows.items) (numbered_in numbering.now) order.now) }
+    ensures { IfOk result (λ d. decided_of d ≡ gathered (map meaning providers.now) (rows_of rows.items) (numbered_in resource_index.now) order.now) }
 {
     let mut left = rows;
     let mut decided = Decided::nothing(alloc);
     for place in order {
-        add_place(alloc, &mut decided, &mut left, numbering, providers, *place)?;
+        add_place(
+            alloc,
+            &mut decided,
+            &mut left,
+            resource_index,
+            providers,
+            *place,
+        )?;
     }
     Ok(decided)
 }
@@ -216,20 +224,20 @@ fn add_place(
     alloc: Global,
     decided: &mut Decided,
     rows: &mut Vec<Decided>,
-    numbering: &Numbering<'_>,
+    resource_index: &ResourceIndex<'_>,
     providers: &[Box<dyn Provider + Sync>],
     place: usize,
 ) -> Result<(), AllocError>
     ensures decided { OnOk result (decided_of decided.new
-        ≡ with_row (map meaning providers.now) (rows_of rows.old.items) place (slice_get (numbered_in numbering.now) place) (decided_of decided.old)) }
+        ≡ with_row (map meaning providers.now) (rows_of rows.old.items) place (slice_get (numbered_in resource_index.now) place) (decided_of decided.old)) }
     ensures others { OnOk result ((n : ℕ) → n ≢ place → rows_of rows.new.items n ≡ rows_of rows.old.items n) }
 {
-    if place >= numbering.len() {
+    if place >= resource_index.len() {
         return Ok(());
     }
-    match numbering.at(place) {
-        Numbered::Name(_) => decided.append(take_row(alloc, rows, place)),
-        Numbered::Orphan(orphan) => decided.add_orphan(alloc, place, orphan, providers),
+    match resource_index.at(place) {
+        ResourceRef::Name(_) => decided.append(take_row(alloc, rows, place)),
+        ResourceRef::Orphan(orphan) => decided.add_orphan(alloc, place, orphan, providers),
     }
 }
 

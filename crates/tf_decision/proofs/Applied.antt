@@ -7,7 +7,7 @@ use Rattle.tf_protocol.specs.Schema.{SchemaView}
 use Rattle.tf_protocol.specs.Verdict.{contradiction, well_formed}
 use Rattle.tf_state_data.specs.Record.{RecordView}
 use Rattle.tf_value.specs.Tree.{Tree}
-use Rattle.tf_decision.specs.Decision.{DecisionView, nothing, create, update, replace, change, RefusalView, unless_prevented, decided, unless_unfit, current}
+use Rattle.tf_decision.specs.Decision.{DecisionView, nothing, create, update, replace, change, DecisionFaultView, unless_prevented, decided, unless_unfit, current}
 use Rattle.tf_decision.specs.Ignored.{heeding, ignored_fault}
 use Rattle.tf_decision.specs.Laws.{AnswersStay, IsAnswer, asked}
 use Rattle.tf_decision.specs.Prior.{PriorFaultView, first_unfit, prior_fault, record_fault}
@@ -15,7 +15,7 @@ use Rattle.tf_decision.proofs.Causes.{fit_is}
 use Rattle.tf_decision.proofs.Fitting.{good_fit}
 use Rattle.tf_decision.proofs.Replies.{good_is, replies_stay}
 
-abbrev accepted : DecisionView → Result DecisionView RefusalView
+abbrev accepted : DecisionView → Result DecisionView DecisionFaultView
 accepted d = Ok d
 
 ok_is : (c d : DecisionView) → accepted c ≡ accepted d → c ≡ d

@@ -5,7 +5,7 @@ use Rattle.tf_change.specs.Instance.{InstanceFaultView}
 use Rattle.tf_protocol.specs.Schema.{SchemaView}
 use Rattle.tf_value.specs.Tree.{Tree}
 use Rattle.tf_value.proofs.Conjunction.{and-both}
-use Rattle.tf_decision.specs.Decision.{DecisionView, nothing, create, update, replace, update_or_replace, by_differing, beside, change, RefusalView, unless_prevented, decided, unless_unfit, current}
+use Rattle.tf_decision.specs.Decision.{DecisionView, nothing, create, update, replace, update_or_replace, by_differing, beside, change, DecisionFaultView, unless_prevented, decided, unless_unfit, current}
 use Rattle.tf_decision.specs.Differing.{differing, forces_new, forcing}
 use Rattle.tf_decision.specs.Ignored.{heeding, ignored_fault}
 use Rattle.tf_decision.specs.Kept.{kept_object}
@@ -128,7 +128,7 @@ prevented_is true (create u) t names e = absurd (cc)
 prevented_is true (update u xs) t names e = absurd (cc)
 prevented_is true (replace u xs) t names e = absurd (cc)
 
-pub fit_is : (fault : Option PriorFaultView) (r : Result DecisionView RefusalView) (d : DecisionView) → unless_unfit fault r ≡ Ok d → r ≡ Ok d
+pub fit_is : (fault : Option PriorFaultView) (r : Result DecisionView DecisionFaultView) (d : DecisionView) → unless_unfit fault r ≡ Ok d → r ≡ Ok d
 fit_is None r d e = e
 fit_is (Some fault) r d e = absurd (cc)
 

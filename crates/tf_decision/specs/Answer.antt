@@ -3,12 +3,12 @@ use Rattle.std.specs.Prelude.{ℕ, List, map, String, string_bytes, Result, Ok, 
 use Rattle.std.specs.declared.alloc.Global.{Global}
 use Rattle.tf_change.specs.Instance.{instance_fault_of}
 use Rattle.tf_value.specs.Tree.{tree_of}
-use Rattle.tf_decision.specs.Decision.{DecisionView, nothing, create, update, replace, RefusalView, unfit, faulty, prevented}
+use Rattle.tf_decision.specs.Decision.{DecisionView, nothing, create, update, replace, DecisionFaultView, unfit, faulty, prevented}
 use Rattle.tf_decision.specs.Prior.{PriorFaultView, as_a_whole, at_attribute}
 use Rattle.tf_decision.specs.declared.decision.Decision.{Decision}
 use Rattle.tf_decision.specs.declared.decision.Decision.TheVariants as decided
-use Rattle.tf_decision.specs.declared.decision.Refusal.{Refusal}
-use Rattle.tf_decision.specs.declared.decision.Refusal.TheVariants as refused
+use Rattle.tf_decision.specs.declared.decision.DecisionFault.{DecisionFault}
+use Rattle.tf_decision.specs.declared.decision.DecisionFault.TheVariants as refused
 use Rattle.tf_decision.specs.declared.prior.PriorFault.{PriorFault}
 use Rattle.tf_decision.specs.declared.prior.PriorFault.TheVariants.{Whole, Attribute}
 
@@ -26,12 +26,12 @@ decision_of (decided.Create t) = create (tree_of t)
 decision_of (decided.Update t names) = update (tree_of t) (names_of names.items)
 decision_of (decided.Replace t names) = replace (tree_of t) (names_of names.items)
 
-abbrev pub refusal_of : Refusal → RefusalView
-refusal_of (refused.Unfit fault) = unfit (prior_fault_of fault)
-refusal_of (refused.Faulty why) = faulty (instance_fault_of why)
-refusal_of refused.Prevented = prevented
+abbrev pub decision_fault_of : DecisionFault → DecisionFaultView
+decision_fault_of (refused.Unfit fault) = unfit (prior_fault_of fault)
+decision_fault_of (refused.Faulty why) = faulty (instance_fault_of why)
+decision_fault_of refused.Prevented = prevented
 
 -- a decision, or the refusal in its place
-abbrev pub answer_of : Result Decision Refusal → Result DecisionView RefusalView
+abbrev pub answer_of : Result Decision DecisionFault → Result DecisionView DecisionFaultView
 answer_of (Ok d) = Ok (decision_of d)
-answer_of (Err why) = Err (refusal_of why)
+answer_of (Err why) = Err (decision_fault_of why)

@@ -21,10 +21,10 @@ pub data DecisionView : Type 0 where
 
 -- Why nothing is decided: a prior object doesn't fit the schema, something is wrong with what is planned, or an object
 -- that may not be destroyed would be replaced or destroyed.
-pub data RefusalView : Type 0 where
-  unfit : PriorFaultView → RefusalView
-  faulty : InstanceFaultView → RefusalView
-  prevented : RefusalView
+pub data DecisionFaultView : Type 0 where
+  unfit : PriorFaultView → DecisionFaultView
+  faulty : InstanceFaultView → DecisionFaultView
+  prevented : DecisionFaultView
 
 -- an update where no change replaces the object, and else a replace with all arguments as configured
 abbrev pub update_or_replace : Tree → Tree → List (List ℕ) → List (List ℕ) → DecisionView
@@ -48,7 +48,7 @@ change schema ignored None planned = create planned
 change schema ignored (Some r) planned = if r.tainted then replace planned [] else beside schema ignored r.attributes planned
 
 -- an object that may not be destroyed can't be replaced
-abbrev pub unless_prevented : Bool → DecisionView → Result DecisionView RefusalView
+abbrev pub unless_prevented : Bool → DecisionView → Result DecisionView DecisionFaultView
 unless_prevented true (replace t names) = Err prevented
 unless_prevented prevents d = Ok d
 
@@ -57,18 +57,18 @@ abbrev pub current : List RecordView → Option RecordView
 current records = find (λ r. is_none r.id.deposed) records
 
 -- what is done by what is planned, or what is wrong with that; what may not be destroyed comes last
-abbrev pub decided : SchemaView → LifecycleView → Option RecordView → Result Tree InstanceFaultView → Result DecisionView RefusalView
+abbrev pub decided : SchemaView → LifecycleView → Option RecordView → Result Tree InstanceFaultView → Result DecisionView DecisionFaultView
 decided schema lifecycle prior (Ok planned) = unless_prevented lifecycle.prevent_destroy (change schema lifecycle.ignore_changes prior planned)
 decided schema lifecycle prior (Err why) = Err (faulty why)
 
-abbrev pub unless_unfit : Option PriorFaultView → Result DecisionView RefusalView → Result DecisionView RefusalView
+abbrev pub unless_unfit : Option PriorFaultView → Result DecisionView DecisionFaultView → Result DecisionView DecisionFaultView
 unless_unfit None r = r
 unless_unfit (Some fault) r = Err (unfit fault)
 
 -- What is done about an instance with these prior objects, the current one and the deposed ones, by what is planned for
 -- it. Or the first thing that refuses it: each prior object has to fit the schema, then nothing may be wrong with what is
 -- planned, names in `ignore_changes` among it, and last, with `prevent_destroy`, the current object may not be replaced.
-abbrev pub decision : SchemaView → LifecycleView → List RecordView → Result Tree InstanceFaultView → Result DecisionView RefusalView
+abbrev pub decision : SchemaView → LifecycleView → List RecordView → Result Tree InstanceFaultView → Result DecisionView DecisionFaultView
 decision schema lifecycle records planned =
     unless_unfit (first_unfit schema records) (decided schema lifecycle (current records) (heeding (ignored_fault schema lifecycle.ignore_changes) planned))
 
@@ -78,6 +78,6 @@ is_protected lifecycle records = option_map_or (λ l. l.prevent_destroy) lifecyc
 
 -- What refuses that objects are destroyed which the configuration has no instance of: one of them doesn't fit the schema,
 -- or else the current one is protected by the block of its resource, where that stands.
-abbrev pub removal_refusal : SchemaView → Option LifecycleView → List RecordView → Option RefusalView
-removal_refusal schema lifecycle records =
+abbrev pub removal_fault : SchemaView → Option LifecycleView → List RecordView → Option DecisionFaultView
+removal_fault schema lifecycle records =
     option_or (option_map unfit (first_unfit schema records)) (if is_protected lifecycle records then Some prevented else None)

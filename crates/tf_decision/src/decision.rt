@@ -5,8 +5,8 @@ ghost use Rattle.tf_change.specs.Instance.{instance_of};
 ghost use Rattle.tf_config_data.specs.Config.{lifecycle_of};
 ghost use Rattle.tf_state_data.specs.Record.{record_of};
 ghost use Rattle.tf_value.specs.Tree.{tree_of};
-ghost use Rattle.tf_decision.specs.Answer.{answer_of, decision_of, refusal_of};
-ghost use Rattle.tf_decision.specs.Decision.{beside, change, current, decision, is_protected, removal_refusal, unless_prevented};
+ghost use Rattle.tf_decision.specs.Answer.{answer_of, decision_of, decision_fault_of};
+ghost use Rattle.tf_decision.specs.Decision.{beside, change, current, decision, is_protected, removal_fault, unless_prevented};
 
 use crate::differing::{differing, forcing};
 use crate::ignored::{heeding, ignored_fault};
@@ -35,7 +35,7 @@ pub enum Decision {
 
 /// Why nothing is decided about an instance.
 #[derive(Debug, Drop)]
-pub enum Refusal {
+pub enum DecisionFault {
     /// A prior object doesn't fit the schema of its type.
     Unfit(PriorFault),
     /// Something is wrong with what is planned; a name in `ignore_changes` that no attribute has is a bad argument.
@@ -59,12 +59,12 @@ pub fn decide(
     lifecycle: &Lifecycle,
     records: &[Record],
     planned: Result<Value, InstanceFault>,
-) -> Result<Result<Decision, Refusal>, AllocError>
+) -> Result<Result<Decision, DecisionFault>, AllocError>
     ensures { IfOk result (λ answer. answer_of answer
         ≡ decision schema.now (lifecycle_of lifecycle.now) (map record_of records.now) (instance_of planned)) }
 {
     if let Some(fault) = first_unfit(alloc, schema, records)? {
-        return Ok(Err(Refusal::Unfit(fault)));
+        return Ok(Err(DecisionFault::Unfit(fault)));
     }
     let name = ignored_fault(schema, &lifecycle.ignore_changes);
     match heeding(alloc, name, planned)? {
@@ -73,7 +73,7 @@ pub fn decide(
             let change = change(alloc, schema, ignored, current(records), planned)?;
             Ok(unless_prevented(lifecycle.prevent_destroy, change))
         }
-        Err(fault) => Ok(Err(Refusal::Faulty(fault))),
+        Err(fault) => Ok(Err(DecisionFault::Faulty(fault))),
     }
 }
 
@@ -84,20 +84,20 @@ pub fn decide(
 /// # Errors
 ///
 /// Only where memory runs out.
-pub fn refuse_removal(
+pub fn removal_fault_of(
     alloc: Global,
     schema: &Schema,
     lifecycle: Option<&Lifecycle>,
     records: &[Record],
-) -> Result<Option<Refusal>, AllocError>
-    ensures { IfOk result (λ refusal. option_map refusal_of refusal
-        ≡ removal_refusal schema.now (option_map (λ l. lifecycle_of l.now) lifecycle.entry) (map record_of records.now)) }
+) -> Result<Option<DecisionFault>, AllocError>
+    ensures { IfOk result (λ refusal. option_map decision_fault_of refusal
+        ≡ removal_fault schema.now (option_map (λ l. lifecycle_of l.now) lifecycle.entry) (map record_of records.now)) }
 {
     if let Some(fault) = first_unfit(alloc, schema, records)? {
-        return Ok(Some(Refusal::Unfit(fault)));
+        return Ok(Some(DecisionFault::Unfit(fault)));
     }
     if is_protected(lifecycle, records) {
-        Ok(Some(Refusal::Prevented))
+        Ok(Some(DecisionFault::Prevented))
     } else {
         Ok(None)
     }
@@ -172,13 +172,13 @@ fn beside(
 }
 
 /// A decision, unless it destroys what may not be destroyed.
-fn unless_prevented(prevent_destroy: bool, change: Decision) -> Result<Decision, Refusal>
+fn unless_prevented(prevent_destroy: bool, change: Decision) -> Result<Decision, DecisionFault>
     ensures { answer_of result ≡ unless_prevented prevent_destroy (decision_of change) }
 {
     match change {
         Decision::Replace(object, names) => {
             if prevent_destroy {
-                Err(Refusal::Prevented)
+                Err(DecisionFault::Prevented)
             } else {
                 Ok(Decision::Replace(object, names))
             }

@@ -14,7 +14,7 @@ pub mod laws;
 mod names;
 mod prior;
 
-pub use decision::{Decision, Refusal, current, decide, refuse_removal};
+pub use decision::{Decision, DecisionFault, current, decide, removal_fault_of};
 pub use ignored::ignored_fault;
 pub use kept::kept_object;
 pub use prior::{PriorFault, prior_fault};

@@ -1,4 +1,4 @@
--- Objects laid out one after another.
+-- Objects collected one after another.
 use Rattle.std.proofs.Common.{◌≡◌, ◌<◌, ◌≤◌, ◌+◌, ℕ, zero, suc, List, [], ◌∷◌, ◌++◌, map as each, length, get_or, drop, Option, Some, None, option_map, String, Global, string_bytes, string_cmp, refl, sym, ap, ◌∙◌, arith}
 use Rattle.std.proofs.lemmas.List.{drop_more, drop_all}
 use Rattle.std.specs.BTreeMap.{insert_entry}
@@ -10,7 +10,7 @@ use Rattle.tf_address.specs.declared.object_id.InstanceKey.TheVariants.{Number}
 use Rattle.tf_value.specs.Tree.{Tree, map, Entries, no_entries, put, tree_of, entries_view}
 use Rattle.tf_value.specs.declared.value.Value.{Value}
 use Rattle.tf_value.proofs.Views.{entries_view-insert_entry}
-use Rattle.tf_environment.specs.Shape.{objects_at, put_each, map_under}
+use Rattle.tf_environment.specs.InstanceKeys.{objects_at, put_each, map_under}
 
 range_push : (a n : ℕ) → range_with_len a (suc n) ≡ range_with_len a n ++ (a + n) ∷ []
 range_push a zero = ap (λ x. x ∷ []) {x = a} {y = a + 0} (omega arith)

@@ -15,9 +15,9 @@ use Rattle.tf_eval.specs.Locality.{AgreeOn, ExpressionsAreLocal}
 use Rattle.tf_eval.proofs.Locality.{both_halves}
 use Rattle.tf_environment.specs.Laws.{IsLocal, AllAreSeen, ExpansionIsLocal, PlanningIsLocal, ApplyingIsLocal}
 use Rattle.tf_environment.specs.Repetition.{instances, counted, keyed}
-use Rattle.tf_environment.specs.Shape.{ShapeView, one, many, named, instance_keys, objects_at, put_each, laid_out}
+use Rattle.tf_environment.specs.InstanceKeys.{InstanceKeysView, one, many, named, instance_keys, objects_at, put_each, collected}
 use Rattle.tf_environment.specs.Stages.{fine}
-use Rattle.tf_environment.specs.Standing.{StandingView, StageView, stands_at, together, where_all, all_stand, environment, result_in}
+use Rattle.tf_environment.specs.Resolved.{ResolvedView, ResourceValuesView, stands_at, together, where_all, all_stand, environment, result_in}
 use Rattle.tf_environment.proofs.Seen.{agree_on, same_seen}
 
 agree_halves : (e f : Environment) (xs ys : List Pair) → AgreeOn e f (xs ++ ys) → AgreeOn e f xs × AgreeOn e f ys
@@ -36,12 +36,12 @@ objects_same f g (k ∷ ks) h =
     let rest : objects_at f ks ≡ objects_at g ks = objects_same f g ks h in
     rw (first, rest) refl
 
-laid_same : (f g : InstanceKeyView → Option Tree) (shape : ShapeView) → ((key : InstanceKeyView) → f key ≡ g key) → laid_out shape f ≡ laid_out shape g
+laid_same : (f g : InstanceKeyView → Option Tree) (shape : InstanceKeysView) → ((key : InstanceKeyView) → f key ≡ g key) → collected shape f ≡ collected shape g
 laid_same f g one h = h keys.single
 laid_same f g (many n) h = ap (λ o. option_map (λ ts. list (items_of ts)) o) (objects_same f g (instance_keys (many n)) h)
 laid_same f g (named names) h = ap (λ o. option_map (λ ts. map (put_each names ts no_entries)) o) (objects_same f g (instance_keys (named names)) h)
 
-pub together_same : (f g : InstanceKeyView → Option Tree) (shape : Option ShapeView) → ((key : InstanceKeyView) → f key ≡ g key) → together shape f ≡ together shape g
+pub together_same : (f g : InstanceKeyView → Option Tree) (shape : Option InstanceKeysView) → ((key : InstanceKeyView) → f key ≡ g key) → together shape f ≡ together shape g
 together_same f g None h = refl
 together_same f g (Some shape) h = ap (λ o. option_map limited o) (laid_same f g shape h)
 
@@ -58,20 +58,20 @@ planning_local shapes planned local n block e f h =
 pub applying_local : ApplyingIsLocal
 applying_local shapes objects n block e f h = refl
 
-stands_local : ExpressionsAreLocal → (stage : StageView) → IsLocal stage → (n : ℕ) (m : Option Meant) (e f : Environment) → AgreeOn e f (refers_at m) → stands_at stage n m e ≡ stands_at stage n m f
+stands_local : ExpressionsAreLocal → (stage : ResourceValuesView) → IsLocal stage → (n : ℕ) (m : Option Meant) (e f : Environment) → AgreeOn e f (refers_at m) → stands_at stage n m e ≡ stands_at stage n m f
 stands_local law stage local n None e f h = refl
 stands_local law stage local n (Some (a_local t)) e f h = ap Some (law e f t h)
 stands_local law stage local n (Some (a_block b)) e f h = local n b e f h
 
 -- what stands directly before a name decides what it stands for
-pub sees : ExpressionsAreLocal → (stage : StageView) (variables : Entries) (names : List NameView) (standings others : ℕ → StandingView) → IsLocal stage → (n : ℕ)
-    → AllByRecursion (λ a. standings a ≡ others a) (directly_before names n)
-    → stands_at stage n (meant_at names n) (environment variables names standings) ≡ stands_at stage n (meant_at names n) (environment variables names others)
-sees law stage variables names standings others local n h =
-    stands_local law stage local n (meant_at names n) (environment variables names standings) (environment variables names others)
-    (agree_on variables names standings others (refers_at (meant_at names n)) h)
+pub sees : ExpressionsAreLocal → (stage : ResourceValuesView) (variables : Entries) (names : List NameView) (resolved_names others : ℕ → ResolvedView) → IsLocal stage → (n : ℕ)
+    → AllByRecursion (λ a. resolved_names a ≡ others a) (directly_before names n)
+    → stands_at stage n (meant_at names n) (environment variables names resolved_names) ≡ stands_at stage n (meant_at names n) (environment variables names others)
+sees law stage variables names resolved_names others local n h =
+    stands_local law stage local n (meant_at names n) (environment variables names resolved_names) (environment variables names others)
+    (agree_on variables names resolved_names others (refers_at (meant_at names n)) h)
 
 pub all_seen : ExpressionsAreLocal → AllAreSeen
-all_seen law stage variables names standings local solves n h =
-    solves n h ∙ ap (where_all (all_stand (seen_by standings (directly_before names n))))
-    (sym (sees law stage variables names standings (result_in (seen_by standings (directly_before names n))) local n (same_seen standings (directly_before names n))))
+all_seen law stage variables names resolved_names local solves n h =
+    solves n h ∙ ap (where_all (all_stand (seen_by resolved_names (directly_before names n))))
+    (sym (sees law stage variables names resolved_names (result_in (seen_by resolved_names (directly_before names n))) local n (same_seen resolved_names (directly_before names n))))

@@ -1,4 +1,4 @@
--- Objects that refine, laid out, refine.
+-- Objects that refine, collected, refine.
 use Rattle.std.proofs.Common.{◌≡◌, ℕ, Bool, true, false, if◌then◌else◌, ◌&&◌, nat_le, List, [], ◌∷◌, Option, Some, None, Ok, Err, option_map, refl}
 use Rattle.std.specs.Option.{option_and_then}
 use Rattle.std.specs.Cmp.Lexicographic.{slice_cmp}
@@ -14,8 +14,8 @@ use Rattle.tf_value.specs.Refinement.{Refines, RefinesItems, RefinesEntries}
 use Rattle.tf_operators.specs.Answer.{Answer, limited}
 use Rattle.tf_operators.specs.declared.fault.EvalFault.TheVariants.{TooLarge}
 use Rattle.tf_environment.specs.Laws.{Grows}
-use Rattle.tf_environment.specs.Shape.{ShapeView, one, many, named, instance_keys, objects_at, put_each, laid_out}
-use Rattle.tf_environment.specs.Standing.{together}
+use Rattle.tf_environment.specs.InstanceKeys.{InstanceKeysView, one, many, named, instance_keys, objects_at, put_each, collected}
+use Rattle.tf_environment.specs.Resolved.{together}
 
 -- where there is an option's value and what follows has one
 pub followed : {A B : Type 0} → (o : Option A) (f : A → Option B) (b : B) → option_and_then f o ≡ Some b → (a : A) × (o ≡ Some a) × (f a ≡ Some b)
@@ -64,7 +64,7 @@ put_each_refines (name ∷ names) (t ∷ ts) [] es fs h r = absurd h
 put_each_refines (name ∷ names) (t ∷ ts) (u ∷ us) es fs h r = put_each_refines names ts us (put name t es) (put name u fs) h.1 (put_refines name t u es fs h.0 r)
 
 -- what stands together of objects that refine refines
-pub laid_refines : (shape : ShapeView) (f g : InstanceKeyView → Option Tree) (t u : Tree) → ObjectsRefine f g → laid_out shape f ≡ Some t → laid_out shape g ≡ Some u → Refines t u
+pub laid_refines : (shape : InstanceKeysView) (f g : InstanceKeyView → Option Tree) (t u : Tree) → ObjectsRefine f g → collected shape f ≡ Some t → collected shape g ≡ Some u → Refines t u
 laid_refines one f g t u h p q = h keys.single t u p q
 laid_refines (many n) f g t u h p q =
     let a = mapped (objects_at f (instance_keys (many n))) (λ ts. list (items_of ts)) t p in
@@ -88,10 +88,10 @@ pub limited_is : (t v : Tree) → limited t ≡ Ok v → t ≡ v
 limited_is t v h = within_is (nat_le (weight t) max_weight && nat_le (depth t) max_depth) t v h
 
 -- resources of one shape whose objects refine grow
-pub together_grows : (shape : ShapeView) (f g : InstanceKeyView → Option Tree) → ObjectsRefine f g → Grows (together (Some shape) f) (together (Some shape) g)
+pub together_grows : (shape : InstanceKeysView) (f g : InstanceKeyView → Option Tree) → ObjectsRefine f g → Grows (together (Some shape) f) (together (Some shape) g)
 together_grows shape f g h v w p q =
-    let a = mapped (laid_out shape f) limited (Ok v) p in
-    let b = mapped (laid_out shape g) limited (Ok w) q in
+    let a = mapped (collected shape f) limited (Ok v) p in
+    let b = mapped (collected shape g) limited (Ok w) q in
     let x : a.0 ≡ v = limited_is a.0 v a.2 in
     let y : b.0 ≡ w = limited_is b.0 w b.2 in
     rw (← x, ← y) (laid_refines shape f g a.0 b.0 h a.1 b.1)

@@ -16,14 +16,14 @@ use Rattle.tf_eval.proofs.Alone.{split}
 use Rattle.tf_environment.specs.Instance.{bound, count_index, each_key, each_value, value_under, instance_constants}
 use Rattle.tf_environment.specs.Laws.{Grows, ExpansionGrows, PlanGrows, InstancesStay, InstanceEnvironmentsGrow}
 use Rattle.tf_environment.specs.Repetition.{instances, counted, keyed, or_bad_for_each}
-use Rattle.tf_environment.specs.Shape.{ShapeView}
+use Rattle.tf_environment.specs.InstanceKeys.{InstanceKeysView}
 use Rattle.tf_environment.specs.Stages.{expansion, planning, applying, fine}
-use Rattle.tf_environment.specs.Standing.{together, environment_at}
-use Rattle.tf_environment.proofs.Growing.{Known, standings_grow, one_answer}
+use Rattle.tf_environment.specs.Resolved.{together, environment_at}
+use Rattle.tf_environment.proofs.Growing.{Known, resolved_names_grow, one_answer}
 use Rattle.tf_environment.proofs.Refining.{together_grows, same_keys, get_refines}
 
 -- where nothing is known of the objects, they refine to any others of the shape that is worked out
-unknowns_grow : (worked : Option ShapeView) (shape : ShapeView) (f : InstanceKeyView → Option Tree) → ((s : ShapeView) → worked ≡ Some s → shape ≡ s)
+unknowns_grow : (worked : Option InstanceKeysView) (shape : InstanceKeysView) (f : InstanceKeyView → Option Tree) → ((s : InstanceKeysView) → worked ≡ Some s → shape ≡ s)
     → Grows (together worked (λ key. Some unknown)) (together (Some shape) f)
 unknowns_grow None shape f h v w p q = absurd (cc)
 unknowns_grow (Some s) shape f h v w p q =
@@ -31,46 +31,46 @@ unknowns_grow (Some s) shape f h v w p q =
 
 pub expansion_grows : Known → ExpansionGrows
 expansion_grows known variables names shapes planned r s ranked p q expanded =
-    standings_grow known expansion (planning shapes planned) variables names r s ranked p q
+    resolved_names_grow known expansion (planning shapes planned) variables names r s ranked p q
     (λ n block is more.
     unknowns_grow (fine (instances block.repetition (environment_at variables names r n))) (shapes n) (planned n block (environment_at variables names s n))
     (λ shape worked. expanded n block shape is worked))
 
 pub plan_grows : Known → PlanGrows
 plan_grows known variables names shapes planned objects r s ranked p q answered =
-    standings_grow known (planning shapes planned) (applying shapes objects) variables names r s ranked p q
+    resolved_names_grow known (planning shapes planned) (applying shapes objects) variables names r s ranked p q
     (λ n block is more.
     together_grows (shapes n) (planned n block (environment_at variables names r n)) (λ key. Some (objects n key))
     (λ key t u a b. let e : objects n key ≡ u = (cc) in rw (← e) (answered n block key t is a)))
 
-whole_stays : (y z : ℤ) (shape later : ShapeView) → y ≡ z → counted (Ok (whole y)) ≡ Ok shape → counted (Ok (whole z)) ≡ Ok later → shape ≡ later
+whole_stays : (y z : ℤ) (shape later : InstanceKeysView) → y ≡ z → counted (Ok (whole y)) ≡ Ok shape → counted (Ok (whole z)) ≡ Ok later → shape ≡ later
 whole_stays y z shape later e p q = let f : counted (Ok (whole y)) ≡ counted (Ok (whole z)) = ap (λ x. counted (Ok (whole x))) e in cc
 
 -- a count that has a value keeps it
-count_stays : (t u : Tree) (shape later : ShapeView) → Refines t u → counted (Ok t) ≡ Ok shape → counted (Ok u) ≡ Ok later → shape ≡ later
+count_stays : (t u : Tree) (shape later : InstanceKeysView) → Refines t u → counted (Ok t) ≡ Ok shape → counted (Ok u) ≡ Ok later → shape ≡ later
 count_stays (whole y) (whole z) shape later h p q = whole_stays y z shape later h p q
 count_stays (whole y) _ shape later h p q = absurd (assumption)
 count_stays _ u shape later h p q = absurd (cc)
 
-named_stays : (es fs : Entries) (shape later : ShapeView) → keys_of es ≡ keys_of fs → keyed (Ok (map es)) ≡ Ok shape → keyed (Ok (map fs)) ≡ Ok later → shape ≡ later
+named_stays : (es fs : Entries) (shape later : InstanceKeysView) → keys_of es ≡ keys_of fs → keyed (Ok (map es)) ≡ Ok shape → keyed (Ok (map fs)) ≡ Ok later → shape ≡ later
 named_stays es fs shape later e p q = let f : keyed (Ok (map es)) ≡ keyed (Ok (map fs)) = ap (λ (ks : List (List ℕ)). or_bad_for_each (Some ks)) e in cc
 
-texts_stay : (ss ts : List (List ℕ)) (shape later : ShapeView) → ss ≡ ts → keyed (Ok (set ss)) ≡ Ok shape → keyed (Ok (set ts)) ≡ Ok later → shape ≡ later
+texts_stay : (ss ts : List (List ℕ)) (shape later : InstanceKeysView) → ss ≡ ts → keyed (Ok (set ss)) ≡ Ok shape → keyed (Ok (set ts)) ≡ Ok later → shape ≡ later
 texts_stay ss ts shape later e p q = let f : keyed (Ok (set ss)) ≡ keyed (Ok (set ts)) = ap (λ (ks : List (List ℕ)). or_bad_for_each (Some ks)) e in cc
 
 -- keys that have a value keep it
-keys_stay : (t u : Tree) (shape later : ShapeView) → Refines t u → keyed (Ok t) ≡ Ok shape → keyed (Ok u) ≡ Ok later → shape ≡ later
+keys_stay : (t u : Tree) (shape later : InstanceKeysView) → Refines t u → keyed (Ok t) ≡ Ok shape → keyed (Ok u) ≡ Ok later → shape ≡ later
 keys_stay (set ss) (set ts) shape later h p q = texts_stay ss ts shape later h p q
 keys_stay (map es) (map fs) shape later h p q = named_stays es fs shape later (same_keys es fs h) p q
 keys_stay (set ss) _ shape later h p q = absurd (assumption)
 keys_stay (map es) _ shape later h p q = absurd (assumption)
 keys_stay _ u shape later h p q = absurd (cc)
 
-counted_value : (a : Answer) (shape : ShapeView) → counted a ≡ Ok shape → (t : Tree) × (a ≡ Ok t) × (counted (Ok t) ≡ Ok shape)
+counted_value : (a : Answer) (shape : InstanceKeysView) → counted a ≡ Ok shape → (t : Tree) × (a ≡ Ok t) × (counted (Ok t) ≡ Ok shape)
 counted_value (Ok t) shape h = (t, refl, h)
 counted_value (Err e) shape h = absurd (cc)
 
-keyed_value : (a : Answer) (shape : ShapeView) → keyed a ≡ Ok shape → (t : Tree) × (a ≡ Ok t) × (keyed (Ok t) ≡ Ok shape)
+keyed_value : (a : Answer) (shape : InstanceKeysView) → keyed a ≡ Ok shape → (t : Tree) × (a ≡ Ok t) × (keyed (Ok t) ≡ Ok shape)
 keyed_value (Ok t) shape h = (t, refl, h)
 keyed_value (Err e) shape h = absurd (cc)
 

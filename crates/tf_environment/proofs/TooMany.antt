@@ -8,8 +8,8 @@ use Rattle.tf_value.specs.Measure.{weight_of_items, depth, max_weight, max_depth
 use Rattle.tf_value.specs.Tree.{Tree, unknown, items_of}
 use Rattle.tf_operators.specs.Answer.{Answer, limited}
 use Rattle.tf_operators.specs.declared.fault.EvalFault.TheVariants.{TooLarge}
-use Rattle.tf_environment.specs.Shape.{ShapeView, many, instance_keys, objects_at, list_of, laid_out}
-use Rattle.tf_environment.specs.Standing.{StandingView}
+use Rattle.tf_environment.specs.InstanceKeys.{InstanceKeysView, many, instance_keys, objects_at, list_of, collected}
+use Rattle.tf_environment.specs.Resolved.{ResolvedView}
 
 all_unknown : (ks : List InstanceKeyView) → objects_at (λ key. Some unknown) ks ≡ Some (each (λ key. unknown) ks)
 all_unknown [] = refl
@@ -26,7 +26,7 @@ refused false other t h = refl
 refused true other t h = absurd (cc)
 
 -- a list of a million objects or more is too large
-pub too_many : (n : ℕ) → max_weight ≤ n → ◌≡◌ {A = StandingView} (Some (Err TooLarge)) (option_map limited (laid_out (many n) (λ key. Some unknown)))
+pub too_many : (n : ℕ) → max_weight ≤ n → ◌≡◌ {A = ResolvedView} (Some (Err TooLarge)) (option_map limited (collected (many n) (λ key. Some unknown)))
 too_many n h =
     let ks = instance_keys (many n) in
     let count : length ks ≡ n = length-map-range_with_len keys.number 0 n in
@@ -37,5 +37,5 @@ too_many n h =
     ∙ ap (λ o. option_map limited (option_map list_of o)) (sym (all_unknown ks))
 
 -- and so is one of a shape that is such a list
-pub shape_too_many : (shape : ShapeView) (n : ℕ) → shape ≡ many n → max_weight ≤ n → ◌≡◌ {A = StandingView} (Some (Err TooLarge)) (option_map limited (laid_out shape (λ key. Some unknown)))
-shape_too_many shape n is h = too_many n h ∙ ap (λ s. option_map limited (laid_out s (λ key. Some unknown))) (sym is)
+pub shape_too_many : (shape : InstanceKeysView) (n : ℕ) → shape ≡ many n → max_weight ≤ n → ◌≡◌ {A = ResolvedView} (Some (Err TooLarge)) (option_map limited (collected shape (λ key. Some unknown)))
+shape_too_many shape n is h = too_many n h ∙ ap (λ s. option_map limited (collected s (λ key. Some unknown))) (sym is)

@@ -2,8 +2,8 @@ pub mod Instance
 pub mod Kept
 pub mod Laws
 pub mod Repetition
-pub mod Shape
+pub mod InstanceKeys
 pub mod Stages
-pub mod Standing
+pub mod Resolved
 pub mod Views
 pub mod Words

@@ -5,8 +5,8 @@ use Rattle.tf_config_data.specs.Config.{BlockView}
 use Rattle.tf_value.specs.Tree.{Tree, unknown}
 use Rattle.tf_eval.specs.Environment.{Environment}
 use Rattle.tf_environment.specs.Repetition.{instances}
-use Rattle.tf_environment.specs.Shape.{ShapeView}
-use Rattle.tf_environment.specs.Standing.{StageView}
+use Rattle.tf_environment.specs.InstanceKeys.{InstanceKeysView}
+use Rattle.tf_environment.specs.Resolved.{ResourceValuesView}
 
 -- what is fine
 abbrev pub fine : {A E : Type 0} → Result A E → Option A
@@ -14,13 +14,13 @@ fine (Ok a) = Some a
 fine (Err e) = None
 
 -- In the expansion the instances are worked out, and no object is known.
-abbrev pub expansion : StageView
+abbrev pub expansion : ResourceValuesView
 expansion = record { shape = λ n block env. fine (instances block.repetition env); object = λ n block env key. Some unknown }
 
 -- In the plan a resource has the instances that the expansion gave it, and each object is planned.
-abbrev pub planning : (ℕ → ShapeView) → (ℕ → BlockView → Environment → InstanceKeyView → Option Tree) → StageView
+abbrev pub planning : (ℕ → InstanceKeysView) → (ℕ → BlockView → Environment → InstanceKeyView → Option Tree) → ResourceValuesView
 planning shapes planned = record { shape = λ n block env. Some (shapes n); object = planned }
 
 -- In the apply a resource has these instances too, and the objects that the providers answered.
-abbrev pub applying : (ℕ → ShapeView) → (ℕ → InstanceKeyView → Tree) → StageView
+abbrev pub applying : (ℕ → InstanceKeysView) → (ℕ → InstanceKeyView → Tree) → ResourceValuesView
 applying shapes objects = record { shape = λ n block env. Some (shapes n); object = λ n block env key. Some (objects n key) }

@@ -19,14 +19,14 @@ use tf_value::Value;
 
 /// Constants, and a scope around them in which all other references are looked up.
 #[derive(Drop)]
-pub struct Bound<'a, S> {
+pub struct InstanceScope<'a, S> {
     /// The constants.
     pub constants: &'a Constants,
     /// What other references stand for.
     pub around: &'a S,
 }
 
-impl<S: Scope> Scope for Bound<'_, S> {
+impl<S: Scope> Scope for InstanceScope<'_, S> {
     ghost environment = { λ s. bound (constants_of s.constants.now) (S.environment s.around.now) };
 
     fn look_at<'s>(&'s self, reference: &Reference) -> Result<&'s Value, EvalFault> {

@@ -1,15 +1,15 @@
 //! Laws on what names stand for.
 
-ghost use Rattle.tf_environment.specs.Laws.{AllAreSeen, ApplyingIsLocal, ExpansionGrows, ExpansionIsLocal, InstanceEnvironmentsGrow, InstancesStay, PlanGrows, PlanningIsLocal, StandingsAreOne, StandingsExist, StandingsGrow};
+ghost use Rattle.tf_environment.specs.Laws.{AllAreSeen, ApplyingIsLocal, ExpansionGrows, ExpansionIsLocal, InstanceEnvironmentsGrow, InstancesStay, PlanGrows, PlanningIsLocal, ResolvedNamesAreOne, ResolvedNamesExist, ResolvedNamesGrow};
 
 use tf_eval::{expr_knowledge_grows, meaning_is_local};
 use tf_graph::laws::{solution_exists, solution_is_unique};
 use tf_value::refinement_is_an_order;
 
-/// Where no name needs itself, there are standings at each stage, and they are one.
-pub fn standings_are_one()
-    ensures one { StandingsAreOne }
-    ensures exist { StandingsExist }
+/// Where no name needs itself, all names resolve at each stage, and in one way.
+pub fn resolved_names_are_one()
+    ensures one { ResolvedNamesAreOne }
+    ensures exist { ResolvedNamesExist }
 {}
 
 /// At each stage a block stands for the same wherever what it refers to does.
@@ -23,8 +23,8 @@ pub fn stages_are_local()
 }
 
 /// What is known of what names stand for only grows from one stage to the next.
-pub fn standings_grow()
-    ensures standings { StandingsGrow }
+pub fn resolved_names_grow()
+    ensures resolved_names { ResolvedNamesGrow }
     ensures expansion { ExpansionGrows }
     ensures plan { PlanGrows }
 {

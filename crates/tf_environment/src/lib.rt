@@ -2,29 +2,29 @@
 //!
 //! In the expansion a resource stands for objects of which nothing is known, in the plan for planned objects, and in
 //! the apply for what the providers answered. One rule says what each name stands for by what stands directly before
-//! it (`specs/Standing.antt`); a stage says only how the objects of a resource stand together and what each is
-//! (`specs/Stages.antt`). The standings are the one solution of that rule. What is known of them only grows from
+//! it (`specs/Resolved.antt`); a stage says only how the objects of a resource stand together and what each is
+//! (`specs/Stages.antt`). The resolved names are the one solution of that rule. What is known of them only grows from
 //! stage to stage (`laws`).
 #![tactic(auto)]
 
+mod collecting;
 mod evaluation;
 mod instance;
 pub mod laws;
-mod layout;
 mod marks;
 mod repetition;
+mod resolved;
 mod scope;
 mod shape;
 mod stage;
-mod standing;
 mod table;
 
-pub use instance::{Bound, instance_constants};
-pub use layout::{Keyed, lay_out};
+pub use collecting::{Keyed, collect_instances};
+pub use instance::{InstanceScope, instance_constants};
 pub use marks::{is_marked, mark, none_marked};
 pub use repetition::{RepetitionFault, instances};
+pub use resolved::{Resolved, evaluated};
 pub use scope::NamesScope;
-pub use shape::Shape;
-pub use stage::{Expansion, Instanced, Objects, Resource, Stage};
-pub use standing::{Standing, evaluated};
-pub use table::{Declarations, all_stand, no_standings, standing_at, standings};
+pub use shape::InstanceKeys;
+pub use stage::{ExpandedValues, Expansion, Objects, ResourceInScope, ResourceValues};
+pub use table::{Module, all_stand, resolved_at, resolved_names, unresolved_names};

@@ -7,7 +7,7 @@ ghost use Rattle.tf_environment.specs.Repetition.{counted as counted_shape, inst
 ghost use Rattle.tf_environment.specs.Views.{worked_out};
 
 use crate::evaluation::valued;
-use crate::shape::Shape;
+use crate::shape::InstanceKeys;
 use std::alloc::{AllocError, Global};
 use std::collections::{BTreeMap, BTreeSet};
 use tf_config_data::Repetition;
@@ -37,11 +37,11 @@ pub fn instances<S: Scope>(
     alloc: Global,
     repetition: &Repetition,
     scope: &S,
-) -> Result<Result<Shape, RepetitionFault>, AllocError>
+) -> Result<Result<InstanceKeys, RepetitionFault>, AllocError>
     ensures { IfOk result (λ shape. worked_out shape ≡ instances_in (repetition_of repetition.now) (S.environment scope.now)) }
 {
     match repetition {
-        Repetition::Single => Ok(Ok(Shape::One)),
+        Repetition::Single => Ok(Ok(InstanceKeys::One)),
         Repetition::Count(expr) => match valued(alloc, expr, scope)? {
             Ok(found) => Ok(counted(found.value())),
             Err(fault) => Ok(Err(RepetitionFault::Evaluation(fault))),
@@ -54,13 +54,13 @@ pub fn instances<S: Scope>(
 }
 
 /// The instances of a `count` with this value.
-fn counted(value: &Value) -> Result<Shape, RepetitionFault>
+fn counted(value: &Value) -> Result<InstanceKeys, RepetitionFault>
     ensures { worked_out result ≡ counted_shape (Ok (tree_of value.now)) }
 {
     match value {
         Value::Unknown => Err(RepetitionFault::UnknownInstances),
         Value::Int(number) => match u64::try_from(*number) {
-            Ok(count) => Ok(Shape::Many(count)),
+            Ok(count) => Ok(InstanceKeys::Many(count)),
             Err(_) => Err(RepetitionFault::BadCount),
         },
         _ => Err(RepetitionFault::BadCount),
@@ -68,14 +68,14 @@ fn counted(value: &Value) -> Result<Shape, RepetitionFault>
 }
 
 /// The instances of a `for_each` with this value.
-fn keyed(alloc: Global, value: &Value) -> Result<Result<Shape, RepetitionFault>, AllocError>
+fn keyed(alloc: Global, value: &Value) -> Result<Result<InstanceKeys, RepetitionFault>, AllocError>
     ensures { IfOk result (λ shape. worked_out shape ≡ keyed_shape (Ok (tree_of value.now))) }
 {
     if matches!(value, Value::Unknown) {
         return Ok(Err(RepetitionFault::UnknownInstances));
     }
     match names(alloc, value)? {
-        Some(names) => Ok(Ok(Shape::Named(names))),
+        Some(names) => Ok(Ok(InstanceKeys::Named(names))),
         None => Ok(Err(RepetitionFault::BadForEach)),
     }
 }

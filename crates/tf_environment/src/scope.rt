@@ -1,16 +1,16 @@
-//! What references stand for, by the standings of names.
+//! What references stand for, by the resolved names.
 
 ghost use Rattle.tf_names.specs.Table.{names_in};
 ghost use Rattle.tf_eval.specs.Meaning.{and_then};
 ghost use Rattle.tf_operators.specs.Answer.{Shows, limited};
 ghost use Rattle.tf_value.specs.Tree.{entries_view};
-ghost use Rattle.tf_environment.specs.Standing.{answer_at, environment};
-ghost use Rattle.tf_environment.specs.Views.{standings_of};
+ghost use Rattle.tf_environment.specs.Resolved.{answer_at, environment};
+ghost use Rattle.tf_environment.specs.Views.{resolved_names_of};
 
-use crate::standing::Standing;
+use crate::resolved::Resolved;
 use std::collections::BTreeMap;
 use tf_eval::{EvalFault, Scope};
-use tf_names::Names;
+use tf_names::Declarations;
 use tf_operators::limited_at;
 use tf_syntax::Reference;
 use tf_value::{Value, find};
@@ -21,13 +21,13 @@ pub struct NamesScope<'a, 'n> {
     /// The variables' values by name.
     pub variables: &'a BTreeMap<String, Value>,
     /// The names of locals and resources.
-    pub names: &'a Names<'n>,
+    pub names: &'a Declarations<'n>,
     /// What stands at the place of each name.
-    pub standings: &'a [Standing],
+    pub resolved_names: &'a [Resolved],
 }
 
 impl Scope for NamesScope<'_, '_> {
-    ghost environment = { λ s. environment (entries_view s.variables.now.entries) (names_in s.names.now) (standings_of s.standings.now) };
+    ghost environment = { λ s. environment (entries_view s.variables.now.entries) (names_in s.names.now) (resolved_names_of s.resolved_names.now) };
 
     fn look_at<'s>(&'s self, reference: &Reference) -> Result<&'s Value, EvalFault> {
         let first = reference.first.as_str();
@@ -38,19 +38,19 @@ impl Scope for NamesScope<'_, '_> {
                 None => Err(EvalFault::Missing),
             };
         }
-        shown_at(self.standings, self.names.place(first, name))
+        shown_at(self.resolved_names, self.names.place(first, name))
     }
 }
 
 /// The value at a place, where it stands; `Missing` where there is none.
-fn shown_at(standings: &[Standing], place: Option<usize>) -> Result<&Value, EvalFault>
-    ensures { Shows (and_then (answer_at (standings_of standings.now) place) limited) result }
+fn shown_at(resolved_names: &[Resolved], place: Option<usize>) -> Result<&Value, EvalFault>
+    ensures { Shows (and_then (answer_at (resolved_names_of resolved_names.now) place) limited) result }
 {
     let Some(place) = place else {
         return Err(EvalFault::Missing);
     };
-    match standings.get(place) {
-        Some(standing) => standing.shown(),
+    match resolved_names.get(place) {
+        Some(resolved) => resolved.shown(),
         None => Err(EvalFault::Missing),
     }
 }

@@ -2,7 +2,7 @@
 
 ghost use Rattle.std.specs.Prelude.{◌≡◌, IfOk, map as each, string_bytes};
 ghost use Rattle.tf_address.specs.ObjectId.{instance_key_of};
-ghost use Rattle.tf_environment.specs.Shape.{instance_keys, many, named};
+ghost use Rattle.tf_environment.specs.InstanceKeys.{instance_keys, many, named};
 ghost use Rattle.tf_environment.specs.Views.{shape_of};
 
 use std::alloc::{AllocError, Global};
@@ -10,7 +10,7 @@ use tf_address::InstanceKey;
 
 /// How the objects of a resource stand together.
 #[derive(Debug, Drop)]
-pub enum Shape {
+pub enum InstanceKeys {
     /// One object, without a key.
     One,
     /// A list of so many.
@@ -19,7 +19,7 @@ pub enum Shape {
     Named(Vec<String>),
 }
 
-impl Shape {
+impl InstanceKeys {
     /// The keys of the instances, in order.
     ///
     /// # Errors
@@ -29,9 +29,9 @@ impl Shape {
         ensures { IfOk result (λ keys. each instance_key_of keys.items ≡ instance_keys (shape_of self.now)) }
     {
         match self {
-            Shape::One => Ok(vec![in alloc; InstanceKey::Single]?),
-            Shape::Many(count) => numbers(alloc, *count),
-            Shape::Named(names) => keys_named(alloc, names),
+            InstanceKeys::One => Ok(vec![in alloc; InstanceKey::Single]?),
+            InstanceKeys::Many(count) => numbers(alloc, *count),
+            InstanceKeys::Named(names) => keys_named(alloc, names),
         }
     }
 }

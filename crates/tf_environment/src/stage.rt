@@ -5,13 +5,13 @@ ghost use Rattle.tf_config_data.specs.Words.{a_block, block_at, BlockView, insta
 ghost use Rattle.tf_value.specs.Tree.{tree_of};
 ghost use Rattle.tf_eval.specs.Environment.{Environment};
 ghost use Rattle.tf_environment.specs.Stages.{expansion, planning};
-ghost use Rattle.tf_environment.specs.Standing.{StageView, stands, together};
-ghost use Rattle.tf_environment.specs.Views.{shape_of, shapes_of, standing_of};
+ghost use Rattle.tf_environment.specs.Resolved.{ResourceValuesView, stands, together};
+ghost use Rattle.tf_environment.specs.Views.{shape_of, shapes_of, resolved_of};
 
-use crate::layout::{Keyed, lay_out};
+use crate::collecting::{Keyed, collect_instances};
 use crate::repetition::instances;
-use crate::shape::Shape;
-use crate::standing::Standing;
+use crate::resolved::Resolved;
+use crate::shape::InstanceKeys;
 use std::alloc::{AllocError, Global};
 use tf_address::{InstanceKey, Label};
 use tf_config_data::Block;
@@ -21,7 +21,7 @@ use tf_value::Value;
 
 /// A resource, and what references stand for where it is looked at.
 #[derive(Drop)]
-pub struct Resource<'a, S> {
+pub struct ResourceInScope<'a, S> {
     /// The place of its name.
     pub place: usize,
     /// Its address.
@@ -33,20 +33,20 @@ pub struct Resource<'a, S> {
 }
 
 /// A stage of the engine: what a resource stands for.
-pub trait Stage {
-    ghost stage: { Self → StageView };
+pub trait ResourceValues {
+    ghost stage: { Self → ResourceValuesView };
 
     /// What a resource stands for.
     ///
     /// # Errors
     ///
     /// Only where memory runs out.
-    fn stand<S: Scope>(
+    fn resolve<S: Scope>(
         &self,
         alloc: Global,
-        resource: &Resource<'_, S>,
-    ) -> Result<Standing, AllocError>
-        ensures { IfOk result (λ standing. standing_of standing
+        resource: &ResourceInScope<'_, S>,
+    ) -> Result<Resolved, AllocError>
+        ensures { IfOk result (λ resolved. resolved_of resolved
             ≡ stands (stage self.now) resource.now.place (a_block (block_at (label_of resource.now.label.now) resource.now.block.now)) (S.environment resource.now.scope.now)) };
 }
 
@@ -68,28 +68,28 @@ impl Keyed for Unknowns {
 /// So many unknown objects are too large a list.
 const TOO_MANY: u64 = 1_000_000;
 
-impl Stage for Expansion {
+impl ResourceValues for Expansion {
     ghost stage = { λ _. expansion };
 
-    fn stand<S: Scope>(
+    fn resolve<S: Scope>(
         &self,
         alloc: Global,
-        resource: &Resource<'_, S>,
-    ) -> Result<Standing, AllocError> {
+        resource: &ResourceInScope<'_, S>,
+    ) -> Result<Resolved, AllocError> {
         match instances(alloc, &resource.block.repetition, resource.scope)? {
             Ok(shape) => unknown_objects(alloc, &shape),
-            Err(_) => Ok(Standing::Nothing),
+            Err(_) => Ok(Resolved::Nothing),
         }
     }
 }
 
 /// What a resource stands for of whose objects nothing is known. No list is made of more than the limits let be.
-fn unknown_objects(alloc: Global, shape: &Shape) -> Result<Standing, AllocError>
-    ensures { IfOk result (λ standing. standing_of standing ≡ together (Some (shape_of shape.now)) (λ _. Some unknown)) }
+fn unknown_objects(alloc: Global, shape: &InstanceKeys) -> Result<Resolved, AllocError>
+    ensures { IfOk result (λ resolved. resolved_of resolved ≡ together (Some (shape_of shape.now)) (λ _. Some unknown)) }
 {
     match shape {
-        Shape::Many(count) if *count >= TOO_MANY => Ok(Standing::Fault(EvalFault::TooLarge)),
-        _ => lay_out(alloc, shape, &Unknowns),
+        InstanceKeys::Many(count) if *count >= TOO_MANY => Ok(Resolved::Fault(EvalFault::TooLarge)),
+        _ => collect_instances(alloc, shape, &Unknowns),
     }
 }
 
@@ -106,7 +106,7 @@ pub trait Objects {
     fn object<S: Scope>(
         &self,
         alloc: Global,
-        resource: &Resource<'_, S>,
+        resource: &ResourceInScope<'_, S>,
         key: &InstanceKey,
     ) -> Result<Option<Value>, AllocError>
         ensures { IfOk result (λ value. option_map tree_of value
@@ -115,21 +115,21 @@ pub trait Objects {
 
 /// The plan and the apply: each resource has the instances that the expansion gave it, and their objects.
 #[derive(Drop)]
-pub struct Instanced<'a, O> {
+pub struct ExpandedValues<'a, O> {
     /// How the instances of each resource stand together, by the place of its name.
-    pub shapes: &'a [Shape],
+    pub shapes: &'a [InstanceKeys],
     /// The objects.
     pub objects: &'a O,
 }
 
 /// The objects of one resource.
 #[derive(Drop)]
-struct Of<'o, 'r, 'a, O, S> {
+struct ResourceObjects<'o, 'r, 'a, O, S> {
     objects: &'o O,
-    resource: &'r Resource<'a, S>,
+    resource: &'r ResourceInScope<'a, S>,
 }
 
-impl<O: Objects, S: Scope> Keyed for Of<'_, '_, '_, O, S> {
+impl<O: Objects, S: Scope> Keyed for ResourceObjects<'_, '_, '_, O, S> {
     ghost object = { λ k. O.planned k.objects.now k.resource.now.place (block_at (label_of k.resource.now.label.now) k.resource.now.block.now) (S.environment k.resource.now.scope.now) };
 
     fn object(&self, alloc: Global, key: &InstanceKey) -> Result<Option<Value>, AllocError> {
@@ -137,21 +137,21 @@ impl<O: Objects, S: Scope> Keyed for Of<'_, '_, '_, O, S> {
     }
 }
 
-impl<O: Objects> Stage for Instanced<'_, O> {
+impl<O: Objects> ResourceValues for ExpandedValues<'_, O> {
     ghost stage = { λ s. planning (shapes_of s.shapes.now) (O.planned s.objects.now) };
 
-    fn stand<S: Scope>(
+    fn resolve<S: Scope>(
         &self,
         alloc: Global,
-        resource: &Resource<'_, S>,
-    ) -> Result<Standing, AllocError> {
-        let keyed = Of {
+        resource: &ResourceInScope<'_, S>,
+    ) -> Result<Resolved, AllocError> {
+        let keyed = ResourceObjects {
             objects: self.objects,
             resource,
         };
         match self.shapes.get(resource.place) {
-            Some(shape) => lay_out(alloc, shape, &keyed),
-            None => lay_out(alloc, &Shape::One, &keyed),
+            Some(shape) => collect_instances(alloc, shape, &keyed),
+            None => collect_instances(alloc, &InstanceKeys::One, &keyed),
         }
     }
 }

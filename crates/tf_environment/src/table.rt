@@ -7,27 +7,27 @@ ghost use Rattle.tf_graph.specs.Solutions.{seen_by};
 ghost use Rattle.tf_names.specs.Needs.{IsDependence, order_in};
 ghost use Rattle.tf_names.specs.Table.{names_in};
 ghost use Rattle.tf_value.specs.Tree.{entries_view};
-ghost use Rattle.tf_environment.specs.Kept.{AreClosed, HaveStandings, OnlyWanted};
+ghost use Rattle.tf_environment.specs.Kept.{AreClosed, AreResolved, OnlyWanted};
 ghost use Rattle.tf_environment.specs.Laws.{IsLocal};
-ghost use Rattle.tf_environment.specs.Standing.{StandingView, all_stand as all_that_stand, environment, stands_at, where_all};
-ghost use Rattle.tf_environment.specs.Views.{standing_of, standings_of};
+ghost use Rattle.tf_environment.specs.Resolved.{ResolvedView, all_stand as all_that_stand, environment, stands_at, where_all};
+ghost use Rattle.tf_environment.specs.Views.{resolved_of, resolved_names_of};
 
 use crate::marks::is_marked;
+use crate::resolved::{Resolved, evaluated};
 use crate::scope::NamesScope;
-use crate::stage::{Resource, Stage};
-use crate::standing::{Standing, evaluated};
+use crate::stage::{ResourceInScope, ResourceValues};
 use std::alloc::{AllocError, Global};
 use std::collections::BTreeMap;
-use tf_names::{Dependence, Named, Names};
+use tf_names::{Declaration, Declarations, Dependence};
 use tf_value::Value;
 
 /// What a configuration declares, and the values of its variables.
 #[derive(Drop)]
-pub struct Declarations<'a, 'n> {
+pub struct Module<'a, 'n> {
     /// The variables' values by name.
     pub variables: &'a BTreeMap<String, Value>,
     /// The names of locals and resources.
-    pub names: &'a Names<'n>,
+    pub names: &'a Declarations<'n>,
     /// Which of them needs which.
     pub dependence: &'a Dependence,
 }
@@ -39,44 +39,44 @@ pub struct Declarations<'a, 'n> {
 /// # Errors
 ///
 /// Only where memory runs out.
-pub fn standings<T: Stage>(
+pub fn resolved_names<T: ResourceValues>(
     alloc: Global,
     stage: &T,
-    declared: &Declarations,
+    declared: &Module,
     wanted: &[bool],
-) -> Result<Vec<Standing>, AllocError>
+) -> Result<Vec<Resolved>, AllocError>
     requires local { IsLocal (T.stage stage.now) }
     requires dependence { IsDependence (names_in declared.now.names.now) declared.now.dependence.now }
     requires closed { AreClosed (names_in declared.now.names.now) wanted.now }
-    ensures standings { IfOk result (λ kept. HaveStandings (T.stage stage.now) (entries_view declared.now.variables.now.entries)
-        (names_in declared.now.names.now) (order_in declared.now.dependence.now) wanted.now (standings_of kept.items)) }
-    ensures only { IfOk result (λ kept. OnlyWanted wanted.now (standings_of kept.items)) }
+    ensures resolved_names { IfOk result (λ kept. AreResolved (T.stage stage.now) (entries_view declared.now.variables.now.entries)
+        (names_in declared.now.names.now) (order_in declared.now.dependence.now) wanted.now (resolved_names_of kept.items)) }
+    ensures only { IfOk result (λ kept. OnlyWanted wanted.now (resolved_names_of kept.items)) }
 {
-    standings_in(alloc, stage, declared, declared.dependence.order(), wanted)
+    resolved_in_order(alloc, stage, declared, declared.dependence.order(), wanted)
 }
 
 /// The same, of the names in a list in which each stands after all that it needs.
-fn standings_in<T: Stage>(
+fn resolved_in_order<T: ResourceValues>(
     alloc: Global,
     stage: &T,
-    declared: &Declarations,
+    declared: &Module,
     order: &[usize],
     wanted: &[bool],
-) -> Result<Vec<Standing>, AllocError>
+) -> Result<Vec<Resolved>, AllocError>
     requires local { IsLocal (T.stage stage.now) }
     requires dependence { IsDependence (names_in declared.now.names.now) declared.now.dependence.now }
     requires order { IsInOrder (directly_before (names_in declared.now.names.now)) order.now }
     requires within { (n : ℕ) → Contains order.now n → n < length (names_in declared.now.names.now) }
     requires closed { AreClosed (names_in declared.now.names.now) wanted.now }
-    ensures standings { IfOk result (λ kept. HaveStandings (T.stage stage.now) (entries_view declared.now.variables.now.entries)
-        (names_in declared.now.names.now) order.now wanted.now (standings_of kept.items)) }
-    ensures only { IfOk result (λ kept. OnlyWanted wanted.now (standings_of kept.items)) }
+    ensures resolved_names { IfOk result (λ kept. AreResolved (T.stage stage.now) (entries_view declared.now.variables.now.entries)
+        (names_in declared.now.names.now) order.now wanted.now (resolved_names_of kept.items)) }
+    ensures only { IfOk result (λ kept. OnlyWanted wanted.now (resolved_names_of kept.items)) }
 {
-    let mut kept = no_standings(alloc, declared.names.len())?;
+    let mut kept = unresolved_names(alloc, declared.names.len())?;
     for place in order {
         let is_wanted = is_marked(wanted, *place);
-        let standing = stand_at(alloc, stage, declared, kept.as_slice(), *place, is_wanted)?;
-        kept[*place] = standing;
+        let resolved = resolve_at(alloc, stage, declared, kept.as_slice(), *place, is_wanted)?;
+        kept[*place] = resolved;
     }
     Ok(kept)
 }
@@ -86,38 +86,38 @@ fn standings_in<T: Stage>(
 /// # Errors
 ///
 /// Only where memory runs out.
-pub fn no_standings(alloc: Global, count: usize) -> Result<Vec<Standing>, AllocError>
+pub fn unresolved_names(alloc: Global, count: usize) -> Result<Vec<Resolved>, AllocError>
     ensures length { IfOk result (λ kept. length kept.items ≡ count) }
-    ensures none { IfOk result (λ kept. (n : ℕ) → standings_of kept.items n ≡ None) }
+    ensures none { IfOk result (λ kept. (n : ℕ) → resolved_names_of kept.items n ≡ None) }
 {
     let mut kept = Vec::with_capacity(alloc, count)?;
     for _ in 0..count {
-        kept.push(Standing::Nothing)?;
+        kept.push(Resolved::Nothing)?;
     }
     Ok(kept)
 }
 
 /// What the name at a place stands for, by what names stand for so far; nothing where it isn't wanted.
-fn stand_at<T: Stage>(
+fn resolve_at<T: ResourceValues>(
     alloc: Global,
     stage: &T,
-    declared: &Declarations,
-    kept: &[Standing],
+    declared: &Module,
+    kept: &[Resolved],
     place: usize,
     is_wanted: bool,
-) -> Result<Standing, AllocError>
+) -> Result<Resolved, AllocError>
     requires place { place < length (names_in declared.now.names.now) }
     requires dependence { IsDependence (names_in declared.now.names.now) declared.now.dependence.now }
-    ensures { IfOk result (λ standing. standing_of standing ≡ (if is_wanted
-        then where_all (all_that_stand (seen_by (standings_of kept.now) (directly_before (names_in declared.now.names.now) place)))
+    ensures { IfOk result (λ resolved. resolved_of resolved ≡ (if is_wanted
+        then where_all (all_that_stand (seen_by (resolved_names_of kept.now) (directly_before (names_in declared.now.names.now) place)))
         (stands_at (T.stage stage.now) place (meant_at (names_in declared.now.names.now) place)
-        (environment (entries_view declared.now.variables.now.entries) (names_in declared.now.names.now) (standings_of kept.now)))
+        (environment (entries_view declared.now.variables.now.entries) (names_in declared.now.names.now) (resolved_names_of kept.now)))
         else None)) }
 {
     if !is_wanted || !all_stand(kept, declared.dependence.before(place)) {
-        return Ok(Standing::Nothing);
+        return Ok(Resolved::Nothing);
     }
-    standing_at(alloc, stage, declared, kept, place)
+    resolved_at(alloc, stage, declared, kept, place)
 }
 
 /// What the name at a place stands for, by what names stand for so far.
@@ -125,39 +125,39 @@ fn stand_at<T: Stage>(
 /// # Errors
 ///
 /// Only where memory runs out.
-pub fn standing_at<T: Stage>(
+pub fn resolved_at<T: ResourceValues>(
     alloc: Global,
     stage: &T,
-    declared: &Declarations,
-    kept: &[Standing],
+    declared: &Module,
+    kept: &[Resolved],
     place: usize,
-) -> Result<Standing, AllocError>
+) -> Result<Resolved, AllocError>
     requires { place < length (names_in declared.now.names.now) }
-    ensures { IfOk result (λ standing. standing_of standing ≡ stands_at (T.stage stage.now) place (meant_at (names_in declared.now.names.now) place)
-        (environment (entries_view declared.now.variables.now.entries) (names_in declared.now.names.now) (standings_of kept.now))) }
+    ensures { IfOk result (λ resolved. resolved_of resolved ≡ stands_at (T.stage stage.now) place (meant_at (names_in declared.now.names.now) place)
+        (environment (entries_view declared.now.variables.now.entries) (names_in declared.now.names.now) (resolved_names_of kept.now))) }
 {
     let scope = NamesScope {
         variables: declared.variables,
         names: declared.names,
-        standings: kept,
+        resolved_names: kept,
     };
     match declared.names.at(place) {
-        Named::Local(_, expr) => evaluated(alloc, expr, &scope),
-        Named::Resource(label, block) => {
-            let resource = Resource {
+        Declaration::Local(_, expr) => evaluated(alloc, expr, &scope),
+        Declaration::Resource(label, block) => {
+            let resource = ResourceInScope {
                 place,
                 label,
                 block,
                 scope: &scope,
             };
-            stage.stand(alloc, &resource)
+            stage.resolve(alloc, &resource)
         }
     }
 }
 
 /// Whether something stands at each of these places.
-pub fn all_stand(kept: &[Standing], places: &[usize]) -> bool
-    ensures { result ≡ all_that_stand (seen_by (standings_of kept.now) places.now) }
+pub fn all_stand(kept: &[Resolved], places: &[usize]) -> bool
+    ensures { result ≡ all_that_stand (seen_by (resolved_names_of kept.now) places.now) }
 {
     for place in places {
         if !stands(kept, *place) {
@@ -168,11 +168,11 @@ pub fn all_stand(kept: &[Standing], places: &[usize]) -> bool
 }
 
 /// Whether something stands at a place.
-fn stands(kept: &[Standing], place: usize) -> bool
-    ensures { result ≡ is_some (standings_of kept.now place) }
+fn stands(kept: &[Resolved], place: usize) -> bool
+    ensures { result ≡ is_some (resolved_names_of kept.now place) }
 {
     match kept.get(place) {
-        Some(standing) => standing.is_there(),
+        Some(resolved) => resolved.is_there(),
         None => false,
     }
 }

@@ -6,11 +6,11 @@ use Rattle.std.specs.declared.alloc.AllocError.{AllocError}
 use Rattle.std.specs.List.{AllByRecursion}
 use Rattle.std.specs.Prelude.{◌↔◌}
 use Rattle.tf_config_data.specs.Names.{NameView, meant_at, directly_before}
-use Rattle.tf_environment.specs.Kept.{AreClosed, HaveStandings, OnlyWanted}
+use Rattle.tf_environment.specs.Kept.{AreClosed, AreResolved, OnlyWanted}
 use Rattle.tf_environment.specs.Stages.{expansion}
-use Rattle.tf_environment.specs.Standing.{StandingView}
+use Rattle.tf_environment.specs.Resolved.{ResolvedView}
 use Rattle.tf_expand.specs.Needed.{is_resource, IsNeeded, IsNeededBy}
-use Rattle.tf_expand.specs.Told.{AreNeededStandings}
+use Rattle.tf_expand.specs.Told.{AreNeededNamesResolved}
 use Rattle.tf_graph.proofs.Edges.{all_by_contained}
 use Rattle.tf_graph.specs.NodeSet.{has}
 use Rattle.tf_names.proofs.Edging.{before-past, place_of-below}
@@ -44,10 +44,10 @@ unmarked true denied = absurd (denied refl)
 unmarked false denied = refl
 
 -- what is kept of the names that resources need, and of no others
-pub needed_kept : (variables : Entries) (names : List NameView) (d : Dependence) (wanted : List Bool) (kept : ℕ → StandingView) → IsDependence names d → IsAcyclic d → AreMarked names d wanted
-    → HaveStandings expansion variables names (order_in d) wanted kept → OnlyWanted wanted kept → AreNeededStandings variables names d kept
+pub needed_kept : (variables : Entries) (names : List NameView) (d : Dependence) (wanted : List Bool) (kept : ℕ → ResolvedView) → IsDependence names d → IsAcyclic d → AreMarked names d wanted
+    → AreResolved expansion variables names (order_in d) wanted kept → OnlyWanted wanted kept → AreNeededNamesResolved variables names d kept
 needed_kept variables names d wanted kept is acyclic marked have only = record {
-  needed = λ standings solves n needed. have standings solves n (is.whole acyclic n (needed_below names d is needed.name n needed.needs)) (needed-wanted names d wanted is marked n needed);
+  needed = λ resolved_names solves n needed. have resolved_names solves n (is.whole acyclic n (needed_below names d is needed.name n needed.needs)) (needed-wanted names d wanted is marked n needed);
   only = λ n h none. only n (unmarked (has wanted n) (λ yes. none ((marked n h).0 yes)));
 }
 

@@ -3,15 +3,15 @@ use Rattle.std.specs.Prelude.{◌≡◌, ◌<◌, ℕ, true, is_some, List, leng
 use Rattle.tf_config_data.specs.Names.{NameView, directly_before}
 use Rattle.tf_graph.specs.Solutions.{Ranked}
 use Rattle.tf_value.specs.Tree.{Entries}
-use Rattle.tf_environment.specs.Shape.{ShapeView}
+use Rattle.tf_environment.specs.InstanceKeys.{InstanceKeysView}
 use Rattle.tf_environment.specs.Stages.{expansion}
-use Rattle.tf_environment.specs.Standing.{StandingView, AreStandings}
+use Rattle.tf_environment.specs.Resolved.{ResolvedView, AreResolvedNames}
 use Rattle.tf_expand.specs.Expanding.{expanded}
 
 -- Where no name needs itself and none is refused, each name stands for something.
 abbrev pub AllStandWhereNoneIsRefused : Type 0
 AllStandWhereNoneIsRefused =
-    (variables : Entries) (names : List NameView) (standings : ℕ → StandingView) (shapes : ℕ → ShapeView)
-    → Ranked (directly_before names) → AreStandings expansion variables names standings
-    → ((n : ℕ) → n < length names → expanded variables names standings n ≡ Ok (shapes n))
-    → (n : ℕ) → n < length names → is_some (standings n) ≡ true
+    (variables : Entries) (names : List NameView) (resolved_names : ℕ → ResolvedView) (shapes : ℕ → InstanceKeysView)
+    → Ranked (directly_before names) → AreResolvedNames expansion variables names resolved_names
+    → ((n : ℕ) → n < length names → expanded variables names resolved_names n ≡ Ok (shapes n))
+    → (n : ℕ) → n < length names → is_some (resolved_names n) ≡ true

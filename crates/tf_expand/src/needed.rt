@@ -1,19 +1,19 @@
 //! Which names are needed.
 
 ghost use Rattle.std.specs.Prelude.{◌≡◌, ◌<◌, ◌↔◌, ℕ, IfOk, Some, true, length};
-ghost use Rattle.tf_environment.specs.Words.{has, IsDependence, meant_at, named_view, names_in};
+ghost use Rattle.tf_environment.specs.Words.{has, IsDependence, meant_at, declaration_of, names_in};
 ghost use Rattle.tf_expand.specs.Needed.{is_resource, IsNeeded, IsNeededBy};
 
 use std::alloc::{AllocError, Global};
-use tf_environment::Declarations;
-use tf_names::{Dependence, Named, Names};
+use tf_environment::Module;
+use tf_names::{Declaration, Declarations, Dependence};
 
 /// For each place, whether a resource needs the name there.
 ///
 /// # Errors
 ///
 /// Only where memory runs out.
-pub fn needed_by_resources(alloc: Global, declared: &Declarations) -> Result<Vec<bool>, AllocError>
+pub fn needed_by_resources(alloc: Global, declared: &Module) -> Result<Vec<bool>, AllocError>
     requires { IsDependence (names_in declared.now.names.now) declared.now.dependence.now }
     ensures { IfOk result (λ needed. (n : ℕ) → n < length (names_in declared.now.names.now)
         → (has needed.items n ≡ true) ↔ IsNeeded (names_in declared.now.names.now) declared.now.dependence.now n) }
@@ -61,7 +61,7 @@ fn is_needed(dependence: &Dependence, marked: &[bool], place: usize) -> bool
 }
 
 /// For each place, whether a resource stands there.
-fn resources(alloc: Global, names: &Names) -> Result<Vec<bool>, AllocError>
+fn resources(alloc: Global, names: &Declarations) -> Result<Vec<bool>, AllocError>
     ensures { IfOk result (λ found. (n : ℕ) → has found.items n ≡ is_resource (meant_at (names_in names.now) n)) }
 {
     let mut found = Vec::with_capacity(alloc, names.len())?;
@@ -72,11 +72,11 @@ fn resources(alloc: Global, names: &Names) -> Result<Vec<bool>, AllocError>
 }
 
 /// Whether a name is a resource.
-fn is_resource(named: Named) -> bool
-    ensures { result ≡ is_resource (Some (named_view named.entry).meant) }
+fn is_resource(named: Declaration) -> bool
+    ensures { result ≡ is_resource (Some (declaration_of named.entry).meant) }
 {
     match named {
-        Named::Local(_, _) => false,
-        Named::Resource(_, _) => true,
+        Declaration::Local(_, _) => false,
+        Declaration::Resource(_, _) => true,
     }
 }

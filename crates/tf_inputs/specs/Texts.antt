@@ -50,9 +50,9 @@ abbrev pub IsPrior : Option (List ℕ) → List ℕ → StateView → Type 0
 IsPrior None lineage prior = prior ≡ empty_state lineage
 IsPrior (Some bytes) lineage prior = Reads bytes prior × IsPlannable prior
 
--- Texts stand for a configuration, whose variables have these values, and for a prior state, which is of a lineage where
+-- Texts read as a configuration, whose variables have these values, and as a prior state, which is of a lineage where
 -- none is given.
-pub record StandFor (texts : Texts) (lineage : List ℕ) (config : ConfigView) (values : Entries) (prior : StateView) : Type 0 where
+pub record ReadAs (texts : Texts) (lineage : List ℕ) (config : ConfigView) (values : Entries) (prior : StateView) : Type 0 where
   pub read : IsRead texts.config config
   pub names : AreNamesGood config
   pub valued : AreTheValues texts.vars config values

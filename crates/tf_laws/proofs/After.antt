@@ -25,16 +25,16 @@ use Rattle.tf_plan_resources.specs.Members.{is_among, is_of, records_of}
 use Rattle.tf_state_next.proofs.Changing.{found_label}
 use Rattle.tf_state_next.specs.Events.{ApplyView, apply_of_instance, as_apply, left_of_deposed, left_of_object, nothing_given}
 use Rattle.tf_outcome.specs.Objects.{object_of}
-use Rattle.tf_outcome.specs.Outcome.{Done, done_at, is_good, objects_by}
+use Rattle.tf_outcome.specs.Outcome.{ActionResultView, done_at, is_good, objects_by}
 use Rattle.tf_plan.proofs.Distinct.{at-contained, in_flat_map}
 use Rattle.tf_plan_data.specs.Fits.{deposed_key, is_apply}
 use Rattle.tf_plan_data.specs.Plan.{plan_names}
 use Rattle.tf_protocol.specs.Meaning.{Meaning}
 use Rattle.tf_protocol.specs.Schema.{SchemaView}
-use Rattle.tf_walk_report.specs.Events.{renewals}
+use Rattle.tf_walk_report.specs.Events.{metadata_updates}
 use Rattle.tf_state_next.proofs.Places.{found_id}
 use Rattle.tf_state_next.specs.After.{after_destroy, current_after, deposed_anew, destroy_under, object_at, record_of_saved, renewed}
-use Rattle.tf_state_next.specs.Ends.{AppliedView, GivenView, LeftView, gone, saved, unplanned, unwanted}
+use Rattle.tf_state_next.specs.Ends.{ApplyResultView, RecordInputView, LeftView, gone, saved, unplanned, unwanted}
 use Rattle.tf_state_data.specs.Record.{RecordView}
 use Rattle.tf_state_data.specs.Resource.{ResourceView, record_at}
 use Rattle.tf_state_data.specs.State.{record_in, resource_at}
@@ -50,12 +50,12 @@ use Rattle.tf_laws.proofs.Well.{IsDoneWell, IsGoodCall, done_well, good_call}
 pub at_index : {A : Type 0} (xs : List A) (a : A) → Contains xs a → (k : ℕ) × (slice_get xs k ≡ Some a)
 at_index xs a c = (c.0, slice_get-get_or xs c.0 a c.1 ∙ ap Some c.2)
 
-good_at : (done : List Done) (k : ℕ) → AllByRecursion (λ d. is_good d ≡ true) done → k < length done → is_good (done_at done k) ≡ true
+good_at : (done : List ActionResultView) (k : ℕ) → AllByRecursion (λ d. is_good d ≡ true) done → k < length done → is_good (done_at done k) ≡ true
 good_at [] k all h = absurd (omega (arith, h))
 good_at (d ∷ done) zero all h = all.0
 good_at (d ∷ done) (suc k) all h = good_at done k all.1 (omega (arith, h))
 
-well_from : (ms : List Meaning) (actions : List ActionView) (done : List Done) → length done ≡ length actions → ((k : ℕ) (a : ActionView) → slice_get actions k ≡ Some a → IsDoneWell ms a (done_at done k)) → AreDoneWell ms actions done
+well_from : (ms : List Meaning) (actions : List ActionView) (done : List ActionResultView) → length done ≡ length actions → ((k : ℕ) (a : ActionView) → slice_get actions k ≡ Some a → IsDoneWell ms a (done_at done k)) → AreDoneWell ms actions done
 well_from ms [] done e h = tt
 well_from ms (a ∷ actions) [] e h = absurd (omega (arith, e))
 well_from ms (a ∷ actions) (d ∷ done) e h = (h 0 a refl, well_from ms actions done (omega (arith, e)) (λ k b at. h (suc k) b at))
@@ -99,14 +99,14 @@ keeps label key w (inr y) = record {
   version = λ r. refl;
   current = λ left.
       ap (λ (o : Option ApplyView). current_after (option_map_or (λ a. a.given) o (nothing_given key)) (option_map_or (λ a. a.applied) o unwanted) left) y.1
-      ∙ ap (λ (v : AppliedView). current_after y.0.given v left) y.2;
+      ∙ ap (λ (v : ApplyResultView). current_after y.0.given v left) y.2;
   deposed = λ left k.
       ap (λ (o : Option ApplyView). deposed_anew (option_map_or (λ a. a.given) o (nothing_given key)) (option_map_or (λ a. a.applied) o unwanted) left k) y.1
-      ∙ ap (λ (v : AppliedView). deposed_anew y.0.given v left k) y.2;
+      ∙ ap (λ (v : ApplyResultView). deposed_anew y.0.given v left k) y.2;
 }
 
 -- an object that was current becomes deposed only where something is left of it, and a key is given for it
-none_deposed : (g : GivenView) (s : Tree × Bool) (left : Option RecordView) (k : List ℕ) → (g.deposed_key ≡ None) ⊎ (left ≡ None) → deposed_anew g (saved s) left k ≡ None
+none_deposed : (g : RecordInputView) (s : Tree × Bool) (left : Option RecordView) (k : List ℕ) → (g.deposed_key ≡ None) ⊎ (left ≡ None) → deposed_anew g (saved s) left k ≡ None
 none_deposed g s left k (inl none) = ap (λ (o : Option (List ℕ)). cond (option_eq bytes_eq o (Some k)) (option_map (λ (r : RecordView). record r { id = object_at r.id.key (Some k) }) left) None) none
 none_deposed g s left k (inr none) = ap (λ (o : Option RecordView). deposed_anew g (saved s) o k) none ∙ either (option_eq bytes_eq g.deposed_key (Some k))
   where
@@ -290,7 +290,7 @@ module _ (x : Applied) where
   -- ---- by what came of the instance
 
   abbrev pub told : LabelView → InstanceKeyView → Option ApplyView
-  told label key = apply_of_instance label key (applies_in (changes_in x.ms x.heads x.done) ++ map as_apply (renewals x.plan))
+  told label key = apply_of_instance label key (applies_in (changes_in x.ms x.heads x.done) ++ map as_apply (metadata_updates x.plan))
 
   abbrev pub left_over : LabelView → InstanceKeyView → Option RecordView
   left_over label key = after_destroy (left_of_object label (object_at key None) (destroys_in (changes_in x.ms x.heads x.done))) (record_in label (object_at key None) x.plan.prior)
@@ -393,14 +393,14 @@ module _ (x : Applied) where
   pub kept_at : (n : ℕ) (block : BlockView) (key : InstanceKeyView) → meant_at (plan_names x.plan) n ≡ Some (a_block block) → is_among (keys_at (setting x) n) key ≡ true → IsKept x n block key
   kept_at n block key meant among =
       let q = planned_at (setting x) n block key meant among in
-      elim (wanted_in x.ms x.plan block.label key x.plan.actions x.heads x.done (renewals x.plan) x.are_heads well) [
+      elim (wanted_in x.ms x.plan block.label key x.plan.actions x.heads x.done (metadata_updates x.plan) x.are_heads well) [
         | inl w ↦ made_kept n block key q w
         | inr w ↦ kept_untouched n block key q w.0 (keeps block.label key (told block.label key) w.1)
       ]
 
   -- and nothing else is known
   pub known_declared : (label : LabelView) (id : ObjectIdView) (y : RecordView) → record_in label id x.after ≡ Some y → IsDeclaredAt (setting x) label id.key
-  known_declared label id y e = elim (wanted_in x.ms x.plan label id.key x.plan.actions x.heads x.done (renewals x.plan) x.are_heads well) [
+  known_declared label id y e = elim (wanted_in x.ms x.plan label id.key x.plan.actions x.heads x.done (metadata_updates x.plan) x.are_heads well) [
     | inl w ↦
         subst (λ (k : InstanceKeyView). IsDeclaredAt (setting x) label k) w.is.key_is
         (subst (λ (l : LabelView). IsDeclaredAt (setting x) l w.a.key) w.is.label_is (apply_declared (setting x) w.a (at-contained x.plan.actions w.k w.a w.at) w.is.applies))

@@ -10,15 +10,15 @@ use Rattle.tf_config_data.specs.Names.{NameView, a_block, meant_at}
 use Rattle.tf_deciding.specs.Deciding.{version_of}
 use Rattle.tf_decision.proofs.Fitting.{good_fit}
 use Rattle.tf_decision.specs.Prior.{PriorFaultView, first_unfit, prior_fault, record_fault}
-use Rattle.tf_environment.specs.Shape.{ShapeView}
+use Rattle.tf_environment.specs.InstanceKeys.{InstanceKeysView}
 use Rattle.tf_environment.specs.Stages.{applying}
-use Rattle.tf_environment.specs.Standing.{StandingView, AreStandings, environment}
+use Rattle.tf_environment.specs.Resolved.{ResolvedView, AreResolvedNames, environment}
 use Rattle.tf_eval.specs.ExprMeaning.{meaning}
 use Rattle.tf_plan_resources.specs.Members.{is_among}
 use Rattle.tf_operators.specs.Answer.{Answer}
 use Rattle.tf_outcome.specs.Objects.{object_of}
 use Rattle.tf_outcome.specs.Outcome.{done_at}
-use Rattle.tf_outputs.specs.Outputs.{AreOutputsDone, IsOutputDone, OutputDone, done_with, not_evaluated, valued}
+use Rattle.tf_outputs.specs.Outputs.{AreOutputsDone, IsOutputDone, OutputResultView, done_with, not_evaluated, valued}
 use Rattle.tf_outputs.specs.Settled.{names_are_settled}
 use Rattle.tf_plan.proofs.Distinct.{at-contained}
 use Rattle.tf_plan_data.specs.Plan.{plan_names}
@@ -36,9 +36,9 @@ use Rattle.tf_laws.proofs.Rests.{records_are}
 use Rattle.tf_laws.proofs.Stands.{label_of}
 use Rattle.tf_laws.proofs.Stored.{each_fits}
 use Rattle.tf_change.specs.Laws.{InstancesGrow}
-use Rattle.tf_environment.specs.Laws.{StandingsGrow}
+use Rattle.tf_environment.specs.Laws.{ResolvedNamesGrow}
 use Rattle.tf_laws.specs.Known.{ExpressionsStayKnown}
-use Rattle.tf_laws.specs.Converges.{AreStillMade, IsValued, ValuedOutputsMean}
+use Rattle.tf_laws.specs.Reapply.{AreStillMade, IsValued, ValuedOutputsMean}
 use Rattle.tf_laws.specs.Rest.{AreUnrefused, EachMeans}
 
 -- ---- outputs
@@ -51,29 +51,29 @@ has_value : (a : Answer) (t : Tree) → valued t ≡ done_with (without_sets a) 
 has_value (Ok u) t e = (u, refl)
 has_value (Err why) t e = absurd (cc)
 
-all_mean : (variables : Entries) (names : List NameView) (shapes : ℕ → ShapeView) (objects : ℕ → InstanceKeyView → Tree) (settled : ℕ → Bool) (standings : ℕ → StandingView) (es : expr.Entries) (ds : List OutputDone)
-    → AreStandings (applying shapes objects) variables names standings → AreOutputsDone variables names shapes objects settled es ds → AllByRecursion IsValued ds → EachMeans (environment variables names standings) es
-all_mean variables names shapes objects settled standings expr.no_entries ds solves h v = tt
-all_mean variables names shapes objects settled standings (expr.entry name e es) [] solves h v = absurd h
-all_mean variables names shapes objects settled standings (expr.entry name e es) (d ∷ ds) solves h v =
-    let own : IsOutputDone variables names shapes objects settled e (valued v.0.0) = subst (λ (x : OutputDone). IsOutputDone variables names shapes objects settled e x) v.0.1 h.0 in
+all_mean : (variables : Entries) (names : List NameView) (shapes : ℕ → InstanceKeysView) (objects : ℕ → InstanceKeyView → Tree) (settled : ℕ → Bool) (resolved_names : ℕ → ResolvedView) (es : expr.Entries) (ds : List OutputResultView)
+    → AreResolvedNames (applying shapes objects) variables names resolved_names → AreOutputsDone variables names shapes objects settled es ds → AllByRecursion IsValued ds → EachMeans (environment variables names resolved_names) es
+all_mean variables names shapes objects settled resolved_names expr.no_entries ds solves h v = tt
+all_mean variables names shapes objects settled resolved_names (expr.entry name e es) [] solves h v = absurd h
+all_mean variables names shapes objects settled resolved_names (expr.entry name e es) (d ∷ ds) solves h v =
+    let own : IsOutputDone variables names shapes objects settled e (valued v.0.0) = subst (λ (x : OutputResultView). IsOutputDone variables names shapes objects settled e x) v.0.1 h.0 in
     let evaluated = decided (names_are_settled names settled e) own (λ (no_value : valued v.0.0 ≡ not_evaluated). absurd (cc)) in
-    (has_value (meaning (environment variables names standings) e) v.0.0 (evaluated.means standings solves), all_mean variables names shapes objects settled standings es ds solves h.1 v.1)
+    (has_value (meaning (environment variables names resolved_names) e) v.0.0 (evaluated.means resolved_names solves), all_mean variables names shapes objects settled resolved_names es ds solves h.1 v.1)
 
 pub outputs_mean : ValuedOutputsMean
-outputs_mean plan done outputs standings are all solves =
-    all_mean plan.variables (plan_names plan) plan.shapes (objects_after plan done) are.0 standings plan.config.outputs outputs solves are.2 all
+outputs_mean plan done outputs resolved_names are all solves =
+    all_mean plan.variables (plan_names plan) plan.shapes (objects_after plan done) are.0 resolved_names plan.config.outputs outputs solves are.2 all
 
 -- ---- instances
 
-module _ (x : Applied) (law : ExpressionsStayKnown) (grows : InstancesGrow) (grow : StandingsGrow) (made : AreStillMade x.ms x.plan x.done) where
-  only_fits : (n : ℕ) (block : BlockView) (key : InstanceKeyView) → meant_at (plan_names x.plan) n ≡ Some (a_block block) → (kept : IsKept x n block key) (standings : ℕ → StandingView)
-      → AreStandings (applying x.plan.shapes (objects_after x.plan x.done)) x.plan.variables (plan_names x.plan) standings → record_fault kept.by_plan.schema kept.only ≡ None
-  only_fits n block key meant kept standings solves =
+module _ (x : Applied) (law : ExpressionsStayKnown) (grows : InstancesGrow) (grow : ResolvedNamesGrow) (made : AreStillMade x.ms x.plan x.done) where
+  only_fits : (n : ℕ) (block : BlockView) (key : InstanceKeyView) → meant_at (plan_names x.plan) n ≡ Some (a_block block) → (kept : IsKept x n block key) (resolved_names : ℕ → ResolvedView)
+      → AreResolvedNames (applying x.plan.shapes (objects_after x.plan x.done)) x.plan.variables (plan_names x.plan) resolved_names → record_fault kept.by_plan.schema kept.only ≡ None
+  only_fits n block key meant kept resolved_names solves =
       let q = kept.by_plan in
       elim kept.how [
         | inl m ↦
-            let r = made_requested x standings solves n block key meant kept m in
+            let r = made_requested x resolved_names solves n block key meant kept m in
             let own = (q.only m.a (at-contained x.plan.actions m.k m.a m.at) m.is.label_is m.is.key_is).1 in
             let version : kept.only.schema_version ≡ q.schema.version = m.version ∙ own.version ∙ ap version_of q.has in
             let formed = good_formed q.schema r.asked.object (object_of (done_at x.done m.k)) r.well in
@@ -83,13 +83,13 @@ module _ (x : Applied) (law : ExpressionsStayKnown) (grows : InstancesGrow) (gro
             ∙ each_fits q.schema (records_in (setting x) block key) u.old q.is.fits (found_contains (λ y. is_none y.id.deposed) (records_in (setting x) block key) u.old u.found)
       ]
 
-  still_made : (n : ℕ) (block : BlockView) (key : InstanceKeyView) → meant_at (plan_names x.plan) n ≡ Some (a_block block) → is_among (keys_at (setting x) n) key ≡ true → (kept : IsKept x n block key) (standings : ℕ → StandingView)
-      → AreStandings (applying x.plan.shapes (objects_after x.plan x.done)) x.plan.variables (plan_names x.plan) standings
-      → (t : Tree) × (instance_object kept.by_plan.schema block key (environment x.plan.variables (plan_names x.plan) standings) ≡ Ok t)
-  still_made n block key meant among kept standings solves = elim kept.how [
-    | inl m ↦ let r = made_requested x standings solves n block key meant kept m in (r.made, r.makes)
+  still_made : (n : ℕ) (block : BlockView) (key : InstanceKeyView) → meant_at (plan_names x.plan) n ≡ Some (a_block block) → is_among (keys_at (setting x) n) key ≡ true → (kept : IsKept x n block key) (resolved_names : ℕ → ResolvedView)
+      → AreResolvedNames (applying x.plan.shapes (objects_after x.plan x.done)) x.plan.variables (plan_names x.plan) resolved_names
+      → (t : Tree) × (instance_object kept.by_plan.schema block key (environment x.plan.variables (plan_names x.plan) resolved_names) ≡ Ok t)
+  still_made n block key meant among kept resolved_names solves = elim kept.how [
+    | inl m ↦ let r = made_requested x resolved_names solves n block key meant kept m in (r.made, r.makes)
     | inr u ↦
-        made.instances standings solves n block key kept.by_plan.schema meant among kept.by_plan.has
+        made.instances resolved_names solves n block key kept.by_plan.schema meant among kept.by_plan.has
         (λ a c applies resource key_is.
         let k = at_index x.plan.actions a c in
         let own : IsApplyOf x.plan.actions n key k.0 = record { a = a; at = k.1; applies = applies; resource = resource; key_is = key_is } in
@@ -99,13 +99,13 @@ module _ (x : Applied) (law : ExpressionsStayKnown) (grows : InstancesGrow) (gro
   -- nothing is refused
   pub none_refused : AreUnrefused x.ms x.plan.variables (plan_names x.plan) x.plan.config.outputs x.plan.shapes (objects_after x.plan x.done) x.after.resources
   none_refused = record {
-    instances = λ standings solves n block key meant among.
+    instances = λ resolved_names solves n block key meant among.
         let kept = kept_at x n block key meant among in
-        let object = still_made n block key meant among kept standings solves in
+        let object = still_made n block key meant among kept resolved_names solves in
         record {
           schema = kept.by_plan.schema;
           served = kept.by_plan.has;
-          fits = ap (first_unfit kept.by_plan.schema) (records_are x law grows grow standings solves n block key meant kept) ∙ ap (λ (o : Option PriorFaultView). option_or o None) (only_fits n block key meant kept standings solves);
+          fits = ap (first_unfit kept.by_plan.schema) (records_are x law grows grow resolved_names solves n block key meant kept) ∙ ap (λ (o : Option PriorFaultView). option_or o None) (only_fits n block key meant kept resolved_names solves);
           heeded = kept.by_plan.is.heeds;
           made = object.0;
           makes = object.1;

@@ -13,7 +13,7 @@ use Rattle.tf_graph.proofs.Edges.{contains_cases, contains_head, contains_tail, 
 use Rattle.tf_graph.specs.Digraph.{Digraph, predecessors_of}
 use Rattle.tf_graph.specs.Solutions.{seen_by}
 use Rattle.tf_outcome.specs.Objects.{is_of, object_of, objects_seen, prior_object}
-use Rattle.tf_outcome.specs.Outcome.{Done}
+use Rattle.tf_outcome.specs.Outcome.{ActionResultView}
 use Rattle.tf_plan.proofs.Distinct.{at-contained}
 use Rattle.tf_plan.proofs.Fitting.{AreFit}
 use Rattle.tf_plan.proofs.Objects.{one_key}
@@ -22,13 +22,13 @@ use Rattle.tf_plan_data.specs.Fits.{IsPlaced, deposed_key, is_apply}
 use Rattle.tf_precedence.proofs.Listed.{pairs-those}
 use Rattle.tf_precedence.specs.Before.{Before, needed_first}
 use Rattle.tf_precedence.specs.Order.{action_at, no_action}
-use Rattle.tf_precedence.specs.Ties.{TiesView}
-use Rattle.tf_precedence.specs.declared.action.Action.{Action as Ordered}
-use Rattle.tf_precedence.specs.declared.action.Kind.TheVariants.{Apply}
+use Rattle.tf_precedence.specs.OrderInput.{OrderInputView}
+use Rattle.tf_precedence.specs.declared.action.OrderedAction.{OrderedAction as Ordered}
+use Rattle.tf_precedence.specs.declared.action.ActionKind.TheVariants.{Apply}
 use Rattle.tf_protocol.specs.Meaning.{Meaning}
 use Rattle.tf_walk_report.proofs.Apart.{apply_is_current}
 use Rattle.tf_plan_resources.proofs.Standing.{places-differ}
-use Rattle.tf_plan_resources.specs.Numbering.{numbered}
+use Rattle.tf_plan_resources.specs.ResourceIndex.{numbered}
 use Rattle.tf_state_data.specs.Resource.{ResourceView}
 use Rattle.tf_state_data.specs.State.{StateView}
 use Rattle.tf_value.proofs.Conjunction.{and-both, and-first, and-second}
@@ -47,12 +47,12 @@ pub record IsApplyOf (actions : List ActionView) (place : ℕ) (key : InstanceKe
   pub key_is : a.key ≡ key
 
 -- an instance stands for what a seen action answered, or for its prior object where none is seen that creates or updates it
-abbrev pub IsSeen : List NameView → StateView → List ActionView → (ℕ → Done) → ℕ → InstanceKeyView → List ℕ → Tree → Type 0
+abbrev pub IsSeen : List NameView → StateView → List ActionView → (ℕ → ActionResultView) → ℕ → InstanceKeyView → List ℕ → Tree → Type 0
 IsSeen names prior actions results place key ks t =
     ((j : ℕ) × Contains ks j × IsApplyOf actions place key j × (t ≡ object_of (results j)))
     ⊎ (((j : ℕ) → Contains ks j → IsApplyOf actions place key j → ⊥) × (t ≡ prior_object prior key (meant_at names place)))
 
-module _ (names : List NameView) (prior : StateView) (actions : List ActionView) (results : ℕ → Done) (place : ℕ) (key : InstanceKeyView) where
+module _ (names : List NameView) (prior : StateView) (actions : List ActionView) (results : ℕ → ActionResultView) (place : ℕ) (key : InstanceKeyView) where
   of_test : (j : ℕ) (o : Option ActionView) → slice_get actions j ≡ o → is_of o place key ≡ true → IsApplyOf actions place key j
   of_test j None e h = absurd (cc)
   of_test j (Some a) e h =
@@ -122,7 +122,7 @@ module _ (names : List NameView) (resources : List ResourceView) (needs : ℕ �
   pub needed_before : (k j : ℕ) (a b : ActionView) → slice_get actions k ≡ Some a → slice_get actions j ≡ Some b → is_apply a.step ≡ true → is_apply b.step ≡ true → needs a.resource b.resource ≡ true
       → Contains (predecessors_of order k) j
   needed_before k j a b at_k at_j applies_a applies_b need =
-      let t : TiesView = record { needs = needs; needed = is.needed; late = late } in
+      let t : OrderInputView = record { needs = needs; needed = is.needed; late = late } in
       let all : List Ordered = map ordered actions in
       let long : length (map ordered actions) ≡ length actions = length-map actions ordered in
       let inside_k : k < length (map ordered actions) = omega (arith, long, got_within actions k a at_k) in
@@ -137,7 +137,7 @@ module _ (names : List NameView) (resources : List ResourceView) (needs : ℕ �
 
 -- ---- the objects
 
-module _ (ms : List Meaning) (names : List NameView) (prior : StateView) (resources : List ResourceView) (needs : ℕ → ℕ → Bool) (late : ℕ → Bool) (actions : List ActionView) (order : Digraph) (results : ℕ → Done)
+module _ (ms : List Meaning) (names : List NameView) (prior : StateView) (resources : List ResourceView) (needs : ℕ → ℕ → Bool) (late : ℕ → Bool) (actions : List ActionView) (order : Digraph) (results : ℕ → ActionResultView)
     (fit : AreFit ms names resources actions) (is : IsOrdered names resources needs late actions order) where
   -- of what an action needs, what came of the actions directly before it is what came of all
   pub objects_agree : (k : ℕ) (a : ActionView) → slice_get actions k ≡ Some a → is_apply a.step ≡ true → (place : ℕ) (key : InstanceKeyView) → needs a.resource place ≡ true

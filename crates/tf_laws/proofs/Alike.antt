@@ -12,32 +12,32 @@ use Rattle.tf_config_data.specs.Config.{BlockView}
 use Rattle.tf_config_data.specs.Names.{Meant, NameView, a_block, a_local, directly_before, label_pair, meant_at, place_of}
 use Rattle.tf_laws.proofs.Declared.{has_stands}
 use Rattle.tf_laws.proofs.Renewals.{block_place}
-use Rattle.tf_environment.specs.Shape.{ShapeView}
+use Rattle.tf_environment.specs.InstanceKeys.{InstanceKeysView}
 use Rattle.tf_environment.specs.Stages.{applying}
-use Rattle.tf_environment.specs.Standing.{AreStandings, StandingView, all_stand, environment, result_in, stands_at, together, where_all}
+use Rattle.tf_environment.specs.Resolved.{AreResolvedNames, ResolvedView, all_stand, environment, result_in, stands_at, together, where_all}
 use Rattle.tf_eval.specs.Environment.{Environment}
 use Rattle.tf_graph.specs.Solutions.{seen_by}
 use Rattle.tf_laws.specs.Plans.{AreOne, AreOrderly}
-use Rattle.tf_state_next.specs.Events.{EventsView, RenewalView, ends_in, given_in}
+use Rattle.tf_state_next.specs.Events.{EventsView, MetadataUpdateView, ends_in, given_in}
 use Rattle.tf_state_next.specs.StateAfter.{IsStateAfter}
-use Rattle.tf_outcome.specs.Outcome.{AreOutcomes, AreRequests, Done, Requests}
+use Rattle.tf_outcome.specs.Outcome.{AreOutcomes, AreRequests, ActionResultView, Requests}
 use Rattle.tf_outcome.specs.declared.excuse.Excuse.{Excuse}
 use Rattle.tf_outputs.specs.Outputs as outputs
-use Rattle.tf_outputs.specs.Outputs.{AreOutputsDone, IsEvaluated, IsMeant, OutputDone, outputs_after}
+use Rattle.tf_outputs.specs.Outputs.{AreOutputsDone, IsEvaluated, IsMeant, OutputResultView, outputs_after}
 use Rattle.tf_outputs.specs.Settled.{names_are_settled}
 use Rattle.tf_plan.proofs.Blocks.{names-apart}
 use Rattle.tf_plan.proofs.Tied.{block_found}
 use Rattle.tf_plan_data.specs.Fits.{IsDeclared, deposed_key, is_apply}
 use Rattle.tf_plan_data.specs.Plan.{PlanView, plan_names}
 use Rattle.tf_protocol.specs.Meaning.{Meaning}
-use Rattle.tf_walk_report.specs.Events.{events, renewal_of_record, renewals, renewals_at, renewals_of, stays}
+use Rattle.tf_walk_report.specs.Events.{events, metadata_update_of_record, metadata_updates, metadata_updates_at, metadata_updates_of, stays}
 use Rattle.tf_walk_report.specs.Report.{IsReported, IsStateOf, IsTold, objects_after}
 use Rattle.tf_walk_report.specs.declared.report.Report.{Report}
 use Rattle.tf_plan_resources.proofs.Standing.{blocks-first, resources-apart}
 use Rattle.tf_plan_resources.specs.Laws as resources_laws
-use Rattle.tf_plan_resources.specs.Numbering.{a_name, numbered, place_in}
+use Rattle.tf_plan_resources.specs.ResourceIndex.{a_name, numbered, place_in}
 use Rattle.tf_state_next.specs.After.{object_at}
-use Rattle.tf_state_next.specs.Ends.{GivenView}
+use Rattle.tf_state_next.specs.Ends.{RecordInputView}
 use Rattle.tf_state_data.specs.Record.{RecordView}
 use Rattle.tf_state_data.specs.Resource.{ResourceView}
 use Rattle.tf_state_data.specs.State.{StateView}
@@ -46,7 +46,7 @@ use Rattle.tf_syntax.specs.TemplateNames.{Pair}
 use Rattle.tf_value.specs.Tree.{Entries, Tree}
 
 -- a plan, with these instances and by this table of what needs what
-abbrev by : PlanView → (ℕ → ShapeView) → (ℕ → ℕ → Bool) → PlanView
+abbrev by : PlanView → (ℕ → InstanceKeysView) → (ℕ → ℕ → Bool) → PlanView
 by p shapes needs = record p { shapes = shapes; needs = needs }
 
 same_plan : (p q : PlanView) → AreOne p q → by p q.shapes q.needs ≡ q
@@ -63,41 +63,41 @@ same_plan p q h i = record {
 
 -- ---- what names stand for
 
-stands_same : (shapes others : ℕ → ShapeView) (objects : ℕ → InstanceKeyView → Tree) (n : ℕ) (m : Option Meant) (env : Environment) → shapes n ≡ others n
+stands_same : (shapes others : ℕ → InstanceKeysView) (objects : ℕ → InstanceKeyView → Tree) (n : ℕ) (m : Option Meant) (env : Environment) → shapes n ≡ others n
     → stands_at (applying shapes objects) n m env ≡ stands_at (applying others objects) n m env
 stands_same shapes others objects n None env h = refl
 stands_same shapes others objects n (Some (a_local e)) env h = refl
-stands_same shapes others objects n (Some (a_block block)) env h = ap (λ (shape : ShapeView). together (Some shape) (λ key. Some (objects n key))) h
+stands_same shapes others objects n (Some (a_block block)) env h = ap (λ (shape : InstanceKeysView). together (Some shape) (λ key. Some (objects n key))) h
 
-standings_too : (variables : Entries) (names : List NameView) (shapes others : ℕ → ShapeView) (objects : ℕ → InstanceKeyView → Tree) (standings : ℕ → StandingView) → ((n : ℕ) → n < length names → shapes n ≡ others n)
-    → AreStandings (applying shapes objects) variables names standings → AreStandings (applying others objects) variables names standings
-standings_too variables names shapes others objects standings alike solves k below =
+standings_too : (variables : Entries) (names : List NameView) (shapes others : ℕ → InstanceKeysView) (objects : ℕ → InstanceKeyView → Tree) (resolved_names : ℕ → ResolvedView) → ((n : ℕ) → n < length names → shapes n ≡ others n)
+    → AreResolvedNames (applying shapes objects) variables names resolved_names → AreResolvedNames (applying others objects) variables names resolved_names
+standings_too variables names shapes others objects resolved_names alike solves k below =
     solves k below
-    ∙ ap (where_all (all_stand (seen_by standings (directly_before names k))))
-    (stands_same shapes others objects k (meant_at names k) (environment variables names (result_in (seen_by standings (directly_before names k)))) (alike k below))
+    ∙ ap (where_all (all_stand (seen_by resolved_names (directly_before names k))))
+    (stands_same shapes others objects k (meant_at names k) (environment variables names (result_in (seen_by resolved_names (directly_before names k)))) (alike k below))
 
 -- ---- outputs
 
-module _ (variables : Entries) (names : List NameView) (shapes others : ℕ → ShapeView) (objects : ℕ → InstanceKeyView → Tree) (alike : (n : ℕ) → n < length names → shapes n ≡ others n) where
-  meant_too : (e : expr.Tree) (d : OutputDone) → IsMeant variables names others objects e d → IsMeant variables names shapes objects e d
+module _ (variables : Entries) (names : List NameView) (shapes others : ℕ → InstanceKeysView) (objects : ℕ → InstanceKeyView → Tree) (alike : (n : ℕ) → n < length names → shapes n ≡ others n) where
+  meant_too : (e : expr.Tree) (d : OutputResultView) → IsMeant variables names others objects e d → IsMeant variables names shapes objects e d
   meant_too e d h = record {
-    standings = h.standings;
-    are_standings = standings_too variables names others shapes objects h.standings (λ n below. sym (alike n below)) h.are_standings;
+    resolved_names = h.resolved_names;
+    are_standings = standings_too variables names others shapes objects h.resolved_names (λ n below. sym (alike n below)) h.are_standings;
     means = λ s solves. h.means s (standings_too variables names shapes others objects s alike solves);
   }
 
-  evaluated_too : (e : expr.Tree) (d : OutputDone) → IsEvaluated variables names others objects e d → IsEvaluated variables names shapes objects e d
+  evaluated_too : (e : expr.Tree) (d : OutputResultView) → IsEvaluated variables names others objects e d → IsEvaluated variables names shapes objects e d
   evaluated_too e outputs.not_evaluated h = h
   evaluated_too e outputs.excused h = h
   evaluated_too e (outputs.valued t) h = meant_too e (outputs.valued t) h
   evaluated_too e (outputs.faulted why) h = meant_too e (outputs.faulted why) h
 
-  done_too : (b : Bool) (e : expr.Tree) (d : OutputDone) → MatchBool b (IsEvaluated variables names others objects e d) (d ≡ outputs.not_evaluated)
+  done_too : (b : Bool) (e : expr.Tree) (d : OutputResultView) → MatchBool b (IsEvaluated variables names others objects e d) (d ≡ outputs.not_evaluated)
       → MatchBool b (IsEvaluated variables names shapes objects e d) (d ≡ outputs.not_evaluated)
   done_too true e d h = evaluated_too e d h
   done_too false e d h = h
 
-  all_done_too : (settled : ℕ → Bool) (es : expr.Entries) (ds : List OutputDone) → AreOutputsDone variables names others objects settled es ds → AreOutputsDone variables names shapes objects settled es ds
+  all_done_too : (settled : ℕ → Bool) (es : expr.Entries) (ds : List OutputResultView) → AreOutputsDone variables names others objects settled es ds → AreOutputsDone variables names shapes objects settled es ds
   all_done_too settled expr.no_entries [] h = h
   all_done_too settled expr.no_entries (d ∷ ds) h = h
   all_done_too settled (expr.entry name e es) [] h = h
@@ -109,22 +109,22 @@ needs_given : (names : List NameView) (needs others : ℕ → ℕ → Bool) (n :
 needs_given names needs others n h i = fold (λ found m. with_address (address_of (meant_at names m)) found) [] (filter (λ m. h m i) (range_with_len 0 (length names)))
 
 -- what the records of a resource are given, by its dependencies
-abbrev given_by : PlanView → ActionView → Option (List ℕ) → List (List ℕ) → GivenView
+abbrev given_by : PlanView → ActionView → Option (List ℕ) → List (List ℕ) → RecordInputView
 given_by p a deposed ds = record { key = a.key; schema_version = a.version; dependencies = ds; create_before_destroy = p.late a.resource; deposed_key = deposed }
 
-chosen : (b : Bool) (x y : GivenView) (z : Target) → (b ≡ true → x ≡ y) → (if b then an_instance x else z) ≡ (if b then an_instance y else z)
-chosen true x y z h = ap (λ (g : GivenView). an_instance g) (h refl)
+chosen : (b : Bool) (x y : RecordInputView) (z : Target) → (b ≡ true → x ≡ y) → (if b then an_instance x else z) ≡ (if b then an_instance y else z)
+chosen true x y z h = ap (λ (g : RecordInputView). an_instance g) (h refl)
 chosen false x y z h = refl
 
-either : (b : Bool) (xs ys : List RenewalView) → (b ≡ true → xs ≡ ys) → (if b then xs else []) ≡ (if b then ys else [])
+either : (b : Bool) (xs ys : List MetadataUpdateView) → (b ≡ true → xs ≡ ys) → (if b then xs else []) ≡ (if b then ys else [])
 either true xs ys h = h refl
 either false xs ys h = refl
 
-flat_same : (f g : ResourceView → List RenewalView) (rs : List ResourceView) → ((r : ResourceView) → f r ≡ g r) → flat_map f rs ≡ flat_map g rs
+flat_same : (f g : ResourceView → List MetadataUpdateView) (rs : List ResourceView) → ((r : ResourceView) → f r ≡ g r) → flat_map f rs ≡ flat_map g rs
 flat_same f g [] h = refl
 flat_same f g (r ∷ rs) h = let first = h r in let rest = flat_same f g rs h in λ i. first i ++ rest i
 
-module _ (p : PlanView) (shapes : ℕ → ShapeView) (needs : ℕ → ℕ → Bool) where
+module _ (p : PlanView) (shapes : ℕ → InstanceKeysView) (needs : ℕ → ℕ → Bool) where
   abbrev GivesAlike : ActionView → Type 0
   GivesAlike a = is_apply a.step ≡ true → dependencies p.needs (plan_names p) a.resource ≡ dependencies needs (plan_names p) a.resource
 
@@ -156,10 +156,10 @@ module _ (p : PlanView) (shapes : ℕ → ShapeView) (needs : ℕ → ℕ → Bo
       (label : LabelView) (n : ℕ) → place_in (numbered (plan_names p) p.prior.resources) label ≡ Some n → n < length (plan_names p)
       → dependencies p.needs (plan_names p) n ≡ dependencies needs (plan_names p) n
 
-  renewals_there : PlacesAlike → (r : ResourceView) (o : Option ℕ) → place_in (numbered (plan_names p) p.prior.resources) r.label ≡ o → renewals_at p r o ≡ renewals_at (by p shapes needs) r o
+  renewals_there : PlacesAlike → (r : ResourceView) (o : Option ℕ) → place_in (numbered (plan_names p) p.prior.resources) r.label ≡ o → metadata_updates_at p r o ≡ metadata_updates_at (by p shapes needs) r o
   renewals_there alike r None e = refl
   renewals_there alike r (Some n) e =
-      either (nat_lt n (length (plan_names p))) (map (renewal_of_record p r.label n) (filter (stays p n) r.records)) (map (renewal_of_record (by p shapes needs) r.label n) (filter (stays p n) r.records))
+      either (nat_lt n (length (plan_names p))) (map (metadata_update_of_record p r.label n) (filter (stays p n) r.records)) (map (metadata_update_of_record (by p shapes needs) r.label n) (filter (stays p n) r.records))
       (λ b. ap
       (λ (ds : List (List ℕ)). map (λ (x : RecordView). record {
         label = r.label;
@@ -167,13 +167,13 @@ module _ (p : PlanView) (shapes : ℕ → ShapeView) (needs : ℕ → ℕ → Bo
       }) (filter (stays p n) r.records))
       (alike r.label n e (ltb-true n (length (plan_names p)) b)))
 
-  renewals_same : PlacesAlike → renewals p ≡ renewals (by p shapes needs)
+  renewals_same : PlacesAlike → metadata_updates p ≡ metadata_updates (by p shapes needs)
   renewals_same alike =
-      flat_same (renewals_of p) (renewals_of (by p shapes needs)) p.prior.resources (λ r. renewals_there alike r (place_in (numbered (plan_names p) p.prior.resources) r.label) refl)
+      flat_same (metadata_updates_of p) (metadata_updates_of (by p shapes needs)) p.prior.resources (λ r. renewals_there alike r (place_in (numbered (plan_names p) p.prior.resources) r.label) refl)
 
-  state_too : (ms : List Meaning) (done : List Done) (entries : Entries) (s : StateView) → AllByRecursion GivesAlike p.actions → PlacesAlike → IsStateOf ms (by p shapes needs) done entries s → IsStateOf ms p done entries s
+  state_too : (ms : List Meaning) (done : List ActionResultView) (entries : Entries) (s : StateView) → AllByRecursion GivesAlike p.actions → PlacesAlike → IsStateOf ms (by p shapes needs) done entries s → IsStateOf ms p done entries s
   state_too ms done entries s each alike h =
-      let same : events ms (by p shapes needs) h.heads done ≡ events ms p h.heads done = ap (λ (rs : List RenewalView). record (events ms p h.heads done) { renewals = rs }) (sym (renewals_same alike)) in
+      let same : events ms (by p shapes needs) h.heads done ≡ events ms p h.heads done = ap (λ (rs : List MetadataUpdateView). record (events ms p h.heads done) { metadata_updates = rs }) (sym (renewals_same alike)) in
       record {
         heads = h.heads;
         are_heads = heads_too p.actions h.heads each h.are_heads;
@@ -182,7 +182,7 @@ module _ (p : PlanView) (shapes : ℕ → ShapeView) (needs : ℕ → ℕ → Bo
 
 -- ---- reports
 
-module _ (ms : List Meaning) (p : PlanView) (shapes : ℕ → ShapeView) (needs : ℕ → ℕ → Bool) (alike : (n : ℕ) → n < length (plan_names p) → p.shapes n ≡ shapes n)
+module _ (ms : List Meaning) (p : PlanView) (shapes : ℕ → InstanceKeysView) (needs : ℕ → ℕ → Bool) (alike : (n : ℕ) → n < length (plan_names p) → p.shapes n ≡ shapes n)
     (named : (name : Pair) (n m : ℕ) → place_of (plan_names p) name ≡ Some n → p.needs n m ≡ needs n m) (orderly : AreOrderly p.config p.prior) (declared : AllByRecursion (IsDeclared (plan_names p)) p.actions) where
   apart : resources_laws.AreApart (map a_name (plan_names p))
   apart = names-apart p.config orderly.blocks
@@ -203,13 +203,13 @@ module _ (ms : List Meaning) (p : PlanView) (shapes : ℕ → ShapeView) (needs 
       block_gives n block.1 (ap (meant_at (plan_names p)) same ∙ block.2)
 
   requests_too : (requests : Requests) → AreRequests (by p shapes needs) requests → AreRequests p requests
-  requests_too requests are objects a schema standings block solves meant =
-      are objects a schema standings block (standings_too p.variables (plan_names p) p.shapes shapes objects standings alike solves) meant
+  requests_too requests are objects a schema resolved_names block solves meant =
+      are objects a schema resolved_names block (standings_too p.variables (plan_names p) p.shapes shapes objects resolved_names alike solves) meant
 
-  outcomes_too : (requests : Requests) (excuses : List Excuse) (done : List Done) → AreOutcomes ms requests (by p shapes needs) excuses done → AreOutcomes ms requests p excuses done
+  outcomes_too : (requests : Requests) (excuses : List Excuse) (done : List ActionResultView) → AreOutcomes ms requests (by p shapes needs) excuses done → AreOutcomes ms requests p excuses done
   outcomes_too requests excuses done h = record { all = h.all; solves = h.solves }
 
-  told_too : (done : List Done) (ends : List OutputDone) (report : Report) → IsTold ms (by p shapes needs) done ends report → IsTold ms p done ends report
+  told_too : (done : List ActionResultView) (ends : List OutputResultView) (report : Report) → IsTold ms (by p shapes needs) done ends report → IsTold ms p done ends report
   told_too done ends report h = record {
     lawful = h.lawful;
     outcomes = h.outcomes;

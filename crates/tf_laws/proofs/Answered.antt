@@ -20,8 +20,8 @@ use Rattle.tf_deciding.specs.Steps.{current_steps, decided_steps, deposed_step}
 use Rattle.tf_decision.specs.Decision as decision
 use Rattle.tf_decision.specs.Decision.{DecisionView, change, current}
 use Rattle.tf_environment.proofs.Seen.{agree_on, same_seen}
-use Rattle.tf_environment.specs.Shape.{instance_keys}
-use Rattle.tf_environment.specs.Standing.{environment, environment_at, result_in}
+use Rattle.tf_environment.specs.InstanceKeys.{instance_keys}
+use Rattle.tf_environment.specs.Resolved.{environment, environment_at, result_in}
 use Rattle.tf_eval.proofs.Locality.{expressions_local}
 use Rattle.tf_eval.specs.Locality.{AgreeOn}
 use Rattle.tf_graph.specs.Solutions.{seen_by}
@@ -67,11 +67,11 @@ object_there (Some r) t e = cc
 module _ (x : Made) where
   -- what a name sees is what all names stand for, as far as its block refers to it
   sees_refers : (n : ℕ) (block : BlockView) → meant_at (plan_names x.plan) n ≡ Some (a_block block)
-      → AgreeOn (environment x.plan.variables (plan_names x.plan) x.standings) (environment_at x.plan.variables (plan_names x.plan) x.standings n) (block_refers block)
+      → AgreeOn (environment x.plan.variables (plan_names x.plan) x.resolved_names) (environment_at x.plan.variables (plan_names x.plan) x.resolved_names n) (block_refers block)
   sees_refers n block meant =
-      agree_on x.plan.variables (plan_names x.plan) x.standings (result_in (seen_by x.standings (directly_before (plan_names x.plan) n))) (block_refers block)
-      (subst (λ (m : Option Meant). AllByRecursion (λ b. x.standings b ≡ result_in (seen_by x.standings (directly_before (plan_names x.plan) n)) b) (places (plan_names x.plan) (refers_at m))) meant
-      (same_seen x.standings (directly_before (plan_names x.plan) n)))
+      agree_on x.plan.variables (plan_names x.plan) x.resolved_names (result_in (seen_by x.resolved_names (directly_before (plan_names x.plan) n))) (block_refers block)
+      (subst (λ (m : Option Meant). AllByRecursion (λ b. x.resolved_names b ≡ result_in (seen_by x.resolved_names (directly_before (plan_names x.plan) n)) b) (places (plan_names x.plan) (refers_at m))) meant
+      (same_seen x.resolved_names (directly_before (plan_names x.plan) n)))
 
   -- an action that makes or changes an object of a block's resource is at the block's address
   label_is : (n : ℕ) (block : BlockView) (a : ActionView) → meant_at (plan_names x.plan) n ≡ Some (a_block block) → Contains x.plan.actions a → is_apply a.step ≡ true → a.resource ≡ n → a.label ≡ block.label
@@ -84,15 +84,15 @@ module _ (x : Made) where
   module _ (place : ℕ) (objects : ℕ → InstanceKeyView → Tree) (keep : StandAsPlanned x.plan place objects) where
     -- the object of an instance in the plan refines to the one that it stands for
     planned_refines : (n : ℕ) (block : BlockView) (key : InstanceKeyView) (t : Tree) → meant_at (plan_names x.plan) n ≡ Some (a_block block) → x.plan.needs place n ≡ true → is_among (instance_keys (x.plan.shapes n)) key ≡ true
-        → decided_object x.ms x.plan.prior.resources n block (environment_at x.plan.variables (plan_names x.plan) x.standings n) key ≡ Some t → Refines t (objects n key)
+        → decided_object x.ms x.plan.prior.resources n block (environment_at x.plan.variables (plan_names x.plan) x.resolved_names n) key ≡ Some t → Refines t (objects n key)
     planned_refines n block key t meant need among e = by_plan (planned_at (setting x) n block key meant among)
       where
         by_plan : IsPlannedAt (setting x) n block key → Refines t (objects n key)
         by_plan q =
             let records = records_in (setting x) block key in
-            let whole = environment x.plan.variables (plan_names x.plan) x.standings in
-            let seen = environment_at x.plan.variables (plan_names x.plan) x.standings n in
-            let same : instance_object q.schema block key (environment x.plan.variables (plan_names x.plan) x.standings) ≡ instance_object q.schema block key (environment_at x.plan.variables (plan_names x.plan) x.standings n) =
+            let whole = environment x.plan.variables (plan_names x.plan) x.resolved_names in
+            let seen = environment_at x.plan.variables (plan_names x.plan) x.resolved_names n in
+            let same : instance_object q.schema block key (environment x.plan.variables (plan_names x.plan) x.resolved_names) ≡ instance_object q.schema block key (environment_at x.plan.variables (plan_names x.plan) x.resolved_names n) =
             instances_local expressions_local q.schema block key whole seen (sees_refers n block meant) in
             let beside : object_beside (current records) q.decision ≡ Some t =
             sym (ap (object_unless_refused records) q.decides) ∙ ap (λ (p : Result Tree InstanceFaultView). object_unless_refused records (decision.decision q.schema block.lifecycle records p)) same
@@ -120,7 +120,7 @@ module _ (x : Made) where
 
     -- what an instance of what stands at a place stands for in the plan
     abbrev own_object : ℕ → InstanceKeyView → Option Meant → Tree
-    own_object n key (Some (a_block b)) = unwrap_or (decided_object x.ms x.plan.prior.resources n b (environment_at x.plan.variables (plan_names x.plan) x.standings n) key) null
+    own_object n key (Some (a_block b)) = unwrap_or (decided_object x.ms x.plan.prior.resources n b (environment_at x.plan.variables (plan_names x.plan) x.resolved_names n) key) null
     own_object n key _ = null
 
     -- The same objects for instances of what the resource needs, and for each other one what it stands for in the plan.
@@ -132,7 +132,7 @@ module _ (x : Made) where
         ap (λ (b : Bool). if b then objects n key else own_object n key (meant_at (plan_names x.plan) n)) (and-both (x.plan.needs place n) (is_among (instance_keys (x.plan.shapes n)) key) need among)
 
     -- to which all that is planned refines
-    pub answered : IsAnsweredPlan x.ms x.plan completed x.standings
+    pub answered : IsAnsweredPlan x.ms x.plan completed x.resolved_names
     answered = record {
       ranked = x.ranked;
       planned = x.solves;
@@ -140,7 +140,7 @@ module _ (x : Made) where
     }
       where
         by_test : (n : ℕ) (block : BlockView) (key : InstanceKeyView) (t : Tree) → meant_at (plan_names x.plan) n ≡ Some (a_block block)
-            → decided_object x.ms x.plan.prior.resources n block (environment_at x.plan.variables (plan_names x.plan) x.standings n) key ≡ Some t
+            → decided_object x.ms x.plan.prior.resources n block (environment_at x.plan.variables (plan_names x.plan) x.resolved_names n) key ≡ Some t
             → (b : Bool) → (x.plan.needs place n && is_among (instance_keys (x.plan.shapes n)) key) ≡ b → Refines t (if b then objects n key else own_object n key (meant_at (plan_names x.plan) n))
         by_test n block key t meant e true is =
             planned_refines n block key t meant (and-first (x.plan.needs place n) (is_among (instance_keys (x.plan.shapes n)) key) is) (and-second (x.plan.needs place n) (is_among (instance_keys (x.plan.shapes n)) key) is) e

@@ -4,13 +4,13 @@ use Rattle.std.specs.List.{AllByRecursion}
 use Rattle.tf_additions.specs.Head.{AreHeads, Head}
 use Rattle.tf_config_data.specs.Names.{directly_before}
 use Rattle.tf_deciding.specs.Stage.{deciding}
-use Rattle.tf_environment.specs.Standing.{StandingView, AreStandings}
+use Rattle.tf_environment.specs.Resolved.{ResolvedView, AreResolvedNames}
 use Rattle.tf_graph.specs.Solutions.{Ranked}
 use Rattle.tf_state_next.specs.Events.{ends_in, given_in}
 use Rattle.tf_state_next.specs.Laws.{IsInOrder}
 use Rattle.tf_state_next.specs.StateAfter.{IsStateAfter}
 use Rattle.tf_outcome.specs.Asked.{AreRequests, Requests}
-use Rattle.tf_outcome.specs.Outcome.{AreOutcomes, Done, is_good}
+use Rattle.tf_outcome.specs.Outcome.{AreOutcomes, ActionResultView, is_good}
 use Rattle.tf_outcome.specs.declared.excuse.Excuse.{Excuse}
 use Rattle.tf_plan.proofs.Fitting.{AreFit}
 use Rattle.tf_plan.specs.Ordered.{IsOrdered}
@@ -20,7 +20,7 @@ use Rattle.tf_protocol.specs.Meaning.{Meaning, schema_in}
 use Rattle.tf_protocol.specs.Schema.{SchemaView, IsSchema}
 use Rattle.tf_walk_report.specs.Events.{events}
 use Rattle.tf_plan_resources.specs.Laws as resources_laws
-use Rattle.tf_plan_resources.specs.Numbering.{a_name}
+use Rattle.tf_plan_resources.specs.ResourceIndex.{a_name}
 use Rattle.tf_state.specs.Valid.{IsValid}
 use Rattle.tf_state_data.specs.Addresses.{AreByAddress}
 use Rattle.tf_state_data.specs.Ids.{AreById}
@@ -34,14 +34,14 @@ pub record Applied : Type 0 where
   pub requests : Requests
   pub plan : PlanView
   pub excuses : List Excuse
-  pub done : List Done
+  pub done : List ActionResultView
   pub heads : List Head
   pub outputs : Entries
   pub after : StateView
   -- what was planned
   pub planned : IsPlanned ms plan.prior.resources plan.variables (plan_names plan) plan.config.outputs plan.shapes (unrefused plan.actions)
-  pub standings : ℕ → StandingView
-  pub solves : AreStandings (deciding ms plan.prior.resources plan.shapes) plan.variables (plan_names plan) standings
+  pub resolved_names : ℕ → ResolvedView
+  pub solves : AreResolvedNames (deciding ms plan.prior.resources plan.shapes) plan.variables (plan_names plan) resolved_names
   pub ranked : Ranked (directly_before (plan_names plan))
   pub apart : resources_laws.AreApart (map a_name (plan_names plan))
   pub by_address : AreByAddress plan.prior.resources
@@ -70,7 +70,7 @@ setting x =
       resources = x.plan.prior.resources;
       actions = x.plan.actions;
       planned = x.planned;
-      standings = x.standings;
+      resolved_names = x.resolved_names;
       solves = x.solves;
       ranked = x.ranked;
       apart = x.apart;

@@ -15,14 +15,14 @@ use Rattle.tf_laws.proofs.Places.{meant_within}
 use Rattle.tf_laws.proofs.Well.{IsGoodCall, good_call, good_object}
 use Rattle.tf_environment.proofs.Places.{along}
 use Rattle.tf_environment.specs.Stages.{applying}
-use Rattle.tf_environment.specs.Standing.{rule}
+use Rattle.tf_environment.specs.Resolved.{rule}
 use Rattle.tf_graph.proofs.Edges.{contains_cases}
 use Rattle.tf_graph.proofs.Solving.{all_by_at, ranked-by_order, solution-exists}
 use Rattle.tf_graph.specs.Digraph.{predecessors_of}
 use Rattle.tf_graph.specs.Solutions.{IsOrderOf, seen_by}
 use Rattle.tf_outcome.specs.Asked.{AreRequests, Requests, asked_by_step, ignored_by}
 use Rattle.tf_outcome.specs.Objects.{object_of}
-use Rattle.tf_outcome.specs.Outcome.{AreOutcomes, Done, called, done_at, is_good, objects_by}
+use Rattle.tf_outcome.specs.Outcome.{AreOutcomes, ActionResultView, called, done_at, is_good, objects_by}
 use Rattle.tf_outcome.specs.declared.excuse.Excuse.{Excuse}
 use Rattle.tf_plan.proofs.Distinct.{at-contained, in_filter}
 use Rattle.tf_plan_data.specs.Fits.{is_apply}
@@ -55,8 +55,8 @@ below_range a (suc n) k c = elim (contains_cases k a (range_with_len (a + 1) n) 
   | inr later ↦ let h = below_range (a + 1) n k later in omega (arith, h)
 ]
 
-module _ (x : Made) (laws : Laws) (requests : Requests) (are : AreRequests x.plan requests) (excuses : List Excuse) (done : List Done) (outcomes : AreOutcomes x.ms requests x.plan excuses done) where
-  abbrev then_seen : ℕ → List (ℕ × Done)
+module _ (x : Made) (laws : Laws) (requests : Requests) (are : AreRequests x.plan requests) (excuses : List Excuse) (done : List ActionResultView) (outcomes : AreOutcomes x.ms requests x.plan excuses done) where
+  abbrev then_seen : ℕ → List (ℕ × ActionResultView)
   then_seen k = seen_by (done_at done) (predecessors_of x.plan.order k)
 
   -- ---- one action after another

@@ -10,9 +10,9 @@ use Rattle.tf_config_data.specs.Names.{Meant, a_block, meant_at, block_refers, d
 use Rattle.tf_laws.proofs.Places.{meant_within}
 use Rattle.tf_environment.proofs.Places.{along, names_stay}
 use Rattle.tf_environment.proofs.Seen.{agree_on}
-use Rattle.tf_environment.specs.Shape.{instance_keys}
+use Rattle.tf_environment.specs.InstanceKeys.{instance_keys}
 use Rattle.tf_environment.specs.Stages.{applying}
-use Rattle.tf_environment.specs.Standing.{StandingView, AreStandings, environment, rule, stands_at}
+use Rattle.tf_environment.specs.Resolved.{ResolvedView, AreResolvedNames, environment, rule, stands_at}
 use Rattle.tf_eval.proofs.Locality.{expressions_local}
 use Rattle.tf_graph.proofs.Edges.{all_by_contained}
 use Rattle.tf_graph.proofs.Solving.{all_by_at, solution-exists}
@@ -33,8 +33,8 @@ module _ (x : Made) where
       ∙ x.ordered.tied.is_dependence.transitive a b c (sym (ap (λ (f : ℕ → ℕ → Bool). f a b) same) ∙ one) (sym (ap (λ (f : ℕ → ℕ → Bool). f b c) same) ∙ two)
 
   module _ (place : ℕ) (f g : ℕ → InstanceKeyView → Tree) (same : (n : ℕ) (key : InstanceKeyView) → x.plan.needs place n ≡ true → is_among (instance_keys (x.plan.shapes n)) key ≡ true → f n key ≡ g n key) where
-    module _ (ones others : ℕ → StandingView) (solves_ones : AreStandings (applying x.plan.shapes f) x.plan.variables (plan_names x.plan) ones)
-        (solves_others : AreStandings (applying x.plan.shapes g) x.plan.variables (plan_names x.plan) others) where
+    module _ (ones others : ℕ → ResolvedView) (solves_ones : AreResolvedNames (applying x.plan.shapes f) x.plan.variables (plan_names x.plan) ones)
+        (solves_others : AreResolvedNames (applying x.plan.shapes g) x.plan.variables (plan_names x.plan) others) where
       abbrev IsAlike : ℕ → Type 0
       IsAlike m = x.plan.needs place m ≡ true → ones m ≡ others m
 

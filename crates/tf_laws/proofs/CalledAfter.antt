@@ -8,7 +8,7 @@ use Rattle.tf_graph.specs.Digraph.{predecessors_of}
 use Rattle.tf_graph.specs.Solutions.{seen_by}
 use Rattle.tf_outcome.specs.Excuse.{excuse_of}
 use Rattle.tf_outcome.specs.Journal.{entered_verdict, verdict_in}
-use Rattle.tf_outcome.specs.Outcome.{Done, skipped, excused, faulted, called, all_good, call_at, done_at, is_good, or_excused}
+use Rattle.tf_outcome.specs.Outcome.{ActionResultView, skipped, excused, faulted, called, all_good, call_at, done_at, is_good, or_excused}
 use Rattle.tf_outcome.specs.declared.excuse.Outcome.{Outcome}
 use Rattle.tf_outcome.specs.declared.excuse.Outcome.TheVariants.{Judged}
 use Rattle.tf_plan_data.specs.Plan.{PlanView}
@@ -29,31 +29,31 @@ use Rattle.tf_laws.specs.Called.{CalledAfterGood, EnteredAfterGood, JudgedAfterG
 
 -- ---- what is good
 
-good_entered : (d : Done) → is_good d ≡ true → entered_verdict d ≡ Some verdict.Good
+good_entered : (d : ActionResultView) → is_good d ≡ true → entered_verdict d ≡ Some verdict.Good
 good_entered skipped h = absurd (cc)
 good_entered (excused m) h = absurd (cc)
 good_entered (faulted why) h = absurd (cc)
 good_entered (called asked answer v) h = ap Some (good_verdict v h)
 
-good_outcome : (d : Done) → is_good d ≡ true → outcome_of d ≡ Judged verdict.Good
+good_outcome : (d : ActionResultView) → is_good d ≡ true → outcome_of d ≡ Judged verdict.Good
 good_outcome skipped h = absurd (cc)
 good_outcome (excused m) h = absurd (cc)
 good_outcome (faulted why) h = absurd (cc)
 good_outcome (called asked answer v) h = ap Judged (good_verdict v h)
 
-good_told : (done : List Done) (m : ℕ) → is_good (done_at done m) ≡ true → slice_get (map outcome_of done) m ≡ Some (Judged verdict.Good)
+good_told : (done : List ActionResultView) (m : ℕ) → is_good (done_at done m) ≡ true → slice_get (map outcome_of done) m ≡ Some (Judged verdict.Good)
 good_told [] m h = absurd (cc)
 good_told (d ∷ done) zero h = ap Some (good_outcome d h)
 good_told (d ∷ done) (suc m) h = good_told done m h
 
 -- ---- what is called
 
-entered_below : (done : List Done) (n : ℕ) (v : Verdict) → entered_verdict (done_at done n) ≡ Some v → n < length done
+entered_below : (done : List ActionResultView) (n : ℕ) (v : Verdict) → entered_verdict (done_at done n) ≡ Some v → n < length done
 entered_below [] n v e = absurd (cc)
 entered_below (d ∷ done) zero v e = omega arith
 entered_below (d ∷ done) (suc n) v e = let below = entered_below done n v e in omega (arith, below)
 
-judged_entered : (done : List Done) (n : ℕ) (v : Verdict) → slice_get (map outcome_of done) n ≡ Some (Judged v) → entered_verdict (done_at done n) ≡ Some v
+judged_entered : (done : List ActionResultView) (n : ℕ) (v : Verdict) → slice_get (map outcome_of done) n ≡ Some (Judged v) → entered_verdict (done_at done n) ≡ Some v
 judged_entered [] n v e = absurd (cc)
 judged_entered (skipped ∷ done) zero v e = absurd (cc)
 judged_entered (excused m ∷ done) zero v e = absurd (cc)
@@ -62,11 +62,11 @@ judged_entered (called asked answer w ∷ done) zero v e = let same : w ≡ v = 
 judged_entered (d ∷ done) (suc n) v e = judged_entered done n v e
 
 -- what is called isn't skipped
-not_skipped : (b : Bool) (c d : Done) (v : Verdict) → d ≡ (if b then c else skipped) → entered_verdict d ≡ Some v → b ≡ true
+not_skipped : (b : Bool) (c d : ActionResultView) (v : Verdict) → d ≡ (if b then c else skipped) → entered_verdict d ≡ Some v → b ≡ true
 not_skipped true c d v is e = refl
 not_skipped false c d v is e = let none : entered_verdict skipped ≡ Some v = ap entered_verdict (sym is) ∙ e in absurd (cc)
 
-each_good : (results : ℕ → Done) (nodes : List ℕ) → all_good (seen_by results nodes) ≡ true → AllByRecursion (λ m. is_good (results m) ≡ true) nodes
+each_good : (results : ℕ → ActionResultView) (nodes : List ℕ) → all_good (seen_by results nodes) ≡ true → AllByRecursion (λ m. is_good (results m) ≡ true) nodes
 each_good results [] h = tt
 each_good results (n ∷ nodes) h = (and-first (is_good (results n)) (all_good (seen_by results nodes)) h, each_good results nodes (and-second (is_good (results n)) (all_good (seen_by results nodes)) h))
 

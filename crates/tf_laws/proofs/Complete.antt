@@ -10,14 +10,14 @@ use Rattle.tf_laws.proofs.TextsAgain.{good_outcomes, success}
 use Rattle.tf_laws.proofs.PlannedOverTexts.{plan_ranked}
 use Rattle.tf_cli.specs.Shown.{all_good, cant_write, is_empty, is_good_outcome, is_torn}
 use Rattle.tf_config_data.specs.Names.{Meant, NameView, a_block, a_local, directly_before, meant_at, places}
-use Rattle.tf_laws.specs.Converges.{IsValued}
+use Rattle.tf_laws.specs.Reapply.{IsValued}
 use Rattle.tf_environment.proofs.Places.{all_places, along, names_stay}
-use Rattle.tf_environment.specs.Shape.{ShapeView}
+use Rattle.tf_environment.specs.InstanceKeys.{InstanceKeysView}
 use Rattle.tf_graph.specs.Solutions.{Ranked, seen_by}
-use Rattle.tf_outcome.specs.Outcome.{Done, called, excused, faulted, is_good, skipped}
+use Rattle.tf_outcome.specs.Outcome.{ActionResultView, called, excused, faulted, is_good, skipped}
 use Rattle.tf_outcome.specs.declared.excuse.Outcome.{Outcome}
 use Rattle.tf_outputs.specs.Outputs as outputs
-use Rattle.tf_outputs.specs.Outputs.{AreOutputsDone, IsEvaluated, OutputDone, end_of}
+use Rattle.tf_outputs.specs.Outputs.{AreOutputsDone, IsEvaluated, OutputResultView, end_of}
 use Rattle.tf_outputs.specs.Settled.{AreSettled, all_settled, names_are_settled, settled_as}
 use Rattle.tf_plan_data.specs.Plan.{PlanView, plan_names}
 use Rattle.tf_protocol.specs.Meaning.{Meaning}
@@ -40,13 +40,13 @@ not_false true h = absurd (cc)
 
 -- ---- outcomes
 
-good_done : (d : Done) → is_good_outcome (outcome_of d) ≡ true → is_good d ≡ true
+good_done : (d : ActionResultView) → is_good_outcome (outcome_of d) ≡ true → is_good d ≡ true
 good_done skipped h = absurd (cc)
 good_done (excused m) h = absurd (cc)
 good_done (faulted why) h = absurd (cc)
 good_done (called asked answer v) h = h
 
-all_done_good : (done : List Done) → list_all is_good_outcome (map outcome_of done) ≡ true → AllByRecursion (λ d. is_good d ≡ true) done
+all_done_good : (done : List ActionResultView) → list_all is_good_outcome (map outcome_of done) ≡ true → AllByRecursion (λ d. is_good d ≡ true) done
 all_done_good [] h = tt
 all_done_good (d ∷ done) h = (
   good_done d (and-first (is_good_outcome (outcome_of d)) (list_all is_good_outcome (map outcome_of done)) h),
@@ -58,7 +58,7 @@ or_true true c h = refl
 or_true false c h = h
 
 -- where each action is good, so are all of each resource
-good_everywhere : (actions : List ActionView) (done : List Done) (n : ℕ) → AllByRecursion (λ d. is_good d ≡ true) done → are_good_at actions done n ≡ true
+good_everywhere : (actions : List ActionView) (done : List ActionResultView) (n : ℕ) → AllByRecursion (λ d. is_good d ≡ true) done → are_good_at actions done n ≡ true
 good_everywhere [] done n h = refl
 good_everywhere (a ∷ actions) [] n h = refl
 good_everywhere (a ∷ actions) (d ∷ done) n h =
@@ -99,14 +99,14 @@ append_none : {A : Type 0} (xs ys : List A) → xs ++ ys ≡ [] → (xs ≡ []) 
 append_none [] ys h = (refl, h)
 append_none (x ∷ xs) ys h = absurd (cc)
 
-module _ (variables : Entries) (names : List NameView) (shapes : ℕ → ShapeView) (objects : ℕ → InstanceKeyView → Tree) (settled : ℕ → Bool) (all : (e : expr.Tree) → names_are_settled names settled e ≡ true) where
-  valued_one : (place : List ℕ) (e : expr.Tree) (d : OutputDone) → IsEvaluated variables names shapes objects e d → diagnostics_of_output place (end_of d) ≡ [] → IsValued d
+module _ (variables : Entries) (names : List NameView) (shapes : ℕ → InstanceKeysView) (objects : ℕ → InstanceKeyView → Tree) (settled : ℕ → Bool) (all : (e : expr.Tree) → names_are_settled names settled e ≡ true) where
+  valued_one : (place : List ℕ) (e : expr.Tree) (d : OutputResultView) → IsEvaluated variables names shapes objects e d → diagnostics_of_output place (end_of d) ≡ [] → IsValued d
   valued_one place e outputs.not_evaluated is none = absurd is
   valued_one place e outputs.excused is none = absurd (cc)
   valued_one place e (outputs.valued t) is none = (t, refl)
   valued_one place e (outputs.faulted why) is none = absurd (cc)
 
-  valued_all : (es : expr.Entries) (ds : List OutputDone) → AreOutputsDone variables names shapes objects settled es ds → output_diagnostics es (map end_of ds) ≡ [] → AllByRecursion IsValued ds
+  valued_all : (es : expr.Entries) (ds : List OutputResultView) → AreOutputsDone variables names shapes objects settled es ds → output_diagnostics es (map end_of ds) ≡ [] → AllByRecursion IsValued ds
   valued_all expr.no_entries [] are none = tt
   valued_all expr.no_entries (d ∷ ds) are none = absurd are
   valued_all (expr.entry name e es) [] are none = absurd are

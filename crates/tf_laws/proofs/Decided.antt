@@ -13,24 +13,24 @@ use Rattle.tf_deciding.specs.Stage.{block_members}
 use Rattle.tf_deciding.specs.Steps.{decided_steps}
 use Rattle.tf_deciding.specs.Whole.{with_meant, with_numbered}
 use Rattle.tf_decision.specs.Decision as decision
-use Rattle.tf_decision.specs.Decision.{DecisionView, RefusalView, change, current, decided, unless_prevented, unless_unfit}
+use Rattle.tf_decision.specs.Decision.{DecisionView, DecisionFaultView, change, current, decided, unless_prevented, unless_unfit}
 use Rattle.tf_decision.specs.Ignored.{heeding, ignored_fault}
 use Rattle.tf_decision.specs.Prior.{PriorFaultView, first_unfit}
-use Rattle.tf_environment.specs.Shape.{ShapeView}
-use Rattle.tf_environment.specs.Standing.{StandingView, all_stand, environment}
+use Rattle.tf_environment.specs.InstanceKeys.{InstanceKeysView}
+use Rattle.tf_environment.specs.Resolved.{ResolvedView, all_stand, environment}
 use Rattle.tf_eval.specs.Environment.{Environment}
 use Rattle.tf_graph.specs.Solutions.{seen_by}
-use Rattle.tf_plan_resources.specs.Members.{MemberView, is_among, member, members, records_of}
+use Rattle.tf_plan_resources.specs.Members.{InstanceToPlanView, is_among, member, members, records_of}
 use Rattle.tf_protocol.specs.Meaning.{Meaning, schema_in}
 use Rattle.tf_protocol.specs.Schema.{SchemaView}
-use Rattle.tf_plan_resources.specs.Numbering.{NumberedView, a_name, an_orphan}
+use Rattle.tf_plan_resources.specs.ResourceIndex.{ResourceRefView, a_name, an_orphan}
 use Rattle.tf_state_data.specs.Record.{RecordView}
 use Rattle.tf_state_data.specs.Resource.{ResourceView}
 use Rattle.tf_value.specs.Tree.{Tree, Entries}
 
 -- ---- one instance
 
-fit_decided : (o : Option PriorFaultView) (r : Result DecisionView RefusalView) (d : DecisionView) → unless_unfit o r ≡ Ok d → (o ≡ None) × (r ≡ Ok d)
+fit_decided : (o : Option PriorFaultView) (r : Result DecisionView DecisionFaultView) (d : DecisionView) → unless_unfit o r ≡ Ok d → (o ≡ None) × (r ≡ Ok d)
 fit_decided None r d e = (refl, e)
 fit_decided (Some fault) r d e = absurd (cc)
 
@@ -70,7 +70,7 @@ decision_is schema lifecycle records p d e =
     record { made = found.0; makes = own.1; changes = found.2; fits = fit.0; heeds = own.0 }
 
 -- steps are those of a decision
-pub by_decision-is : (records : List RecordView) (r : Result DecisionView RefusalView) (steps : List StepView) → by_decision records r ≡ Ok steps → (d : DecisionView) × (r ≡ Ok d) × (decided_steps records d ≡ steps)
+pub by_decision-is : (records : List RecordView) (r : Result DecisionView DecisionFaultView) (steps : List StepView) → by_decision records r ≡ Ok steps → (d : DecisionView) × (r ≡ Ok d) × (decided_steps records d ≡ steps)
 by_decision-is records (Ok d) steps e = (d, refl, (cc))
 by_decision-is records (Err why) steps e = absurd (cc)
 
@@ -103,53 +103,53 @@ not_behind : {A : Type 0} (xs : List A) (x : A) → xs ++ x ∷ [] ≡ [] → �
 not_behind [] x e = cc
 not_behind (y ∷ xs) x e = cc
 
-outcome_fine : (of : OfView) (i : ℕ) (m : MemberView) (o : OutcomeView) (d : DecidedView) → (with_outcome of i m.key o d).refusals ≡ [] → (d.refusals ≡ []) × IsFine o
+outcome_fine : (of : OfView) (i : ℕ) (m : InstanceToPlanView) (o : OutcomeView) (d : DecidedView) → (with_outcome of i m.key o d).refusals ≡ [] → (d.refusals ≡ []) × IsFine o
 outcome_fine of i m (Ok steps) d e = (e, (steps, refl))
 outcome_fine of i m (Err why) d e = absurd (not_behind d.refusals _ e)
 
-members_fine : (of : OfView) (becomes : MemberView → OutcomeView) (i : ℕ) (ms : List MemberView) (d : DecidedView) → (with_members of becomes i ms d).refusals ≡ [] → (d.refusals ≡ []) × AllByRecursion (λ m. IsFine (becomes m)) ms
+members_fine : (of : OfView) (becomes : InstanceToPlanView → OutcomeView) (i : ℕ) (ms : List InstanceToPlanView) (d : DecidedView) → (with_members of becomes i ms d).refusals ≡ [] → (d.refusals ≡ []) × AllByRecursion (λ m. IsFine (becomes m)) ms
 members_fine of becomes i [] d e = (e, tt)
 members_fine of becomes i (m ∷ ms) d e =
     let rest = members_fine of becomes (i + 1) ms (with_outcome of i m.key (becomes m) d) e in
     let here = outcome_fine of i m (becomes m) d rest.0 in
     (here.0, (here.1, rest.1))
 
-module _ (ms : List Meaning) (resources : List ResourceView) (variables : Entries) (names : List NameView) (shapes : ℕ → ShapeView) (standings : ℕ → StandingView) where
+module _ (ms : List Meaning) (resources : List ResourceView) (variables : Entries) (names : List NameView) (shapes : ℕ → InstanceKeysView) (resolved_names : ℕ → ResolvedView) where
   abbrev pub IsMeantFine : ℕ → Meant → Type 0
   IsMeantFine n (a_local e) = Unit {0}
   IsMeantFine n (a_block block) =
-      all_stand (seen_by standings (directly_before names n)) ≡ true
-      → AllByRecursion (λ m. IsFine (member_outcome (schema_in block.label.type_name ms) block (environment variables names standings) m)) (block_members (shapes n) block resources)
+      all_stand (seen_by resolved_names (directly_before names n)) ≡ true
+      → AllByRecursion (λ m. IsFine (member_outcome (schema_in block.label.type_name ms) block (environment variables names resolved_names) m)) (block_members (shapes n) block resources)
 
   -- each instance of what stands at a place is decided
-  abbrev pub IsNumberedFine : ℕ → Option NumberedView → Type 0
+  abbrev pub IsNumberedFine : ℕ → Option ResourceRefView → Type 0
   IsNumberedFine n None = Unit {0}
   IsNumberedFine n (Some (a_name name)) = IsMeantFine n name.meant
   IsNumberedFine n (Some (an_orphan r)) = AllByRecursion (λ m. IsFine (orphan_outcome (schema_in r.label.type_name ms) m)) (members [] r.records)
 
-  meant_fine : (n : ℕ) (m : Meant) (d : DecidedView) → (with_meant ms resources variables names shapes standings n m d).refusals ≡ [] → (d.refusals ≡ []) × IsMeantFine n m
+  meant_fine : (n : ℕ) (m : Meant) (d : DecidedView) → (with_meant ms resources variables names shapes resolved_names n m d).refusals ≡ [] → (d.refusals ≡ []) × IsMeantFine n m
   meant_fine n (a_local e) d h = (h, tt)
-  meant_fine n (a_block block) d h = by_test (all_stand (seen_by standings (directly_before names n))) h
+  meant_fine n (a_block block) d h = by_test (all_stand (seen_by resolved_names (directly_before names n))) h
     where
-      by_test : (b : Bool) → (cond b (with_block ms resources n block (environment variables names standings) (shapes n) d) d).refusals ≡ []
-          → (d.refusals ≡ []) × (b ≡ true → AllByRecursion (λ m. IsFine (member_outcome (schema_in block.label.type_name ms) block (environment variables names standings) m)) (block_members (shapes n) block resources))
+      by_test : (b : Bool) → (cond b (with_block ms resources n block (environment variables names resolved_names) (shapes n) d) d).refusals ≡ []
+          → (d.refusals ≡ []) × (b ≡ true → AllByRecursion (λ m. IsFine (member_outcome (schema_in block.label.type_name ms) block (environment variables names resolved_names) m)) (block_members (shapes n) block resources))
       by_test true e =
           let schema = schema_in block.label.type_name ms in
-          let found = members_fine (record { resource = n; label = block.label; version = version_of schema }) (member_outcome schema block (environment variables names standings)) 0 (block_members (shapes n) block resources) d e in
+          let found = members_fine (record { resource = n; label = block.label; version = version_of schema }) (member_outcome schema block (environment variables names resolved_names)) 0 (block_members (shapes n) block resources) d e in
           (found.0, λ is. found.1)
       by_test false e = (e, λ is. absurd (cc))
 
-  numbered_fine : (n : ℕ) (o : Option NumberedView) (d : DecidedView) → (with_numbered ms resources variables names shapes standings n o d).refusals ≡ [] → (d.refusals ≡ []) × IsNumberedFine n o
+  numbered_fine : (n : ℕ) (o : Option ResourceRefView) (d : DecidedView) → (with_numbered ms resources variables names shapes resolved_names n o d).refusals ≡ [] → (d.refusals ≡ []) × IsNumberedFine n o
   numbered_fine n None d h = (h, tt)
   numbered_fine n (Some (a_name name)) d h = meant_fine n name.meant d h
   numbered_fine n (Some (an_orphan r)) d h =
       let schema = schema_in r.label.type_name ms in members_fine (record { resource = n; label = r.label; version = version_of schema }) (orphan_outcome schema) 0 (members [] r.records) d h
 
   -- where nothing is refused, each instance at each place is decided
-  pub all_fine : (all : List NumberedView) (order : List ℕ) (d : DecidedView) → (fold (λ e n. with_numbered ms resources variables names shapes standings n (slice_get all n) e) d order).refusals ≡ []
+  pub all_fine : (all : List ResourceRefView) (order : List ℕ) (d : DecidedView) → (fold (λ e n. with_numbered ms resources variables names shapes resolved_names n (slice_get all n) e) d order).refusals ≡ []
       → (d.refusals ≡ []) × AllByRecursion (λ n. IsNumberedFine n (slice_get all n)) order
   all_fine all [] d h = (h, tt)
   all_fine all (n ∷ order) d h =
-      let rest = all_fine all order (with_numbered ms resources variables names shapes standings n (slice_get all n) d) h in
+      let rest = all_fine all order (with_numbered ms resources variables names shapes resolved_names n (slice_get all n) d) h in
       let here = numbered_fine n (slice_get all n) d rest.0 in
       (here.0, (here.1, rest.1))

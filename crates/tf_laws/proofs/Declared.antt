@@ -16,12 +16,12 @@ use Rattle.tf_deciding.specs.Outcome.{OutcomeView, by_removal, declared_outcome,
 use Rattle.tf_deciding.specs.Stage.{deciding, records_at}
 use Rattle.tf_deciding.specs.Steps.{decided_steps, destroy_of, removal_steps}
 use Rattle.tf_decision.specs.Decision as choices
-use Rattle.tf_decision.specs.Decision.{DecisionView, RefusalView, removal_refusal}
-use Rattle.tf_environment.specs.Shape.{ShapeView, instance_keys}
-use Rattle.tf_environment.specs.Standing.{StandingView, AreStandings, environment}
+use Rattle.tf_decision.specs.Decision.{DecisionView, DecisionFaultView, removal_fault}
+use Rattle.tf_environment.specs.InstanceKeys.{InstanceKeysView, instance_keys}
+use Rattle.tf_environment.specs.Resolved.{ResolvedView, AreResolvedNames, environment}
 use Rattle.tf_eval.specs.Environment.{Environment}
 use Rattle.tf_graph.specs.Solutions.{Ranked}
-use Rattle.tf_plan_resources.specs.Members.{MemberView, is_among, is_of, member, members, records_of}
+use Rattle.tf_plan_resources.specs.Members.{InstanceToPlanView, is_among, is_of, member, members, records_of}
 use Rattle.tf_state_next.proofs.Changing.{found_label}
 use Rattle.tf_state_next.proofs.Finding.{all_found, found_holds}
 use Rattle.tf_plan.proofs.Distinct.{to_map}
@@ -34,7 +34,7 @@ use Rattle.tf_protocol.specs.Meaning.{Meaning, schema_in}
 use Rattle.tf_protocol.specs.Schema.{SchemaView}
 use Rattle.tf_plan_resources.proofs.Standing.{each-placed, places-true}
 use Rattle.tf_plan_resources.specs.Laws as resources_laws
-use Rattle.tf_plan_resources.specs.Numbering.{NumberedView, a_name, an_orphan, address_of, block_address, has_block, is_address, is_at, numbered}
+use Rattle.tf_plan_resources.specs.ResourceIndex.{ResourceRefView, a_name, an_orphan, address_of, block_address, has_block, is_address, is_at, numbered}
 use Rattle.tf_state_next.proofs.Places.{found_id}
 use Rattle.tf_state_data.specs.Addresses.{AreByAddress}
 use Rattle.tf_state_data.specs.Ids.{AreById}
@@ -57,19 +57,19 @@ pub record Setting : Type 0 where
   pub variables : Entries
   pub names : List NameView
   pub outputs : expr.Entries
-  pub shapes : ℕ → ShapeView
+  pub shapes : ℕ → InstanceKeysView
   pub resources : List ResourceView
   pub actions : List ActionView
   pub planned : IsPlanned ms resources variables names outputs shapes (unrefused actions)
-  pub standings : ℕ → StandingView
-  pub solves : AreStandings (deciding ms resources shapes) variables names standings
+  pub resolved_names : ℕ → ResolvedView
+  pub solves : AreResolvedNames (deciding ms resources shapes) variables names resolved_names
   pub ranked : Ranked (directly_before names)
   pub apart : resources_laws.AreApart (map a_name names)
   pub by_address : AreByAddress resources
   pub by_id : AllByRecursion (λ r. AreById r.records) resources
 
 abbrev pub env_of : Setting → Environment
-env_of p = environment p.variables p.names p.standings
+env_of p = environment p.variables p.names p.resolved_names
 
 abbrev pub keys_at : Setting → ℕ → List InstanceKeyView
 keys_at p n = instance_keys (p.shapes n)
@@ -135,12 +135,12 @@ module _ (p : Setting) where
   member_fine : (n : ℕ) (block : BlockView) → meant_at p.names n ≡ Some (a_block block)
       → AllByRecursion (λ m. IsFine (member_outcome (schema_in block.label.type_name p.ms) block (env_of p) m)) (members (keys_at p n) (records_at block.label p.resources))
   member_fine n block meant =
-      block_fine p.ms p.variables p.names p.outputs p.shapes p.resources p.actions p.planned p.standings p.solves p.ranked n block meant
-      (before_stand p.ms p.variables p.names p.outputs p.shapes p.resources p.actions p.planned p.standings p.solves p.ranked n (meant_within p.names n (a_block block) meant))
+      block_fine p.ms p.variables p.names p.outputs p.shapes p.resources p.actions p.planned p.resolved_names p.solves p.ranked n block meant
+      (before_stand p.ms p.variables p.names p.outputs p.shapes p.resources p.actions p.planned p.resolved_names p.solves p.ranked n (meant_within p.names n (a_block block) meant))
 
   of_block : (n : ℕ) (block : BlockView) (a : ActionView) → meant_at p.names n ≡ Some (a_block block) → Contains p.actions a → a.label ≡ block.label
       → IsOfMember (of_at p.ms n block.label) (member_outcome (schema_in block.label.type_name p.ms) block (env_of p)) (members (keys_at p n) (records_at block.label p.resources)) a
-  of_block n block a meant c label = elim (origin p.ms p.variables p.names p.outputs p.shapes p.resources p.actions p.planned p.standings p.solves p.ranked a c) [
+  of_block n block a meant c label = elim (origin p.ms p.variables p.names p.outputs p.shapes p.resources p.actions p.planned p.resolved_names p.solves p.ranked a c) [
     | inl b ↦
         let n_same : b.n ≡ n = blocks_one p.names p.apart b.n n b.block block b.meant meant (sym b.own.is.label ∙ label) in
         let stands : Some (a_block b.block) ≡ Some (a_block block) = sym b.meant ∙ ap (meant_at p.names) n_same ∙ meant in
@@ -169,8 +169,8 @@ module _ (p : Setting) where
         decides = m.decides;
         is = decision_is m.schema block.lifecycle (records_of key records) (instance_object m.schema block key env) m.choice m.decides;
         done = λ s c.
-            block_step p.ms p.variables p.names p.outputs p.shapes p.resources p.actions p.planned p.standings p.solves p.ranked n block (member keys records key) (decided_steps (records_of key records) m.choice) s meant
-            (before_stand p.ms p.variables p.names p.outputs p.shapes p.resources p.actions p.planned p.standings p.solves p.ranked n (meant_within p.names n (a_block block) meant))
+            block_step p.ms p.variables p.names p.outputs p.shapes p.resources p.actions p.planned p.resolved_names p.solves p.ranked n block (member keys records key) (decided_steps (records_of key records) m.choice) s meant
+            (before_stand p.ms p.variables p.names p.outputs p.shapes p.resources p.actions p.planned p.resolved_names p.solves p.ranked n (meant_within p.names n (a_block block) meant))
             (member_there keys records key among) m.outcome c;
         only = λ a c label key_is.
             let own = of_block n block a meant c label in
@@ -184,11 +184,11 @@ module _ (p : Setting) where
 
   -- ---- instances that are made or changed
 
-  removed : (o : Option RefusalView) (records : List RecordView) (steps : List StepView) → by_removal records o ≡ Ok steps → removal_steps records ≡ steps
+  removed : (o : Option DecisionFaultView) (records : List RecordView) (steps : List StepView) → by_removal records o ≡ Ok steps → removal_steps records ≡ steps
   removed None records steps e = cc
   removed (Some why) records steps e = absurd (cc)
 
-  not_applied : (o : Option RefusalView) (records : List RecordView) (steps : List StepView) (s : StepView) → by_removal records o ≡ Ok steps → Contains steps s → is_apply s ≡ true → ⊥
+  not_applied : (o : Option DecisionFaultView) (records : List RecordView) (steps : List StepView) (s : StepView) → by_removal records o ≡ Ok steps → Contains steps s → is_apply s ≡ true → ⊥
   not_applied o records steps s e c applies =
       let none : is_apply s ≡ false = all_contained (λ x. is_apply x ≡ false) steps s (subst (AllByRecursion (λ x. is_apply x ≡ false)) (removed o records steps e) (removal-destroys records)) c in
       absurd (cc)
@@ -200,7 +200,7 @@ module _ (p : Setting) where
   applied_among (Some schema) block keys records key steps s false among e c applies =
       let m = member keys records key in
       let outcome = λ (x : Bool). if x then declared_outcome schema block (env_of p) m else removal_outcome schema (Some block.lifecycle) m in
-      absurd (not_applied (removal_refusal schema (Some block.lifecycle) m.records) m.records steps s (sym (ap outcome among) ∙ e) c applies)
+      absurd (not_applied (removal_fault schema (Some block.lifecycle) m.records) m.records steps s (sym (ap outcome among) ∙ e) c applies)
 
   -- an instance of a block
   pub record IsDeclaredAt (label : LabelView) (key : InstanceKeyView) : Type 0 where
@@ -210,13 +210,13 @@ module _ (p : Setting) where
     pub own : block.label ≡ label
     pub among : is_among (keys_at p n) key ≡ true
 
-  orphan_not_applied : (found : Option SchemaView) (m : MemberView) (steps : List StepView) (s : StepView) → orphan_outcome found m ≡ Ok steps → Contains steps s → is_apply s ≡ true → ⊥
+  orphan_not_applied : (found : Option SchemaView) (m : InstanceToPlanView) (steps : List StepView) (s : StepView) → orphan_outcome found m ≡ Ok steps → Contains steps s → is_apply s ≡ true → ⊥
   orphan_not_applied None m steps s e c applies = absurd (cc)
-  orphan_not_applied (Some schema) m steps s e c applies = not_applied (removal_refusal schema None m.records) m.records steps s e c applies
+  orphan_not_applied (Some schema) m steps s e c applies = not_applied (removal_fault schema None m.records) m.records steps s e c applies
 
   -- only instances that blocks have are made or changed
   pub apply_declared : (a : ActionView) → Contains p.actions a → is_apply a.step ≡ true → IsDeclaredAt a.label a.key
-  apply_declared a c applies = elim (origin p.ms p.variables p.names p.outputs p.shapes p.resources p.actions p.planned p.standings p.solves p.ranked a c) [
+  apply_declared a c applies = elim (origin p.ms p.variables p.names p.outputs p.shapes p.resources p.actions p.planned p.resolved_names p.solves p.ranked a c) [
     | inl b ↦
         let keys = keys_at p b.n in
         let records = records_at b.block.label p.resources in
@@ -259,18 +259,18 @@ module _ (p : Setting) where
     deposed = ap deposed_key found.2.step ∙ (destroy_step x.id.deposed x.attributes).1;
   }
 
-  fine_removed : (o : Option RefusalView) (records : List RecordView) → IsFine (by_removal records o) → by_removal records o ≡ Ok (removal_steps records)
+  fine_removed : (o : Option DecisionFaultView) (records : List RecordView) → IsFine (by_removal records o) → by_removal records o ≡ Ok (removal_steps records)
   fine_removed o records fine = fine.1 ∙ ap Ok (sym (removed o records fine.0 fine.1))
 
-  orphan_removed : (found : Option SchemaView) (m : MemberView) → IsFine (orphan_outcome found m) → orphan_outcome found m ≡ Ok (removal_steps m.records)
+  orphan_removed : (found : Option SchemaView) (m : InstanceToPlanView) → IsFine (orphan_outcome found m) → orphan_outcome found m ≡ Ok (removal_steps m.records)
   orphan_removed None m fine = let no : ◌≡◌ {A = OutcomeView} (Err no_provider) (Ok fine.0) = fine.1 in absurd (cc)
-  orphan_removed (Some schema) m fine = fine_removed (removal_refusal schema None m.records) m.records fine
+  orphan_removed (Some schema) m fine = fine_removed (removal_fault schema None m.records) m.records fine
 
-  member_removed : (found : Option SchemaView) (block : BlockView) (m : MemberView) → m.is_declared ≡ false → IsFine (member_outcome found block (env_of p) m) → member_outcome found block (env_of p) m ≡ Ok (removal_steps m.records)
+  member_removed : (found : Option SchemaView) (block : BlockView) (m : InstanceToPlanView) → m.is_declared ≡ false → IsFine (member_outcome found block (env_of p) m) → member_outcome found block (env_of p) m ≡ Ok (removal_steps m.records)
   member_removed None block m undeclared fine = let no : ◌≡◌ {A = OutcomeView} (Err no_provider) (Ok fine.0) = fine.1 in absurd (cc)
   member_removed (Some schema) block m undeclared fine =
       let outcome = λ (x : Bool). if x then declared_outcome schema block (env_of p) m else removal_outcome schema (Some block.lifecycle) m in
-      ap outcome undeclared ∙ fine_removed (removal_refusal schema (Some block.lifecycle) m.records) m.records (fine.0, sym (ap outcome undeclared) ∙ fine.1)
+      ap outcome undeclared ∙ fine_removed (removal_fault schema (Some block.lifecycle) m.records) m.records (fine.0, sym (ap outcome undeclared) ∙ fine.1)
 
   same_orphan : (r q : ResourceView) → Contains p.resources q → q.label ≡ r.label → resource_at r.label p.resources ≡ Some r → q ≡ r
   same_orphan r q c label e =
@@ -284,7 +284,7 @@ module _ (p : Setting) where
       let x = places-true (numbered p.names p.resources) r.label place.0 place.1 in
       (place.0, x.1 ∙ ap Some (is_orphan x.0 place.0 x.1 x.2))
     where
-      is_orphan : (x : NumberedView) (n : ℕ) → slice_get (numbered p.names p.resources) n ≡ Some x → address_of x ≡ Some r.label → x ≡ an_orphan r
+      is_orphan : (x : ResourceRefView) (n : ℕ) → slice_get (numbered p.names p.resources) n ≡ Some x → address_of x ≡ Some r.label → x ≡ an_orphan r
       is_orphan (a_name name) n at address =
           let meant = at_name p.names p.resources n name at in
           let block = at_label r.label name.meant (ap (is_address r.label) address ∙ (label_Decides r.label r.label).1 refl) in
@@ -311,8 +311,8 @@ module _ (p : Setting) where
           let step = step_there (records_of x.id.key records) x (own_there records x there) in
           inr
           (destroyed_by block.label r.label n x own
-          (block_step p.ms p.variables p.names p.outputs p.shapes p.resources p.actions p.planned p.standings p.solves p.ranked n block m (removal_steps (records_of x.id.key records)) (destroy_of x.id.deposed x.attributes) meant
-          (before_stand p.ms p.variables p.names p.outputs p.shapes p.resources p.actions p.planned p.standings p.solves p.ranked n (meant_within p.names n (a_block block) meant))
+          (block_step p.ms p.variables p.names p.outputs p.shapes p.resources p.actions p.planned p.resolved_names p.solves p.ranked n block m (removal_steps (records_of x.id.key records)) (destroy_of x.id.deposed x.attributes) meant
+          (before_stand p.ms p.variables p.names p.outputs p.shapes p.resources p.actions p.planned p.resolved_names p.solves p.ranked n (meant_within p.names n (a_block block) meant))
           (recorded_there keys records x.id.key (record_recorded records x there)) outcome step))
 
       by_block : (b : Bool) → has_block p.names r.label ≡ b → IsDeclaredAt r.label x.id.key ⊎ IsDestroyed r.label x.id
@@ -321,9 +321,9 @@ module _ (p : Setting) where
           let place = orphan_place r e none in
           let m = member [] r.records x.id.key in
           let fine = recorded_holds (λ m. IsFine (orphan_outcome (schema_in r.label.type_name p.ms) m)) [] r.records x.id.key
-          (orphan_fine p.ms p.variables p.names p.outputs p.shapes p.resources p.actions p.planned p.standings p.solves p.ranked place.0 r place.1) (record_recorded r.records x c) in
+          (orphan_fine p.ms p.variables p.names p.outputs p.shapes p.resources p.actions p.planned p.resolved_names p.solves p.ranked place.0 r place.1) (record_recorded r.records x c) in
           let outcome = orphan_removed (schema_in r.label.type_name p.ms) m fine in
           inr
           (destroyed_by r.label r.label place.0 x refl
-          (orphan_step p.ms p.variables p.names p.outputs p.shapes p.resources p.actions p.planned p.standings p.solves p.ranked place.0 r m (removal_steps (records_of x.id.key r.records)) (destroy_of x.id.deposed x.attributes) place.1
+          (orphan_step p.ms p.variables p.names p.outputs p.shapes p.resources p.actions p.planned p.resolved_names p.solves p.ranked place.0 r m (removal_steps (records_of x.id.key r.records)) (destroy_of x.id.deposed x.attributes) place.1
           (recorded_there [] r.records x.id.key (record_recorded r.records x c)) outcome (step_there (records_of x.id.key r.records) x (own_there r.records x c))))

@@ -22,12 +22,12 @@ use Rattle.tf_plan.proofs.Distinct.{at-contained}
 use Rattle.tf_plan.proofs.Objects.{one_key}
 use Rattle.tf_plan_data.specs.Fits.{IsPlaced, deposed_key}
 use Rattle.tf_plan_data.specs.Plan.{plan_names}
-use Rattle.tf_walk_report.specs.Events.{is_about, is_none, renewals}
+use Rattle.tf_walk_report.specs.Events.{is_about, is_none, metadata_updates}
 use Rattle.tf_plan_resources.proofs.Standing.{each-placed, places-differ, resources-apart}
-use Rattle.tf_plan_resources.specs.Numbering.{numbered, place_in}
+use Rattle.tf_plan_resources.specs.ResourceIndex.{numbered, place_in}
 use Rattle.tf_state_next.proofs.Places.{found_id}
 use Rattle.tf_state_next.specs.After.{current_after, object_at, record_of_saved, renewed}
-use Rattle.tf_state_next.specs.Ends.{AppliedView, unwanted}
+use Rattle.tf_state_next.specs.Ends.{ApplyResultView, unwanted}
 use Rattle.tf_state_data.specs.Record.{RecordView}
 use Rattle.tf_state_data.specs.Resource.{ResourceView, record_at}
 use Rattle.tf_state_data.specs.State.{record_in, resource_at}
@@ -68,7 +68,7 @@ module _ (x : Applied) (n : ℕ) (block : BlockView) (key : InstanceKeyView) (me
       sym (ap (λ (r : RecordView). r.dependencies) same) ∙ ap (dependencies x.plan.needs (plan_names x.plan)) resource
 
   -- none did, and nothing was given anew: this isn't so
-  untouched_found : IsUntouched x block key kept.by_plan.decision kept.only → apply_of_instance block.label key (map as_apply (renewals x.plan)) ≡ None → ⊥
+  untouched_found : IsUntouched x block key kept.by_plan.decision kept.only → apply_of_instance block.label key (map as_apply (metadata_updates x.plan)) ≡ None → ⊥
   untouched_found u none =
       let all = numbered (plan_names x.plan) x.plan.prior.resources in
       let r = followed (resource_at block.label x.plan.prior.resources) (λ (r : ResourceView). record_at (object_at key None) r.records) u.old (old_known x n block key kept.by_plan.decision kept.only u) in
@@ -82,7 +82,7 @@ module _ (x : Applied) (n : ℕ) (block : BlockView) (key : InstanceKeyView) (me
       let own_place : place_in all block.label ≡ Some n = ap (place_in all) (sym label_is) ∙ place in
       staying_found x.plan r.0 u.old n there (found_contains _ r.0.records u.old r.2) place (meant_within (plan_names x.plan) n (a_block block) meant)
       (current_stays x.plan n u.old (ap (λ (i : ObjectIdView). i.deposed) id_is) (λ a c about. not_about own_place key_is a c about))
-      (ap (λ (l : LabelView). apply_of_instance l u.old.id.key (map as_apply (renewals x.plan))) label_is ∙ ap (λ (k : InstanceKeyView). apply_of_instance block.label k (map as_apply (renewals x.plan))) key_is ∙ none)
+      (ap (λ (l : LabelView). apply_of_instance l u.old.id.key (map as_apply (metadata_updates x.plan))) label_is ∙ ap (λ (k : InstanceKeyView). apply_of_instance block.label k (map as_apply (metadata_updates x.plan))) key_is ∙ none)
     where
       not_about : place_in (numbered (plan_names x.plan) x.plan.prior.resources) block.label ≡ Some n → u.old.id.key ≡ key → (a : ActionView) → Contains x.plan.actions a → is_about n u.old.id.key a ≡ true → ⊥
       not_about own_place key_is a c about =
@@ -96,7 +96,7 @@ module _ (x : Applied) (n : ℕ) (block : BlockView) (key : InstanceKeyView) (me
           let step = (kept.by_plan.only a c label own_key).0 in
           nothing_deposed (records_in (setting x) block key) a.step (subst (λ (d : DecisionView). Contains (decided_steps (records_in (setting x) block key) d) a.step) u.nothing step) current
 
-  given_depends : apply_of_instance block.label key (map as_apply (renewals x.plan)) ≡ told x block.label key → (a : ApplyView) → apply_of_instance block.label key (map as_apply (renewals x.plan)) ≡ Some a
+  given_depends : apply_of_instance block.label key (map as_apply (metadata_updates x.plan)) ≡ told x block.label key → (a : ApplyView) → apply_of_instance block.label key (map as_apply (metadata_updates x.plan)) ≡ Some a
       → kept.only.dependencies ≡ dependencies x.plan.needs (plan_names x.plan) n
   given_depends same a e =
       let r = found_renewal x.plan block.label key a e in
@@ -104,19 +104,19 @@ module _ (x : Applied) (n : ℕ) (block : BlockView) (key : InstanceKeyView) (me
       let made : record_in block.label (object_at key None) x.after ≡ option_map (renewed a.given.dependencies a.given.create_before_destroy) (left_over x block.label key) =
       current_is x block.label key
       ∙ ap (λ (o : Option ApplyView). current_after (option_map_or (λ a. a.given) o (nothing_given key)) (option_map_or (λ a. a.applied) o unwanted) (left_over x block.label key)) own
-      ∙ ap (λ (v : AppliedView). current_after a.given v (left_over x block.label key)) r.not_planned in
+      ∙ ap (λ (v : ApplyResultView). current_after a.given v (left_over x block.label key)) r.not_planned in
       given_of_one a.given.dependencies a.given.create_before_destroy (left_over x block.label key) kept.only (sym made ∙ kept.there)
       ∙ r.needs ∙ ap (dependencies x.plan.needs (plan_names x.plan)) (numbers_apart r.n r.place)
 
   -- its record lists what its resource needs
   pub depends : kept.only.dependencies ≡ dependencies x.plan.needs (plan_names x.plan) n
-  depends = elim (told_in x.ms x.plan block.label key x.plan.actions x.heads x.done (renewals x.plan) x.are_heads (well x)) [
+  depends = elim (told_in x.ms x.plan block.label key x.plan.actions x.heads x.done (metadata_updates x.plan) x.are_heads (well x)) [
     | inl w ↦ made_depends w
-    | inr w ↦ by_found w.0 w.1 (apply_of_instance block.label key (map as_apply (renewals x.plan))) refl
+    | inr w ↦ by_found w.0 w.1 (apply_of_instance block.label key (map as_apply (metadata_updates x.plan))) refl
   ]
     where
-      by_found : ((k : ℕ) (a : ActionView) → slice_get x.plan.actions k ≡ Some a → IsApplyAt block.label key a → ⊥) → told x block.label key ≡ apply_of_instance block.label key (map as_apply (renewals x.plan))
-          → (o : Option ApplyView) → apply_of_instance block.label key (map as_apply (renewals x.plan)) ≡ o → kept.only.dependencies ≡ dependencies x.plan.needs (plan_names x.plan) n
+      by_found : ((k : ℕ) (a : ActionView) → slice_get x.plan.actions k ≡ Some a → IsApplyAt block.label key a → ⊥) → told x block.label key ≡ apply_of_instance block.label key (map as_apply (metadata_updates x.plan))
+          → (o : Option ApplyView) → apply_of_instance block.label key (map as_apply (metadata_updates x.plan)) ≡ o → kept.only.dependencies ≡ dependencies x.plan.needs (plan_names x.plan) n
       by_found none same (Some a) e = given_depends (sym same) a e
       by_found none same None e = elim kept.how [
         | inl m ↦ absurd (none m.k m.a m.at m.is)

@@ -3,7 +3,7 @@ use Rattle.std.proofs.Common.{◌≡◌, ◌∙◌, ◌+◌, ℕ, suc, Bool, tru
 use Rattle.std.specs.List.{AllByRecursion}
 use Rattle.std.specs.Prelude.{slice_get}
 use Rattle.tf_outcome.specs.Excuse.{before_call, during_call, by_stop}
-use Rattle.tf_outcome.specs.Outcome.{Done, skipped, excused, faulted, called}
+use Rattle.tf_outcome.specs.Outcome.{ActionResultView, skipped, excused, faulted, called}
 use Rattle.tf_outputs.specs.Outputs as outputs
 use Rattle.tf_outputs.specs.Settled.{AreSettled, names_are_settled}
 use Rattle.tf_plan_data.specs.Plan.{PlanView, plan_names}
@@ -22,10 +22,10 @@ after_one first P xs x at k = let next : first + 1 + k ≡ first + suc k = omega
 here : {A : Type 0} (first : ℕ) (P : ℕ → Option A) (xs : List A) (x : A) → ((k : ℕ) → P (first + k) ≡ slice_get (x ∷ xs) k) → P first ≡ Some x
 here first P xs x at = let start : first ≡ first + 0 = omega arith in ap P start ∙ at 0
 
-module _ (plan : PlanView) (done : List Done) (ended : List outputs.OutputDone) where
+module _ (plan : PlanView) (done : List ActionResultView) (ended : List outputs.OutputResultView) where
   -- ---- actions
 
-  due_at : (n : ℕ) (d : Done) → slice_get done n ≡ Some d → AllByRecursion (IsDue plan done ended) (excuses_at n d)
+  due_at : (n : ℕ) (d : ActionResultView) → slice_get done n ≡ Some d → AllByRecursion (IsDue plan done ended) (excuses_at n d)
   due_at n skipped e = tt
   due_at n (excused before_call) e = (e, tt)
   due_at n (excused during_call) e = (e, tt)
@@ -33,7 +33,7 @@ module _ (plan : PlanView) (done : List Done) (ended : List outputs.OutputDone) 
   due_at n (faulted why) e = tt
   due_at n (called asked answer v) e = tt
 
-  due_from : (first : ℕ) (ds : List Done) → ((k : ℕ) → slice_get done (first + k) ≡ slice_get ds k) → AllByRecursion (IsDue plan done ended) (excuses_from first ds)
+  due_from : (first : ℕ) (ds : List ActionResultView) → ((k : ℕ) → slice_get done (first + k) ≡ slice_get ds k) → AllByRecursion (IsDue plan done ended) (excuses_from first ds)
   due_from first [] at = tt
   due_from first (d ∷ ds) at =
       all_appended (IsDue plan done ended) (excuses_at first d) (excuses_from (first + 1) ds) (due_at first d (here first (slice_get done) ds d at))
@@ -47,7 +47,7 @@ module _ (plan : PlanView) (done : List Done) (ended : List outputs.OutputDone) 
     by_test true e h = refl
     by_test false e h = absurd (cc)
 
-    output_due_at : (n : ℕ) (e : expr.Tree) (d : outputs.OutputDone) → slice_get ended n ≡ Some d → expression_at plan.config.outputs n ≡ Some e
+    output_due_at : (n : ℕ) (e : expr.Tree) (d : outputs.OutputResultView) → slice_get ended n ≡ Some d → expression_at plan.config.outputs n ≡ Some e
         → outputs.IsOutputDone plan.variables (plan_names plan) plan.shapes (objects_after plan done) settled e d
         → AllByRecursion (IsDue plan done ended) (output_excuses_at n (outputs.end_of d))
     output_due_at n e outputs.not_evaluated at stands h = tt
@@ -56,7 +56,7 @@ module _ (plan : PlanView) (done : List Done) (ended : List outputs.OutputDone) 
     output_due_at n e (outputs.valued t) at stands h = tt
     output_due_at n e (outputs.faulted why) at stands h = tt
 
-    outputs_due : (first : ℕ) (es : expr.Entries) (ds : List outputs.OutputDone) → ((k : ℕ) → slice_get ended (first + k) ≡ slice_get ds k) → ((k : ℕ) → expression_at plan.config.outputs (first + k) ≡ expression_at es k)
+    outputs_due : (first : ℕ) (es : expr.Entries) (ds : List outputs.OutputResultView) → ((k : ℕ) → slice_get ended (first + k) ≡ slice_get ds k) → ((k : ℕ) → expression_at plan.config.outputs (first + k) ≡ expression_at es k)
         → outputs.AreOutputsDone plan.variables (plan_names plan) plan.shapes (objects_after plan done) settled es ds
         → AllByRecursion (IsDue plan done ended) (output_excuses first (map outputs.end_of ds))
     outputs_due first expr.no_entries [] at stands h = tt

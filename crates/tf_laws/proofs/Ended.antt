@@ -9,21 +9,21 @@ use Rattle.tf_change.specs.Instance.{InstanceFaultView}
 use Rattle.tf_config_data.specs.Names.{NameView, directly_before, meant_at, places}
 use Rattle.tf_decision.specs.Kept.{kept_object}
 use Rattle.tf_environment.proofs.Places.{all_places}
-use Rattle.tf_environment.specs.Shape.{ShapeView}
+use Rattle.tf_environment.specs.InstanceKeys.{InstanceKeysView}
 use Rattle.tf_graph.proofs.Solving.{seen_by-same, solution-unique}
 use Rattle.tf_graph.specs.Digraph.{predecessors_of}
 use Rattle.tf_graph.specs.Solutions.{Ranked, Solves, seen_by}
 use Rattle.tf_outcome.specs.Asked.{Requests, AreRequests, asked_by_step, asked_for, create_of, ignored_by, unless_faulty, update_of}
 use Rattle.tf_outcome.specs.Excuse.{excuse_of}
 use Rattle.tf_outcome.specs.Laws.{RequestsAreOne}
-use Rattle.tf_outcome.specs.Outcome.{AreOutcomes, Done, all_good, call_at, call_with, comes_of, done_at, objects_by, or_excused, rule, skipped}
+use Rattle.tf_outcome.specs.Outcome.{AreOutcomes, ActionResultView, all_good, call_at, call_with, comes_of, done_at, objects_by, or_excused, rule, skipped}
 use Rattle.tf_outcome.specs.declared.excuse.Excuse.{Excuse}
 use Rattle.tf_outcome.specs.declared.excuse.Excuse.TheVariants.{Output}
 use Rattle.tf_outputs.specs.Laws.{OutputsAreOne}
-use Rattle.tf_outputs.specs.Outputs.{OutputDone, not_evaluated, excused, valued, faulted, AreOutputsDone, IsEvaluated, IsOutputDone, end_of}
+use Rattle.tf_outputs.specs.Outputs.{OutputResultView, not_evaluated, excused, valued, faulted, AreOutputsDone, IsEvaluated, IsOutputDone, end_of}
 use Rattle.tf_outputs.specs.Settled.{all_settled, names_are_settled}
-use Rattle.tf_outputs.specs.declared.ends.OutputEnd.{OutputEnd}
-use Rattle.tf_outputs.specs.declared.ends.OutputEnd.TheVariants.{NotEvaluated, NoMemory, Faulted, Valued}
+use Rattle.tf_outputs.specs.declared.ends.OutputResult.{OutputResult}
+use Rattle.tf_outputs.specs.declared.ends.OutputResult.TheVariants.{NotEvaluated, NoMemory, Faulted, Valued}
 use Rattle.tf_plan_data.specs.Fits.{IsDeclared, is_apply}
 use Rattle.tf_plan_data.specs.Plan.{PlanView, plan_names}
 use Rattle.tf_protocol.specs.Meaning.{Meaning, schema_in}
@@ -63,7 +63,7 @@ module _ (law : RequestsAreOne) (ms : List Meaning) (plan : PlanView) (requests 
       by_schema (Some schema) =
           ap (comes_of ms) (asked_same (ignored_by (meant_at (plan_names plan) a.resource)) schema a (requests objects a schema) (others objects a schema) a.step (made_same objects a schema declared))
 
-  call_same : (n : ℕ) (seen : List (ℕ × Done)) → call_at ms requests plan n seen ≡ call_at ms others plan n seen
+  call_same : (n : ℕ) (seen : List (ℕ × ActionResultView)) → call_at ms requests plan n seen ≡ call_at ms others plan n seen
   call_same n seen = by_action (slice_get plan.actions n) refl
     where
       by_action : (o : Option ActionView) → slice_get plan.actions n ≡ o → option_map_or (call_with ms requests plan (objects_by plan seen)) o skipped ≡ option_map_or (call_with ms others plan (objects_by plan seen)) o skipped
@@ -71,14 +71,14 @@ module _ (law : RequestsAreOne) (ms : List Meaning) (plan : PlanView) (requests 
       by_action (Some a) e = call_same_with (objects_by plan seen) a (all_got (IsDeclared (plan_names plan)) plan.actions founded.declared n a e)
 
   -- what solves the rule by the one requests solves it by the others
-  solves_too : (excuses : List Excuse) (done : List Done) → Solves (length plan.actions) (predecessors_of plan.order) (rule ms others plan excuses) (done_at done)
+  solves_too : (excuses : List Excuse) (done : List ActionResultView) → Solves (length plan.actions) (predecessors_of plan.order) (rule ms others plan excuses) (done_at done)
       → Solves (length plan.actions) (predecessors_of plan.order) (rule ms requests plan excuses) (done_at done)
   solves_too excuses done s = λ n h.
       let seen = seen_by (done_at done) (predecessors_of plan.order n) in
-      s n h ∙ ap (λ (d : Done). if all_good seen then or_excused (excuse_of excuses n) d else skipped) (sym (call_same n seen))
+      s n h ∙ ap (λ (d : ActionResultView). if all_good seen then or_excused (excuse_of excuses n) d else skipped) (sym (call_same n seen))
 
   -- what came of the actions is one
-  pub outcomes_one : (excuses : List Excuse) (done other : List Done) → AreOutcomes ms requests plan excuses done → AreOutcomes ms others plan excuses other → done ≡ other
+  pub outcomes_one : (excuses : List Excuse) (done other : List ActionResultView) → AreOutcomes ms requests plan excuses done → AreOutcomes ms others plan excuses other → done ≡ other
   outcomes_one excuses done other d o =
       let same = solution-unique (length plan.actions) (predecessors_of plan.order) (rule ms requests plan excuses) (done_at done) (done_at other) founded.order founded.within d.solves (solves_too excuses other o.solves) in
       ext_get_or skipped done other (d.all ∙ sym o.all) (λ i h. same i (subst (λ (k : ℕ). i < k) d.all h))
@@ -90,12 +90,12 @@ module _ (names : List NameView) (settled others : ℕ → Bool) (same : (n : �
   settled_same e = ap all_settled (seen_by-same settled others (places names (named_by e)) (all_places (λ n. settled n ≡ others n) names (named_by e) same))
 
   -- the same comes of an output by names that are settled alike
-  pub done_too : (variables : Entries) (shapes : ℕ → ShapeView) (objects : ℕ → InstanceKeyView → Tree) (e : expr.Tree) (d : OutputDone)
+  pub done_too : (variables : Entries) (shapes : ℕ → InstanceKeysView) (objects : ℕ → InstanceKeyView → Tree) (e : expr.Tree) (d : OutputResultView)
       → IsOutputDone variables names shapes objects settled e d → IsOutputDone variables names shapes objects others e d
   done_too variables shapes objects e d h = subst (λ (b : Bool). MatchBool b (IsEvaluated variables names shapes objects e d) (d ≡ not_evaluated)) (settled_same e) h
 
 -- the excuses of outputs behind a place don't name it
-none_before : (n k : ℕ) → n < k → (ends : List OutputEnd) (rest : List Excuse) → output_excuses k ends ≡ Output n ∷ rest → ⊥
+none_before : (n k : ℕ) → n < k → (ends : List OutputResult) (rest : List Excuse) → output_excuses k ends ≡ Output n ∷ rest → ⊥
 none_before n k less [] rest e = absurd (cc)
 none_before n k less (NotEvaluated ∷ ends) rest e = none_before n (k + 1) (omega arith) ends rest e
 none_before n k less (NoMemory ∷ ends) rest e = let same : k ≡ n = (cc) in absurd (omega (arith, same))
@@ -103,16 +103,16 @@ none_before n k less (Faulted why ∷ ends) rest e = none_before n (k + 1) (omeg
 none_before n k less (Valued ∷ ends) rest e = none_before n (k + 1) (omega arith) ends rest e
 
 -- an output is excused, or there is no excuse of it
-by_excuse : (k : ℕ) (d : OutputDone) → (d ≡ excused) ⊎ ((d ≡ excused → ⊥) × (output_excuses_at k (end_of d) ≡ []))
+by_excuse : (k : ℕ) (d : OutputResultView) → (d ≡ excused) ⊎ ((d ≡ excused → ⊥) × (output_excuses_at k (end_of d) ≡ []))
 by_excuse k excused = inl refl
 by_excuse k not_evaluated = inr (λ e. absurd (cc), refl)
 by_excuse k (valued t) = inr (λ e. absurd (cc), refl)
 by_excuse k (faulted why) = inr (λ e. absurd (cc), refl)
 
-module _ (law : OutputsAreOne) (variables : Entries) (names : List NameView) (shapes : ℕ → ShapeView) (objects : ℕ → InstanceKeyView → Tree) (settled others : ℕ → Bool) (ranked : Ranked (directly_before names))
+module _ (law : OutputsAreOne) (variables : Entries) (names : List NameView) (shapes : ℕ → InstanceKeysView) (objects : ℕ → InstanceKeyView → Tree) (settled others : ℕ → Bool) (ranked : Ranked (directly_before names))
     (same : (n : ℕ) → n < length names → settled n ≡ others n) where
   -- of the first of two lists of excuses, and of the output that it is of
-  first_same : (e : expr.Tree) (k : ℕ) (d f : OutputDone) (ds fs : List OutputEnd) → IsOutputDone variables names shapes objects settled e d → IsOutputDone variables names shapes objects others e f
+  first_same : (e : expr.Tree) (k : ℕ) (d f : OutputResultView) (ds fs : List OutputResult) → IsOutputDone variables names shapes objects settled e d → IsOutputDone variables names shapes objects others e f
       → output_excuses_at k (end_of d) ++ output_excuses (k + 1) ds ≡ output_excuses_at k (end_of f) ++ output_excuses (k + 1) fs
       → (d ≡ f) × (output_excuses (k + 1) ds ≡ output_excuses (k + 1) fs)
   first_same e k d f ds fs h g x = by_both (by_excuse k d) (by_excuse k f)
@@ -120,19 +120,19 @@ module _ (law : OutputsAreOne) (variables : Entries) (names : List NameView) (sh
       by_both : (d ≡ excused) ⊎ ((d ≡ excused → ⊥) × (output_excuses_at k (end_of d) ≡ [])) → (f ≡ excused) ⊎ ((f ≡ excused → ⊥) × (output_excuses_at k (end_of f) ≡ []))
           → (d ≡ f) × (output_excuses (k + 1) ds ≡ output_excuses (k + 1) fs)
       by_both (inl p) (inl q) =
-          let left : output_excuses_at k (end_of d) ≡ Output k ∷ [] = ap (λ (o : OutputDone). output_excuses_at k (end_of o)) p in
-          let right : output_excuses_at k (end_of f) ≡ Output k ∷ [] = ap (λ (o : OutputDone). output_excuses_at k (end_of o)) q in (
+          let left : output_excuses_at k (end_of d) ≡ Output k ∷ [] = ap (λ (o : OutputResultView). output_excuses_at k (end_of o)) p in
+          let right : output_excuses_at k (end_of f) ≡ Output k ∷ [] = ap (λ (o : OutputResultView). output_excuses_at k (end_of o)) q in (
             p ∙ sym q,
             append_cancel_left (Output k ∷ []) (output_excuses (k + 1) ds) (output_excuses (k + 1) fs)
                 (ap (λ (es : List Excuse). es ++ output_excuses (k + 1) ds) (sym left) ∙ x ∙ ap (λ (es : List Excuse). es ++ output_excuses (k + 1) fs) right),
           )
       by_both (inl p) (inr q) =
-          let left : output_excuses_at k (end_of d) ≡ Output k ∷ [] = ap (λ (o : OutputDone). output_excuses_at k (end_of o)) p in
+          let left : output_excuses_at k (end_of d) ≡ Output k ∷ [] = ap (λ (o : OutputResultView). output_excuses_at k (end_of o)) p in
           absurd
           (none_before k (k + 1) (omega arith) fs (output_excuses (k + 1) ds)
           (ap (λ (es : List Excuse). es ++ output_excuses (k + 1) fs) (sym q.1) ∙ sym x ∙ ap (λ (es : List Excuse). es ++ output_excuses (k + 1) ds) left))
       by_both (inr p) (inl q) =
-          let right : output_excuses_at k (end_of f) ≡ Output k ∷ [] = ap (λ (o : OutputDone). output_excuses_at k (end_of o)) q in
+          let right : output_excuses_at k (end_of f) ≡ Output k ∷ [] = ap (λ (o : OutputResultView). output_excuses_at k (end_of o)) q in
           absurd
           (none_before k (k + 1) (omega arith) ds (output_excuses (k + 1) fs)
           (ap (λ (es : List Excuse). es ++ output_excuses (k + 1) ds) (sym p.1) ∙ x ∙ ap (λ (es : List Excuse). es ++ output_excuses (k + 1) fs) right))
@@ -142,7 +142,7 @@ module _ (law : OutputsAreOne) (variables : Entries) (names : List NameView) (sh
       )
 
   -- what came of the outputs is one, for the same excuses
-  pub outputs_one : (es : expr.Entries) (ds fs : List OutputDone) (k : ℕ) → AreOutputsDone variables names shapes objects settled es ds → AreOutputsDone variables names shapes objects others es fs
+  pub outputs_one : (es : expr.Entries) (ds fs : List OutputResultView) (k : ℕ) → AreOutputsDone variables names shapes objects settled es ds → AreOutputsDone variables names shapes objects others es fs
       → output_excuses k (map end_of ds) ≡ output_excuses k (map end_of fs) → ds ≡ fs
   outputs_one expr.no_entries [] [] k h g x = refl
   outputs_one expr.no_entries [] (f ∷ fs) k h g x = absurd g
@@ -152,4 +152,4 @@ module _ (law : OutputsAreOne) (variables : Entries) (names : List NameView) (sh
   outputs_one (expr.entry name e es) (d ∷ ds) (f ∷ fs) k h g x =
       let first = first_same e k d f (map end_of ds) (map end_of fs) h.0 g.0 x in
       let rest : ds ≡ fs = outputs_one es ds fs (k + 1) h.1 g.1 first.1 in
-      ap (λ (o : OutputDone). o ∷ ds) first.0 ∙ ap (λ (os : List OutputDone). f ∷ os) rest
+      ap (λ (o : OutputResultView). o ∷ ds) first.0 ∙ ap (λ (os : List OutputResultView). f ∷ os) rest

@@ -12,22 +12,22 @@ use Rattle.tf_address.specs.ObjectId.{InstanceKeyView, ObjectIdView}
 use Rattle.tf_address.specs.Same.{label_Decides, object_id_Decides, same_instance_key, same_label, same_object_id}
 use Rattle.tf_graph.proofs.Edges.{contains_cases, contains_head, contains_tail}
 use Rattle.tf_state_next.proofs.Finding.{found_holds, found_joined}
-use Rattle.tf_state_next.specs.Events.{ApplyView, DestroyView, RenewalView, apply_of_instance, as_apply, is_instance, left_of_deposed, left_of_object}
+use Rattle.tf_state_next.specs.Events.{ApplyView, DestroyView, MetadataUpdateView, apply_of_instance, as_apply, is_instance, left_of_deposed, left_of_object}
 use Rattle.tf_outcome.specs.Objects.{object_of}
-use Rattle.tf_outcome.specs.Outcome.{Done, done_at}
+use Rattle.tf_outcome.specs.Outcome.{ActionResultView, done_at}
 use Rattle.tf_plan.proofs.Objects.{one_key}
 use Rattle.tf_plan_data.specs.Fits.{deposed_key, is_apply}
 use Rattle.tf_plan_data.specs.Plan.{PlanView}
 use Rattle.tf_protocol.specs.Meaning.{Meaning}
 use Rattle.tf_state_next.specs.After.{destroy_under, object_at}
-use Rattle.tf_state_next.specs.Ends.{AppliedView, GivenView, LeftView, gone, saved, unplanned}
+use Rattle.tf_state_next.specs.Ends.{ApplyResultView, RecordInputView, LeftView, gone, saved, unplanned}
 use Rattle.tf_value.proofs.Conjunction.{and-both, and-first, and-second}
 use Rattle.tf_laws.proofs.Lists.{nothing_in}
 use Rattle.tf_laws.proofs.Members.{same_key}
 use Rattle.tf_laws.proofs.Well.{IsDoneWell}
 
 -- each action was done well
-abbrev pub AreDoneWell : List Meaning → List ActionView → List Done → Type 0
+abbrev pub AreDoneWell : List Meaning → List ActionView → List ActionResultView → Type 0
 AreDoneWell ms [] done = Unit {0}
 AreDoneWell ms (a ∷ actions) [] = ⊥
 AreDoneWell ms (a ∷ actions) (d ∷ done) = IsDoneWell ms a d × AreDoneWell ms actions done
@@ -41,7 +41,7 @@ pub record IsApplyAt (label : LabelView) (key : InstanceKeyView) (a : ActionView
   pub key_is : a.key ≡ key
 
 -- what is found of an instance that an action created or updated
-pub record IsApplied (plan : PlanView) (label : LabelView) (key : InstanceKeyView) (actions : List ActionView) (done : List Done) (o : Option ApplyView) : Type 0 where
+pub record IsApplied (plan : PlanView) (label : LabelView) (key : InstanceKeyView) (actions : List ActionView) (done : List ActionResultView) (o : Option ApplyView) : Type 0 where
   pub k : ℕ
   pub a : ActionView
   pub at : slice_get actions k ≡ Some a
@@ -59,7 +59,7 @@ module _ (ms : List Meaning) (plan : PlanView) (label : LabelView) (key : Instan
   abbrev test : ApplyView → Bool
   test x = is_instance label key x.label x.given.key
 
-  later : (a : ActionView) (actions : List ActionView) (d : Done) (done : List Done) (o : Option ApplyView) → (IsApplyAt label key a → ⊥)
+  later : (a : ActionView) (actions : List ActionView) (d : ActionResultView) (done : List ActionResultView) (o : Option ApplyView) → (IsApplyAt label key a → ⊥)
       → IsApplied plan label key actions done o ⊎ IsUnapplied label key actions o → IsApplied plan label key (a ∷ actions) (d ∷ done) o ⊎ IsUnapplied label key (a ∷ actions) o
   later a actions d done o other (inl x) = inl (record { k = suc x.k; a = x.a; at = x.at; is = x.is; deposed = x.deposed; key_for = x.key_for; found = x.found })
   later a actions d done o other (inr x) = inr (record { none = none; nothing = x.nothing })
@@ -72,7 +72,7 @@ module _ (ms : List Meaning) (plan : PlanView) (label : LabelView) (key : Instan
   found_first x xs b e = ap (λ (c : Bool). cond c (Some x) (find (λ y. is_instance label key y.label y.given.key) xs)) e
 
   -- one action, which creates or updates
-  one_apply : (a : ActionView) (actions : List ActionView) (h : Head) (d : Done) (done : List Done) (rest : List ApplyView) → IsHeadOf plan a h → IsDoneWell ms a d → is_apply a.step ≡ true
+  one_apply : (a : ActionView) (actions : List ActionView) (h : Head) (d : ActionResultView) (done : List ActionResultView) (rest : List ApplyView) → IsHeadOf plan a h → IsDoneWell ms a d → is_apply a.step ≡ true
       → IsApplied plan label key actions done (find (λ y. is_instance label key y.label y.given.key) rest) ⊎ IsUnapplied label key actions (find (λ y. is_instance label key y.label y.given.key) rest)
       → (o : Option ApplyView) → o ≡ find (λ y. is_instance label key y.label y.given.key) (record { label = h.label; given = given_with plan a (key_in h.target); applied = applied_of_done ms h.op d } ∷ rest)
       → IsApplied plan label key (a ∷ actions) (d ∷ done) o ⊎ IsUnapplied label key (a ∷ actions) o
@@ -105,13 +105,13 @@ module _ (ms : List Meaning) (plan : PlanView) (label : LabelView) (key : Instan
           (λ at. let yes : is_instance label key h.label a.key ≡ true = and-both (same_label h.label label) (same_instance_key a.key key) ((label_Decides h.label label).1 (head.label ∙ at.label_is)) (subst (λ (x : InstanceKeyView). same_instance_key a.key x ≡ true) at.key_is (same_key a.key)) in absurd (cc))
           again)
 
-  by_target : (a : ActionView) (h : Head) (b : Bool) (id : ObjectIdView) (applied : AppliedView) (left : LeftView) (rest : List ChangeView) → h.target ≡ (if b then an_instance (given_with plan a (key_in h.target)) else an_object id)
+  by_target : (a : ActionView) (h : Head) (b : Bool) (id : ObjectIdView) (applied : ApplyResultView) (left : LeftView) (rest : List ChangeView) → h.target ≡ (if b then an_instance (given_with plan a (key_in h.target)) else an_object id)
       → (b ≡ true → applies_in (change_by h.label h.target applied left ∷ rest) ≡ record { label = h.label; given = given_with plan a (key_in h.target); applied = applied } ∷ applies_in rest)
       × (b ≡ false → applies_in (change_by h.label h.target applied left ∷ rest) ≡ applies_in rest)
   by_target a h true id applied left rest e = (λ is. ap (λ (t : Target). applies_in (change_by h.label t applied left ∷ rest)) e, λ is. absurd (cc))
   by_target a h false id applied left rest e = (λ is. absurd (cc), λ is. ap (λ (t : Target). applies_in (change_by h.label t applied left ∷ rest)) e)
 
-  applied_in : (actions : List ActionView) (heads : List Head) (done : List Done) → AreHeads plan actions heads → AreDoneWell ms actions done
+  applied_in : (actions : List ActionView) (heads : List Head) (done : List ActionResultView) → AreHeads plan actions heads → AreDoneWell ms actions done
       → IsApplied plan label key actions done (find (λ y. is_instance label key y.label y.given.key) (applies_in (changes_in ms heads done)))
       ⊎ IsUnapplied label key actions (find (λ y. is_instance label key y.label y.given.key) (applies_in (changes_in ms heads done)))
   applied_in [] [] done are well = inr (record { none = λ k a at is. absurd (cc); nothing = refl })
@@ -136,21 +136,21 @@ module _ (ms : List Meaning) (plan : PlanView) (label : LabelView) (key : Instan
           (sym listed)
           (later a actions d done (find (λ y. is_instance label key y.label y.given.key) (applies_in (changes_in ms heads done))) (λ at. let yes = at.applies in absurd (cc)) again)
 
-  -- what a renewal tells of an instance saves nothing
+  -- what a metadata update tells of an instance saves nothing
   abbrev pub IsUnsaved : Option ApplyView → Type 0
   IsUnsaved o = (o ≡ None) ⊎ ((x : ApplyView) × (o ≡ Some x) × (x.applied ≡ unplanned))
 
-  renewals_unplanned : (rs : List RenewalView) → AllByRecursion (λ x. x.applied ≡ unplanned) (map as_apply rs)
+  renewals_unplanned : (rs : List MetadataUpdateView) → AllByRecursion (λ x. x.applied ≡ unplanned) (map as_apply rs)
   renewals_unplanned [] = tt
   renewals_unplanned (r ∷ rs) = (refl, renewals_unplanned rs)
 
-  found_renewal : (rs : List RenewalView) (o : Option ApplyView) → find (λ y. is_instance label key y.label y.given.key) (map as_apply rs) ≡ o → IsUnsaved o
+  found_renewal : (rs : List MetadataUpdateView) (o : Option ApplyView) → find (λ y. is_instance label key y.label y.given.key) (map as_apply rs) ≡ o → IsUnsaved o
   found_renewal rs None e = inl refl
   found_renewal rs (Some x) e = inr (x, refl, found_holds (λ y. y.applied ≡ unplanned) (λ y. is_instance label key y.label y.given.key) (map as_apply rs) x (renewals_unplanned rs) e)
 
   -- What is known of an instance: an action created or updated it, and saved what was answered; or none did, and it is told
-  -- what the renewals say.
-  pub told_in : (actions : List ActionView) (heads : List Head) (done : List Done) (rs : List RenewalView) → AreHeads plan actions heads → AreDoneWell ms actions done
+  -- what the metadata updates say.
+  pub told_in : (actions : List ActionView) (heads : List Head) (done : List ActionResultView) (rs : List MetadataUpdateView) → AreHeads plan actions heads → AreDoneWell ms actions done
       → IsApplied plan label key actions done (apply_of_instance label key (applies_in (changes_in ms heads done) ++ map as_apply rs))
       ⊎ (((k : ℕ) (a : ActionView) → slice_get actions k ≡ Some a → IsApplyAt label key a → ⊥)
       × (apply_of_instance label key (applies_in (changes_in ms heads done) ++ map as_apply rs) ≡ apply_of_instance label key (map as_apply rs)))
@@ -164,7 +164,7 @@ module _ (ms : List Meaning) (plan : PlanView) (label : LabelView) (key : Instan
       ]
 
   -- so either it was saved or nothing was
-  pub wanted_in : (actions : List ActionView) (heads : List Head) (done : List Done) (rs : List RenewalView) → AreHeads plan actions heads → AreDoneWell ms actions done
+  pub wanted_in : (actions : List ActionView) (heads : List Head) (done : List ActionResultView) (rs : List MetadataUpdateView) → AreHeads plan actions heads → AreDoneWell ms actions done
       → IsApplied plan label key actions done (apply_of_instance label key (applies_in (changes_in ms heads done) ++ map as_apply rs))
       ⊎ (((k : ℕ) (a : ActionView) → slice_get actions k ≡ Some a → IsApplyAt label key a → ⊥) × IsUnsaved (apply_of_instance label key (applies_in (changes_in ms heads done) ++ map as_apply rs)))
   wanted_in actions heads done rs are well = elim (told_in actions heads done rs are well) [
@@ -221,14 +221,14 @@ module _ (ms : List Meaning) (plan : PlanView) (label : LabelView) (id : ObjectI
           absurd (cc))
           again)
 
-  destroys_by_target : (a : ActionView) (h : Head) (b : Bool) (given : GivenView) (applied : AppliedView) (left : LeftView) (rest : List ChangeView) → h.target ≡ (if b then an_instance given else an_object (object_at a.key (deposed_key a.step)))
+  destroys_by_target : (a : ActionView) (h : Head) (b : Bool) (given : RecordInputView) (applied : ApplyResultView) (left : LeftView) (rest : List ChangeView) → h.target ≡ (if b then an_instance given else an_object (object_at a.key (deposed_key a.step)))
       → (b ≡ false → destroys_in (change_by h.label h.target applied left ∷ rest) ≡ record { label = h.label; id = object_at a.key (deposed_key a.step); left = left } ∷ destroys_in rest)
       × (b ≡ true → destroys_in (change_by h.label h.target applied left ∷ rest) ≡ destroys_in rest)
   destroys_by_target a h true given applied left rest e = (λ is. absurd (cc), λ is. ap (λ (t : Target). destroys_in (change_by h.label t applied left ∷ rest)) e)
   destroys_by_target a h false given applied left rest e = (λ is. ap (λ (t : Target). destroys_in (change_by h.label t applied left ∷ rest)) e, λ is. absurd (cc))
 
   -- What is left of an object: it is gone where an action destroyed it, and nothing is told of it where none did.
-  pub left_in : (actions : List ActionView) (heads : List Head) (done : List Done) → AreHeads plan actions heads → AreDoneWell ms actions done → IsLeft actions (left_of_object label id (destroys_in (changes_in ms heads done)))
+  pub left_in : (actions : List ActionView) (heads : List Head) (done : List ActionResultView) → AreHeads plan actions heads → AreDoneWell ms actions done → IsLeft actions (left_of_object label id (destroys_in (changes_in ms heads done)))
   left_in [] [] done are well = inr (λ a c is. nothing_in a c, refl)
   left_in [] (h ∷ heads) done are well = absurd are
   left_in (a ∷ actions) [] done are well = absurd are

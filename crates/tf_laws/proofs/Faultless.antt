@@ -15,7 +15,7 @@ use Rattle.tf_names.specs.Cyclic.{RefusesCycle}
 use Rattle.tf_names.specs.Judging.{RefusesItsNames}
 use Rattle.tf_names.specs.KnownNames.{AreKnown, IsKnown, IsUnknown, RefusesNames, config_checks, declared_in}
 use Rattle.tf_names.specs.Needs.{AreCyclic, Needs}
-use Rattle.tf_refusal.specs.Refusal.{Told, fault, no_memory, workers}
+use Rattle.tf_refusal.specs.Refusal.{RefusalView, fault, no_memory, workers}
 use Rattle.tf_syntax.specs.TemplateNames.{Pair}
 use Rattle.tf_variables.specs.Laws.{ValuesAreFaultless}
 use Rattle.tf_variables.specs.Reading.{IsFaulty, IsFile, IsFileOf, IsNoFile, IsRefusedAs, is_object}
@@ -26,14 +26,14 @@ use Rattle.tf_laws.proofs.Reading.{one_tree}
 
 -- ---- the configuration
 
-pub config_read : RefusedIsNotRead → (bytes : List ℕ) (config : ConfigView) (refusal : Told) → (refusal ≡ no_memory → ⊥) → IsRead bytes config → IsRefused bytes refusal → ⊥
+pub config_read : RefusedIsNotRead → (bytes : List ℕ) (config : ConfigView) (refusal : RefusalView) → (refusal ≡ no_memory → ⊥) → IsRead bytes config → IsRefused bytes refusal → ⊥
 config_read law bytes config no_memory some read h = some refl
 config_read law bytes config workers some read h = h
 config_read law bytes config (fault code place detail) some read h = law bytes code place detail read.tree config h read.size read.is_tree read.stands read.counts
 
 -- ---- names
 
-pub names_known : (config : ConfigView) (refusal : Told) → (refusal ≡ no_memory → ⊥) → AreKnown (declared_in config) (config_checks config) → RefusesNames (declared_in config) (config_checks config) refusal → ⊥
+pub names_known : (config : ConfigView) (refusal : RefusalView) → (refusal ≡ no_memory → ⊥) → AreKnown (declared_in config) (config_checks config) → RefusesNames (declared_in config) (config_checks config) refusal → ⊥
 names_known config no_memory some known h = some refl
 names_known config workers some known h = h
 names_known config (fault code place detail) some known h =
@@ -43,12 +43,12 @@ no_cycle : (names : List NameView) (texts : List (List ℕ)) → ((pair : Pair) 
 no_cycle names [] none cyclic some = some refl
 no_cycle names (t ∷ texts) none cyclic some = let led = cyclic.led t (contains_head t t texts refl) in none led.0 led.1
 
-names_acyclic : (names : List NameView) (refusal : Told) → (refusal ≡ no_memory → ⊥) → ((pair : Pair) → Needs names pair pair → ⊥) → RefusesCycle names refusal → ⊥
+names_acyclic : (names : List NameView) (refusal : RefusalView) → (refusal ≡ no_memory → ⊥) → ((pair : Pair) → Needs names pair pair → ⊥) → RefusesCycle names refusal → ⊥
 names_acyclic names no_memory some none h = some refl
 names_acyclic names workers some none h = h
 names_acyclic names (fault code place detail) some none h = no_cycle names h.2.0 none h.2.2 h.2.3
 
-pub names_good : (config : ConfigView) (refusal : Told) → (refusal ≡ no_memory → ⊥) → AreNamesGood config → RefusesItsNames config refusal → ⊥
+pub names_good : (config : ConfigView) (refusal : RefusalView) → (refusal ≡ no_memory → ⊥) → AreNamesGood config → RefusesItsNames config refusal → ⊥
 names_good config refusal some good h = elim h [ inl unknown ↦ names_known config refusal some good.known unknown | inr cycle ↦ names_acyclic (names_of config) refusal some good.acyclic cycle.1 ]
 
 -- ---- variables
@@ -59,7 +59,7 @@ not_faulty file vs code place detail literal valued h = elim h [
   | inr none ↦ IsFirst-unmet IsTrue HasNone (λ has way met fails. absurd (cc (met, fails.0))) (value_checks file vs) place (code, detail) valued none.1
 ]
 
-pub is_file : (bytes : List ℕ) (tree : Data) (refusal : Told) → IsFile bytes tree → IsNoFile bytes refusal → ⊥
+pub is_file : (bytes : List ℕ) (tree : Data) (refusal : RefusalView) → IsFile bytes tree → IsNoFile bytes refusal → ⊥
 is_file bytes tree refusal file h = elim h [
   | inl long ↦ absurd (omega (arith, long.0, file.0))
   | inr small ↦ elim small.1 [
@@ -83,7 +83,7 @@ not_refused_as (Some bytes) (Some tree) vs code place detail is literal valued h
       (subst (λ (t : Data). IsFaulty (Some t) vs (fault code place detail)) (one_tree bytes faulty.0 tree faulty.1.1 is.1) faulty.2)
 ]
 
-pub values_good : ValuesAreFaultless → (vars : Option (List ℕ)) (config : ConfigView) (values : Entries) (refusal : Told) → (refusal ≡ no_memory → ⊥) → AreTheValues vars config values
+pub values_good : ValuesAreFaultless → (vars : Option (List ℕ)) (config : ConfigView) (values : Entries) (refusal : RefusalView) → (refusal ≡ no_memory → ⊥) → AreTheValues vars config values
     → variables.IsRefused vars config.variables refusal → ⊥
 values_good law vars config values no_memory some valued h = some refl
 values_good law vars config values workers some valued h = h

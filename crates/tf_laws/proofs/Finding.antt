@@ -5,9 +5,9 @@ use Rattle.tf_plan_data.specs.Action.{ActionView}
 use Rattle.tf_config_data.specs.Config.{ConfigView}
 use Rattle.tf_config_data.specs.Names.{NameView, directly_before, meant_at, names_of}
 use Rattle.tf_deciding.specs.Stage.{deciding}
-use Rattle.tf_environment.specs.Shape.{ShapeView, one}
+use Rattle.tf_environment.specs.InstanceKeys.{InstanceKeysView, one}
 use Rattle.tf_environment.specs.Stages.{expansion}
-use Rattle.tf_environment.specs.Standing.{StandingView, all_stand, environment}
+use Rattle.tf_environment.specs.Resolved.{ResolvedView, all_stand, environment}
 use Rattle.tf_environment.specs.declared.repetition.RepetitionFault.{RepetitionFault}
 use Rattle.tf_expand.specs.Expanding.{expanded, instances_before, max_instances}
 use Rattle.tf_graph.specs.Solutions.{seen_by}
@@ -22,12 +22,12 @@ use Rattle.tf_plan.specs.Refused.{AreRefused, beyond_limit, instances_refusal}
 use Rattle.tf_plan_data.specs.Plan.{PlanView}
 use Rattle.tf_precedence.specs.Late.{IsLate}
 use Rattle.tf_precedence.specs.Stored.{Needed}
-use Rattle.tf_precedence.specs.Ties.{TiesView}
+use Rattle.tf_precedence.specs.OrderInput.{OrderInputView}
 use Rattle.tf_protocol.specs.Meaning.{Meaning}
-use Rattle.tf_refusal.specs.Refusal.{Told}
+use Rattle.tf_refusal.specs.Refusal.{RefusalView}
 use Rattle.tf_plan_resources.specs.Dependencies.{dependencies}
 use Rattle.tf_plan_resources.specs.Marks.{is_marked}
-use Rattle.tf_plan_resources.specs.Numbering.{numbered}
+use Rattle.tf_plan_resources.specs.ResourceIndex.{numbered}
 use Rattle.tf_state_data.specs.Resource.{ResourceView}
 use Rattle.tf_state_data.specs.State.{StateView}
 use Rattle.tf_value.specs.Tree.{Entries}
@@ -38,37 +38,37 @@ use Rattle.tf_laws.specs.Plans.{PlannedOrRefused}
 
 -- ---- instances
 
-abbrev shape_or_one : Result ShapeView RepetitionFault → ShapeView
+abbrev shape_or_one : Result InstanceKeysView RepetitionFault → InstanceKeysView
 shape_or_one (Ok shape) = shape
 shape_or_one (Err why) = one
 
-kept_shape : (r : Result ShapeView RepetitionFault) (shape : ShapeView) → r ≡ Ok shape → r ≡ Ok (shape_or_one r)
+kept_shape : (r : Result InstanceKeysView RepetitionFault) (shape : InstanceKeysView) → r ≡ Ok shape → r ≡ Ok (shape_or_one r)
 kept_shape r shape e = e ∙ ap Ok (sym (ap shape_or_one e))
 
-module _ (variables : Entries) (names : List NameView) (standings : ℕ → StandingView) where
+module _ (variables : Entries) (names : List NameView) (resolved_names : ℕ → ResolvedView) where
   -- the names before a place have their shapes
   abbrev pub AreTold : ℕ → Type 0
-  AreTold n = (m : ℕ) → m < n → (shape : ShapeView) × (expanded variables names standings m ≡ Ok shape)
+  AreTold n = (m : ℕ) → m < n → (shape : InstanceKeysView) × (expanded variables names resolved_names m ≡ Ok shape)
 
   -- or one of them is the first that is refused
   abbrev pub IsRefusedBefore : ℕ → Type 0
-  IsRefusedBefore n = (m : ℕ) × (why : RepetitionFault) × (m < n) × (expanded variables names standings m ≡ Err why) × AreTold m
+  IsRefusedBefore n = (m : ℕ) × (why : RepetitionFault) × (m < n) × (expanded variables names resolved_names m ≡ Err why) × AreTold m
 
   pub told_or_refused : (n : ℕ) → AreTold n ⊎ IsRefusedBefore n
   told_or_refused zero = inl (λ m h. absurd (omega (arith, h)))
   told_or_refused (suc n) = elim (told_or_refused n) [
-    | inl told ↦ by_result (expanded variables names standings n) refl told
+    | inl told ↦ by_result (expanded variables names resolved_names n) refl told
     | inr first ↦ inr (first.0, first.1, omega (arith, first.2), first.3, first.4)
   ]
     where
-      by_result : (r : Result ShapeView RepetitionFault) → expanded variables names standings n ≡ r → AreTold n → AreTold (suc n) ⊎ IsRefusedBefore (suc n)
+      by_result : (r : Result InstanceKeysView RepetitionFault) → expanded variables names resolved_names n ≡ r → AreTold n → AreTold (suc n) ⊎ IsRefusedBefore (suc n)
       by_result (Ok shape) e told =
-          inl (λ m h. elim (cases_eq m n) [ inl here ↦ (shape, ap (expanded variables names standings) here ∙ e) | inr other ↦ told m (omega (arith, h, other)) ])
+          inl (λ m h. elim (cases_eq m n) [ inl here ↦ (shape, ap (expanded variables names resolved_names) here ∙ e) | inr other ↦ told m (omega (arith, h, other)) ])
       by_result (Err why) e told = inr (n, why, omega arith, e, told)
 
 -- ---- ties
 
-pub some_ties : (names : List NameView) (resources : List ResourceView) (d : Dependence) → IsDependence names d → (ties : TiesView) × (ties.needs ≡ needs_in d) × AreTied names resources ties
+pub some_ties : (names : List NameView) (resources : List ResourceView) (d : Dependence) → IsDependence names d → (ties : OrderInputView) × (ties.needs ≡ needs_in d) × AreTied names resources ties
 some_ties names resources d is =
     let all = numbered names resources in
     let needed = λ (a b : ℕ). tested (Needed (dependencies all resources) a b) (decided_path (dependencies all resources) a b) in
@@ -88,13 +88,13 @@ some_ties names resources d is =
 
 module _ (ms : List Meaning) (config : ConfigView) (variables : Entries) (prior : StateView) (d : Dependence) (is : IsDependence (names_of config) d) (acyclic : IsAcyclic d) where
   abbrev pub Found : Type 0
-  Found = ((plan : PlanView) × IsPlan ms config variables prior plan) ⊎ ((tolds : List Told) × AreRefused ms config variables prior tolds)
+  Found = ((plan : PlanView) × IsPlan ms config variables prior plan) ⊎ ((refusal_views : List RefusalView) × AreRefused ms config variables prior refusal_views)
 
-  module _ (shapes : ℕ → ShapeView) (instances : AreInstances variables (names_of config) shapes) where
+  module _ (shapes : ℕ → InstanceKeysView) (instances : AreInstances variables (names_of config) shapes) where
     by_pairs : (actions : List ActionView) → IsPlanned ms prior.resources variables (names_of config) config.outputs shapes (unrefused actions) → length actions ≤ max_actions → Found
     by_pairs actions planned few =
         let found = some_ties (names_of config) prior.resources d is in
-        let ties : TiesView = found.0 in
+        let ties : OrderInputView = found.0 in
         elim (cases_lt max_pairs (length (action_pairs ties actions))) [
           | inl many ↦
               inr (
@@ -143,17 +143,17 @@ module _ (ms : List Meaning) (config : ConfigView) (variables : Entries) (prior 
       | inr few ↦ by_pairs actions planned few
     ]
 
-    by_refusals : (actions : List ActionView) (tolds : List Told) → IsPlanned ms prior.resources variables (names_of config) config.outputs shapes (record { actions = actions; refusals = tolds }) → Found
+    by_refusals : (actions : List ActionView) (refusal_views : List RefusalView) → IsPlanned ms prior.resources variables (names_of config) config.outputs shapes (record { actions = actions; refusals = refusal_views }) → Found
     by_refusals actions [] planned = by_actions actions planned
-    by_refusals actions (told ∷ tolds) planned =
-        inr (told ∷ tolds, inr (inl (record { shapes = shapes; actions = actions; instances = instances; planned = planned; some = λ (none : told ∷ tolds ≡ []). absurd (cc) })))
+    by_refusals actions (told ∷ refusal_views) planned =
+        inr (told ∷ refusal_views, inr (inl (record { shapes = shapes; actions = actions; instances = instances; planned = planned; some = λ (none : told ∷ refusal_views ≡ []). absurd (cc) })))
 
     by_planned : Found
     by_planned =
         let found = some_standings (deciding ms prior.resources shapes) variables (names_of config) d is acyclic in
         let order = some_order (numbered (names_of config) prior.resources) in
         let view : PlannedView = planned_in ms prior.resources variables (names_of config) config.outputs shapes order.0 found.0 in
-        by_refusals view.actions view.refusals (record { places = order.0; in_order = order.1; standings = found.0; stand = found.1; decided = refl })
+        by_refusals view.actions view.refusals (record { places = order.0; in_order = order.1; resolved_names = found.0; stand = found.1; decided = refl })
 
   by_expansion : Found
   by_expansion =
@@ -171,20 +171,20 @@ module _ (ms : List Meaning) (config : ConfigView) (variables : Entries) (prior 
                     why = first.1;
                     block = block.0;
                     is_block = block.1;
-                    standings = found.0;
+                    resolved_names = found.0;
                     stand = found.1;
                     first = record { inside = first.2; refused = first.3; first = first.4 };
                     refused = refl;
                   })),
             )
         | inl told ↦
-            let shapes : ℕ → ShapeView = λ n. shape_or_one (expanded variables names found.0 n) in
+            let shapes : ℕ → InstanceKeysView = λ n. shape_or_one (expanded variables names found.0 n) in
             let each = λ (n : ℕ) (h : n < length names). kept_shape (expanded variables names found.0 n) (told n h).0 (told n h).1 in
             elim (cases_lt max_instances (instances_before names shapes (length names))) [
               | inl many ↦
                   inr
-                  (beyond_limit ∷ [], inl (inr (record { standings = found.0; stand = found.1; many = record { shapes = shapes; each = each; more = many }; refused = refl })))
-              | inr few ↦ by_planned shapes (record { standings = found.0; stand = found.1; expanded = record { each = each; few = few } })
+                  (beyond_limit ∷ [], inl (inr (record { resolved_names = found.0; stand = found.1; many = record { shapes = shapes; each = each; more = many }; refused = refl })))
+              | inr few ↦ by_planned shapes (record { resolved_names = found.0; stand = found.1; expanded = record { each = each; few = few } })
             ]
       ]
 

@@ -8,8 +8,8 @@ use Rattle.tf_config_data.specs.Names.{NameView, a_block, directly_before, meant
 use Rattle.tf_deciding.specs.Outcome.{orphan_outcome}
 use Rattle.tf_deciding.specs.Stage.{deciding}
 use Rattle.tf_deciding.specs.Whole.{decided, nothing_decided}
-use Rattle.tf_environment.specs.Shape.{ShapeView}
-use Rattle.tf_environment.specs.Standing.{StandingView, AreStandings}
+use Rattle.tf_environment.specs.InstanceKeys.{InstanceKeysView}
+use Rattle.tf_environment.specs.Resolved.{ResolvedView, AreResolvedNames}
 use Rattle.tf_graph.specs.Solutions.{Ranked}
 use Rattle.tf_plan_resources.specs.Members.{members}
 use Rattle.tf_plan.proofs.Listing.{decided-actions, place_actions}
@@ -18,7 +18,7 @@ use Rattle.tf_plan.specs.Outputs.{output_refusals}
 use Rattle.tf_plan.specs.Planned.{IsPlanned, PlannedView, planned_in, unrefused}
 use Rattle.tf_plan.specs.Told.{instance_told}
 use Rattle.tf_protocol.specs.Meaning.{Meaning, schema_in}
-use Rattle.tf_plan_resources.specs.Numbering.{NumberedView, a_name, an_orphan, numbered}
+use Rattle.tf_plan_resources.specs.ResourceIndex.{ResourceRefView, a_name, an_orphan, numbered}
 use Rattle.tf_state_data.specs.Resource.{ResourceView}
 use Rattle.tf_syntax.specs.ExprTree as expr
 use Rattle.tf_value.specs.Tree.{Entries}
@@ -26,29 +26,29 @@ use Rattle.tf_laws.proofs.Decided.{IsFine, IsNumberedFine, IsMeantFine, all_fine
 use Rattle.tf_laws.proofs.Lists.{all_contained, map_none}
 use Rattle.tf_laws.proofs.Places.{block_looked_at, name_at, orphan_looked_at}
 
-module _ (ms : List Meaning) (variables : Entries) (names : List NameView) (outputs : expr.Entries) (shapes : ℕ → ShapeView) (resources : List ResourceView) (actions : List ActionView)
+module _ (ms : List Meaning) (variables : Entries) (names : List NameView) (outputs : expr.Entries) (shapes : ℕ → InstanceKeysView) (resources : List ResourceView) (actions : List ActionView)
     (planned : IsPlanned ms resources variables names outputs shapes (unrefused actions))
-    (standings : ℕ → StandingView) (solves : AreStandings (deciding ms resources shapes) variables names standings) (ranked : Ranked (directly_before names)) where
-  is_planned : planned_in ms resources variables names outputs shapes planned.places standings ≡ unrefused actions
-  is_planned = planned-by variables names ranked ms resources outputs shapes (unrefused actions) planned standings solves
+    (resolved_names : ℕ → ResolvedView) (solves : AreResolvedNames (deciding ms resources shapes) variables names resolved_names) (ranked : Ranked (directly_before names)) where
+  is_planned : planned_in ms resources variables names outputs shapes planned.places resolved_names ≡ unrefused actions
+  is_planned = planned-by variables names ranked ms resources outputs shapes (unrefused actions) planned resolved_names solves
 
-  fine : AllByRecursion (λ n. IsNumberedFine ms resources variables names shapes standings n (slice_get (numbered names resources) n)) planned.places
+  fine : AllByRecursion (λ n. IsNumberedFine ms resources variables names shapes resolved_names n (slice_get (numbered names resources) n)) planned.places
   fine =
-      let told : map instance_told (decided ms resources variables names shapes standings (numbered names resources) planned.places).refusals ++ output_refusals variables names standings outputs ≡ [] =
+      let told : map instance_told (decided ms resources variables names shapes resolved_names (numbered names resources) planned.places).refusals ++ output_refusals variables names resolved_names outputs ≡ [] =
       ap (λ (p : PlannedView). p.refusals) is_planned in
-      let none = map_none instance_told (decided ms resources variables names shapes standings (numbered names resources) planned.places).refusals (output_refusals variables names standings outputs) told in
-      (all_fine ms resources variables names shapes standings (numbered names resources) planned.places nothing_decided none).1
+      let none = map_none instance_told (decided ms resources variables names shapes resolved_names (numbered names resources) planned.places).refusals (output_refusals variables names resolved_names outputs) told in
+      (all_fine ms resources variables names shapes resolved_names (numbered names resources) planned.places nothing_decided none).1
 
-  place_fine : (n : ℕ) (o : Option NumberedView) → slice_get (numbered names resources) n ≡ o → Contains planned.places n → IsNumberedFine ms resources variables names shapes standings n o
+  place_fine : (n : ℕ) (o : Option ResourceRefView) → slice_get (numbered names resources) n ≡ o → Contains planned.places n → IsNumberedFine ms resources variables names shapes resolved_names n o
   place_fine n o e there =
-      subst (IsNumberedFine ms resources variables names shapes standings n) e
-      (all_contained (λ k. IsNumberedFine ms resources variables names shapes standings k (slice_get (numbered names resources) k)) planned.places n fine there)
+      subst (IsNumberedFine ms resources variables names shapes resolved_names n) e
+      (all_contained (λ k. IsNumberedFine ms resources variables names shapes resolved_names k (slice_get (numbered names resources) k)) planned.places n fine there)
 
   -- each member of a block is decided, where all that it needs stands for something
-  pub block_fine : (n : ℕ) (block : BlockView) → meant_at names n ≡ Some (a_block block) → IsMeantFine ms resources variables names shapes standings n (a_block block)
+  pub block_fine : (n : ℕ) (block : BlockView) → meant_at names n ≡ Some (a_block block) → IsMeantFine ms resources variables names shapes resolved_names n (a_block block)
   block_fine n block meant =
       let name = name_at names resources n (a_block block) meant in
-      subst (IsMeantFine ms resources variables names shapes standings n) name.2
+      subst (IsMeantFine ms resources variables names shapes resolved_names n) name.2
       (place_fine n (Some (a_name name.0)) name.1 (block_looked_at names resources planned.places n block planned.in_order meant))
 
   -- each member of an orphan is
@@ -56,8 +56,8 @@ module _ (ms : List Meaning) (variables : Entries) (names : List NameView) (outp
   orphan_fine n r e = place_fine n (Some (an_orphan r)) e (orphan_looked_at names resources planned.places n r planned.in_order e)
 
   -- the actions, place by place
-  pub actions_are : actions ≡ flat_map (λ n. place_actions ms resources variables names shapes standings n (slice_get (numbered names resources) n)) planned.places
+  pub actions_are : actions ≡ flat_map (λ n. place_actions ms resources variables names shapes resolved_names n (slice_get (numbered names resources) n)) planned.places
   actions_are =
       let all = numbered names resources in
-      let made : (decided ms resources variables names shapes standings all planned.places).actions ≡ actions = ap (λ (p : PlannedView). p.actions) is_planned in
-      sym made ∙ decided-actions ms resources variables names shapes standings all planned.places
+      let made : (decided ms resources variables names shapes resolved_names all planned.places).actions ≡ actions = ap (λ (p : PlannedView). p.actions) is_planned in
+      sym made ∙ decided-actions ms resources variables names shapes resolved_names all planned.places

@@ -13,7 +13,7 @@ use Rattle.tf_state_next.proofs.One.{id_one, known_by, label_one, some_known}
 use Rattle.tf_state_next.specs.Laws.{IsInOrder}
 use Rattle.tf_state_next.specs.StateAfter.{has_records}
 use Rattle.tf_plan_resources.specs.Dependencies.{dependencies, pairs_from, record_pairs, resource_pairs}
-use Rattle.tf_plan_resources.specs.Numbering.{NumberedView, place_in}
+use Rattle.tf_plan_resources.specs.ResourceIndex.{ResourceRefView, place_in}
 use Rattle.tf_state_data.specs.Addresses.{AreByAddress, addresses_of}
 use Rattle.tf_state_data.specs.Ids.{AreById, ids_of}
 use Rattle.tf_state_data.specs.Record.{RecordView}
@@ -123,18 +123,18 @@ module _ (s t : StateView) (like : AreLike s t) (known : (label : LabelView) (id
 
 -- ---- and the same stored dependencies
 
-flat_pairs : (all : List NumberedView) (place : ℕ) (rs : List RecordView) → flat_map (record_pairs all place) (map record_without_flag rs) ≡ flat_map (record_pairs all place) rs
+flat_pairs : (all : List ResourceRefView) (place : ℕ) (rs : List RecordView) → flat_map (record_pairs all place) (map record_without_flag rs) ≡ flat_map (record_pairs all place) rs
 flat_pairs all place [] = refl
 flat_pairs all place (r ∷ rs) = ap (λ (ps : List (ℕ × ℕ)). record_pairs all place r ++ ps) (flat_pairs all place rs)
 
-pairs_by : (all : List NumberedView) (rs : List RecordView) (o : Option ℕ) → pairs_from all (map record_without_flag rs) o ≡ pairs_from all rs o
+pairs_by : (all : List ResourceRefView) (rs : List RecordView) (o : Option ℕ) → pairs_from all (map record_without_flag rs) o ≡ pairs_from all rs o
 pairs_by all rs None = refl
 pairs_by all rs (Some place) = flat_pairs all place rs
 
-dependencies_flagless : (all : List NumberedView) (rs : List ResourceView) → dependencies all (map resource_without_flags rs) ≡ dependencies all rs
+dependencies_flagless : (all : List ResourceRefView) (rs : List ResourceView) → dependencies all (map resource_without_flags rs) ≡ dependencies all rs
 dependencies_flagless all [] = refl
 dependencies_flagless all (r ∷ rs) =
     ap (λ (ps : List (ℕ × ℕ)). ps ++ dependencies all (map resource_without_flags rs)) (pairs_by all r.records (place_in all r.label)) ∙ ap (λ (ps : List (ℕ × ℕ)). resource_pairs all r ++ ps) (dependencies_flagless all rs)
 
-pub same_stored : (all : List NumberedView) (rs qs : List ResourceView) → map resource_without_flags rs ≡ map resource_without_flags qs → dependencies all rs ≡ dependencies all qs
+pub same_stored : (all : List ResourceRefView) (rs qs : List ResourceView) → map resource_without_flags rs ≡ map resource_without_flags qs → dependencies all rs ≡ dependencies all qs
 same_stored all rs qs e = sym (dependencies_flagless all rs) ∙ ap (dependencies all) e ∙ dependencies_flagless all qs

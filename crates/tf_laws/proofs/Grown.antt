@@ -23,10 +23,10 @@ use Rattle.tf_decision.specs.Decision.{DecisionView, change, current}
 use Rattle.tf_decision.specs.Kept.{kept_object}
 use Rattle.tf_environment.proofs.Refining.{together_grows}
 use Rattle.tf_environment.proofs.Seen.{agree_on, same_seen}
-use Rattle.tf_environment.specs.Laws.{Grows, HaveGrown, StandingsGrow}
-use Rattle.tf_environment.specs.Shape.{ShapeView, instance_keys}
+use Rattle.tf_environment.specs.Laws.{Grows, HaveGrown, ResolvedNamesGrow}
+use Rattle.tf_environment.specs.InstanceKeys.{InstanceKeysView, instance_keys}
 use Rattle.tf_environment.specs.Stages.{applying}
-use Rattle.tf_environment.specs.Standing.{StandingView, AreStandings, environment, environment_at, result_in, together}
+use Rattle.tf_environment.specs.Resolved.{ResolvedView, AreResolvedNames, environment, environment_at, result_in, together}
 use Rattle.tf_eval.proofs.Locality.{expressions_local}
 use Rattle.tf_eval.specs.Environment.{RefinesTo}
 use Rattle.tf_eval.specs.Locality.{AgreeOn}
@@ -134,15 +134,15 @@ was_made ignored schema a (Err why) (deposed_destroyed key prior) asked applies 
 -- ---- the request of a made instance
 
 -- What was asked for a made instance: what its block makes where names stand for what came of all.
-pub record IsRequested (x : Applied) (standings : ℕ → StandingView) (n : ℕ) (block : BlockView) (key : InstanceKeyView) (kept : IsKept x n block key) (m : IsMade x block key kept.only) : Type 0 where
+pub record IsRequested (x : Applied) (resolved_names : ℕ → ResolvedView) (n : ℕ) (block : BlockView) (key : InstanceKeyView) (kept : IsKept x n block key) (m : IsMade x block key kept.only) : Type 0 where
   pub made : Tree
-  pub makes : instance_object kept.by_plan.schema block key (environment x.plan.variables (plan_names x.plan) standings) ≡ Ok made
+  pub makes : instance_object kept.by_plan.schema block key (environment x.plan.variables (plan_names x.plan) resolved_names) ≡ Ok made
   pub asked : Asked
   pub asks : asked_by_step block.lifecycle.ignore_changes kept.by_plan.schema m.a (Ok made) m.a.step ≡ Ok asked
   pub well : is_good_verdict (verdict_on_object kept.by_plan.schema asked.object (answered_of (done_at x.done m.k))) ≡ true
 
-module _ (x : Applied) (standings : ℕ → StandingView) (solves : AreStandings (applying x.plan.shapes (objects_after x.plan x.done)) x.plan.variables (plan_names x.plan) standings) where
-  pub made_requested : (n : ℕ) (block : BlockView) (key : InstanceKeyView) → meant_at (plan_names x.plan) n ≡ Some (a_block block) → (kept : IsKept x n block key) (m : IsMade x block key kept.only) → IsRequested x standings n block key kept m
+module _ (x : Applied) (resolved_names : ℕ → ResolvedView) (solves : AreResolvedNames (applying x.plan.shapes (objects_after x.plan x.done)) x.plan.variables (plan_names x.plan) resolved_names) where
+  pub made_requested : (n : ℕ) (block : BlockView) (key : InstanceKeyView) → meant_at (plan_names x.plan) n ≡ Some (a_block block) → (kept : IsKept x n block key) (m : IsMade x block key kept.only) → IsRequested x resolved_names n block key kept m
   made_requested n block key meant kept m =
       let objects = objects_by x.plan (seen_by (done_at x.done) (predecessors_of x.plan.order m.k)) in
       let call = call_at_index x m.k m.a m.at in
@@ -150,18 +150,18 @@ module _ (x : Applied) (standings : ℕ → StandingView) (solves : AreStandings
       let own : meant_at (plan_names x.plan) m.a.resource ≡ Some (a_block block) = ap (meant_at (plan_names x.plan)) (made_resource x n block key kept kept.only m) ∙ meant in
       let schemas : Some call.schema ≡ Some q.schema = sym call.has ∙ ap (λ (l : LabelView). schema_in l.type_name x.ms) m.is.label_is ∙ q.has in
       let schema_same : call.schema ≡ q.schema = (cc) in
-      let request : x.requests objects m.a call.schema ≡ instance_object q.schema block key (environment x.plan.variables (plan_names x.plan) standings) =
-      requested x standings solves m.k m.a m.at m.is.applies block call.schema own
-      ∙ ap (λ (s : SchemaView). instance_object s block m.a.key (environment x.plan.variables (plan_names x.plan) standings)) schema_same
-      ∙ ap (λ (k : InstanceKeyView). instance_object q.schema block k (environment x.plan.variables (plan_names x.plan) standings)) m.is.key_is in
+      let request : x.requests objects m.a call.schema ≡ instance_object q.schema block key (environment x.plan.variables (plan_names x.plan) resolved_names) =
+      requested x resolved_names solves m.k m.a m.at m.is.applies block call.schema own
+      ∙ ap (λ (s : SchemaView). instance_object s block m.a.key (environment x.plan.variables (plan_names x.plan) resolved_names)) schema_same
+      ∙ ap (λ (k : InstanceKeyView). instance_object q.schema block k (environment x.plan.variables (plan_names x.plan) resolved_names)) m.is.key_is in
       let ignored : ignored_by (meant_at (plan_names x.plan) m.a.resource) ≡ block.lifecycle.ignore_changes = ap ignored_by own in
       let by_block : asked_by_step block.lifecycle.ignore_changes call.schema m.a (x.requests objects m.a call.schema) m.a.step ≡ Ok call.asked =
       subst (λ (ns : List (List ℕ)). asked_by_step ns call.schema m.a (x.requests objects m.a call.schema) m.a.step ≡ Ok call.asked) ignored call.made in
-      let by_request : asked_by_step block.lifecycle.ignore_changes call.schema m.a (instance_object q.schema block key (environment x.plan.variables (plan_names x.plan) standings)) m.a.step ≡ Ok call.asked =
+      let by_request : asked_by_step block.lifecycle.ignore_changes call.schema m.a (instance_object q.schema block key (environment x.plan.variables (plan_names x.plan) resolved_names)) m.a.step ≡ Ok call.asked =
       subst (λ (p : Result Tree InstanceFaultView). asked_by_step block.lifecycle.ignore_changes call.schema m.a p m.a.step ≡ Ok call.asked) request by_block in
-      let by_schema : asked_by_step block.lifecycle.ignore_changes q.schema m.a (instance_object q.schema block key (environment x.plan.variables (plan_names x.plan) standings)) m.a.step ≡ Ok call.asked =
-      subst (λ (s : SchemaView). asked_by_step block.lifecycle.ignore_changes s m.a (instance_object q.schema block key (environment x.plan.variables (plan_names x.plan) standings)) m.a.step ≡ Ok call.asked) schema_same by_request in
-      let made = was_made block.lifecycle.ignore_changes q.schema m.a (instance_object q.schema block key (environment x.plan.variables (plan_names x.plan) standings)) m.a.step call.asked m.is.applies by_schema in
+      let by_schema : asked_by_step block.lifecycle.ignore_changes q.schema m.a (instance_object q.schema block key (environment x.plan.variables (plan_names x.plan) resolved_names)) m.a.step ≡ Ok call.asked =
+      subst (λ (s : SchemaView). asked_by_step block.lifecycle.ignore_changes s m.a (instance_object q.schema block key (environment x.plan.variables (plan_names x.plan) resolved_names)) m.a.step ≡ Ok call.asked) schema_same by_request in
+      let made = was_made block.lifecycle.ignore_changes q.schema m.a (instance_object q.schema block key (environment x.plan.variables (plan_names x.plan) resolved_names)) m.a.step call.asked m.is.applies by_schema in
       record {
         made = made.0;
         makes = made.1;
@@ -174,7 +174,7 @@ module _ (x : Applied) (standings : ℕ → StandingView) (solves : AreStandings
   -- ---- names
 
   -- what a name sees is what its block refers to
-  sees_refers : (results : ℕ → StandingView) (n : ℕ) (block : BlockView) → meant_at (plan_names x.plan) n ≡ Some (a_block block)
+  sees_refers : (results : ℕ → ResolvedView) (n : ℕ) (block : BlockView) → meant_at (plan_names x.plan) n ≡ Some (a_block block)
       → AgreeOn (environment x.plan.variables (plan_names x.plan) results) (environment_at x.plan.variables (plan_names x.plan) results n) (block_refers block)
   sees_refers results n block meant =
       agree_on x.plan.variables (plan_names x.plan) results (result_in (seen_by results (directly_before (plan_names x.plan) n))) (block_refers block)
@@ -182,18 +182,18 @@ module _ (x : Applied) (standings : ℕ → StandingView) (solves : AreStandings
 
   module _ (instances : InstancesGrow) where
     planned_refines : (n : ℕ) (block : BlockView) (key : InstanceKeyView) (t : Tree) → meant_at (plan_names x.plan) n ≡ Some (a_block block) → is_among (keys_at (setting x) n) key ≡ true
-        → RefinesTo (environment_at x.plan.variables (plan_names x.plan) x.standings n) (environment_at x.plan.variables (plan_names x.plan) standings n)
-        → decided_object x.ms x.plan.prior.resources n block (environment_at x.plan.variables (plan_names x.plan) x.standings n) key ≡ Some t → Refines t (objects_after x.plan x.done n key)
+        → RefinesTo (environment_at x.plan.variables (plan_names x.plan) x.resolved_names n) (environment_at x.plan.variables (plan_names x.plan) resolved_names n)
+        → decided_object x.ms x.plan.prior.resources n block (environment_at x.plan.variables (plan_names x.plan) x.resolved_names n) key ≡ Some t → Refines t (objects_after x.plan x.done n key)
     planned_refines n block key t meant among more e = by_kept (kept_at x n block key meant among)
       where
         by_kept : IsKept x n block key → Refines t (objects_after x.plan x.done n key)
         by_kept kept =
             let q = kept.by_plan in
             let records = records_in (setting x) block key in
-            let whole = environment x.plan.variables (plan_names x.plan) x.standings in
-            let seen = environment_at x.plan.variables (plan_names x.plan) x.standings n in
-            let same : instance_object q.schema block key (environment x.plan.variables (plan_names x.plan) x.standings) ≡ instance_object q.schema block key (environment_at x.plan.variables (plan_names x.plan) x.standings n) =
-            instances_local expressions_local q.schema block key whole seen (sees_refers x.standings n block meant) in
+            let whole = environment x.plan.variables (plan_names x.plan) x.resolved_names in
+            let seen = environment_at x.plan.variables (plan_names x.plan) x.resolved_names n in
+            let same : instance_object q.schema block key (environment x.plan.variables (plan_names x.plan) x.resolved_names) ≡ instance_object q.schema block key (environment_at x.plan.variables (plan_names x.plan) x.resolved_names n) =
+            instances_local expressions_local q.schema block key whole seen (sees_refers x.resolved_names n block meant) in
             let beside : object_beside (current records) q.decision ≡ Some t =
             sym (ap (object_unless_refused records) q.decides) ∙ ap (λ (p : Result Tree InstanceFaultView). object_unless_refused records (decision.decision q.schema block.lifecycle records p)) same
             ∙ sym (ap (λ (o : Option SchemaView). option_and_then (λ schema. object_of schema block records seen key) o) q.has) ∙ e in
@@ -204,10 +204,10 @@ module _ (x : Applied) (standings : ℕ → StandingView) (solves : AreStandings
                   subst (Refines t) (sym is) (Refines-refl t)
               | inl m ↦
                   let r = made_requested n block key meant kept m in
-                  let after_same : instance_object q.schema block key (environment x.plan.variables (plan_names x.plan) standings) ≡ instance_object q.schema block key (environment_at x.plan.variables (plan_names x.plan) standings n) =
-                  instances_local expressions_local q.schema block key (environment x.plan.variables (plan_names x.plan) standings) (environment_at x.plan.variables (plan_names x.plan) standings n) (sees_refers standings n block meant) in
-                  let grows : Refines q.is.made r.made = instances q.schema block key seen (environment_at x.plan.variables (plan_names x.plan) standings n) q.is.made r.made more (sym same ∙ q.is.makes) (sym after_same ∙ r.makes) in
-                  let named = instances_named q.schema block key (environment x.plan.variables (plan_names x.plan) standings) r.made r.makes in
+                  let after_same : instance_object q.schema block key (environment x.plan.variables (plan_names x.plan) resolved_names) ≡ instance_object q.schema block key (environment_at x.plan.variables (plan_names x.plan) resolved_names n) =
+                  instances_local expressions_local q.schema block key (environment x.plan.variables (plan_names x.plan) resolved_names) (environment_at x.plan.variables (plan_names x.plan) resolved_names n) (sees_refers resolved_names n block meant) in
+                  let grows : Refines q.is.made r.made = instances q.schema block key seen (environment_at x.plan.variables (plan_names x.plan) resolved_names n) q.is.made r.made more (sym same ∙ q.is.makes) (sym after_same ∙ r.makes) in
+                  let named = instances_named q.schema block key (environment x.plan.variables (plan_names x.plan) resolved_names) r.made r.makes in
                   let step = (q.only m.a (at-contained x.plan.actions m.k m.a m.at) m.is.label_is m.is.key_is).0 in
                   let grown = asked_grows q.schema block.lifecycle.ignore_changes m.a q.is.made r.made t r.asked grows named records q.decision m.a.step step m.is.applies q.is.changes beside r.asks in
                   let well = subst (λ (o : Option Tree). is_good_verdict (verdict_on_object q.schema o (answered_of (done_at x.done m.k))) ≡ true) grown.object r.well in
@@ -215,7 +215,7 @@ module _ (x : Applied) (standings : ℕ → StandingView) (solves : AreStandings
                   subst (Refines t) (sym (made_stands x n block key kept kept.only m)) (Refines-trans t grown.wanted (answered_of (done_at x.done m.k)) grown.refines answered)
             ]
 
-    decided_grows : (b : Bool) (shape : ShapeView) (f g : InstanceKeyView → Option Tree) → ((key : InstanceKeyView) (t u : Tree) → is_among (instance_keys shape) key ≡ true → f key ≡ Some t → g key ≡ Some u → Refines t u)
+    decided_grows : (b : Bool) (shape : InstanceKeysView) (f g : InstanceKeyView → Option Tree) → ((key : InstanceKeyView) (t u : Tree) → is_among (instance_keys shape) key ≡ true → f key ≡ Some t → g key ≡ Some u → Refines t u)
         → Grows (together (if b then Some shape else None) f) (together (Some shape) g)
     decided_grows false shape f g h v w p q = absurd (cc)
     decided_grows true shape f g h v w p q =
@@ -227,10 +227,10 @@ module _ (x : Applied) (standings : ℕ → StandingView) (solves : AreStandings
         by_among key t u a false among c = subst (Refines t) (some_same t u (sym a ∙ c)) (Refines-refl t)
 
     -- what names stand for in the plan refines to what they stand for after the apply
-    pub grown : StandingsGrow → HaveGrown x.plan.variables (plan_names x.plan) x.standings standings
+    pub grown : ResolvedNamesGrow → HaveGrown x.plan.variables (plan_names x.plan) x.resolved_names resolved_names
     grown grow =
-        grow (deciding x.ms x.plan.prior.resources x.plan.shapes) (applying x.plan.shapes (objects_after x.plan x.done)) x.plan.variables (plan_names x.plan) x.standings standings x.ranked x.solves solves
+        grow (deciding x.ms x.plan.prior.resources x.plan.shapes) (applying x.plan.shapes (objects_after x.plan x.done)) x.plan.variables (plan_names x.plan) x.resolved_names resolved_names x.ranked x.solves solves
         (λ n block meant more.
         decided_grows (all_can_go x.ms x.plan.prior.resources (x.plan.shapes n) block) (x.plan.shapes n)
-        (decided_object x.ms x.plan.prior.resources n block (environment_at x.plan.variables (plan_names x.plan) x.standings n)) (λ key. Some (objects_after x.plan x.done n key))
+        (decided_object x.ms x.plan.prior.resources n block (environment_at x.plan.variables (plan_names x.plan) x.resolved_names n)) (λ key. Some (objects_after x.plan x.done n key))
         (λ key t u among a b. subst (Refines t) (some_same (objects_after x.plan x.done n key) u b) (planned_refines n block key t meant among more a)))

@@ -11,10 +11,10 @@ use Rattle.tf_config_data.specs.Config.{BlockView, ConfigView}
 use Rattle.tf_config_data.specs.Names.{a_block, directly_before, label_pair, meant_at, names_of}
 use Rattle.tf_deciding.specs.Stage.{records_at}
 use Rattle.tf_environment.proofs.Refining.{followed}
-use Rattle.tf_environment.specs.Laws.{StandingsGrow}
-use Rattle.tf_environment.specs.Shape.{ShapeView, instance_keys}
+use Rattle.tf_environment.specs.Laws.{ResolvedNamesGrow}
+use Rattle.tf_environment.specs.InstanceKeys.{InstanceKeysView, instance_keys}
 use Rattle.tf_environment.specs.Stages.{applying}
-use Rattle.tf_environment.specs.Standing.{rule}
+use Rattle.tf_environment.specs.Resolved.{rule}
 use Rattle.tf_graph.proofs.Edges.{contains_cases}
 use Rattle.tf_graph.proofs.Solving.{solution-exists}
 use Rattle.tf_graph.specs.Solutions.{Ranked}
@@ -22,7 +22,7 @@ use Rattle.tf_plan_resources.specs.Members.{is_among, is_of, records_of}
 use Rattle.tf_state_next.proofs.Changing.{found_label}
 use Rattle.tf_state_next.specs.Laws.{IsInOrder}
 use Rattle.tf_state_next.specs.StateAfter.{has_records}
-use Rattle.tf_outcome.specs.Outcome.{Done}
+use Rattle.tf_outcome.specs.Outcome.{ActionResultView}
 use Rattle.tf_plan.proofs.Blocks.{names-apart}
 use Rattle.tf_plan.specs.Ordered.{AreTied}
 use Rattle.tf_plan.specs.Plan.{IsPlan}
@@ -30,11 +30,11 @@ use Rattle.tf_plan.proofs.Solved.{same_shapes}
 use Rattle.tf_plan.proofs.Tied.{block_found}
 use Rattle.tf_plan.specs.Planned.{AreInstances}
 use Rattle.tf_plan_data.specs.Plan.{PlanView}
-use Rattle.tf_precedence.specs.Ties.{TiesView}
+use Rattle.tf_precedence.specs.OrderInput.{OrderInputView}
 use Rattle.tf_protocol.specs.Meaning.{Meaning}
 use Rattle.tf_walk_report.specs.Report.{objects_after}
 use Rattle.tf_plan_resources.specs.Laws as resources_laws
-use Rattle.tf_plan_resources.specs.Numbering.{a_name, has_block}
+use Rattle.tf_plan_resources.specs.ResourceIndex.{a_name, has_block}
 use Rattle.tf_state_next.proofs.Places.{found_id}
 use Rattle.tf_state_next.specs.After.{object_at, renewed}
 use Rattle.tf_state_data.specs.Record.{RecordView}
@@ -49,7 +49,7 @@ use Rattle.tf_laws.proofs.Quiet.{quiet_keeps}
 use Rattle.tf_laws.proofs.Still.{nothing_at_rest}
 use Rattle.tf_laws.proofs.Tied.{dependencies_same}
 use Rattle.tf_laws.proofs.Whole.{own_ranked, rest_same, state_rests}
-use Rattle.tf_laws.specs.Converges.{IsCarriedOut, IsSound}
+use Rattle.tf_laws.specs.Reapply.{IsCarriedOut, IsSound}
 use Rattle.tf_laws.specs.Known.{ExpressionsStayKnown}
 use Rattle.tf_laws.specs.Quiet.{IsRenewed}
 use Rattle.tf_laws.specs.Rest.{AreAtRest}
@@ -75,7 +75,7 @@ homed ms config variables prior plan is i = record {
 -- ---- a state at rest
 
 pub record IsAtRest (ms : List Meaning) (config : ConfigView) (variables : Entries) (s : StateView) : Type 0 where
-  pub shapes : ℕ → ShapeView
+  pub shapes : ℕ → InstanceKeysView
   pub objects : ℕ → InstanceKeyView → Tree
   pub ranked : Ranked (directly_before (names_of config))
   pub instances : AreInstances variables (names_of config) shapes
@@ -85,7 +85,7 @@ pub record IsAtRest (ms : List Meaning) (config : ConfigView) (variables : Entri
   pub present : AllByRecursion (λ r. has_records r ≡ true) s.resources
 
 -- the block that an object is of, which is an instance's current one
-pub record IsInPlace (config : ConfigView) (shapes : ℕ → ShapeView) (label : LabelView) (id : ObjectIdView) : Type 0 where
+pub record IsInPlace (config : ConfigView) (shapes : ℕ → InstanceKeysView) (label : LabelView) (id : ObjectIdView) : Type 0 where
   pub n : ℕ
   pub block : BlockView
   pub meant : meant_at (names_of config) n ≡ Some (a_block block)
@@ -113,8 +113,8 @@ module _ (ms : List Meaning) (config : ConfigView) (variables : Entries) (s : St
       let listed : Contains (records_at block.1.label s.resources) y = subst (λ (o : Option ResourceView). Contains (option_map_or (λ z. z.records) o []) y) (sym resource) (found_contains _ r.0.records y r.2) in
       let among : is_among (instance_keys (at.shapes block.0)) y.id.key ≡ true =
       all_contained (λ (x : RecordView). is_among (instance_keys (at.shapes block.0)) x.id.key ≡ true) (records_at block.1.label s.resources) y (at.rests.declared block.0 block.1 block.2) listed in
-      let standings = solution-exists (length names) (directly_before names) (rule (applying at.shapes at.objects) variables names) at.ranked in
-      let resting = at.rests.rest standings.0 standings.1 block.0 block.1 y.id.key block.2 among in
+      let resolved_names = solution-exists (length names) (directly_before names) (rule (applying at.shapes at.objects) variables names) at.ranked in
+      let resting = at.rests.rest resolved_names.0 resolved_names.1 block.0 block.1 y.id.key block.2 among in
       let mine : Contains (records_of y.id.key (records_at block.1.label s.resources)) y = to_filter (is_of y.id.key) (records_at block.1.label s.resources) y listed (same_key y.id.key) in
       let is_only : resting.only ≡ y = only_one resting.only y (subst (λ (rs : List RecordView). Contains rs y) resting.alone mine) in
       record {
@@ -151,7 +151,7 @@ module _ (ms : List Meaning) (config : ConfigView) (variables : Entries) (s : St
 
 -- ---- the state after an apply that went well is at rest
 
-module _ (law : ExpressionsStayKnown) (grows : InstancesGrow) (grow : StandingsGrow) (ms : List Meaning) (config : ConfigView) (variables : Entries) (prior : StateView) (plan : PlanView) (done : List Done) (outputs : Entries) (after : StateView)
+module _ (law : ExpressionsStayKnown) (grows : InstancesGrow) (grow : ResolvedNamesGrow) (ms : List Meaning) (config : ConfigView) (variables : Entries) (prior : StateView) (plan : PlanView) (done : List ActionResultView) (outputs : Entries) (after : StateView)
     (sound : IsSound ms config variables prior) (carried : IsCarriedOut ms config variables prior (home config variables prior plan) done outputs after) where
   abbrev pub first_rests : IsAtRest ms config variables after
   first_rests = record {
@@ -174,7 +174,7 @@ Depends config needs s =
     → y.dependencies ≡ dependencies needs (names_of config) n
 
 -- plans of one configuration give the same
-pub needs_alike : (config : ConfigView) (rs qs : List ResourceView) (one two : TiesView) → HasOwnNames config → resources_laws.AreApart (map a_name (names_of config)) → AreTied (names_of config) rs one → AreTied (names_of config) qs two
+pub needs_alike : (config : ConfigView) (rs qs : List ResourceView) (one two : OrderInputView) → HasOwnNames config → resources_laws.AreApart (map a_name (names_of config)) → AreTied (names_of config) rs one → AreTied (names_of config) qs two
     → (n : ℕ) (block : BlockView) → meant_at (names_of config) n ≡ Some (a_block block) → dependencies one.needs (names_of config) n ≡ dependencies two.needs (names_of config) n
 needs_alike config rs qs one two named apart tied also n block meant =
     dependencies_same (names_of config) tied.dependence also.dependence one.needs two.needs tied.is_dependence also.is_dependence tied.needs also.needs (label_pair block.label) n

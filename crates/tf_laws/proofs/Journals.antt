@@ -5,7 +5,7 @@ use Rattle.std.specs.List.{AllByRecursion}
 use Rattle.std.specs.Prelude.{Contains, slice_get, slice_index}
 use Rattle.tf_plan_data.specs.Action.{ActionView}
 use Rattle.tf_outcome.specs.Journal.{IsOfAction, entered_verdict, op_at, verdict_in}
-use Rattle.tf_outcome.specs.Outcome.{Done, done_at}
+use Rattle.tf_outcome.specs.Outcome.{ActionResultView, done_at}
 use Rattle.tf_protocol.specs.declared.verdict.Verdict.{Verdict}
 use Rattle.tf_provider.specs.Entries.{actions_of}
 use Rattle.tf_provider.specs.declared.journal.Entry.{Entry}
@@ -90,7 +90,7 @@ journals_agree law ms plan report other founded one two x =
     let first = one.journal in
     let second = two.journal in
     let same : (n : ℕ) → verdict_in report.journal.entries n ≡ verdict_in other.journal.entries n =
-    λ n. first.verdicts n ∙ ap (λ (d : List Done). entered_verdict (done_at d n)) done ∙ sym (second.verdicts n) in
+    λ n. first.verdicts n ∙ ap (λ (d : List ActionResultView). entered_verdict (done_at d n)) done ∙ sym (second.verdicts n) in
     record {
       verdicts = same;
       reordered =

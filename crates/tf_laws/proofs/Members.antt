@@ -5,7 +5,7 @@ use Rattle.std.specs.List.{AllByRecursion}
 use Rattle.tf_address.specs.ObjectId.{InstanceKeyView, ObjectIdView}
 use Rattle.tf_address.specs.Same.{object_id_Decides, same_instance_key}
 use Rattle.tf_plan_resources.proofs.Known.{among-recorded, among-with}
-use Rattle.tf_plan_resources.specs.Members.{MemberView, all_keys, is_among, is_of, is_recorded, member, members, recorded_keys, with_keys}
+use Rattle.tf_plan_resources.specs.Members.{InstanceToPlanView, all_keys, is_among, is_of, is_recorded, member, members, recorded_keys, with_keys}
 use Rattle.tf_graph.proofs.Edges.{contains_cases, contains_head, contains_tail}
 use Rattle.tf_plan.proofs.Distinct.{in_map, to_map}
 use Rattle.tf_plan.proofs.Objects.{one_key}
@@ -55,7 +55,7 @@ all_declared keys records all =
     (λ own. sym (among-with [] keys k) ∙ own) (declared_recorded keys records k all))
 
 -- so what holds of each instance of the configuration holds of each member
-pub members_hold : (P : MemberView → Type 0) (keys : List InstanceKeyView) (records : List RecordView) → AllByRecursion (λ r. is_among keys r.id.key ≡ true) records
+pub members_hold : (P : InstanceToPlanView → Type 0) (keys : List InstanceKeyView) (records : List RecordView) → AllByRecursion (λ r. is_among keys r.id.key ≡ true) records
     → ((k : InstanceKeyView) → is_among keys k ≡ true → P (member keys records k)) → AllByRecursion P (members keys records)
 members_hold P keys records all each = along (all_keys keys records) (all_declared keys records all)
   where
@@ -71,7 +71,7 @@ among_keys keys records k h =
     ∙ or_first (is_among (with_keys [] keys) k) (is_among (recorded_keys records) k) (among-with [] keys k ∙ h)
 
 -- what holds of each member holds of each instance of the configuration
-pub instance_holds : (P : MemberView → Type 0) (keys : List InstanceKeyView) (records : List RecordView) (k : InstanceKeyView) → AllByRecursion P (members keys records) → is_among keys k ≡ true → P (member keys records k)
+pub instance_holds : (P : InstanceToPlanView → Type 0) (keys : List InstanceKeyView) (records : List RecordView) (k : InstanceKeyView) → AllByRecursion P (members keys records) → is_among keys k ≡ true → P (member keys records k)
 instance_holds P keys records k all h = among_holds (λ j. P (member keys records j)) (all_keys keys records) k (along (all_keys keys records) all) (among_keys keys records k h)
   where
     along : (ks : List InstanceKeyView) → AllByRecursion P (map (member keys records) ks) → AllByRecursion (λ j. P (member keys records j)) ks
@@ -79,7 +79,7 @@ instance_holds P keys records k all h = among_holds (λ j. P (member keys record
     along (j ∷ ks) g = (g.0, along ks g.1)
 
 -- and of each instance that there is a record of
-pub recorded_holds : (P : MemberView → Type 0) (keys : List InstanceKeyView) (records : List RecordView) (k : InstanceKeyView) → AllByRecursion P (members keys records) → is_recorded records k ≡ true → P (member keys records k)
+pub recorded_holds : (P : InstanceToPlanView → Type 0) (keys : List InstanceKeyView) (records : List RecordView) (k : InstanceKeyView) → AllByRecursion P (members keys records) → is_recorded records k ≡ true → P (member keys records k)
 recorded_holds P keys records k all h =
     let there : is_among (all_keys keys records) k ≡ true = among-with (with_keys [] keys) (recorded_keys records) k ∙ or_second (is_among (with_keys [] keys) k) (is_among (recorded_keys records) k) (among-recorded records k ∙ h) in
     among_holds (λ j. P (member keys records j)) (all_keys keys records) k (along (all_keys keys records) all) there
@@ -109,10 +109,10 @@ recorded_there keys records k h =
     to_map (member keys records) (all_keys keys records) k (contains_among (all_keys keys records) k there)
 
 -- each member is told by its key
-pub member_is : (keys : List InstanceKeyView) (records : List RecordView) (m : MemberView) → Contains (members keys records) m → m ≡ member keys records m.key
+pub member_is : (keys : List InstanceKeyView) (records : List RecordView) (m : InstanceToPlanView) → Contains (members keys records) m → m ≡ member keys records m.key
 member_is keys records m c =
     let k = in_map (member keys records) (all_keys keys records) m c in
-    let key : k.0 ≡ m.key = ap (λ (x : MemberView). x.key) k.2 in
+    let key : k.0 ≡ m.key = ap (λ (x : InstanceToPlanView). x.key) k.2 in
     sym k.2 ∙ ap (member keys records) key
 
 -- an instance of which there is a record is recorded

@@ -5,14 +5,14 @@ use Rattle.std.proofs.lemmas.Option.{slice_get-map}
 use Rattle.std.specs.List.{AllByRecursion}
 use Rattle.std.specs.Prelude.{Contains, slice_get, ⊤}
 use Rattle.tf_outcome.specs.Excuse.{Moment, before_call, during_call, by_stop}
-use Rattle.tf_outcome.specs.Outcome.{Done, skipped, excused, faulted, called}
+use Rattle.tf_outcome.specs.Outcome.{ActionResultView, skipped, excused, faulted, called}
 use Rattle.tf_outcome.specs.declared.excuse.Excuse.{Excuse}
 use Rattle.tf_outcome.specs.declared.excuse.Excuse.TheVariants.{Before, During, Left, Output}
 use Rattle.tf_outcome.specs.declared.excuse.Outcome.{Outcome}
 use Rattle.tf_outcome.specs.declared.excuse.Outcome.TheVariants as outcome
-use Rattle.tf_outputs.specs.Outputs.{OutputDone, end_of}
-use Rattle.tf_outputs.specs.declared.ends.OutputEnd.{OutputEnd}
-use Rattle.tf_outputs.specs.declared.ends.OutputEnd.TheVariants.{NotEvaluated, NoMemory, Faulted, Valued}
+use Rattle.tf_outputs.specs.Outputs.{OutputResultView, end_of}
+use Rattle.tf_outputs.specs.declared.ends.OutputResult.{OutputResult}
+use Rattle.tf_outputs.specs.declared.ends.OutputResult.TheVariants.{NotEvaluated, NoMemory, Faulted, Valued}
 use Rattle.tf_plan_data.specs.Plan.{PlanView}
 use Rattle.tf_walk_report.specs.Outcomes.{excuses_at, excuses_from, outcome_of}
 use Rattle.tf_walk_report.specs.OutputsTold.{output_excuses}
@@ -36,7 +36,7 @@ action_later k e is = (is.0, is.1, omega (arith, is.2))
 output_later : (k : ℕ) (e : Excuse) → IsOfOutput (k + 1) e → IsOfOutput k e
 output_later k e is = (is.0, is.1, omega (arith, is.2))
 
-of_actions : (k : ℕ) (done : List Done) → AllByRecursion (IsOfAction k) (excuses_from k done)
+of_actions : (k : ℕ) (done : List ActionResultView) → AllByRecursion (IsOfAction k) (excuses_from k done)
 of_actions k [] = tt
 of_actions k (skipped ∷ done) = all_weaker (IsOfAction (k + 1)) (IsOfAction k) (excuses_from (k + 1) done) (action_later k) (of_actions (k + 1) done)
 of_actions k (excused before_call ∷ done) = ((k, refl, omega arith), all_weaker (IsOfAction (k + 1)) (IsOfAction k) (excuses_from (k + 1) done) (action_later k) (of_actions (k + 1) done))
@@ -45,7 +45,7 @@ of_actions k (excused by_stop ∷ done) = ((k, refl, omega arith), all_weaker (I
 of_actions k (faulted why ∷ done) = all_weaker (IsOfAction (k + 1)) (IsOfAction k) (excuses_from (k + 1) done) (action_later k) (of_actions (k + 1) done)
 of_actions k (called asked answer v ∷ done) = all_weaker (IsOfAction (k + 1)) (IsOfAction k) (excuses_from (k + 1) done) (action_later k) (of_actions (k + 1) done)
 
-of_outputs : (k : ℕ) (ends : List OutputEnd) → AllByRecursion (IsOfOutput k) (output_excuses k ends)
+of_outputs : (k : ℕ) (ends : List OutputResult) → AllByRecursion (IsOfOutput k) (output_excuses k ends)
 of_outputs k [] = tt
 of_outputs k (NotEvaluated ∷ ends) = all_weaker (IsOfOutput (k + 1)) (IsOfOutput k) (output_excuses (k + 1) ends) (output_later k) (of_outputs (k + 1) ends)
 of_outputs k (NoMemory ∷ ends) = ((k, refl, omega arith), all_weaker (IsOfOutput (k + 1)) (IsOfOutput k) (output_excuses (k + 1) ends) (output_later k) (of_outputs (k + 1) ends))
@@ -76,7 +76,7 @@ abbrev AreApart : List Excuse → Type 0
 AreApart [] = ⊤
 AreApart (e ∷ es) = AllByRecursion (IsOther (subject_of e)) es × AreApart es
 
-outputs_apart : (k : ℕ) (ends : List OutputEnd) → AreApart (output_excuses k ends)
+outputs_apart : (k : ℕ) (ends : List OutputResult) → AreApart (output_excuses k ends)
 outputs_apart k [] = tt
 outputs_apart k (NotEvaluated ∷ ends) = outputs_apart (k + 1) ends
 outputs_apart k (NoMemory ∷ ends) = (all_weaker (IsOfOutput (k + 1)) (IsOther (an_output k)) (output_excuses (k + 1) ends) (other_output k) (of_outputs (k + 1) ends), outputs_apart (k + 1) ends)
@@ -84,12 +84,12 @@ outputs_apart k (Faulted why ∷ ends) = outputs_apart (k + 1) ends
 outputs_apart k (Valued ∷ ends) = outputs_apart (k + 1) ends
 
 module _ (rest : List Excuse) (are : AllByRecursion (IsOfOutput 0) rest) (apart : AreApart rest) where
-  others : (k : ℕ) (done : List Done) → AllByRecursion (IsOther (an_action k)) (excuses_from (k + 1) done ++ rest)
+  others : (k : ℕ) (done : List ActionResultView) → AllByRecursion (IsOther (an_action k)) (excuses_from (k + 1) done ++ rest)
   others k done =
       all_appended (IsOther (an_action k)) (excuses_from (k + 1) done) rest (all_weaker (IsOfAction (k + 1)) (IsOther (an_action k)) (excuses_from (k + 1) done) (other_action k) (of_actions (k + 1) done))
       (all_weaker (IsOfOutput 0) (IsOther (an_action k)) rest (no_output k) are)
 
-  all_apart : (k : ℕ) (done : List Done) → AreApart (excuses_from k done ++ rest)
+  all_apart : (k : ℕ) (done : List ActionResultView) → AreApart (excuses_from k done ++ rest)
   all_apart k [] = apart
   all_apart k (skipped ∷ done) = all_apart (k + 1) done
   all_apart k (excused before_call ∷ done) = (others k done, all_apart (k + 1) done)
@@ -138,7 +138,7 @@ excuses_for before_call n = refl
 excuses_for during_call n = refl
 excuses_for by_stop n = refl
 
-named_from : (k j : ℕ) (done : List Done) (m : Moment) → slice_get done j ≡ Some (excused m) → Contains (excuses_from k done) (excuse_for m (k + j))
+named_from : (k j : ℕ) (done : List ActionResultView) (m : Moment) → slice_get done j ≡ Some (excused m) → Contains (excuses_from k done) (excuse_for m (k + j))
 named_from k j [] m at = absurd (cc)
 named_from k zero (d ∷ done) m at =
     let here : d ≡ excused m = (cc) in
@@ -152,14 +152,14 @@ named_from k (suc j) (d ∷ done) m at =
     (subst (λ (n : ℕ). Contains (excuses_from (k + 1) done) (excuse_for m n)) next (named_from (k + 1) j done m at))
 
 -- what ended as excused
-excused_end : (o : Option Done) → option_map outcome_of o ≡ Some outcome.Excused → (m : Moment) × (o ≡ Some (excused m))
+excused_end : (o : Option ActionResultView) → option_map outcome_of o ≡ Some outcome.Excused → (m : Moment) × (o ≡ Some (excused m))
 excused_end None e = absurd (cc)
 excused_end (Some skipped) e = absurd (cc)
 excused_end (Some (excused m)) e = (m, refl)
 excused_end (Some (faulted why)) e = absurd (cc)
 excused_end (Some (called asked answer v)) e = absurd (cc)
 
-due_excused : (plan : PlanView) (done : List Done) (ended : List OutputDone) (n : ℕ) (e : Excuse) → IsDue plan done ended e → subject_of e ≡ an_action n → (m : Moment) × (slice_get done n ≡ Some (excused m))
+due_excused : (plan : PlanView) (done : List ActionResultView) (ended : List OutputResultView) (n : ℕ) (e : Excuse) → IsDue plan done ended e → subject_of e ≡ an_action n → (m : Moment) × (slice_get done n ≡ Some (excused m))
 due_excused plan done ended n (Before k) due same = let one : k ≡ n = (cc) in (before_call, subst (λ (i : ℕ). slice_get done i ≡ Some (excused before_call)) one due)
 due_excused plan done ended n (During k) due same = let one : k ≡ n = (cc) in (during_call, subst (λ (i : ℕ). slice_get done i ≡ Some (excused during_call)) one due)
 due_excused plan done ended n (Left k) due same = let one : k ≡ n = (cc) in (by_stop, subst (λ (i : ℕ). slice_get done i ≡ Some (excused by_stop)) one due)

@@ -2,9 +2,9 @@
 use Rattle.std.proofs.Common.{◌≡◌, ◌∙◌, ℕ, Bool, true, Option, Some, None, Contains, refl, sym, ap}
 use Rattle.tf_address.specs.ObjectId.{InstanceKeyView}
 use Rattle.tf_config_data.specs.Names.{Meant, a_local, a_block, directly_before}
-use Rattle.tf_environment.specs.Shape.{ShapeView, instance_keys}
+use Rattle.tf_environment.specs.InstanceKeys.{InstanceKeysView, instance_keys}
 use Rattle.tf_environment.specs.Stages.{applying}
-use Rattle.tf_environment.specs.Standing.{stands_at}
+use Rattle.tf_environment.specs.Resolved.{stands_at}
 use Rattle.tf_eval.specs.Environment.{Environment}
 use Rattle.tf_plan.specs.Ordered.{IsOrdered}
 use Rattle.tf_plan_data.specs.Plan.{PlanView, plan_names}
@@ -13,7 +13,7 @@ use Rattle.tf_value.specs.Tree.{Tree}
 use Rattle.tf_laws.proofs.Still.{together_same}
 
 -- where the objects of a resource's instances are the same, so is what the resource stands for
-pub meant_same : (shapes : ℕ → ShapeView) (f g : ℕ → InstanceKeyView → Tree) (n : ℕ) (m : Option Meant) (env : Environment) → ((key : InstanceKeyView) → is_among (instance_keys (shapes n)) key ≡ true → f n key ≡ g n key)
+pub meant_same : (shapes : ℕ → InstanceKeysView) (f g : ℕ → InstanceKeyView → Tree) (n : ℕ) (m : Option Meant) (env : Environment) → ((key : InstanceKeyView) → is_among (instance_keys (shapes n)) key ≡ true → f n key ≡ g n key)
     → stands_at (applying shapes f) n m env ≡ stands_at (applying shapes g) n m env
 meant_same shapes f g n None env h = refl
 meant_same shapes f g n (Some (a_local e)) env h = refl

@@ -25,7 +25,7 @@ use Rattle.tf_names.specs.KnownNames.{Declared, IsKnown, IsUnknown, NameChecks, 
 use Rattle.tf_names.specs.Needs.{AreCyclic}
 use Rattle.tf_refusal.specs.OfExpression.{Way, way_of}
 use Rattle.tf_refusal.specs.Refusal as refusals
-use Rattle.tf_refusal.specs.Refusal.{DetailView, Told, fault, no_memory, workers}
+use Rattle.tf_refusal.specs.Refusal.{DetailView, RefusalView, fault, no_memory, workers}
 use Rattle.tf_state.proofs.Permuted.{one_order}
 use Rattle.tf_state.specs.Table.{IsUnread}
 use Rattle.tf_state.specs.declared.fault.StateFault.{StateFault}
@@ -36,7 +36,7 @@ use Rattle.tf_laws.specs.Refusals.{TellTheSameFault}
 
 -- ---- the configuration's text
 
-pub config_once : RefusedOnce → (texts : Texts) (first second : Told) → (first ≡ no_memory → ⊥) → (second ≡ no_memory → ⊥) → config.IsRefused texts.config first → config.IsRefused texts.config second → TellTheSameFault texts first second
+pub config_once : RefusedOnce → (texts : Texts) (first second : RefusalView) → (first ≡ no_memory → ⊥) → (second ≡ no_memory → ⊥) → config.IsRefused texts.config first → config.IsRefused texts.config second → TellTheSameFault texts first second
 config_once law texts no_memory second some more h k = absurd (some refl)
 config_once law texts workers second some more h k = absurd h
 config_once law texts (fault code place detail) no_memory some more h k = absurd (more refl)
@@ -63,10 +63,10 @@ one_fault : (place there : List ℕ) (way other : Way) → place ≡ there → w
 one_fault place there way other here same = ap (λ (p : List ℕ). fault way.0 p way.1) here ∙ ap (λ (w : Way). fault w.0 there w.1) same
 
 -- of two faults that it tells it tells one
-abbrev TellsOneFault : (Told → Type 0) → Type 0
+abbrev TellsOneFault : (RefusalView → Type 0) → Type 0
 TellsOneFault P = (code other : ℕ) (place there : List ℕ) (detail more : DetailView) → P (fault code place detail) → P (fault other there more) → fault code place detail ≡ fault other there more
 
-told_once : (P : Told → Type 0) → (P workers → ⊥) → TellsOneFault P → (first second : Told) → (first ≡ no_memory → ⊥) → (second ≡ no_memory → ⊥) → P first → P second → first ≡ second
+told_once : (P : RefusalView → Type 0) → (P workers → ⊥) → TellsOneFault P → (first second : RefusalView) → (first ≡ no_memory → ⊥) → (second ≡ no_memory → ⊥) → P first → P second → first ≡ second
 told_once P none one no_memory second some more h k = absurd (some refl)
 told_once P none one workers second some more h k = absurd (none h)
 told_once P none one (fault code place detail) no_memory some more h k = absurd (more refl)
@@ -94,7 +94,7 @@ cycles_once list code other place there detail more h k =
     let details_same : detail ≡ more = h.2.1 ∙ ap refusals.names (one_cycle list h.2.0 k.2.0 h.2.2 k.2.2) ∙ sym k.2.1 in
     λ i. fault (codes_same i) (places_same i) (details_same i)
 
-pub names_once : (c : ConfigView) (first second : Told) → (first ≡ no_memory → ⊥) → (second ≡ no_memory → ⊥) → RefusesItsNames c first → RefusesItsNames c second → first ≡ second
+pub names_once : (c : ConfigView) (first second : RefusalView) → (first ≡ no_memory → ⊥) → (second ≡ no_memory → ⊥) → RefusesItsNames c first → RefusesItsNames c second → first ≡ second
 names_once c first second some more h k = elim h [
   | inl unknown ↦ elim k [
     | inl other ↦ told_once (RefusesNames (declared_in c) (config_checks c)) (λ no. no) (known_once (declared_in c) (config_checks c)) first second some more unknown other
@@ -185,7 +185,7 @@ module _ (file : Option Data) (vs : List VariableView) where
   ]
 
 -- a text that is no file is refused in one way
-no_file_once : (bytes : List ℕ) (first second : Told) → IsNoFile bytes first → IsNoFile bytes second → first ≡ second
+no_file_once : (bytes : List ℕ) (first second : RefusalView) → IsNoFile bytes first → IsNoFile bytes second → first ≡ second
 no_file_once bytes first second h k = elim h [
   | inl long ↦ elim k [ inl also ↦ long.1 ∙ sym also.1 | inr small ↦ absurd (omega (arith, long.0, small.0)) ]
   | inr small ↦ elim k [
@@ -212,7 +212,7 @@ refused_as_once (Some bytes) vs code other place there detail more h k = elim h 
   ]
 ]
 
-pub variables_once : (vars : Option (List ℕ)) (vs : List VariableView) (first second : Told) → (first ≡ no_memory → ⊥) → (second ≡ no_memory → ⊥) → IsRefused vars vs first → IsRefused vars vs second → first ≡ second
+pub variables_once : (vars : Option (List ℕ)) (vs : List VariableView) (first second : RefusalView) → (first ≡ no_memory → ⊥) → (second ≡ no_memory → ⊥) → IsRefused vars vs first → IsRefused vars vs second → first ≡ second
 variables_once vars vs first second some more h k =
     told_once (IsRefused vars vs) (λ no. no) (λ code other place there detail further. refused_as_once vars vs code other place there detail further) first second some more h k
 

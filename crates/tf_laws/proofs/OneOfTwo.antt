@@ -9,7 +9,7 @@ use Rattle.tf_protocol.specs.Meaning.{Meaning}
 use Rattle.tf_refusal.specs.Refusal.{workers}
 use Rattle.tf_run.specs.Run.{are_workers}
 use Rattle.tf_laws.proofs.DecidedChecks.{IsDemandDecided, IsTemplateDecided, all_decided, demand_decided}
-use Rattle.tf_laws.proofs.ToldOf.{Standing, texts_told}
+use Rattle.tf_laws.proofs.ToldOf.{Resolved, texts_told}
 use Rattle.tf_laws.specs.OneOfTwo.{AppliesHavePlanOrRefusals, AreRead, AreToldOf, HavePlan, HaveRefusals, PlansAreTold, ReadingsAreTold, TemplatesAreTold, TextsAreReadOrRefused, TextsHavePlanOrRefusals}
 
 -- ---- which checks are decided
@@ -27,10 +27,10 @@ never = all_decided ⊥ IsDemandDecided (demand_decided ⊥ undecided)
 
 -- ---- readings
 
-pub never_unread : Standing → TextsAreReadOrRefused
+pub never_unread : Resolved → TextsAreReadOrRefused
 never_unread laws texts lineage neither = texts_told laws ⊥ never texts lineage neither.0 neither.1
 
-pub readings_told : Standing → ReadingsAreTold
+pub readings_told : Resolved → ReadingsAreTold
 readings_told laws told texts lineage = let R : Type 0 = AreRead texts lineage ⊎ AreToldOf texts in texts_told laws R (by_templates R told) texts lineage inl inr
 
 -- ---- plans
@@ -58,18 +58,18 @@ module _ (laws : Planning) (ms : List Meaning) (texts : Texts) (lineage : List �
   of_either (inl read) = of_read read
   of_either (inr told) = inr (of_told told)
 
-pub never_unplanned : Standing → Planning → TextsHavePlanOrRefusals
-never_unplanned standing laws ms texts lineage neither =
+pub never_unplanned : Resolved → Planning → TextsHavePlanOrRefusals
+never_unplanned resolved laws ms texts lineage neither =
     let on : HavePlan ms texts lineage ⊎ HaveRefusals ms texts → ⊥ = λ either. elim either [ inl plan ↦ neither.0 plan | inr refusals ↦ neither.1 refusals ] in
-    never_unread standing texts lineage (λ read. on (of_either laws ms texts lineage (inl read)), λ told. on (of_either laws ms texts lineage (inr told)))
+    never_unread resolved texts lineage (λ read. on (of_either laws ms texts lineage (inl read)), λ told. on (of_either laws ms texts lineage (inr told)))
 
-pub plans_told : Standing → Planning → PlansAreTold
-plans_told standing laws told ms texts lineage = of_either laws ms texts lineage (readings_told standing told texts lineage)
+pub plans_told : Resolved → Planning → PlansAreTold
+plans_told resolved laws told ms texts lineage = of_either laws ms texts lineage (readings_told resolved told texts lineage)
 
 -- ---- applies
 
-pub never_unapplied : Standing → Planning → AppliesHavePlanOrRefusals
-never_unapplied standing laws ms texts lineage count neither = never_unplanned standing laws ms texts lineage (
+pub never_unapplied : Resolved → Planning → AppliesHavePlanOrRefusals
+never_unapplied resolved laws ms texts lineage count neither = never_unplanned resolved laws ms texts lineage (
   λ plan. by_count (are_workers count) refl plan,
   λ refusals. neither.1 (refusals.0, inl refusals.1),
 )

@@ -9,16 +9,16 @@ use Rattle.tf_config_data.specs.Names.{NameView, Meant, a_local, a_block, meant_
 use Rattle.tf_deciding.specs.Deciding.{OfView, action}
 use Rattle.tf_deciding.specs.Outcome.{OutcomeView, member_outcome, orphan_outcome}
 use Rattle.tf_deciding.specs.Stage.{block_members, deciding}
-use Rattle.tf_environment.specs.Shape.{ShapeView}
-use Rattle.tf_environment.specs.Standing.{StandingView, AreStandings, all_stand, environment}
+use Rattle.tf_environment.specs.InstanceKeys.{InstanceKeysView}
+use Rattle.tf_environment.specs.Resolved.{ResolvedView, AreResolvedNames, all_stand, environment}
 use Rattle.tf_graph.proofs.Edges.{contains_cases, contains_head, contains_tail}
 use Rattle.tf_graph.specs.Solutions.{Ranked, seen_by}
-use Rattle.tf_plan_resources.specs.Members.{MemberView, members}
+use Rattle.tf_plan_resources.specs.Members.{InstanceToPlanView, members}
 use Rattle.tf_plan.proofs.Distinct.{in_flat_map, in_map, to_map}
 use Rattle.tf_plan.proofs.Listing.{block_actions, member_actions, meant_actions, of_at, outcome_actions, place_actions}
 use Rattle.tf_plan.specs.Planned.{IsPlanned, unrefused}
 use Rattle.tf_protocol.specs.Meaning.{Meaning, schema_in}
-use Rattle.tf_plan_resources.specs.Numbering.{NumberedView, a_name, an_orphan, numbered}
+use Rattle.tf_plan_resources.specs.ResourceIndex.{ResourceRefView, a_name, an_orphan, numbered}
 use Rattle.tf_state_data.specs.Resource.{ResourceView}
 use Rattle.tf_syntax.specs.ExprTree as expr
 use Rattle.tf_value.specs.Tree.{Entries}
@@ -37,8 +37,8 @@ pub record IsStepOf (of : OfView) (key : InstanceKeyView) (s : StepView) (a : Ac
   pub version : a.version ≡ of.version
 
 -- an action is one of what becomes of a member
-pub record IsOfMember (of : OfView) (becomes : MemberView → OutcomeView) (all : List MemberView) (a : ActionView) : Type 0 where
-  pub member : MemberView
+pub record IsOfMember (of : OfView) (becomes : InstanceToPlanView → OutcomeView) (all : List InstanceToPlanView) (a : ActionView) : Type 0 where
+  pub member : InstanceToPlanView
   pub there : Contains all member
   pub steps : List StepView
   pub outcome : becomes member ≡ Ok steps
@@ -49,7 +49,7 @@ of_outcome : (of : OfView) (i : ℕ) (key : InstanceKeyView) (o : OutcomeView) (
 of_outcome of i key (Ok steps) a c = let s = in_map (action of i key) steps a c in (steps, refl, s.0, s.1, s.2)
 of_outcome of i key (Err why) a c = absurd (nothing_in a c)
 
-from_members : (of : OfView) (becomes : MemberView → OutcomeView) (i : ℕ) (all : List MemberView) (a : ActionView) → Contains (member_actions of becomes i all) a → IsOfMember of becomes all a
+from_members : (of : OfView) (becomes : InstanceToPlanView → OutcomeView) (i : ℕ) (all : List InstanceToPlanView) (a : ActionView) → Contains (member_actions of becomes i all) a → IsOfMember of becomes all a
 from_members of becomes i [] a c = absurd (nothing_in a c)
 from_members of becomes i (m ∷ all) a c = elim (Contains-append_cases (outcome_actions of i m.key (becomes m)) (member_actions of becomes (i + 1) all) a c) [
   | inl front ↦
@@ -73,7 +73,7 @@ from_members of becomes i (m ∷ all) a c = elim (Contains-append_cases (outcome
       record { member = later.member; there = contains_tail later.member m all later.there; steps = later.steps; outcome = later.outcome; step = later.step; is = later.is }
 ]
 
-to_members : (of : OfView) (becomes : MemberView → OutcomeView) (i : ℕ) (all : List MemberView) (m : MemberView) (steps : List StepView) (s : StepView) → Contains all m → becomes m ≡ Ok steps → Contains steps s
+to_members : (of : OfView) (becomes : InstanceToPlanView → OutcomeView) (i : ℕ) (all : List InstanceToPlanView) (m : InstanceToPlanView) (steps : List StepView) (s : StepView) → Contains all m → becomes m ≡ Ok steps → Contains steps s
     → (a : ActionView) × Contains (member_actions of becomes i all) a × IsStepOf of m.key s a
 to_members of becomes i [] m steps s c e d = absurd (nothing_in m c)
 to_members of becomes i (x ∷ all) m steps s c e d = elim (contains_cases m x all c) [
@@ -83,7 +83,7 @@ to_members of becomes i (x ∷ all) m steps s c e d = elim (contains_cases m x a
       let there : Contains (outcome_actions of i x.key (becomes x)) made = subst (λ (o : OutcomeView). Contains (outcome_actions of i x.key o) made) (sym own) (to_map (action of i x.key) steps s d) in (
         made,
         Contains-append_left (outcome_actions of i x.key (becomes x)) (member_actions of becomes (i + 1) all) made there,
-        record { resource = refl; label = refl; key_is = ap (λ (y : MemberView). y.key) here; step = refl; version = refl },
+        record { resource = refl; label = refl; key_is = ap (λ (y : InstanceToPlanView). y.key) here; step = refl; version = refl },
       )
   | inr rest ↦
       let later = to_members of becomes (i + 1) all m steps s rest e d in
@@ -93,11 +93,11 @@ to_members of becomes i (x ∷ all) m steps s c e d = elim (contains_cases m x a
 -- ---- all resources
 
 -- an action is of a member of a block
-pub record IsOfBlock (ms : List Meaning) (resources : List ResourceView) (variables : Entries) (names : List NameView) (shapes : ℕ → ShapeView) (standings : ℕ → StandingView) (a : ActionView) : Type 0 where
+pub record IsOfBlock (ms : List Meaning) (resources : List ResourceView) (variables : Entries) (names : List NameView) (shapes : ℕ → InstanceKeysView) (resolved_names : ℕ → ResolvedView) (a : ActionView) : Type 0 where
   pub n : ℕ
   pub block : BlockView
   pub meant : meant_at names n ≡ Some (a_block block)
-  pub own : IsOfMember (of_at ms n block.label) (member_outcome (schema_in block.label.type_name ms) block (environment variables names standings)) (block_members (shapes n) block resources) a
+  pub own : IsOfMember (of_at ms n block.label) (member_outcome (schema_in block.label.type_name ms) block (environment variables names resolved_names)) (block_members (shapes n) block resources) a
 
 -- or of one of an orphan
 pub record IsOfOrphan (ms : List Meaning) (resources : List ResourceView) (names : List NameView) (a : ActionView) : Type 0 where
@@ -106,57 +106,57 @@ pub record IsOfOrphan (ms : List Meaning) (resources : List ResourceView) (names
   pub stands : slice_get (numbered names resources) n ≡ Some (an_orphan resource)
   pub own : IsOfMember (of_at ms n resource.label) (orphan_outcome (schema_in resource.label.type_name ms)) (members [] resource.records) a
 
-module _ (ms : List Meaning) (variables : Entries) (names : List NameView) (outputs : expr.Entries) (shapes : ℕ → ShapeView) (resources : List ResourceView) (actions : List ActionView)
+module _ (ms : List Meaning) (variables : Entries) (names : List NameView) (outputs : expr.Entries) (shapes : ℕ → InstanceKeysView) (resources : List ResourceView) (actions : List ActionView)
     (planned : IsPlanned ms resources variables names outputs shapes (unrefused actions))
-    (standings : ℕ → StandingView) (solves : AreStandings (deciding ms resources shapes) variables names standings) (ranked : Ranked (directly_before names)) where
-  from_meant : (n : ℕ) (m : Meant) (a : ActionView) → meant_at names n ≡ Some m → Contains (meant_actions ms resources variables names shapes standings n m) a → IsOfBlock ms resources variables names shapes standings a
+    (resolved_names : ℕ → ResolvedView) (solves : AreResolvedNames (deciding ms resources shapes) variables names resolved_names) (ranked : Ranked (directly_before names)) where
+  from_meant : (n : ℕ) (m : Meant) (a : ActionView) → meant_at names n ≡ Some m → Contains (meant_actions ms resources variables names shapes resolved_names n m) a → IsOfBlock ms resources variables names shapes resolved_names a
   from_meant n (a_local e) a meant c = absurd (nothing_in a c)
-  from_meant n (a_block block) a meant c = by_test (all_stand (seen_by standings (directly_before names n))) c
+  from_meant n (a_block block) a meant c = by_test (all_stand (seen_by resolved_names (directly_before names n))) c
     where
-      by_test : (b : Bool) → Contains (cond b (block_actions ms resources n block (environment variables names standings) (shapes n)) []) a → IsOfBlock ms resources variables names shapes standings a
+      by_test : (b : Bool) → Contains (cond b (block_actions ms resources n block (environment variables names resolved_names) (shapes n)) []) a → IsOfBlock ms resources variables names shapes resolved_names a
       by_test true d = record {
         n = n;
         block = block;
         meant = meant;
-        own = from_members (of_at ms n block.label) (member_outcome (schema_in block.label.type_name ms) block (environment variables names standings)) 0 (block_members (shapes n) block resources) a d;
+        own = from_members (of_at ms n block.label) (member_outcome (schema_in block.label.type_name ms) block (environment variables names resolved_names)) 0 (block_members (shapes n) block resources) a d;
       }
       by_test false d = absurd (nothing_in a d)
 
-  from_place : (n : ℕ) (o : Option NumberedView) (a : ActionView) → slice_get (numbered names resources) n ≡ o → Contains (place_actions ms resources variables names shapes standings n o) a
-      → IsOfBlock ms resources variables names shapes standings a ⊎ IsOfOrphan ms resources names a
+  from_place : (n : ℕ) (o : Option ResourceRefView) (a : ActionView) → slice_get (numbered names resources) n ≡ o → Contains (place_actions ms resources variables names shapes resolved_names n o) a
+      → IsOfBlock ms resources variables names shapes resolved_names a ⊎ IsOfOrphan ms resources names a
   from_place n None a e c = absurd (nothing_in a c)
   from_place n (Some (a_name name)) a e c = inl (from_meant n name.meant a (at_name names resources n name e) c)
   from_place n (Some (an_orphan r)) a e c =
       inr (record { n = n; resource = r; stands = e; own = from_members (of_at ms n r.label) (orphan_outcome (schema_in r.label.type_name ms)) 0 (members [] r.records) a c })
 
   -- each action is of a member
-  pub origin : (a : ActionView) → Contains actions a → IsOfBlock ms resources variables names shapes standings a ⊎ IsOfOrphan ms resources names a
+  pub origin : (a : ActionView) → Contains actions a → IsOfBlock ms resources variables names shapes resolved_names a ⊎ IsOfOrphan ms resources names a
   origin a c =
-      let at = λ (n : ℕ). place_actions ms resources variables names shapes standings n (slice_get (numbered names resources) n) in
-      let there = in_flat_map at planned.places a (subst (λ (xs : List ActionView). Contains xs a) (actions_are ms variables names outputs shapes resources actions planned standings solves ranked) c) in
+      let at = λ (n : ℕ). place_actions ms resources variables names shapes resolved_names n (slice_get (numbered names resources) n) in
+      let there = in_flat_map at planned.places a (subst (λ (xs : List ActionView). Contains xs a) (actions_are ms variables names outputs shapes resources actions planned resolved_names solves ranked) c) in
       from_place there.0 (slice_get (numbered names resources) there.0) a refl there.2
 
-  placed : (n : ℕ) (o : Option NumberedView) (a : ActionView) → slice_get (numbered names resources) n ≡ o → Contains planned.places n → Contains (place_actions ms resources variables names shapes standings n o) a → Contains actions a
+  placed : (n : ℕ) (o : Option ResourceRefView) (a : ActionView) → slice_get (numbered names resources) n ≡ o → Contains planned.places n → Contains (place_actions ms resources variables names shapes resolved_names n o) a → Contains actions a
   placed n o a e there c =
-      let at = λ (k : ℕ). place_actions ms resources variables names shapes standings k (slice_get (numbered names resources) k) in
-      subst (λ (xs : List ActionView). Contains xs a) (sym (actions_are ms variables names outputs shapes resources actions planned standings solves ranked))
-      (to_flat_map at planned.places n a there (subst (λ (x : Option NumberedView). Contains (place_actions ms resources variables names shapes standings n x) a) (sym e) c))
+      let at = λ (k : ℕ). place_actions ms resources variables names shapes resolved_names k (slice_get (numbered names resources) k) in
+      subst (λ (xs : List ActionView). Contains xs a) (sym (actions_are ms variables names outputs shapes resources actions planned resolved_names solves ranked))
+      (to_flat_map at planned.places n a there (subst (λ (x : Option ResourceRefView). Contains (place_actions ms resources variables names shapes resolved_names n x) a) (sym e) c))
 
   -- each step of a member of a block that is looked at is an action
-  pub block_step : (n : ℕ) (block : BlockView) (m : MemberView) (steps : List StepView) (s : StepView) → meant_at names n ≡ Some (a_block block) → all_stand (seen_by standings (directly_before names n)) ≡ true
-      → Contains (block_members (shapes n) block resources) m → member_outcome (schema_in block.label.type_name ms) block (environment variables names standings) m ≡ Ok steps → Contains steps s
+  pub block_step : (n : ℕ) (block : BlockView) (m : InstanceToPlanView) (steps : List StepView) (s : StepView) → meant_at names n ≡ Some (a_block block) → all_stand (seen_by resolved_names (directly_before names n)) ≡ true
+      → Contains (block_members (shapes n) block resources) m → member_outcome (schema_in block.label.type_name ms) block (environment variables names resolved_names) m ≡ Ok steps → Contains steps s
       → (a : ActionView) × Contains actions a × IsStepOf (of_at ms n block.label) m.key s a
   block_step n block m steps s meant seen c e d =
       let name = name_at names resources n (a_block block) meant in
-      let made = to_members (of_at ms n block.label) (member_outcome (schema_in block.label.type_name ms) block (environment variables names standings)) 0 (block_members (shapes n) block resources) m steps s c e d in
-      let by_meant : Contains (meant_actions ms resources variables names shapes standings n (a_block block)) made.0 =
-      subst (λ (b : Bool). Contains (cond b (block_actions ms resources n block (environment variables names standings) (shapes n)) []) made.0) (sym seen) made.1 in
-      let by_name : Contains (meant_actions ms resources variables names shapes standings n name.0.meant) made.0 =
-      subst (λ (x : Meant). Contains (meant_actions ms resources variables names shapes standings n x) made.0) (sym name.2) by_meant in
+      let made = to_members (of_at ms n block.label) (member_outcome (schema_in block.label.type_name ms) block (environment variables names resolved_names)) 0 (block_members (shapes n) block resources) m steps s c e d in
+      let by_meant : Contains (meant_actions ms resources variables names shapes resolved_names n (a_block block)) made.0 =
+      subst (λ (b : Bool). Contains (cond b (block_actions ms resources n block (environment variables names resolved_names) (shapes n)) []) made.0) (sym seen) made.1 in
+      let by_name : Contains (meant_actions ms resources variables names shapes resolved_names n name.0.meant) made.0 =
+      subst (λ (x : Meant). Contains (meant_actions ms resources variables names shapes resolved_names n x) made.0) (sym name.2) by_meant in
       (made.0, placed n (Some (a_name name.0)) made.0 name.1 (block_looked_at names resources planned.places n block planned.in_order meant) by_name, made.2)
 
   -- and each of a member of an orphan
-  pub orphan_step : (n : ℕ) (r : ResourceView) (m : MemberView) (steps : List StepView) (s : StepView) → slice_get (numbered names resources) n ≡ Some (an_orphan r)
+  pub orphan_step : (n : ℕ) (r : ResourceView) (m : InstanceToPlanView) (steps : List StepView) (s : StepView) → slice_get (numbered names resources) n ≡ Some (an_orphan r)
       → Contains (members [] r.records) m → orphan_outcome (schema_in r.label.type_name ms) m ≡ Ok steps → Contains steps s
       → (a : ActionView) × Contains actions a × IsStepOf (of_at ms n r.label) m.key s a
   orphan_step n r m steps s stands c e d =

@@ -8,7 +8,7 @@ use Rattle.std.specs.List.{AllByRecursion}
 use Rattle.std.specs.List.Sorted.{IsStrictlySortedBy}
 use Rattle.std.specs.Ordering.{match_ordering}
 use Rattle.tf_config.specs.Config.{names_in}
-use Rattle.tf_outputs.specs.Outputs.{OutputDone, excused, faulted, is_declared, is_null, kept_entries, not_evaluated, outputs_after, valued, with_output, with_outputs, without}
+use Rattle.tf_outputs.specs.Outputs.{OutputResultView, excused, faulted, is_declared, is_null, kept_entries, not_evaluated, outputs_after, valued, with_output, with_outputs, without}
 use Rattle.tf_syntax.specs.ExprTree as expr
 use Rattle.tf_value.proofs.Keys.{get-put, get-put_other}
 use Rattle.tf_value.proofs.Tables.{sorted-put}
@@ -113,7 +113,7 @@ abbrev HasBy : Bool → List ℕ → Tree → Entries → Type 0
 HasBy true name t found = get name found ≡ None
 HasBy false name t found = get name found ≡ Some t
 
-abbrev HasDone : List ℕ → OutputDone → Entries → Type 0
+abbrev HasDone : List ℕ → OutputResultView → Entries → Type 0
 HasDone name (valued t) found = HasBy (is_null t) name t found
 HasDone name _ found = Unit {0}
 
@@ -121,13 +121,13 @@ saved_has : (name : List ℕ) (t : Tree) (found : Entries) (b : Bool) → IsOrde
 saved_has name t found true h = get_without name found h
 saved_has name t found false h = get-put name t found
 
-done_has : (name : List ℕ) (d : OutputDone) (found : Entries) → IsOrdered found → HasDone name d (with_output name d found)
+done_has : (name : List ℕ) (d : OutputResultView) (found : Entries) → IsOrdered found → HasDone name d (with_output name d found)
 done_has name (valued t) found h = saved_has name t found (is_null t) h
 done_has name not_evaluated found h = tt
 done_has name excused found h = tt
 done_has name (faulted why) found h = tt
 
-get_other : (name other : List ℕ) (d : OutputDone) (found : Entries) → ¬ (name ≡ other) → get name (with_output other d found) ≡ get name found
+get_other : (name other : List ℕ) (d : OutputResultView) (found : Entries) → ¬ (name ≡ other) → get name (with_output other d found) ≡ get name found
 get_other name other not_evaluated found apart = refl
 get_other name other excused found apart = refl
 get_other name other (faulted why) found apart = refl
@@ -141,13 +141,13 @@ has_by_too : (b : Bool) (name : List ℕ) (t : Tree) (found more : Entries) → 
 has_by_too true name t found more e h = e ∙ h
 has_by_too false name t found more e h = e ∙ h
 
-has_too : (name : List ℕ) (d : OutputDone) (found more : Entries) → get name more ≡ get name found → HasDone name d found → HasDone name d more
+has_too : (name : List ℕ) (d : OutputResultView) (found more : Entries) → get name more ≡ get name found → HasDone name d found → HasDone name d more
 has_too name (valued t) found more e h = has_by_too (is_null t) name t found more e h
 has_too name not_evaluated found more e h = tt
 has_too name excused found more e h = tt
 has_too name (faulted why) found more e h = tt
 
-ordered_output : (name : List ℕ) (d : OutputDone) (found : Entries) → IsOrdered found → IsOrdered (with_output name d found)
+ordered_output : (name : List ℕ) (d : OutputResultView) (found : Entries) → IsOrdered found → IsOrdered (with_output name d found)
 ordered_output name not_evaluated found h = h
 ordered_output name excused found h = h
 ordered_output name (faulted why) found h = h
@@ -159,23 +159,23 @@ ordered_output name (valued t) found h = by_null (is_null t)
 
 -- ---- all outputs
 
-abbrev AllHave : expr.Entries → List OutputDone → Entries → Type 0
+abbrev AllHave : expr.Entries → List OutputResultView → Entries → Type 0
 AllHave (expr.entry name e es) (d ∷ ds) found = HasDone name d found × AllHave es ds found
 AllHave _ _ found = Unit {0}
 
-ordered_outputs : (es : expr.Entries) (ds : List OutputDone) (found : Entries) → IsOrdered found → IsOrdered (with_outputs es ds found)
+ordered_outputs : (es : expr.Entries) (ds : List OutputResultView) (found : Entries) → IsOrdered found → IsOrdered (with_outputs es ds found)
 ordered_outputs expr.no_entries ds found h = h
 ordered_outputs (expr.entry name e es) [] found h = h
 ordered_outputs (expr.entry name e es) (d ∷ ds) found h = ordered_outputs es ds (with_output name d found) (ordered_output name d found h)
 
 -- those of other names stay
-stays_through : (name : List ℕ) (d : OutputDone) (es : expr.Entries) (ds : List OutputDone) (found : Entries) → AllByRecursion (λ l. slice_cmp nat_cmp name l ≡ Less) (names_in es) → HasDone name d found → HasDone name d (with_outputs es ds found)
+stays_through : (name : List ℕ) (d : OutputResultView) (es : expr.Entries) (ds : List OutputResultView) (found : Entries) → AllByRecursion (λ l. slice_cmp nat_cmp name l ≡ Less) (names_in es) → HasDone name d found → HasDone name d (with_outputs es ds found)
 stays_through name d expr.no_entries ds found h has = has
 stays_through name d (expr.entry k e es) [] found h has = has
 stays_through name d (expr.entry k e es) (f ∷ ds) found h has =
     stays_through name d es ds (with_output k f found) h.1 (has_too name d found (with_output k f found) (get_other name k f found (apart_names name k h.0)) has)
 
-all_have : (es : expr.Entries) (ds : List OutputDone) (found : Entries) → IsOrdered found → IsStrictlySortedBy (slice_cmp nat_cmp) (names_in es) → AllHave es ds (with_outputs es ds found)
+all_have : (es : expr.Entries) (ds : List OutputResultView) (found : Entries) → IsOrdered found → IsStrictlySortedBy (slice_cmp nat_cmp) (names_in es) → AllHave es ds (with_outputs es ds found)
 unfolding IsStrictlySortedBy
 all_have expr.no_entries ds found h sorted = tt
 all_have (expr.entry name e es) [] found h sorted = tt
@@ -187,11 +187,11 @@ all_have (expr.entry name e es) (d ∷ ds) found h sorted = (
 -- ---- the same values again
 
 -- what comes of an output again: the value that it has, or none
-abbrev pub IsRepeated : OutputDone → OutputDone → Type 0
+abbrev pub IsRepeated : OutputResultView → OutputResultView → Type 0
 IsRepeated d (valued t) = d ≡ valued t
 IsRepeated d _ = Unit {0}
 
-abbrev pub AreRepeated : expr.Entries → List OutputDone → List OutputDone → Type 0
+abbrev pub AreRepeated : expr.Entries → List OutputResultView → List OutputResultView → Type 0
 AreRepeated (expr.entry name e es) (d ∷ ds) (f ∷ fs) = IsRepeated d f × AreRepeated es ds fs
 AreRepeated (expr.entry name e es) [] (f ∷ fs) = ⊥
 AreRepeated _ _ _ = Unit {0}
@@ -200,13 +200,13 @@ saved_same : (b : Bool) (name : List ℕ) (t : Tree) (found : Entries) → IsOrd
 saved_same true name t found h has = without_same name found has
 saved_same false name t found h has = put_same name t found h has
 
-output_same : (name : List ℕ) (d f : OutputDone) (found : Entries) → IsOrdered found → HasDone name d found → IsRepeated d f → with_output name f found ≡ found
+output_same : (name : List ℕ) (d f : OutputResultView) (found : Entries) → IsOrdered found → HasDone name d found → IsRepeated d f → with_output name f found ≡ found
 output_same name d not_evaluated found h has again = refl
 output_same name d excused found h has again = refl
 output_same name d (faulted why) found h has again = refl
-output_same name d (valued t) found h has again = saved_same (is_null t) name t found h (subst (λ (x : OutputDone). HasDone name x found) again has)
+output_same name d (valued t) found h has again = saved_same (is_null t) name t found h (subst (λ (x : OutputResultView). HasDone name x found) again has)
 
-outputs_same : (es : expr.Entries) (ds fs : List OutputDone) (found : Entries) → IsOrdered found → AllHave es ds found → AreRepeated es ds fs → with_outputs es fs found ≡ found
+outputs_same : (es : expr.Entries) (ds fs : List OutputResultView) (found : Entries) → IsOrdered found → AllHave es ds found → AreRepeated es ds fs → with_outputs es fs found ≡ found
 outputs_same expr.no_entries ds fs found h has again = refl
 outputs_same (expr.entry name e es) ds [] found h has again = refl
 outputs_same (expr.entry name e es) [] (f ∷ fs) found h has again = absurd again
@@ -248,7 +248,7 @@ without_declared all k (entry m u found) h = by_test (bytes_eq k m) (without_dec
     by_test true again = h.1
     by_test false again = (h.0, again)
 
-output_declared : (all : expr.Entries) (k : List ℕ) (d : OutputDone) (found : Entries) → is_declared all k ≡ true → AllDeclared all found → AllDeclared all (with_output k d found)
+output_declared : (all : expr.Entries) (k : List ℕ) (d : OutputResultView) (found : Entries) → is_declared all k ≡ true → AllDeclared all found → AllDeclared all (with_output k d found)
 output_declared all k not_evaluated found is h = h
 output_declared all k excused found is h = h
 output_declared all k (faulted why) found is h = h
@@ -258,7 +258,7 @@ output_declared all k (valued t) found is h = by_null (is_null t)
     by_null true = without_declared all k found h
     by_null false = put_declared all k t found is h
 
-outputs_declared : (all es : expr.Entries) (ds : List OutputDone) (found : Entries) → AllByRecursion (λ k. is_declared all k ≡ true) (names_in es) → AllDeclared all found → AllDeclared all (with_outputs es ds found)
+outputs_declared : (all es : expr.Entries) (ds : List OutputResultView) (found : Entries) → AllByRecursion (λ k. is_declared all k ≡ true) (names_in es) → AllDeclared all found → AllDeclared all (with_outputs es ds found)
 outputs_declared all expr.no_entries ds found are h = h
 outputs_declared all (expr.entry k e es) [] found are h = h
 outputs_declared all (expr.entry k e es) (d ∷ ds) found are h = outputs_declared all es ds (with_output k d found) are.1 (output_declared all k d found are.0 h)
@@ -289,7 +289,7 @@ ordered_kept es (entry k t found) h = by_test (is_declared es k) (later_kept es 
     by_test true later again = (later, again)
     by_test false later again = again
 
-pub outputs_stay : (es : expr.Entries) (ds fs : List OutputDone) (found : Entries) → IsOrdered found → IsStrictlySortedBy (slice_cmp nat_cmp) (names_in es) → AreRepeated es ds fs
+pub outputs_stay : (es : expr.Entries) (ds fs : List OutputResultView) (found : Entries) → IsOrdered found → IsStrictlySortedBy (slice_cmp nat_cmp) (names_in es) → AreRepeated es ds fs
     → outputs_after (outputs_after found es ds) es fs ≡ outputs_after found es ds
 outputs_stay es ds fs found h sorted again =
     let saved = with_outputs es ds (kept_entries es found) in

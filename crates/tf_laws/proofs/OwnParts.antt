@@ -2,7 +2,7 @@
 use Rattle.std.proofs.Common.{◌≡◌, ℕ, Bool, List, sym, subst}
 use Rattle.tf_config_data.specs.Config.{ConfigView}
 use Rattle.tf_config_data.specs.Names.{names_of}
-use Rattle.tf_environment.specs.Shape.{ShapeView}
+use Rattle.tf_environment.specs.InstanceKeys.{InstanceKeysView}
 use Rattle.tf_graph.specs.Digraph.{Digraph}
 use Rattle.tf_plan.specs.Plan.{IsPlan, IsPlannedFrom}
 use Rattle.tf_plan_data.specs.Action.{ActionView}
@@ -13,7 +13,7 @@ use Rattle.tf_state_data.specs.State.{StateView}
 use Rattle.tf_value.specs.Tree.{Entries}
 
 -- what is planned of a configuration is planned of one that it is equal to
-pub planned_of : (ms : List Meaning) (resources : List ResourceView) (valued variables : Entries) (configured config : ConfigView) (needs : ℕ → ℕ → Bool) (shapes : ℕ → ShapeView) (actions : List ActionView) (late : ℕ → Bool) (order : Digraph)
+pub planned_of : (ms : List Meaning) (resources : List ResourceView) (valued variables : Entries) (configured config : ConfigView) (needs : ℕ → ℕ → Bool) (shapes : ℕ → InstanceKeysView) (actions : List ActionView) (late : ℕ → Bool) (order : Digraph)
     → variables ≡ valued → config ≡ configured
     → IsPlannedFrom ms resources valued (names_of configured) configured.outputs needs shapes actions late order → IsPlannedFrom ms resources variables (names_of config) config.outputs needs shapes actions late order
 planned_of ms resources valued variables configured config needs shapes actions late order same alike h =

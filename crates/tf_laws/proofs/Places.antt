@@ -10,7 +10,7 @@ use Rattle.tf_config_data.specs.Names.{NameView, Meant, a_block, meant_at}
 use Rattle.tf_deciding.proofs.Standing.{named_within}
 use Rattle.tf_plan.proofs.Distinct.{at-contained, in_filter, in_map}
 use Rattle.tf_plan_resources.proofs.Standing.{numbers-in_order}
-use Rattle.tf_plan_resources.specs.Numbering.{NumberedView, a_name, an_orphan, address_of, has_block, numbered, orphans}
+use Rattle.tf_plan_resources.specs.ResourceIndex.{ResourceRefView, a_name, an_orphan, address_of, has_block, numbered, orphans}
 use Rattle.tf_state_data.specs.Resource.{ResourceView}
 use Rattle.tf_laws.proofs.Lists.{all_contained, got_within, in_range, to_filter}
 
@@ -55,7 +55,7 @@ module _ (names : List NameView) (resources : List ResourceView) where
   block_looked_at places n block order e =
       let name = name_at n (a_block block) e in
       let all = numbered names resources in
-      let resource : is_resource all n ≡ true = ap (λ (o : Option NumberedView). is_some (option_and_then address_of o)) name.1 ∙ ap (λ (m : Meant). is_some (address_of (a_name (record { name = name.0.name; meant = m })))) name.2 in
+      let resource : is_resource all n ≡ true = ap (λ (o : Option ResourceRefView). is_some (option_and_then address_of o)) name.1 ∙ ap (λ (m : Meant). is_some (address_of (a_name (record { name = name.0.name; meant = m })))) name.2 in
       Contains-permutation (resource_places all) places n order.each
       (to_filter (is_resource all) (range_with_len 0 (length all)) n (in_range 0 (length all) n (omega arith) (omega (arith, got_within all n (a_name name.0) name.1))) resource)
 
@@ -63,7 +63,7 @@ module _ (names : List NameView) (resources : List ResourceView) where
   pub orphan_looked_at : (places : List ℕ) (n : ℕ) (r : ResourceView) → AreInAddressOrder (numbered names resources) places → slice_get (numbered names resources) n ≡ Some (an_orphan r) → Contains places n
   orphan_looked_at places n r order e =
       let all = numbered names resources in
-      let resource : is_resource all n ≡ true = ap (λ (o : Option NumberedView). is_some (option_and_then address_of o)) e in
+      let resource : is_resource all n ≡ true = ap (λ (o : Option ResourceRefView). is_some (option_and_then address_of o)) e in
       Contains-permutation (resource_places all) places n order.each
       (to_filter (is_resource all) (range_with_len 0 (length all)) n (in_range 0 (length all) n (omega arith) (omega (arith, got_within all n (an_orphan r) e))) resource)
 

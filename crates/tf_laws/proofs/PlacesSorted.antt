@@ -15,18 +15,18 @@ use Rattle.tf_graph.proofs.Edges.{all_by_contained}
 use Rattle.tf_plan.proofs.Distinct.{in_filter}
 use Rattle.tf_plan.proofs.Ranges.{places-distinct}
 use Rattle.tf_plan_resources.specs.Laws.{AreApart}
-use Rattle.tf_plan_resources.specs.Numbering.{NumberedView, address_of}
+use Rattle.tf_plan_resources.specs.ResourceIndex.{ResourceRefView, address_of}
 use Rattle.tf_laws.proofs.Rising.{IsRising, one_list, rising}
 
 -- a resource stands at the place
-abbrev HasAddress : List NumberedView → ℕ → Type 0
+abbrev HasAddress : List ResourceRefView → ℕ → Type 0
 HasAddress all n = (label : LabelView) × (address_at all n ≡ Some label)
 
 address_there : (o : Option LabelView) → is_some o ≡ true → (label : LabelView) × (o ≡ Some label)
 address_there None h = absurd (cc)
 address_there (Some label) h = (label, refl)
 
-at_address : (o : Option NumberedView) (label : LabelView) → option_and_then address_of o ≡ Some label → (x : NumberedView) × (o ≡ Some x) × (address_of x ≡ Some label)
+at_address : (o : Option ResourceRefView) (label : LabelView) → option_and_then address_of o ≡ Some label → (x : ResourceRefView) × (o ≡ Some x) × (address_of x ≡ Some label)
 at_address None label e = absurd (cc)
 at_address (Some x) label e = (x, refl, e)
 
@@ -50,7 +50,7 @@ untied a b Equal e f g = label_one a b e
 untied a b Less e f g = let no : true ≡ false = sym (ap is_lt e) ∙ f in absurd (cc)
 untied a b Greater e f g = let no : true ≡ false = sym (ap is_lt (label_total.antisymm b a ∙ ap ordering_reverse e)) ∙ g in absurd (cc)
 
-module _ (all : List NumberedView) (apart : AreApart all) where
+module _ (all : List ResourceRefView) (apart : AreApart all) where
   tells : (i j : ℕ) → HasAddress all i → HasAddress all j → is_below all i j ≡ false → is_below all j i ≡ false → i ≡ j
   tells i j own other f g =
       let x = at_address (slice_get all i) own.0 own.1 in

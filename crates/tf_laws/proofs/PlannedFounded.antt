@@ -22,11 +22,11 @@ use Rattle.tf_precedence.proofs.Listed.{pairs-order}
 use Rattle.tf_precedence.specs.Late.{IsLate, Leads}
 use Rattle.tf_precedence.specs.Order.{IsOrder}
 use Rattle.tf_precedence.specs.Stored.{Needed, turned}
-use Rattle.tf_precedence.specs.Ties.{AreSound, TiesView}
+use Rattle.tf_precedence.specs.OrderInput.{AreSound, OrderInputView}
 use Rattle.tf_protocol.specs.Meaning.{Meaning}
 use Rattle.tf_plan_resources.specs.Dependencies.{dependencies}
 use Rattle.tf_plan_resources.specs.Marks.{is_marked}
-use Rattle.tf_plan_resources.specs.Numbering.{numbered}
+use Rattle.tf_plan_resources.specs.ResourceIndex.{numbered}
 use Rattle.tf_state.specs.Valid.{IsPresent, IsValid}
 use Rattle.tf_state_data.specs.Ids.{AreById}
 use Rattle.tf_state_data.specs.State.{StateView}
@@ -65,7 +65,7 @@ module _ (ms : List Meaning) (config : ConfigView) (variables : Entries) (prior 
   own_acyclic : IsAcyclic own_order.tied.dependence
   own_acyclic n = sym (ap (λ (f : ℕ → ℕ → Bool). f n n) own_order.tied.needs) ∙ needs_none n
 
-  abbrev own_ties : TiesView
+  abbrev own_ties : OrderInputView
   own_ties = record { needs = plan.needs; needed = own_order.needed; late = plan.late }
 
   own_sound : AreSound own_ties

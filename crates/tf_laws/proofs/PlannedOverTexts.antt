@@ -9,9 +9,9 @@ use Rattle.tf_config.specs.Laws.{BlocksAreInOrder, StandsForOne}
 use Rattle.tf_config_data.specs.Config.{ConfigView}
 use Rattle.tf_config_data.specs.Names.{directly_before, names_of}
 use Rattle.tf_laws.proofs.Read.{read_values_known}
-use Rattle.tf_laws.specs.Converges.{IsSound, ReportsConverge}
+use Rattle.tf_laws.specs.Reapply.{IsSound, ReportsConverge}
 use Rattle.tf_graph.specs.Solutions.{Ranked}
-use Rattle.tf_inputs.specs.Texts.{AreTheValues, IsRead, StandFor, Texts}
+use Rattle.tf_inputs.specs.Texts.{AreTheValues, IsRead, ReadAs, Texts}
 use Rattle.tf_provider.specs.declared.journal.Entry.{Entry}
 use Rattle.tf_names.proofs.Rings.{places-acyclic}
 use Rattle.tf_names.specs.Needs.{IsAcyclic}
@@ -32,7 +32,7 @@ use Rattle.tf_value.specs.Tree.{Entries}
 use Rattle.tf_variables.specs.Laws.{ValuesAreOne}
 use Rattle.tf_laws.proofs.Reading.{one_config, one_values, prior_valid, read_in_order}
 use Rattle.tf_laws.proofs.Schemas.{schemas_in}
-use Rattle.tf_laws.specs.Again.{HaveSchemas, WentWell, no_changes}
+use Rattle.tf_laws.specs.ReapplyTexts.{HaveSchemas, WentWell, no_changes}
 
 -- the laws below that all rests on
 pub record Laws : Type 0 where
@@ -45,7 +45,7 @@ pub record Laws : Type 0 where
 
 -- ---- what a plan of texts starts from
 
-pub sound : Laws → (ms : List Meaning) (texts : Texts) (lineage : List ℕ) (config : ConfigView) (values : Entries) (prior : StateView) → HaveSchemas ms → StandFor texts lineage config values prior → IsSound ms config values prior
+pub sound : Laws → (ms : List Meaning) (texts : Texts) (lineage : List ℕ) (config : ConfigView) (values : Entries) (prior : StateView) → HaveSchemas ms → ReadAs texts lineage config values prior → IsSound ms config values prior
 sound laws ms texts lineage config values prior schemas stand = record {
   blocks = read_in_order laws.order stand.read.tree config stand.read.stands;
   schemas = schemas_in ms schemas;

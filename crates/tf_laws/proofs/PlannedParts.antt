@@ -11,7 +11,7 @@ use Rattle.tf_laws.proofs.Lists.{all_weaker}
 use Rattle.tf_laws.proofs.OwnParts.{plan_from}
 use Rattle.tf_deciding.specs.Stage.{deciding}
 use Rattle.tf_environment.specs.Stages.{expansion}
-use Rattle.tf_environment.specs.Standing.{StandingView, AreStandings}
+use Rattle.tf_environment.specs.Resolved.{ResolvedView, AreResolvedNames}
 use Rattle.tf_expand.specs.Expanding.{AreExpanded}
 use Rattle.tf_graph.specs.Solutions.{Ranked}
 use Rattle.tf_names.specs.Needs.{IsAcyclic}
@@ -24,7 +24,7 @@ use Rattle.tf_plan_data.specs.Plan.{PlanView, plan_names}
 use Rattle.tf_protocol.specs.Meaning.{Meaning, schema_in}
 use Rattle.tf_protocol.specs.Schema.{SchemaView, IsSchema}
 use Rattle.tf_plan_resources.specs.Laws as resources_laws
-use Rattle.tf_plan_resources.specs.Numbering.{a_name}
+use Rattle.tf_plan_resources.specs.ResourceIndex.{a_name}
 use Rattle.tf_state.specs.Valid.{IsPresent, IsValid}
 use Rattle.tf_state_data.specs.Addresses.{AreByAddress}
 use Rattle.tf_state_data.specs.Ids.{AreById}
@@ -37,11 +37,11 @@ pub record Made : Type 0 where
   pub plan : PlanView
   pub planned : IsPlanned ms plan.prior.resources plan.variables (plan_names plan) plan.config.outputs plan.shapes (unrefused plan.actions)
   -- what names stand for in the plan
-  pub standings : ℕ → StandingView
-  pub solves : AreStandings (deciding ms plan.prior.resources plan.shapes) plan.variables (plan_names plan) standings
+  pub resolved_names : ℕ → ResolvedView
+  pub solves : AreResolvedNames (deciding ms plan.prior.resources plan.shapes) plan.variables (plan_names plan) resolved_names
   -- and in the expansion
-  pub expanded : ℕ → StandingView
-  pub expands : AreStandings expansion plan.variables (plan_names plan) expanded
+  pub expanded : ℕ → ResolvedView
+  pub expands : AreResolvedNames expansion plan.variables (plan_names plan) expanded
   pub are_expanded : AreExpanded plan.variables (plan_names plan) expanded plan.shapes
   pub ranked : Ranked (directly_before (plan_names plan))
   pub acyclic : (n : ℕ) → plan.needs n n ≡ false
@@ -63,7 +63,7 @@ setting x =
       resources = x.plan.prior.resources;
       actions = x.plan.actions;
       planned = x.planned;
-      standings = x.standings;
+      resolved_names = x.resolved_names;
       solves = x.solves;
       ranked = x.ranked;
       apart = x.apart;
@@ -97,9 +97,9 @@ module _ (ms : List Meaning) (config : ConfigView) (variables : Entries) (prior 
         ms = ms;
         plan = plan;
         planned = own_planned.planned;
-        standings = own_planned.planned.standings;
+        resolved_names = own_planned.planned.resolved_names;
         solves = own_planned.planned.stand;
-        expanded = own_planned.instances.standings;
+        expanded = own_planned.instances.resolved_names;
         expands = own_planned.instances.stand;
         are_expanded = own_planned.instances.expanded;
         ranked = own_ranked;

@@ -6,14 +6,14 @@ use Rattle.tf_laws.proofs.Reading.{prior_valid, read_in_order, prior_apart, same
 use Rattle.tf_cli.specs.Applies.{IsPlanOf}
 use Rattle.tf_config_data.specs.Config.{ConfigView}
 use Rattle.tf_config_data.specs.Names.{names_of}
-use Rattle.tf_inputs.specs.Texts.{StandFor, Texts}
+use Rattle.tf_inputs.specs.Texts.{ReadAs, Texts}
 use Rattle.tf_laws.specs.Plans.{AreOne, AreOrderly, PlanTextsAreOne, PlansAreNotRefused, PlansAreOne, RefusalsAreOne}
 use Rattle.tf_plan.specs.Plan.{IsPlan}
 use Rattle.tf_plan.specs.Refused.{AreRefused, AreRefusedOf}
 use Rattle.tf_plan_data.specs.Plan.{PlanView}
 use Rattle.tf_plan_text.specs.Text.{plan_text}
 use Rattle.tf_protocol.specs.Meaning.{Meaning}
-use Rattle.tf_refusal.specs.Refusal.{Told}
+use Rattle.tf_refusal.specs.Refusal.{RefusalView}
 use Rattle.tf_state.specs.Valid.{IsPresent}
 use Rattle.tf_state_data.specs.Ids.{AreById}
 use Rattle.tf_state_data.specs.Resource.{ResourceView}
@@ -30,7 +30,7 @@ pub records_in_order : (rs : List ResourceView) → AllByRecursion IsPresent rs 
 records_in_order [] h = tt
 records_in_order (r ∷ rs) h = (h.0.0.records.1, records_in_order rs h.1)
 
-pub orderly : Laws → (texts : Texts) (lineage : List ℕ) (config : ConfigView) (values : Entries) (prior : StateView) → StandFor texts lineage config values prior → AreOrderly config prior
+pub orderly : Laws → (texts : Texts) (lineage : List ℕ) (config : ConfigView) (values : Entries) (prior : StateView) → ReadAs texts lineage config values prior → AreOrderly config prior
 orderly laws texts lineage config values prior stand =
     let valid = prior_valid laws.read laws.empty texts.state lineage prior stand.before in
     record {
@@ -44,15 +44,15 @@ orderly laws texts lineage config values prior stand =
 -- ---- the same texts
 
 -- what is refused of a configuration over a state is refused over any other with its resources
-refused_over : (ms : List Meaning) (config again : ConfigView) (values others : Entries) (prior before : StateView) (tolds : List Told) → again ≡ config → others ≡ values → before.resources ≡ prior.resources
-    → AreRefused ms again others before tolds → AreRefused ms config values prior tolds
-refused_over ms config again values others prior before tolds same alike resources is =
-    subst (λ (c : ConfigView). AreRefusedOf ms prior.resources values (names_of c) c.outputs tolds) same
-    (subst (λ (v : Entries). AreRefusedOf ms prior.resources v (names_of again) again.outputs tolds) alike
-    (subst (λ (rs : List ResourceView). AreRefusedOf ms rs others (names_of again) again.outputs tolds) resources is))
+refused_over : (ms : List Meaning) (config again : ConfigView) (values others : Entries) (prior before : StateView) (refusal_views : List RefusalView) → again ≡ config → others ≡ values → before.resources ≡ prior.resources
+    → AreRefused ms again others before refusal_views → AreRefused ms config values prior refusal_views
+refused_over ms config again values others prior before refusal_views same alike resources is =
+    subst (λ (c : ConfigView). AreRefusedOf ms prior.resources values (names_of c) c.outputs refusal_views) same
+    (subst (λ (v : Entries). AreRefusedOf ms prior.resources v (names_of again) again.outputs refusal_views) alike
+    (subst (λ (rs : List ResourceView). AreRefusedOf ms rs others (names_of again) again.outputs refusal_views) resources is))
 
 module _ (laws : Laws) (ms : List Meaning) (texts : Texts) (lineage other : List ℕ) (config again : ConfigView) (values others : Entries) (prior before : StateView)
-    (h : StandFor texts lineage config values prior) (k : StandFor texts other again others before) where
+    (h : ReadAs texts lineage config values prior) (k : ReadAs texts other again others before) where
   config_same : again ≡ config
   config_same = same_config laws.one laws.values texts lineage other config again values others prior before h k
 
@@ -68,8 +68,8 @@ module _ (laws : Laws) (ms : List Meaning) (texts : Texts) (lineage other : List
   plan_over : (plan : PlanView) → IsPlan ms again others before plan → IsPlan ms config values prior (from_state prior plan)
   plan_over plan is = planned_over ms again config others values before prior plan config_same values_same resources_same is
 
-  refusals_over : (tolds : List Told) → AreRefused ms again others before tolds → AreRefused ms config values prior tolds
-  refusals_over tolds is = refused_over ms config again values others prior before tolds config_same values_same resources_same is
+  refusals_over : (refusal_views : List RefusalView) → AreRefused ms again others before refusal_views → AreRefused ms config values prior refusal_views
+  refusals_over refusal_views is = refused_over ms config again values others prior before refusal_views config_same values_same resources_same is
 
 -- ---- one plan
 
@@ -118,11 +118,11 @@ applies_show laws law ms texts lineage shown a h is =
 -- ---- refusals
 
 pub not_refused : Laws → PlansAreNotRefused → PlannedTextsAreNotRefused
-not_refused laws law ms texts lineage plan tolds is refused =
-    law ms is.config is.values is.prior plan tolds (orderly laws texts lineage is.config is.values is.prior is.stand) is.planned
-    (refusals_over laws ms texts lineage refused.lineage is.config refused.config is.values refused.values is.prior refused.prior is.stand refused.stand tolds refused.refused)
+not_refused laws law ms texts lineage plan refusal_views is refused =
+    law ms is.config is.values is.prior plan refusal_views (orderly laws texts lineage is.config is.values is.prior is.stand) is.planned
+    (refusals_over laws ms texts lineage refused.lineage is.config refused.config is.values refused.values is.prior refused.prior is.stand refused.stand refusal_views refused.refused)
 
 pub one_refusals : Laws → RefusalsAreOne → RefusalsOfTextsAreOne
-one_refusals laws law ms texts tolds others is also =
-    law ms is.config is.values is.prior tolds others (orderly laws texts is.lineage is.config is.values is.prior is.stand) is.refused
+one_refusals laws law ms texts refusal_views others is also =
+    law ms is.config is.values is.prior refusal_views others (orderly laws texts is.lineage is.config is.values is.prior is.stand) is.refused
     (refusals_over laws ms texts is.lineage also.lineage is.config also.config is.values also.values is.prior also.prior is.stand also.stand others also.refused)

@@ -4,8 +4,8 @@ use Rattle.std.proofs.lemmas.Bool.{cases_lt}
 use Rattle.tf_plan_data.specs.Action.{ActionView}
 use Rattle.tf_config_data.specs.Config.{ConfigView}
 use Rattle.tf_config_data.specs.Names.{NameView, a_block, directly_before, label_pair, meant_at, names_of, place_of}
-use Rattle.tf_environment.specs.Shape.{ShapeView}
-use Rattle.tf_environment.specs.Standing.{StandingView}
+use Rattle.tf_environment.specs.InstanceKeys.{InstanceKeysView}
+use Rattle.tf_environment.specs.Resolved.{ResolvedView}
 use Rattle.tf_environment.specs.declared.repetition.RepetitionFault.{RepetitionFault}
 use Rattle.tf_expand.specs.Expanding.{IsFirstRefused, expanded}
 use Rattle.tf_graph.specs.Solutions.{Ranked}
@@ -20,12 +20,12 @@ use Rattle.tf_plan.specs.Planned.{AreInstances, IsPlanned, PlannedView, unrefuse
 use Rattle.tf_plan.specs.Refused.{AreManyActions, AreManyInstances, AreManyPairs, AreRefused, AreUnexpanded, AreUnplanned, IsUnexpanded, IsUnplanned, beyond_limit, instances_refusal}
 use Rattle.tf_plan_data.specs.Plan.{PlanView}
 use Rattle.tf_plan_text.specs.Text.{plan_text}
-use Rattle.tf_precedence.specs.Ties.{TiesView}
+use Rattle.tf_precedence.specs.OrderInput.{OrderInputView}
 use Rattle.tf_protocol.specs.Meaning.{Meaning}
-use Rattle.tf_refusal.specs.Refusal.{Told}
+use Rattle.tf_refusal.specs.Refusal.{RefusalView}
 use Rattle.tf_plan_resources.proofs.Standing.{resources-apart}
 use Rattle.tf_plan_resources.specs.Laws.{AreApart}
-use Rattle.tf_plan_resources.specs.Numbering.{a_name, numbered}
+use Rattle.tf_plan_resources.specs.ResourceIndex.{a_name, numbered}
 use Rattle.tf_state_data.specs.State.{StateView}
 use Rattle.tf_syntax.specs.TemplateNames.{Pair}
 use Rattle.tf_value.specs.Tree.{Entries}
@@ -35,36 +35,36 @@ use Rattle.tf_laws.specs.Plans.{AreOne, AreOrderly, PlansAreNotRefused, PlansAre
 
 -- ---- what the expansion refuses is one
 
-module _ (variables : Entries) (names : List NameView) (standings : ℕ → StandingView) where
-  same_fault : (why other : RepetitionFault) (r : Result ShapeView RepetitionFault) → r ≡ Err why → r ≡ Err other → why ≡ other
-  same_fault why other r e f = let same : ◌≡◌ {A = Result ShapeView RepetitionFault} (Err why) (Err other) = sym e ∙ f in cc
+module _ (variables : Entries) (names : List NameView) (resolved_names : ℕ → ResolvedView) where
+  same_fault : (why other : RepetitionFault) (r : Result InstanceKeysView RepetitionFault) → r ≡ Err why → r ≡ Err other → why ≡ other
+  same_fault why other r e f = let same : ◌≡◌ {A = Result InstanceKeysView RepetitionFault} (Err why) (Err other) = sym e ∙ f in cc
 
-  one_first : (n m : ℕ) (why other : RepetitionFault) → IsFirstRefused variables names standings n why → IsFirstRefused variables names standings m other → (n ≡ m) × (why ≡ other)
+  one_first : (n m : ℕ) (why other : RepetitionFault) → IsFirstRefused variables names resolved_names n why → IsFirstRefused variables names resolved_names m other → (n ≡ m) × (why ≡ other)
   one_first n m why other is also = elim (cases_lt n m) [
-    | inl lower ↦ let before = also.first n lower in absurd (no_fault before.0 why (expanded variables names standings n) before.1 is.refused)
+    | inl lower ↦ let before = also.first n lower in absurd (no_fault before.0 why (expanded variables names resolved_names n) before.1 is.refused)
     | inr up ↦ elim (cases_lt m n) [
-      | inl lower ↦ let before = is.first m lower in absurd (no_fault before.0 other (expanded variables names standings m) before.1 also.refused)
+      | inl lower ↦ let before = is.first m lower in absurd (no_fault before.0 other (expanded variables names resolved_names m) before.1 also.refused)
       | inr down ↦
           let same : n ≡ m = omega (arith, up, down) in
-          (same, same_fault why other (expanded variables names standings n) is.refused (ap (expanded variables names standings) same ∙ also.refused))
+          (same, same_fault why other (expanded variables names resolved_names n) is.refused (ap (expanded variables names resolved_names) same ∙ also.refused))
     ]
   ]
 
-module _ (variables : Entries) (names : List NameView) (ranked : Ranked (directly_before names)) (tolds others : List Told) where
-  one_unexpanded : IsUnexpanded variables names tolds → IsUnexpanded variables names others → tolds ≡ others
+module _ (variables : Entries) (names : List NameView) (ranked : Ranked (directly_before names)) (refusal_views others : List RefusalView) where
+  one_unexpanded : IsUnexpanded variables names refusal_views → IsUnexpanded variables names others → refusal_views ≡ others
   one_unexpanded is also =
-      let too = refused-by variables names ranked also.standings also.place also.why also.stand also.first is.standings is.stand in
-      let one = one_first variables names is.standings is.place also.place is.why also.why is.first too in
+      let too = refused-by variables names ranked also.resolved_names also.place also.why also.stand also.first is.resolved_names is.stand in
+      let one = one_first variables names is.resolved_names is.place also.place is.why also.why is.first too in
       let both : Some (a_block is.block) ≡ Some (a_block also.block) = sym is.is_block ∙ ap (meant_at names) one.0 ∙ also.is_block in
       let block : is.block ≡ also.block = (cc) in
       let told : instances_refusal is.block.label is.why ≡ instances_refusal also.block.label also.why = (let why = one.1 in λ i. instances_refusal (block i).label (why i)) in
-      is.refused ∙ ap (λ (t : Told). t ∷ []) told ∙ sym also.refused
+      is.refused ∙ ap (λ (t : RefusalView). t ∷ []) told ∙ sym also.refused
 
   -- where a name is refused, there aren't too many instances
-  not_both : IsUnexpanded variables names tolds → AreManyInstances variables names others → ⊥
+  not_both : IsUnexpanded variables names refusal_views → AreManyInstances variables names others → ⊥
   not_both is many =
-      let too = many-by variables names ranked many.standings many.stand many.many is.standings is.stand in
-      no_fault (too.shapes is.place) is.why (expanded variables names is.standings is.place) (too.each is.place is.first.inside) is.first.refused
+      let too = many-by variables names ranked many.resolved_names many.stand many.many is.resolved_names is.stand in
+      no_fault (too.shapes is.place) is.why (expanded variables names is.resolved_names is.place) (too.each is.place is.first.inside) is.first.refused
 
 -- ---- what is planned is one
 
@@ -75,22 +75,22 @@ module _ (ms : List Meaning) (config : ConfigView) (variables : Entries) (prior 
   apart : AreApart (numbered (names_of config) prior.resources)
   apart = resources-apart (names_of config) prior.resources blocks_apart orderly.resources
 
-  one_view : (shapes others : ℕ → ShapeView) (p q : PlannedView) → AreInstances variables (names_of config) shapes → AreInstances variables (names_of config) others
+  one_view : (shapes others : ℕ → InstanceKeysView) (p q : PlannedView) → AreInstances variables (names_of config) shapes → AreInstances variables (names_of config) others
       → IsPlanned ms prior.resources variables (names_of config) config.outputs shapes p → IsPlanned ms prior.resources variables (names_of config) config.outputs others q → p ≡ q
   one_view shapes others p q are too is also =
       one_planned ms prior.resources variables (names_of config) shapes others (same_shapes variables (names_of config) shapes others orderly.ranked are too) config.outputs p q orderly.ranked apart is also
 
-  fits : (shapes : ℕ → ShapeView) (actions : List ActionView) → AreInstances variables (names_of config) shapes → IsPlanned ms prior.resources variables (names_of config) config.outputs shapes (unrefused actions)
+  fits : (shapes : ℕ → InstanceKeysView) (actions : List ActionView) → AreInstances variables (names_of config) shapes → IsPlanned ms prior.resources variables (names_of config) config.outputs shapes (unrefused actions)
       → AreFit ms (names_of config) prior.resources actions
   fits shapes actions are is = plan-fits ms prior.resources variables (names_of config) config.outputs shapes actions are is blocks_apart orderly.resources orderly.records
 
   -- what is needed is one
-  needs_one : (t u : TiesView) → AreTied (names_of config) prior.resources t → AreTied (names_of config) prior.resources u → (name : Pair) (n m : ℕ) → place_of (names_of config) name ≡ Some n → t.needs n m ≡ u.needs n m
+  needs_one : (t u : OrderInputView) → AreTied (names_of config) prior.resources t → AreTied (names_of config) prior.resources u → (name : Pair) (n m : ℕ) → place_of (names_of config) name ≡ Some n → t.needs n m ≡ u.needs n m
   needs_one t u tied also name n m at =
       ap (λ (f : ℕ → ℕ → Bool). f n m) tied.needs ∙ needs_same (names_of config) tied.dependence also.dependence tied.is_dependence also.is_dependence name n at m
       ∙ sym (ap (λ (f : ℕ → ℕ → Bool). f n m) also.needs)
 
-  blocks_alike : (t u : TiesView) → AreTied (names_of config) prior.resources t → AreTied (names_of config) prior.resources u → BlocksNeedAlike (names_of config) t.needs u.needs
+  blocks_alike : (t u : OrderInputView) → AreTied (names_of config) prior.resources t → AreTied (names_of config) prior.resources u → BlocksNeedAlike (names_of config) t.needs u.needs
   blocks_alike t u tied also n block meant m = needs_one t u tied also (label_pair block.label) n m (block_found config orderly.own_names blocks_apart n block meant)
 
   -- ---- one plan
@@ -101,8 +101,8 @@ module _ (ms : List Meaning) (config : ConfigView) (variables : Entries) (prior 
 
   one_plan : (p q : PlanView) → IsPlan ms config variables prior p → IsPlan ms config variables prior q → AreOne p q
   one_plan p q is also =
-      let t : TiesView = record { needs = p.needs; needed = is.planned.ordered.needed; late = p.late } in
-      let u : TiesView = record { needs = q.needs; needed = also.planned.ordered.needed; late = q.late } in
+      let t : OrderInputView = record { needs = p.needs; needed = is.planned.ordered.needed; late = p.late } in
+      let u : OrderInputView = record { needs = q.needs; needed = also.planned.ordered.needed; late = q.late } in
       let actions : p.actions ≡ q.actions = one_actions p q is also in
       record {
         prior = is.prior ∙ sym also.prior;
@@ -119,26 +119,26 @@ module _ (ms : List Meaning) (config : ConfigView) (variables : Entries) (prior 
 
   -- ---- a plan, and nothing refused
 
-  module _ (p : PlanView) (is : IsPlan ms config variables prior p) (tolds : List Told) where
-    none_refused : IsUnplanned ms prior.resources variables (names_of config) config.outputs tolds → ⊥
+  module _ (p : PlanView) (is : IsPlan ms config variables prior p) (refusal_views : List RefusalView) where
+    none_refused : IsUnplanned ms prior.resources variables (names_of config) config.outputs refusal_views → ⊥
     none_refused h =
-        h.some (sym (ap (λ (v : PlannedView). v.refusals) (one_view p.shapes h.shapes (unrefused p.actions) (record { actions = h.actions; refusals = tolds }) is.planned.instances h.instances is.planned.planned h.planned)))
+        h.some (sym (ap (λ (v : PlannedView). v.refusals) (one_view p.shapes h.shapes (unrefused p.actions) (record { actions = h.actions; refusals = refusal_views }) is.planned.instances h.instances is.planned.planned h.planned)))
 
-    same_actions : (shapes : ℕ → ShapeView) (actions : List ActionView) → AreInstances variables (names_of config) shapes
+    same_actions : (shapes : ℕ → InstanceKeysView) (actions : List ActionView) → AreInstances variables (names_of config) shapes
         → IsPlanned ms prior.resources variables (names_of config) config.outputs shapes (unrefused actions) → p.actions ≡ actions
     same_actions shapes actions are planned = ap (λ (v : PlannedView). v.actions) (one_view p.shapes shapes (unrefused p.actions) (unrefused actions) is.planned.instances are is.planned.planned planned)
 
-    few_actions : AreManyActions ms prior.resources variables (names_of config) config.outputs tolds → ⊥
+    few_actions : AreManyActions ms prior.resources variables (names_of config) config.outputs refusal_views → ⊥
     few_actions h =
         let same : length p.actions ≡ length h.actions = ap (λ (xs : List ActionView). length xs) (same_actions h.shapes h.actions h.instances h.planned) in
         let few : length p.actions ≤ max_actions = is.planned.few in
         let many : max_actions < length h.actions = h.many in
         omega (arith, same, few, many)
 
-    few_pairs : AreManyPairs ms prior.resources variables (names_of config) config.outputs tolds → ⊥
+    few_pairs : AreManyPairs ms prior.resources variables (names_of config) config.outputs refusal_views → ⊥
     few_pairs h =
-        let t : TiesView = record { needs = p.needs; needed = is.planned.ordered.needed; late = p.late } in
-        let u : TiesView = h.pairs.ties in
+        let t : OrderInputView = record { needs = p.needs; needed = is.planned.ordered.needed; late = p.late } in
+        let u : OrderInputView = h.pairs.ties in
         let edges = is.planned.ordered.edges ∙ one_pairs (names_of config) prior.resources t u is.planned.ordered.tied h.pairs.tied (blocks_alike t u is.planned.ordered.tied h.pairs.tied) p.actions
         (fits p.shapes p.actions is.planned.instances is.planned.planned).declared ∙ ap (action_pairs u) (same_actions h.shapes h.actions h.instances h.planned) in
         let same : length p.order.edges ≡ length (action_pairs u h.actions) = ap (λ (xs : List (ℕ × ℕ)). length xs) edges in
@@ -146,11 +146,11 @@ module _ (ms : List Meaning) (config : ConfigView) (variables : Entries) (prior 
         let many : max_pairs < length (action_pairs u h.actions) = h.pairs.many.0 in
         omega (arith, same, few, many)
 
-    not_refused : AreRefused ms config variables prior tolds → ⊥
+    not_refused : AreRefused ms config variables prior refusal_views → ⊥
     not_refused refused = elim refused [
       | inl unexpanded ↦ elim unexpanded [
-        | inl h ↦ none_unexpanded variables (names_of config) orderly.ranked p.shapes is.planned.instances tolds h
-        | inr h ↦ not_many variables (names_of config) orderly.ranked p.shapes is.planned.instances tolds h
+        | inl h ↦ none_unexpanded variables (names_of config) orderly.ranked p.shapes is.planned.instances refusal_views h
+        | inr h ↦ not_many variables (names_of config) orderly.ranked p.shapes is.planned.instances refusal_views h
       ]
       | inr unplanned ↦ elim unplanned [
         | inl h ↦ none_refused h
@@ -160,60 +160,60 @@ module _ (ms : List Meaning) (config : ConfigView) (variables : Entries) (prior 
 
   -- ---- one list of refusals
 
-  instances_of : (tolds : List Told) → AreUnplanned ms prior.resources variables (names_of config) config.outputs tolds → (shapes : ℕ → ShapeView) × AreInstances variables (names_of config) shapes
-  instances_of tolds unplanned = elim unplanned [
+  instances_of : (refusal_views : List RefusalView) → AreUnplanned ms prior.resources variables (names_of config) config.outputs refusal_views → (shapes : ℕ → InstanceKeysView) × AreInstances variables (names_of config) shapes
+  instances_of refusal_views unplanned = elim unplanned [
     | inl h ↦ (h.shapes, h.instances)
     | inr many ↦ elim many [ inl h ↦ (h.shapes, h.instances) | inr h ↦ (h.shapes, h.instances) ]
   ]
 
   -- what the expansion refuses leaves nothing to plan
-  not_planned : (tolds others : List Told) → AreUnexpanded variables (names_of config) tolds → AreUnplanned ms prior.resources variables (names_of config) config.outputs others → ⊥
-  not_planned tolds others unexpanded unplanned =
+  not_planned : (refusal_views others : List RefusalView) → AreUnexpanded variables (names_of config) refusal_views → AreUnplanned ms prior.resources variables (names_of config) config.outputs others → ⊥
+  not_planned refusal_views others unexpanded unplanned =
       let found = instances_of others unplanned in
       elim unexpanded [
-        | inl h ↦ none_unexpanded variables (names_of config) orderly.ranked found.0 found.1 tolds h
-        | inr h ↦ not_many variables (names_of config) orderly.ranked found.0 found.1 tolds h
+        | inl h ↦ none_unexpanded variables (names_of config) orderly.ranked found.0 found.1 refusal_views h
+        | inr h ↦ not_many variables (names_of config) orderly.ranked found.0 found.1 refusal_views h
       ]
 
-  module _ (tolds others : List Told) where
-    one_expansion : AreUnexpanded variables (names_of config) tolds → AreUnexpanded variables (names_of config) others → tolds ≡ others
+  module _ (refusal_views others : List RefusalView) where
+    one_expansion : AreUnexpanded variables (names_of config) refusal_views → AreUnexpanded variables (names_of config) others → refusal_views ≡ others
     one_expansion is also = elim is [
       | inl h ↦ elim also [
-        | inl k ↦ one_unexpanded variables (names_of config) orderly.ranked tolds others h k
-        | inr k ↦ absurd (not_both variables (names_of config) orderly.ranked tolds others h k)
+        | inl k ↦ one_unexpanded variables (names_of config) orderly.ranked refusal_views others h k
+        | inr k ↦ absurd (not_both variables (names_of config) orderly.ranked refusal_views others h k)
       ]
       | inr h ↦ elim also [
-        | inl k ↦ absurd (not_both variables (names_of config) orderly.ranked others tolds k h)
+        | inl k ↦ absurd (not_both variables (names_of config) orderly.ranked others refusal_views k h)
         | inr k ↦ h.refused ∙ sym k.refused
       ]
     ]
 
-    one_unplanned : IsUnplanned ms prior.resources variables (names_of config) config.outputs tolds → IsUnplanned ms prior.resources variables (names_of config) config.outputs others → tolds ≡ others
+    one_unplanned : IsUnplanned ms prior.resources variables (names_of config) config.outputs refusal_views → IsUnplanned ms prior.resources variables (names_of config) config.outputs others → refusal_views ≡ others
     one_unplanned h k =
         ap (λ (v : PlannedView). v.refusals)
-        (one_view h.shapes k.shapes (record { actions = h.actions; refusals = tolds }) (record { actions = k.actions; refusals = others }) h.instances k.instances h.planned k.planned)
+        (one_view h.shapes k.shapes (record { actions = h.actions; refusals = refusal_views }) (record { actions = k.actions; refusals = others }) h.instances k.instances h.planned k.planned)
 
-  limit_told : (tolds : List Told) → AreManyActions ms prior.resources variables (names_of config) config.outputs tolds ⊎ AreManyPairs ms prior.resources variables (names_of config) config.outputs tolds → tolds ≡ beyond_limit ∷ []
-  limit_told tolds many = elim many [ inl h ↦ h.refused | inr h ↦ h.pairs.many.1 ]
+  limit_told : (refusal_views : List RefusalView) → AreManyActions ms prior.resources variables (names_of config) config.outputs refusal_views ⊎ AreManyPairs ms prior.resources variables (names_of config) config.outputs refusal_views → refusal_views ≡ beyond_limit ∷ []
+  limit_told refusal_views many = elim many [ inl h ↦ h.refused | inr h ↦ h.pairs.many.1 ]
 
   -- where anything is refused of instances and outputs, that alone is told
-  not_limited : (tolds others : List Told) → IsUnplanned ms prior.resources variables (names_of config) config.outputs tolds
+  not_limited : (refusal_views others : List RefusalView) → IsUnplanned ms prior.resources variables (names_of config) config.outputs refusal_views
       → AreManyActions ms prior.resources variables (names_of config) config.outputs others ⊎ AreManyPairs ms prior.resources variables (names_of config) config.outputs others → ⊥
-  not_limited tolds others h many = elim many [
-    | inl k ↦ h.some (ap (λ (v : PlannedView). v.refusals) (one_view h.shapes k.shapes (record { actions = h.actions; refusals = tolds }) (unrefused k.actions) h.instances k.instances h.planned k.planned))
-    | inr k ↦ h.some (ap (λ (v : PlannedView). v.refusals) (one_view h.shapes k.shapes (record { actions = h.actions; refusals = tolds }) (unrefused k.actions) h.instances k.instances h.planned k.planned))
+  not_limited refusal_views others h many = elim many [
+    | inl k ↦ h.some (ap (λ (v : PlannedView). v.refusals) (one_view h.shapes k.shapes (record { actions = h.actions; refusals = refusal_views }) (unrefused k.actions) h.instances k.instances h.planned k.planned))
+    | inr k ↦ h.some (ap (λ (v : PlannedView). v.refusals) (one_view h.shapes k.shapes (record { actions = h.actions; refusals = refusal_views }) (unrefused k.actions) h.instances k.instances h.planned k.planned))
   ]
 
-  one_left : (tolds others : List Told) → AreUnplanned ms prior.resources variables (names_of config) config.outputs tolds → AreUnplanned ms prior.resources variables (names_of config) config.outputs others → tolds ≡ others
-  one_left tolds others is also = elim is [
-    | inl h ↦ elim also [ inl k ↦ one_unplanned tolds others h k | inr k ↦ absurd (not_limited tolds others h k) ]
-    | inr h ↦ elim also [ inl k ↦ absurd (not_limited others tolds k h) | inr k ↦ limit_told tolds h ∙ sym (limit_told others k) ]
+  one_left : (refusal_views others : List RefusalView) → AreUnplanned ms prior.resources variables (names_of config) config.outputs refusal_views → AreUnplanned ms prior.resources variables (names_of config) config.outputs others → refusal_views ≡ others
+  one_left refusal_views others is also = elim is [
+    | inl h ↦ elim also [ inl k ↦ one_unplanned refusal_views others h k | inr k ↦ absurd (not_limited refusal_views others h k) ]
+    | inr h ↦ elim also [ inl k ↦ absurd (not_limited others refusal_views k h) | inr k ↦ limit_told refusal_views h ∙ sym (limit_told others k) ]
   ]
 
-  one_refused : (tolds others : List Told) → AreRefused ms config variables prior tolds → AreRefused ms config variables prior others → tolds ≡ others
-  one_refused tolds others is also = elim is [
-    | inl h ↦ elim also [ inl k ↦ one_expansion tolds others h k | inr k ↦ absurd (not_planned tolds others h k) ]
-    | inr h ↦ elim also [ inl k ↦ absurd (not_planned others tolds k h) | inr k ↦ one_left tolds others h k ]
+  one_refused : (refusal_views others : List RefusalView) → AreRefused ms config variables prior refusal_views → AreRefused ms config variables prior others → refusal_views ≡ others
+  one_refused refusal_views others is also = elim is [
+    | inl h ↦ elim also [ inl k ↦ one_expansion refusal_views others h k | inr k ↦ absurd (not_planned refusal_views others h k) ]
+    | inr h ↦ elim also [ inl k ↦ absurd (not_planned others refusal_views k h) | inr k ↦ one_left refusal_views others h k ]
   ]
 
 -- ---- the laws
@@ -228,7 +228,7 @@ texts_one ms config variables prior p q orderly is also =
     λ i. plan_text (λ n. one.late n i) (actions i)
 
 pub plans_not_refused : PlansAreNotRefused
-plans_not_refused ms config variables prior plan tolds orderly is refused = not_refused ms config variables prior orderly plan is tolds refused
+plans_not_refused ms config variables prior plan refusal_views orderly is refused = not_refused ms config variables prior orderly plan is refusal_views refused
 
 pub refusals_one : RefusalsAreOne
-refusals_one ms config variables prior tolds others orderly is also = one_refused ms config variables prior orderly tolds others is also
+refusals_one ms config variables prior refusal_views others orderly is also = one_refused ms config variables prior orderly refusal_views others is also

@@ -8,12 +8,12 @@ use Rattle.tf_address.specs.Label.{LabelView}
 use Rattle.tf_address.specs.ObjectId.{InstanceKeyView}
 use Rattle.tf_state_next.specs.Events.{ApplyView, apply_of_instance, as_apply, ends_in, given_in, nothing_given}
 use Rattle.tf_state_next.specs.StateAfter.{IsStateAfter}
-use Rattle.tf_outcome.specs.Outcome.{Done}
+use Rattle.tf_outcome.specs.Outcome.{ActionResultView}
 use Rattle.tf_plan_data.specs.Plan.{PlanView}
 use Rattle.tf_protocol.specs.Meaning.{Meaning}
-use Rattle.tf_walk_report.specs.Events.{events, renewals}
+use Rattle.tf_walk_report.specs.Events.{events, metadata_updates}
 use Rattle.tf_state_next.specs.After.{current_after, deposed_anew, object_at, renewed}
-use Rattle.tf_state_next.specs.Ends.{AppliedView, unplanned, unwanted}
+use Rattle.tf_state_next.specs.Ends.{ApplyResultView, unplanned, unwanted}
 use Rattle.tf_state_data.specs.Record.{RecordView}
 use Rattle.tf_state_data.specs.State.{StateView, record_in}
 use Rattle.tf_value.specs.Tree.{Entries}
@@ -42,32 +42,32 @@ current_kept label key w before after (inl none) e =
 current_kept label key w before after (inr y) e =
     given_anew before after y.0.given.dependencies y.0.given.create_before_destroy
     (e ∙ ap (λ (o : Option ApplyView). current_after (option_map_or (λ a. a.given) o (nothing_given key)) (option_map_or (λ a. a.applied) o unwanted) before) y.1
-    ∙ ap (λ (v : AppliedView). current_after y.0.given v before) y.2)
+    ∙ ap (λ (v : ApplyResultView). current_after y.0.given v before) y.2)
 
 none_deposed : (key : InstanceKeyView) (w : Option ApplyView) (left : Option RecordView) (k : List ℕ) → (w ≡ None) ⊎ ((y : ApplyView) × (w ≡ Some y) × (y.applied ≡ unplanned))
     → deposed_anew (option_map_or (λ a. a.given) w (nothing_given key)) (option_map_or (λ a. a.applied) w unwanted) left k ≡ None
 none_deposed key w left k (inl none) = ap (λ (o : Option ApplyView). deposed_anew (option_map_or (λ a. a.given) o (nothing_given key)) (option_map_or (λ a. a.applied) o unwanted) left k) none
 none_deposed key w left k (inr y) =
     ap (λ (o : Option ApplyView). deposed_anew (option_map_or (λ a. a.given) o (nothing_given key)) (option_map_or (λ a. a.applied) o unwanted) left k) y.1
-    ∙ ap (λ (v : AppliedView). deposed_anew y.0.given v left k) y.2
+    ∙ ap (λ (v : ApplyResultView). deposed_anew y.0.given v left k) y.2
 
-module _ (ms : List Meaning) (plan : PlanView) (done : List Done) (outputs : Entries) (after : StateView)
+module _ (ms : List Meaning) (plan : PlanView) (done : List ActionResultView) (outputs : Entries) (after : StateView)
     (state : IsStateAfter plan.prior (given_in (events ms plan [] done)) (ends_in (events ms plan [] done)) outputs after) where
-  told_nothing : (label : LabelView) (key : InstanceKeyView) → IsUnsaved ms plan label key (apply_of_instance label key (applies_in (changes_in ms [] done) ++ map as_apply (renewals plan)))
-  told_nothing label key = elim (wanted_in ms plan label key [] [] done (renewals plan) tt tt) [
+  told_nothing : (label : LabelView) (key : InstanceKeyView) → IsUnsaved ms plan label key (apply_of_instance label key (applies_in (changes_in ms [] done) ++ map as_apply (metadata_updates plan)))
+  told_nothing label key = elim (wanted_in ms plan label key [] [] done (metadata_updates plan) tt tt) [
     | inl w ↦ let none : None ≡ Some w.a = w.at in absurd (cc)
     | inr w ↦ w.1
   ]
 
   by_deposed : (label : LabelView) (key : InstanceKeyView) (d : Option (List ℕ)) → IsRenewed (record_in label (object_at key d) plan.prior) (record_in label (object_at key d) after)
   by_deposed label key None =
-      current_kept label key (apply_of_instance label key (applies_in (changes_in ms [] done) ++ map as_apply (renewals plan))) (record_in label (object_at key None) plan.prior) (record_in label (object_at key None) after)
+      current_kept label key (apply_of_instance label key (applies_in (changes_in ms [] done) ++ map as_apply (metadata_updates plan))) (record_in label (object_at key None) plan.prior) (record_in label (object_at key None) after)
       (told_nothing label key) (state.records label (object_at key None))
   by_deposed label key (Some k) =
       as_it_is (record_in label (object_at key (Some k)) plan.prior) (record_in label (object_at key (Some k)) after)
       (state.records label (object_at key (Some k))
       ∙ ap (λ (o : Option RecordView). option_or o (record_in label (object_at key (Some k)) plan.prior))
-      (none_deposed key (apply_of_instance label key (applies_in (changes_in ms [] done) ++ map as_apply (renewals plan))) (record_in label (object_at key None) plan.prior) k (told_nothing label key)))
+      (none_deposed key (apply_of_instance label key (applies_in (changes_in ms [] done) ++ map as_apply (metadata_updates plan))) (record_in label (object_at key None) plan.prior) k (told_nothing label key)))
 
 pub quiet_keeps : QuietAppliesKeepObjects
 quiet_keeps ms plan done outputs after none is label id =

@@ -1,4 +1,4 @@
--- Reading is a function: the same texts stand for the same configuration, the same values of its variables and the same prior state. What was read is sound.
+-- Reading is a function: the same texts read as the same configuration, the same values of its variables and the same prior state. What was read is sound.
 use Rattle.std.proofs.Common.{◌≡◌, ◌∙◌, ℕ, List, [], ◌∷◌, Option, Some, None, Less, map, refl, sym, ap, subst}
 use Rattle.std.specs.List.{AllByRecursion}
 use Rattle.std.specs.List.Sorted.{IsStrictlySortedBy}
@@ -9,7 +9,7 @@ use Rattle.tf_config.specs.Configuration.{IsConfiguration}
 use Rattle.tf_config.specs.Laws.{BlocksAreInOrder, StandsForOne}
 use Rattle.tf_config.specs.Reading.{IsTree}
 use Rattle.tf_config_data.specs.Config.{BlockView, ConfigView}
-use Rattle.tf_inputs.specs.Texts.{AreTheValues, IsPrior, IsRead, StandFor, Texts}
+use Rattle.tf_inputs.specs.Texts.{AreTheValues, IsPrior, IsRead, ReadAs, Texts}
 use Rattle.tf_state.specs.Laws.{EmptyIsValid, ReadIsValid, TextIsOfOne}
 use Rattle.tf_state.specs.Valid.{IsValid}
 use Rattle.tf_state_data.specs.State.{StateView}
@@ -17,7 +17,7 @@ use Rattle.tf_value.specs.Tree.{Entries}
 use Rattle.tf_variables.specs.Laws.{ValuesAreOne}
 use Rattle.tf_variables.specs.Reading.{IsFileOf}
 use Rattle.tf_variables.specs.Values.{AreValues}
-use Rattle.tf_laws.specs.Readings.{TextsStandForOne, TextsStandForOneApart, without_lineage}
+use Rattle.tf_laws.specs.Readings.{TextsReadAsOne, TextsReadAsOneApart, without_lineage}
 
 -- ---- the same texts
 
@@ -74,24 +74,24 @@ pub prior_apart : TextIsOfOne → (state : Option (List ℕ)) (lineage other : L
 prior_apart law None lineage other prior again h k = ap without_lineage k ∙ sym (ap without_lineage h)
 prior_apart law (Some bytes) lineage other prior again h k = ap without_lineage (law bytes again prior k.0 h.0)
 
--- ---- what texts stand for
+-- ---- what texts read as
 
 module _ (one : StandsForOne) (values_law : ValuesAreOne) (texts : Texts) (lineage other : List ℕ) (config again : ConfigView) (values others : Entries) (prior before : StateView)
-    (h : StandFor texts lineage config values prior) (k : StandFor texts other again others before) where
+    (h : ReadAs texts lineage config values prior) (k : ReadAs texts other again others before) where
   pub same_config : again ≡ config
   same_config = one_config one texts.config again config k.read h.read
 
   pub same_values : others ≡ values
   same_values = one_values values_law texts.vars config others values (subst (λ (c : ConfigView). AreTheValues texts.vars c others) same_config k.valued) h.valued
 
-pub stand_for_one : StandsForOne → ValuesAreOne → TextIsOfOne → TextsStandForOne
+pub stand_for_one : StandsForOne → ValuesAreOne → TextIsOfOne → TextsReadAsOne
 stand_for_one one law state texts lineage config again values others prior before h k = (
   same_config one law texts lineage lineage config again values others prior before h k,
   same_values one law texts lineage lineage config again values others prior before h k,
   one_prior state texts.state lineage prior before h.before k.before,
 )
 
-pub stand_apart : StandsForOne → ValuesAreOne → TextIsOfOne → TextsStandForOneApart
+pub stand_apart : StandsForOne → ValuesAreOne → TextIsOfOne → TextsReadAsOneApart
 stand_apart one law state texts lineage other config again values others prior before h k = (
   same_config one law texts lineage other config again values others prior before h k,
   same_values one law texts lineage other config again values others prior before h k,

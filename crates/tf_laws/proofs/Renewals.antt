@@ -12,13 +12,13 @@ use Rattle.tf_config_data.specs.Config.{BlockView}
 use Rattle.tf_config_data.specs.Names.{NameView, a_block, meant_at}
 use Rattle.tf_graph.proofs.Edges.{contains_cases, contains_head, contains_tail}
 use Rattle.tf_state_next.proofs.Finding.{found_passes}
-use Rattle.tf_state_next.specs.Events.{ApplyView, RenewalView, apply_of_instance, as_apply, is_instance}
+use Rattle.tf_state_next.specs.Events.{ApplyView, MetadataUpdateView, apply_of_instance, as_apply, is_instance}
 use Rattle.tf_plan.proofs.Distinct.{in_map, in_flat_map, to_map}
 use Rattle.tf_plan_data.specs.Plan.{PlanView, plan_names}
-use Rattle.tf_walk_report.specs.Events.{is_about, is_none, renewal_of_record, renewals, renewals_at, renewals_of, stays}
+use Rattle.tf_walk_report.specs.Events.{is_about, is_none, metadata_update_of_record, metadata_updates, metadata_updates_at, metadata_updates_of, stays}
 use Rattle.tf_plan_resources.proofs.Standing.{places-true}
 use Rattle.tf_plan_resources.specs.Laws as resources_laws
-use Rattle.tf_plan_resources.specs.Numbering.{a_name, block_address, numbered, place_in}
+use Rattle.tf_plan_resources.specs.ResourceIndex.{a_name, block_address, numbered, place_in}
 use Rattle.tf_state_next.specs.Ends.{unplanned}
 use Rattle.tf_state_data.specs.Record.{RecordView}
 use Rattle.tf_state_data.specs.Resource.{ResourceView}
@@ -56,9 +56,9 @@ block_place names resources apart label m n block place meant own =
     let name = name_at names resources n (a_block block) meant in
     apart m n x.0 (a_name name.0) label x.1 name.1 x.2 (ap block_address name.2 ∙ ap Some own)
 
--- ---- renewals
+-- ---- metadata updates
 
--- an apply as which a renewal is: of the resource at an address what that one needs by the configuration, and whether it is late
+-- an apply as which a metadata update is: of the resource at an address what that one needs by the configuration, and whether it is late
 pub record IsRenewal (plan : PlanView) (label : LabelView) (a : ApplyView) : Type 0 where
   pub n : ℕ
   pub place : place_in (numbered (plan_names plan) plan.prior.resources) label ≡ Some n
@@ -66,42 +66,42 @@ pub record IsRenewal (plan : PlanView) (label : LabelView) (a : ApplyView) : Typ
   pub late : a.given.create_before_destroy ≡ plan.late n
   pub not_planned : a.applied ≡ unplanned
 
-in_renewals : (plan : PlanView) (x : RenewalView) → Contains (renewals plan) x → IsRenewal plan x.label (as_apply x)
+in_renewals : (plan : PlanView) (x : MetadataUpdateView) → Contains (metadata_updates plan) x → IsRenewal plan x.label (as_apply x)
 in_renewals plan x c =
-    let r = in_flat_map (renewals_of plan) plan.prior.resources x c in
+    let r = in_flat_map (metadata_updates_of plan) plan.prior.resources x c in
     by_place r.0 (place_in (numbered (plan_names plan) plan.prior.resources) r.0.label) refl r.2
   where
-    by_place : (r : ResourceView) (o : Option ℕ) → place_in (numbered (plan_names plan) plan.prior.resources) r.label ≡ o → Contains (renewals_at plan r o) x → IsRenewal plan x.label (as_apply x)
+    by_place : (r : ResourceView) (o : Option ℕ) → place_in (numbered (plan_names plan) plan.prior.resources) r.label ≡ o → Contains (metadata_updates_at plan r o) x → IsRenewal plan x.label (as_apply x)
     by_place r None e d = absurd (nothing_in x d)
     by_place r (Some n) e d = by_test (nat_lt n (length (plan_names plan))) d
       where
-        by_test : (b : Bool) → Contains (if b then map (renewal_of_record plan r.label n) (filter (stays plan n) r.records) else []) x → IsRenewal plan x.label (as_apply x)
+        by_test : (b : Bool) → Contains (if b then map (metadata_update_of_record plan r.label n) (filter (stays plan n) r.records) else []) x → IsRenewal plan x.label (as_apply x)
         by_test false f = absurd (nothing_in x f)
         by_test true f =
-            let y = in_map (renewal_of_record plan r.label n) (filter (stays plan n) r.records) x f in
-            subst (λ (z : RenewalView). IsRenewal plan z.label (as_apply z)) y.2 (record { n = n; place = e; needs = refl; late = refl; not_planned = refl })
+            let y = in_map (metadata_update_of_record plan r.label n) (filter (stays plan n) r.records) x f in
+            subst (λ (z : MetadataUpdateView). IsRenewal plan z.label (as_apply z)) y.2 (record { n = n; place = e; needs = refl; late = refl; not_planned = refl })
 
 -- what is found of an instance among them is such a one
-pub found_renewal : (plan : PlanView) (label : LabelView) (key : InstanceKeyView) (a : ApplyView) → apply_of_instance label key (map as_apply (renewals plan)) ≡ Some a → IsRenewal plan label a
+pub found_renewal : (plan : PlanView) (label : LabelView) (key : InstanceKeyView) (a : ApplyView) → apply_of_instance label key (map as_apply (metadata_updates plan)) ≡ Some a → IsRenewal plan label a
 found_renewal plan label key a e =
-    let c = found_contains (λ y. is_instance label key y.label y.given.key) (map as_apply (renewals plan)) a e in
-    let x = in_map as_apply (renewals plan) a c in
-    let passes : is_instance label key a.label a.given.key ≡ true = found_passes (λ y. is_instance label key y.label y.given.key) (map as_apply (renewals plan)) a e in
+    let c = found_contains (λ y. is_instance label key y.label y.given.key) (map as_apply (metadata_updates plan)) a e in
+    let x = in_map as_apply (metadata_updates plan) a c in
+    let passes : is_instance label key a.label a.given.key ≡ true = found_passes (λ y. is_instance label key y.label y.given.key) (map as_apply (metadata_updates plan)) a e in
     let label_is : a.label ≡ label = (label_Decides a.label label).0 (and-first (same_label a.label label) (same_instance_key a.given.key key) passes) in
     subst (λ (l : LabelView). IsRenewal plan l a) label_is (subst (λ (z : ApplyView). IsRenewal plan z.label z) x.2 (in_renewals plan x.0 x.1))
 
 -- a record that stays is found there
 pub staying_found : (plan : PlanView) (r : ResourceView) (y : RecordView) (n : ℕ) → Contains plan.prior.resources r → Contains r.records y → place_in (numbered (plan_names plan) plan.prior.resources) r.label ≡ Some n
-    → n < length (plan_names plan) → stays plan n y ≡ true → apply_of_instance r.label y.id.key (map as_apply (renewals plan)) ≡ None → ⊥
+    → n < length (plan_names plan) → stays plan n y ≡ true → apply_of_instance r.label y.id.key (map as_apply (metadata_updates plan)) ≡ None → ⊥
 staying_found plan r y n there own place below staying none =
-    let x : RenewalView = renewal_of_record plan r.label n y in
-    let kept : Contains (map (renewal_of_record plan r.label n) (filter (stays plan n) r.records)) x =
-    to_map (renewal_of_record plan r.label n) (filter (stays plan n) r.records) y (to_filter (stays plan n) r.records y own staying) in
-    let listed : Contains (if nat_lt n (length (plan_names plan)) then map (renewal_of_record plan r.label n) (filter (stays plan n) r.records) else []) x =
-    subst (λ (b : Bool). Contains (if b then map (renewal_of_record plan r.label n) (filter (stays plan n) r.records) else []) x) (sym (lt-ltb n (length (plan_names plan)) below)) kept in
-    let of_it : Contains (renewals_of plan r) x = subst (λ (o : Option ℕ). Contains (renewals_at plan r o) x) (sym place) listed in
-    let all : Contains (renewals plan) x = to_flat_map (renewals_of plan) plan.prior.resources r x there of_it in
-    not_found (λ z. is_instance r.label y.id.key z.label z.given.key) (map as_apply (renewals plan)) (as_apply x) (to_map as_apply (renewals plan) x all)
+    let x : MetadataUpdateView = metadata_update_of_record plan r.label n y in
+    let kept : Contains (map (metadata_update_of_record plan r.label n) (filter (stays plan n) r.records)) x =
+    to_map (metadata_update_of_record plan r.label n) (filter (stays plan n) r.records) y (to_filter (stays plan n) r.records y own staying) in
+    let listed : Contains (if nat_lt n (length (plan_names plan)) then map (metadata_update_of_record plan r.label n) (filter (stays plan n) r.records) else []) x =
+    subst (λ (b : Bool). Contains (if b then map (metadata_update_of_record plan r.label n) (filter (stays plan n) r.records) else []) x) (sym (lt-ltb n (length (plan_names plan)) below)) kept in
+    let of_it : Contains (metadata_updates_of plan r) x = subst (λ (o : Option ℕ). Contains (metadata_updates_at plan r o) x) (sym place) listed in
+    let all : Contains (metadata_updates plan) x = to_flat_map (metadata_updates_of plan) plan.prior.resources r x there of_it in
+    not_found (λ z. is_instance r.label y.id.key z.label z.given.key) (map as_apply (metadata_updates plan)) (as_apply x) (to_map as_apply (metadata_updates plan) x all)
     (and-both (same_label r.label r.label) (same_instance_key y.id.key y.id.key) ((label_Decides r.label r.label).1 refl) (same_key y.id.key)) none
 
 -- a current object's record stays where no action is about it

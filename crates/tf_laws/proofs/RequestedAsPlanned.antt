@@ -54,7 +54,7 @@ module _ (x : Made) (laws : Laws) (requests : Requests) (are : AreRequests x.pla
       let q = i.by_plan in
       let others = completed x a.resource objects keep in
       let plan_asks = asks_some (ignored_by (meant_at (plan_names x.plan) a.resource)) q.schema a q.is.made a.step in
-      let in_plan : asked_in_plan x.plan x.standings i.block q.schema a ≡ Ok plan_asks.0 =
+      let in_plan : asked_in_plan x.plan x.resolved_names i.block q.schema a ≡ Ok plan_asks.0 =
       ap (λ (p : Result Tree InstanceFaultView). asked_by_step (ignored_by (meant_at (plan_names x.plan) a.resource)) q.schema a p a.step) q.is.makes ∙ plan_asks.1 in
       let same : requests (completed x a.resource objects keep) a q.schema ≡ requests objects a q.schema =
       requests_same x a.resource (completed x a.resource objects keep) objects (λ n key need among. completed_same x a.resource objects keep n key need among) requests a i.block q.schema are refl i.meant in
@@ -62,13 +62,13 @@ module _ (x : Made) (laws : Laws) (requests : Requests) (are : AreRequests x.pla
       ap (λ (p : Result Tree InstanceFaultView). asked_for (plan_names x.plan) q.schema a p) same ∙ e in
       let stands = answered x a.resource objects keep in
       let is : plan_asks.0.object ≡ planned_object a.step =
-      laws.planned x.plan x.standings i.block a q.schema (records_in (setting x) i.block a.key) q.decision plan_asks.0 i.meant q.decides i.step in_plan in
+      laws.planned x.plan x.resolved_names i.block a q.schema (records_in (setting x) i.block a.key) q.decision plan_asks.0 i.meant q.decides i.step in_plan in
       record {
         object =
             subst (λ (o : Option Tree). RefinesWhere o asked.object) is
-            (laws.refine x.ms x.plan (completed x a.resource objects keep) x.standings requests stands are i.block a q.schema plan_asks.0 asked i.meant in_plan asks);
+            (laws.refine x.ms x.plan (completed x a.resource objects keep) x.resolved_names requests stands are i.block a q.schema plan_asks.0 asked i.meant in_plan asks);
         unchanged = λ name v at known_is.
-            laws.known x.ms x.plan (completed x a.resource objects keep) x.standings requests stands are i.block a q.schema plan_asks.0 asked i.meant in_plan asks name v
+            laws.known x.ms x.plan (completed x a.resource objects keep) x.resolved_names requests stands are i.block a q.schema plan_asks.0 asked i.meant in_plan asks name v
             (ap (option_and_then (part_at name)) is ∙ at) known_is;
       }
 

@@ -12,9 +12,9 @@ use Rattle.tf_config_data.specs.Names.{a_block, meant_at}
 use Rattle.tf_deciding.specs.Stage.{records_at}
 use Rattle.tf_decision.specs.Decision.{change, nothing}
 use Rattle.tf_environment.proofs.Refining.{followed}
-use Rattle.tf_environment.specs.Laws.{StandingsGrow}
+use Rattle.tf_environment.specs.Laws.{ResolvedNamesGrow}
 use Rattle.tf_environment.specs.Stages.{applying}
-use Rattle.tf_environment.specs.Standing.{StandingView, AreStandings, environment}
+use Rattle.tf_environment.specs.Resolved.{ResolvedView, AreResolvedNames, environment}
 use Rattle.tf_plan_resources.specs.Members.{is_among, records_of}
 use Rattle.tf_state_next.proofs.One.{some_known}
 use Rattle.tf_state_next.specs.StateAfter.{has_records}
@@ -24,7 +24,7 @@ use Rattle.tf_protocol.specs.Meaning.{schema_in}
 use Rattle.tf_protocol.specs.Schema.{SchemaView}
 use Rattle.tf_protocol.specs.Verdict.{is_good_verdict, verdict_on_object}
 use Rattle.tf_walk_report.specs.Report.{objects_after}
-use Rattle.tf_plan_resources.specs.Numbering.{has_block}
+use Rattle.tf_plan_resources.specs.ResourceIndex.{has_block}
 use Rattle.tf_state_next.proofs.Places.{found_id}
 use Rattle.tf_state_next.specs.After.{object_at}
 use Rattle.tf_state_data.specs.Ids.{AreById}
@@ -46,25 +46,25 @@ use Rattle.tf_laws.proofs.Stored.{attributes_known, current_has, known_attribute
 use Rattle.tf_laws.specs.Known.{ExpressionsStayKnown}
 use Rattle.tf_laws.specs.Rest.{AreAtRest, IsResting}
 
-module _ (x : Applied) (law : ExpressionsStayKnown) (instances : InstancesGrow) (grow : StandingsGrow) where
+module _ (x : Applied) (law : ExpressionsStayKnown) (instances : InstancesGrow) (grow : ResolvedNamesGrow) where
   -- ---- one instance
 
-  module _ (standings : ℕ → StandingView) (solves : AreStandings (applying x.plan.shapes (objects_after x.plan x.done)) x.plan.variables (plan_names x.plan) standings)
+  module _ (resolved_names : ℕ → ResolvedView) (solves : AreResolvedNames (applying x.plan.shapes (objects_after x.plan x.done)) x.plan.variables (plan_names x.plan) resolved_names)
       (n : ℕ) (block : BlockView) (key : InstanceKeyView) (meant : meant_at (plan_names x.plan) n ≡ Some (a_block block)) (kept : IsKept x n block key) where
     -- beside its record nothing is done
-    own_rests : (made : Tree) → instance_object kept.by_plan.schema block key (environment x.plan.variables (plan_names x.plan) standings) ≡ Ok made
+    own_rests : (made : Tree) → instance_object kept.by_plan.schema block key (environment x.plan.variables (plan_names x.plan) resolved_names) ≡ Ok made
         → change kept.by_plan.schema block.lifecycle.ignore_changes (Some kept.only) made ≡ nothing
     own_rests made e =
         let q = kept.by_plan in
         let ignored = block.lifecycle.ignore_changes in
-        let after = environment x.plan.variables (plan_names x.plan) standings in
+        let after = environment x.plan.variables (plan_names x.plan) resolved_names in
         let good = x.schemas block.label.type_name q.schema q.has in
         let named = instances_named q.schema block key after made e in
-        let env_known = applied_known law x.plan.variables (plan_names x.plan) x.plan.shapes (objects_after x.plan x.done) x.variables_known (λ n block key m among. stands_known x n block key m among) x.ranked standings solves in
+        let env_known = applied_known law x.plan.variables (plan_names x.plan) x.plan.shapes (objects_after x.plan x.done) x.variables_known (λ n block key m among. stands_known x n block key m among) x.ranked resolved_names solves in
         let settled = objects_settled law q.schema ignored block key after made good env_known e in
         elim kept.how [
           | inl m ↦
-              let r = made_requested x standings solves n block key meant kept m in
+              let r = made_requested x resolved_names solves n block key meant kept m in
               let both : ◌≡◌ {A = Result Tree InstanceFaultView} (Ok r.made) (Ok made) = sym r.makes ∙ e in
               let same : r.made ≡ made = (cc) in
               let asks = subst (λ (t : Tree). asked_by_step ignored q.schema m.a (Ok t) m.a.step ≡ Ok r.asked) same r.asks in
@@ -75,17 +75,17 @@ module _ (x : Applied) (law : ExpressionsStayKnown) (instances : InstancesGrow) 
               let before = instances_named q.schema block key (env_of (setting x)) q.is.made q.is.makes in
               let has = current_has q.schema (records_in (setting x) block key) u.old good stored q.is.fits u.found in
               let done = sym (ap (λ (o : Option RecordView). change q.schema ignored o q.is.made) u.found) ∙ q.is.changes ∙ u.nothing in
-              let grows = instances q.schema block key (env_of (setting x)) after q.is.made made (grown x standings solves instances grow).references q.is.makes e in
+              let grows = instances q.schema block key (env_of (setting x)) after q.is.made made (grown x resolved_names solves instances grow).references q.is.makes e in
               untouched_rest q.schema ignored u.old kept.only q.is.made made good before has (attributes_known u.old.attributes stored) done grows u.attributes u.tainted
         ]
 
-    rests_by : (schema : SchemaView) (made : Tree) → schema_in block.label.type_name x.ms ≡ Some schema → instance_object schema block key (environment x.plan.variables (plan_names x.plan) standings) ≡ Ok made
+    rests_by : (schema : SchemaView) (made : Tree) → schema_in block.label.type_name x.ms ≡ Some schema → instance_object schema block key (environment x.plan.variables (plan_names x.plan) resolved_names) ≡ Ok made
         → change schema block.lifecycle.ignore_changes (Some kept.only) made ≡ nothing
     rests_by schema made has e =
         let both : Some kept.by_plan.schema ≡ Some schema = sym kept.by_plan.has ∙ has in
         let same : kept.by_plan.schema ≡ schema = (cc) in
         subst (λ (s : SchemaView). change s block.lifecycle.ignore_changes (Some kept.only) made ≡ nothing) same
-        (own_rests made (subst (λ (s : SchemaView). instance_object s block key (environment x.plan.variables (plan_names x.plan) standings) ≡ Ok made) (sym same) e))
+        (own_rests made (subst (λ (s : SchemaView). instance_object s block key (environment x.plan.variables (plan_names x.plan) resolved_names) ≡ Ok made) (sym same) e))
 
     found_after : (r : ResourceView) × (resource_at block.label x.after.resources ≡ Some r) × (record_at (object_at key None) r.records ≡ Some kept.only)
     found_after = followed (resource_at block.label x.after.resources) (λ (r : ResourceView). record_at (object_at key None) r.records) kept.only kept.there
@@ -99,7 +99,7 @@ module _ (x : Applied) (law : ExpressionsStayKnown) (instances : InstancesGrow) 
         let alone = λ (k : List ℕ). sym (ap (option_and_then (λ (y : ResourceView). record_at (object_at key (Some k)) y.records)) r.1) ∙ kept.alone k in
         ap (records_of key) listed ∙ one_record key r.0.records kept.only sorted r.2 alone
 
-    resting : IsResting x.ms block key (environment x.plan.variables (plan_names x.plan) standings) (objects_after x.plan x.done n key) (records_of key (records_at block.label x.after.resources))
+    resting : IsResting x.ms block key (environment x.plan.variables (plan_names x.plan) resolved_names) (objects_after x.plan x.done n key) (records_of key (records_at block.label x.after.resources))
     resting =
         let r = found_after in
         record {
@@ -140,5 +140,5 @@ module _ (x : Applied) (law : ExpressionsStayKnown) (instances : InstancesGrow) 
   after_rests = record {
     blocks = all_from (λ (r : ResourceView). has_block (plan_names x.plan) r.label ≡ true) x.after.resources has_own;
     declared = all_declared;
-    rest = λ standings solves n block key meant among. resting standings solves n block key meant (kept_at x n block key meant among);
+    rest = λ resolved_names solves n block key meant among. resting resolved_names solves n block key meant (kept_at x n block key meant among);
   }

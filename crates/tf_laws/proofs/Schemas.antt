@@ -5,7 +5,7 @@ use Rattle.std.specs.Str.{bytes_eq}
 use Rattle.tf_protocol.specs.Meaning.{Meaning, first_with, schema_in}
 use Rattle.tf_protocol.specs.Schema.{IsSchema, SchemaView}
 use Rattle.tf_sim.specs.Table.{host_schema, net_schema, sim_meaning}
-use Rattle.tf_laws.specs.Again.{HasSchemas, HaveSchemas}
+use Rattle.tf_laws.specs.ReapplyTexts.{HasSchemas, HaveSchemas}
 
 schema_at : (b : Bool) (m : Meaning) (ms : List Meaning) (name : List ℕ) (schema : SchemaView) → HasSchemas m → (schema_in name ms ≡ Some schema → IsSchema schema)
     → option_and_then (λ p. p.schema_of name) (if b then Some m else first_with name ms) ≡ Some schema → IsSchema schema

@@ -4,17 +4,17 @@ use Rattle.tf_laws.proofs.TextsAgain.{saved_reads}
 use Rattle.tf_laws.proofs.PlannedOverTexts.{plan_acyclic, reported}
 use Rattle.tf_laws.proofs.Reading.{one_config, one_values, prior_valid}
 use Rattle.tf_laws.proofs.Schemas.{schemas_in}
-use Rattle.tf_laws.specs.Again.{HaveSchemas, over}
+use Rattle.tf_laws.specs.ReapplyTexts.{HaveSchemas, over}
 use Rattle.tf_cli.specs.Applies.{IsApplied, state_in}
 use Rattle.tf_cli.specs.Shown.{applied_status}
 use Rattle.tf_cli.specs.declared.applied.Applied.{Applied}
 use Rattle.tf_config_data.specs.Config.{ConfigView}
 use Rattle.tf_laws.proofs.Whole.{carried_out}
-use Rattle.tf_laws.specs.Converges.{IsCarriedOut, IsSound}
+use Rattle.tf_laws.specs.Reapply.{IsCarriedOut, IsSound}
 use Rattle.tf_laws.specs.Read.{ReadIsSound}
 use Rattle.tf_laws.specs.Twice.{HasOrderedOutputs, HasOwnNames, IsAppliedAgain, IsAppliedWell, SecondAppliesChangeFlags, SecondSerialsTell}
 use Rattle.tf_laws.specs.Twice as twice
-use Rattle.tf_inputs.specs.Texts.{AreTheValues, StandFor, Texts}
+use Rattle.tf_inputs.specs.Texts.{AreTheValues, ReadAs, Texts}
 use Rattle.tf_outputs.specs.Outputs.{outputs_after}
 use Rattle.tf_plan.specs.Plan.{IsPlan}
 use Rattle.tf_protocol.specs.Meaning.{Meaning}
@@ -40,7 +40,7 @@ pub record Settling : Type 0 where
 
 -- an apply of the same configuration and variables over a state that was written is one over that state
 again_of : Laws → (ms : List Meaning) (texts : Texts) (bytes other : List ℕ) (config : ConfigView) (values : Entries) (before : StateView) (again : Applied)
-    → (read : (c : ConfigView) (v : Entries) → (lineage : List ℕ) (p : StateView) → StandFor (over texts bytes) lineage c v p → (c ≡ config) × (v ≡ values)) → Reads bytes before
+    → (read : (c : ConfigView) (v : Entries) → (lineage : List ℕ) (p : StateView) → ReadAs (over texts bytes) lineage c v p → (c ≡ config) × (v ≡ values)) → Reads bytes before
     → (is : IsApplied ms (over texts bytes) other again) → IsAppliedAgain ms config values before is.plan (state_in again)
 again_of laws ms texts bytes other config values before again read reads is =
     let planned = is.planned in
@@ -89,7 +89,7 @@ module _ (laws : Laws) (more : Settling) (ms : List Meaning) (texts : Texts) (li
         each_valued = complete.valued told;
       }
 
-  own : (bytes : List ℕ) (c : ConfigView) (v : Entries) (other : List ℕ) (p : StateView) → StandFor (over texts bytes) other c v p → (c ≡ is.planned.config) × (v ≡ is.planned.values)
+  own : (bytes : List ℕ) (c : ConfigView) (v : Entries) (other : List ℕ) (p : StateView) → ReadAs (over texts bytes) other c v p → (c ≡ is.planned.config) × (v ≡ is.planned.values)
   own bytes c v other p stand =
       let same : c ≡ is.planned.config = one_config laws.one texts.config c is.planned.config stand.read is.planned.stand.read in
       (same, one_values laws.values texts.vars is.planned.config v is.planned.values (subst (λ (d : ConfigView). AreTheValues texts.vars d v) same stand.valued) is.planned.stand.valued)

@@ -7,7 +7,7 @@ use Rattle.std.specs.List.{AllByRecursion}
 use Rattle.std.specs.List.Sorted.{IsPermutation, IsSortedBy}
 use Rattle.tf_address.proofs.Totals.{label_total}
 use Rattle.tf_plan_resources.specs.Order.{AreInAddressOrder, address_at, is_below, resource_places}
-use Rattle.tf_plan_resources.specs.Numbering.{NumberedView}
+use Rattle.tf_plan_resources.specs.ResourceIndex.{ResourceRefView}
 
 abbrev insert_by : (ℕ → ℕ → Bool) → ℕ → List ℕ → List ℕ
 insert_by lt x [] = x ∷ []
@@ -69,7 +69,7 @@ module _ (lt : ℕ → ℕ → Bool) (o : IsStrictWeakOrder lt) where
       subst (λ (j : ℕ). lt (get_or (x ∷ xs) j d) (get_or (x ∷ xs) (suc k) d) ≡ false) e (up_sorted xs up.1 k d (omega arith) (omega (arith, high)))
 
 -- the places of resources can be put in address order
-pub some_order : (all : List NumberedView) → (places : List ℕ) × AreInAddressOrder all places
+pub some_order : (all : List ResourceRefView) → (places : List ℕ) × AreInAddressOrder all places
 some_order all =
     let o = ranks_by (options_total label_total) (address_at all) in (
       sort_by (is_below all) (resource_places all),

@@ -6,11 +6,11 @@ use Rattle.tf_config_data.specs.Config.{BlockView}
 use Rattle.tf_config_data.specs.Names.{NameView}
 use Rattle.tf_deciding.specs.Stage.{records_at}
 use Rattle.tf_decision.specs.Decision.{change}
-use Rattle.tf_environment.specs.Shape.{ShapeView, instance_keys}
+use Rattle.tf_environment.specs.InstanceKeys.{InstanceKeysView, instance_keys}
 use Rattle.tf_eval.specs.Environment.{Environment}
 use Rattle.tf_plan_resources.specs.Members.{is_among, records_of}
 use Rattle.tf_protocol.specs.Meaning.{Meaning}
-use Rattle.tf_plan_resources.specs.Numbering.{has_block}
+use Rattle.tf_plan_resources.specs.ResourceIndex.{has_block}
 use Rattle.tf_state_data.specs.Record.{RecordView}
 use Rattle.tf_state_data.specs.Resource.{ResourceView}
 use Rattle.tf_value.specs.Tree.{Tree, Entries}
@@ -38,7 +38,7 @@ module _ (ms : List Meaning) (block : BlockView) (key : InstanceKeyView) (env : 
             ap (λ (r : RecordView). change schema block.lifecycle.ignore_changes (Some r) made) o.2 ∙ rest.rests schema made has makes;
       }
 
-module _ (ms : List Meaning) (variables : Entries) (names : List NameView) (shapes : ℕ → ShapeView) (objects : ℕ → InstanceKeyView → Tree) (rs qs : List ResourceView)
+module _ (ms : List Meaning) (variables : Entries) (names : List NameView) (shapes : ℕ → InstanceKeysView) (objects : ℕ → InstanceKeyView → Tree) (rs qs : List ResourceView)
     (still : AreAtRest ms variables names shapes objects rs) (same : map resource_without_flags qs ≡ map resource_without_flags rs) where
   records_alike : (block : BlockView) → map record_without_flag (records_at block.label qs) ≡ map record_without_flag (records_at block.label rs)
   records_alike block = sym (records_flagless block.label qs) ∙ ap (records_at block.label) same ∙ records_flagless block.label rs
@@ -55,6 +55,6 @@ module _ (ms : List Meaning) (variables : Entries) (names : List NameView) (shap
         all_back record_without_flag (λ x. is_among (instance_keys (shapes n)) x.id.key ≡ true) (records_at block.label qs) (λ x h. h)
         (subst (AllByRecursion (λ (x : RecordView). is_among (instance_keys (shapes n)) x.id.key ≡ true)) (sym (records_alike block))
         (all_to record_without_flag (λ x. is_among (instance_keys (shapes n)) x.id.key ≡ true) (records_at block.label rs) (λ x h. h) (still.declared n block meant)));
-    rest = λ standings solves n block key meant among.
-        resting_still ms block key _ (objects n key) (records_of key (records_at block.label rs)) (records_of key (records_at block.label qs)) (still.rest standings solves n block key meant among) (instance_alike block key);
+    rest = λ resolved_names solves n block key meant among.
+        resting_still ms block key _ (objects n key) (records_of key (records_at block.label rs)) (records_of key (records_at block.label qs)) (still.rest resolved_names solves n block key meant among) (instance_alike block key);
   }

@@ -14,25 +14,25 @@ use Rattle.tf_deciding.specs.Outcome.{OutcomeView, by_decision, declared_outcome
 use Rattle.tf_deciding.specs.Stage.{all_can_go, block_members, decided_object, deciding, object_of, object_beside, object_unless_refused, records_at, stays_or_goes}
 use Rattle.tf_deciding.specs.Steps.{decided_steps, destroy_if_deposed}
 use Rattle.tf_decision.specs.Decision as decision
-use Rattle.tf_decision.specs.Decision.{DecisionView, RefusalView, change, current, nothing}
+use Rattle.tf_decision.specs.Decision.{DecisionView, DecisionFaultView, change, current, nothing}
 use Rattle.tf_environment.proofs.Locals.{all_seen}
 use Rattle.tf_environment.proofs.Places.{along, names_stay}
 use Rattle.tf_environment.proofs.Seen.{agree_on}
-use Rattle.tf_environment.specs.Shape.{ShapeView, one, many, named, instance_keys, laid_out, list_of, map_under, objects_at}
+use Rattle.tf_environment.specs.InstanceKeys.{InstanceKeysView, one, many, named, instance_keys, collected, list_of, map_under, objects_at}
 use Rattle.tf_environment.specs.Stages.{applying}
-use Rattle.tf_environment.specs.Standing.{StandingView, AreStandings, all_stand, environment, rule, stands_at, together}
+use Rattle.tf_environment.specs.Resolved.{ResolvedView, AreResolvedNames, all_stand, environment, rule, stands_at, together}
 use Rattle.tf_eval.proofs.Locality.{expressions_local}
 use Rattle.tf_eval.specs.Environment.{Environment}
 use Rattle.tf_eval.specs.Locality.{AgreeOn}
 use Rattle.tf_graph.proofs.Solving.{all_by_weaker, solution-exists}
 use Rattle.tf_graph.specs.Solutions.{Ranked, seen_by}
-use Rattle.tf_plan_resources.specs.Members.{MemberView, is_among, member, members, records_of}
+use Rattle.tf_plan_resources.specs.Members.{InstanceToPlanView, is_among, member, members, records_of}
 use Rattle.tf_operators.specs.Answer.{limited}
 use Rattle.tf_plan.proofs.Listing.{member_actions, meant_actions, of_at, place_actions}
 use Rattle.tf_protocol.specs.Meaning.{Meaning, schema_in}
 use Rattle.tf_protocol.specs.Schema.{SchemaView}
 use Rattle.tf_request.proofs.Answering.{next_is}
-use Rattle.tf_plan_resources.specs.Numbering.{NumberedView, a_name, an_orphan, numbered}
+use Rattle.tf_plan_resources.specs.ResourceIndex.{ResourceRefView, a_name, an_orphan, numbered}
 use Rattle.tf_state_data.specs.Record.{RecordView}
 use Rattle.tf_state_data.specs.Resource.{ResourceView}
 use Rattle.tf_value.proofs.Conjunction.{and-both}
@@ -54,13 +54,13 @@ objects_there : (object : InstanceKeyView → Tree) (ks : List InstanceKeyView) 
 objects_there object [] = refl
 objects_there object (k ∷ ks) = some_mapped (objects_at (λ key. Some (object key)) ks) _ (objects_there object ks)
 
-laid_there : (shape : ShapeView) (object : InstanceKeyView → Tree) → is_some (laid_out shape (λ key. Some (object key))) ≡ true
+laid_there : (shape : InstanceKeysView) (object : InstanceKeyView → Tree) → is_some (collected shape (λ key. Some (object key))) ≡ true
 laid_there one object = refl
 laid_there (many n) object = some_mapped (objects_at (λ key. Some (object key)) (instance_keys (many n))) list_of (objects_there object (instance_keys (many n)))
 laid_there (named names) object = some_mapped (objects_at (λ key. Some (object key)) (instance_keys (named names))) (map_under names) (objects_there object (instance_keys (named names)))
 
-pub together_there : (shape : ShapeView) (object : InstanceKeyView → Tree) → is_some (together (Some shape) (λ key. Some (object key))) ≡ true
-together_there shape object = some_mapped (laid_out shape (λ key. Some (object key))) limited (laid_there shape object)
+pub together_there : (shape : InstanceKeysView) (object : InstanceKeyView → Tree) → is_some (together (Some shape) (λ key. Some (object key))) ≡ true
+together_there shape object = some_mapped (collected shape (λ key. Some (object key))) limited (laid_there shape object)
 
 objects_same : (f g : InstanceKeyView → Option Tree) (ks : List InstanceKeyView) → AllByRecursion (λ key. f key ≡ g key) ks → objects_at f ks ≡ objects_at g ks
 objects_same f g [] h = refl
@@ -69,13 +69,13 @@ objects_same f g (k ∷ ks) h =
     let rest : objects_at f ks ≡ objects_at g ks = objects_same f g ks h.1 in
     rw (first, rest) refl
 
-laid_same : (f g : InstanceKeyView → Option Tree) (shape : ShapeView) → AllByRecursion (λ key. f key ≡ g key) (instance_keys shape) → laid_out shape f ≡ laid_out shape g
+laid_same : (f g : InstanceKeyView → Option Tree) (shape : InstanceKeysView) → AllByRecursion (λ key. f key ≡ g key) (instance_keys shape) → collected shape f ≡ collected shape g
 laid_same f g one h = h.0
 laid_same f g (many n) h = ap (option_map list_of) (objects_same f g (instance_keys (many n)) h)
 laid_same f g (named names) h = ap (option_map (map_under names)) (objects_same f g (instance_keys (named names)) h)
 
 -- resources whose instances stand for the same stand for the same
-pub together_same : (f g : InstanceKeyView → Option Tree) (shape : ShapeView) → ((key : InstanceKeyView) → is_among (instance_keys shape) key ≡ true → f key ≡ g key) → together (Some shape) f ≡ together (Some shape) g
+pub together_same : (f g : InstanceKeyView → Option Tree) (shape : InstanceKeysView) → ((key : InstanceKeyView) → is_among (instance_keys shape) key ≡ true → f key ≡ g key) → together (Some shape) f ≡ together (Some shape) g
 together_same f g shape h = ap (option_map limited) (laid_same f g shape (all_among (λ key. f key ≡ g key) (instance_keys shape) h))
 
 -- ---- one instance at rest
@@ -95,7 +95,7 @@ module _ (ms : List Meaning) (block : BlockView) (key : InstanceKeyView) (env se
       let found : current records ≡ Some rest.only = ap current rest.alone ∙ current_is rest.only rest.current in
       sym is.changes ∙ ap (λ (o : Option RecordView). change schema block.lifecycle.ignore_changes o is.made) found ∙ rest.rests schema is.made has (sym same ∙ is.makes)
 
-  stands_for : (schema : SchemaView) (r : Result DecisionView RefusalView) (d : DecisionView) → r ≡ Ok d → d ≡ nothing → object_unless_refused records r ≡ Some object
+  stands_for : (schema : SchemaView) (r : Result DecisionView DecisionFaultView) (d : DecisionView) → r ≡ Ok d → d ≡ nothing → object_unless_refused records r ≡ Some object
   stands_for schema r d e none =
       ap (object_unless_refused records) e ∙ ap (object_beside (current records)) none
       ∙ ap (option_map (λ (x : RecordView). x.attributes)) (ap current rest.alone ∙ current_is rest.only rest.current) ∙ ap Some rest.stands
@@ -116,7 +116,7 @@ module _ (ms : List Meaning) (block : BlockView) (key : InstanceKeyView) (env se
 -- ---- the members of a block at rest
 
 -- a member has no steps, and its instance stands for an object
-abbrev IsStill : List Meaning → List ResourceView → ℕ → BlockView → Environment → (InstanceKeyView → Tree) → MemberView → Type 0
+abbrev IsStill : List Meaning → List ResourceView → ℕ → BlockView → Environment → (InstanceKeyView → Tree) → InstanceToPlanView → Type 0
 IsStill ms resources n block env objects m =
     (member_outcome (schema_in block.label.type_name ms) block env m ≡ Ok []) × (decided_object ms resources n block env m.key ≡ Some (objects m.key)) × (m.is_declared ≡ true)
 
@@ -148,12 +148,12 @@ module _ (ms : List Meaning) (resources : List ResourceView) (n : ℕ) (block : 
       (still.0, still.1, among))
 
 -- a resource with such members can stand
-all_go : (schema : Option SchemaView) (lifecycle : LifecycleView) (ms : List MemberView) → AllByRecursion (λ m. m.is_declared ≡ true) ms → list_all (stays_or_goes schema lifecycle) ms ≡ true
+all_go : (schema : Option SchemaView) (lifecycle : LifecycleView) (ms : List InstanceToPlanView) → AllByRecursion (λ m. m.is_declared ≡ true) ms → list_all (stays_or_goes schema lifecycle) ms ≡ true
 all_go schema lifecycle [] h = refl
 all_go schema lifecycle (m ∷ ms) h = and-both (stays_or_goes schema lifecycle m) _ (or_first m.is_declared _ h.0) (all_go schema lifecycle ms h.1)
 
 -- and no actions
-no_actions : (of : OfView) (becomes : MemberView → OutcomeView) (i : ℕ) (ms : List MemberView) → AllByRecursion (λ m. becomes m ≡ Ok []) ms → member_actions of becomes i ms ≡ []
+no_actions : (of : OfView) (becomes : InstanceToPlanView → OutcomeView) (i : ℕ) (ms : List InstanceToPlanView) → AllByRecursion (λ m. becomes m ≡ Ok []) ms → member_actions of becomes i ms ≡ []
 no_actions of becomes i [] h = refl
 no_actions of becomes i (m ∷ ms) h = rw h.0 (no_actions of becomes (i + 1) ms h.1)
 
@@ -167,47 +167,47 @@ pub chosen : {A : Type 0} (b : Bool) (x y : A) → b ≡ true → cond b x y ≡
 chosen true x y h = refl
 chosen false x y h = absurd (cc)
 
-pub all_there : (standings : ℕ → StandingView) (ns : List ℕ) → AllByRecursion (λ a. is_some (standings a) ≡ true) ns → all_stand (seen_by standings ns) ≡ true
-all_there standings [] h = refl
-all_there standings (n ∷ ns) h = and-both (is_some (standings n)) (all_stand (seen_by standings ns)) h.0 (all_there standings ns h.1)
+pub all_there : (resolved_names : ℕ → ResolvedView) (ns : List ℕ) → AllByRecursion (λ a. is_some (resolved_names a) ≡ true) ns → all_stand (seen_by resolved_names ns) ≡ true
+all_there resolved_names [] h = refl
+all_there resolved_names (n ∷ ns) h = and-both (is_some (resolved_names n)) (all_stand (seen_by resolved_names ns)) h.0 (all_there resolved_names ns h.1)
 
 -- each member of a block is decided, where all that the block refers to stands for what it does in the apply
-abbrev pub AreLookedAt : List Meaning → Entries → List NameView → (ℕ → ShapeView) → List ResourceView → (ℕ → StandingView) → (ℕ → StandingView) → Type 0
-AreLookedAt ms variables names shapes resources standings others =
-    (n : ℕ) (block : BlockView) → meant_at names n ≡ Some (a_block block) → AllByRecursion (λ a. (standings a ≡ others a) × (is_some (standings a) ≡ true)) (directly_before names n)
-    → AllByRecursion (λ m. IsFine (member_outcome (schema_in block.label.type_name ms) block (environment variables names standings) m)) (members (instance_keys (shapes n)) (records_at block.label resources))
+abbrev pub AreLookedAt : List Meaning → Entries → List NameView → (ℕ → InstanceKeysView) → List ResourceView → (ℕ → ResolvedView) → (ℕ → ResolvedView) → Type 0
+AreLookedAt ms variables names shapes resources resolved_names others =
+    (n : ℕ) (block : BlockView) → meant_at names n ≡ Some (a_block block) → AllByRecursion (λ a. (resolved_names a ≡ others a) × (is_some (resolved_names a) ≡ true)) (directly_before names n)
+    → AllByRecursion (λ m. IsFine (member_outcome (schema_in block.label.type_name ms) block (environment variables names resolved_names) m)) (members (instance_keys (shapes n)) (records_at block.label resources))
 
-module _ (ms : List Meaning) (variables : Entries) (names : List NameView) (shapes : ℕ → ShapeView) (objects : ℕ → InstanceKeyView → Tree) (resources : List ResourceView)
+module _ (ms : List Meaning) (variables : Entries) (names : List NameView) (shapes : ℕ → InstanceKeysView) (objects : ℕ → InstanceKeyView → Tree) (resources : List ResourceView)
     (ranked : Ranked (directly_before names)) (still : AreAtRest ms variables names shapes objects resources)
-    (standings others : ℕ → StandingView) (solves : AreStandings (deciding ms resources shapes) variables names standings) (stands : AreStandings (applying shapes objects) variables names others)
-    (looked_at : AreLookedAt ms variables names shapes resources standings others) where
+    (resolved_names others : ℕ → ResolvedView) (solves : AreResolvedNames (deciding ms resources shapes) variables names resolved_names) (stands : AreResolvedNames (applying shapes objects) variables names others)
+    (looked_at : AreLookedAt ms variables names shapes resources resolved_names others) where
   abbrev IsSame : ℕ → Type 0
-  IsSame n = (standings n ≡ others n) × (is_some (standings n) ≡ true)
+  IsSame n = (resolved_names n ≡ others n) × (is_some (resolved_names n) ≡ true)
 
   pub block_still : (n : ℕ) (block : BlockView) → meant_at names n ≡ Some (a_block block) → AllByRecursion IsSame (directly_before names n)
-      → AllByRecursion (IsStill ms resources n block (environment variables names standings) (objects n)) (block_members (shapes n) block resources)
+      → AllByRecursion (IsStill ms resources n block (environment variables names resolved_names) (objects n)) (block_members (shapes n) block resources)
   block_still n block meant before =
-      let alike = all_by_weaker IsSame (λ a. standings a ≡ others a) (directly_before names n) (λ a h. h.0) before in
-      let refers : AllByRecursion (λ a. standings a ≡ others a) (directly_before names n) = alike in
-      let agree : AgreeOn (environment variables names standings) (environment variables names others) (refers_at (meant_at names n)) = agree_on variables names standings others (refers_at (meant_at names n)) refers in
-      let own : AgreeOn (environment variables names standings) (environment variables names others) (block_refers block) =
-      subst (λ (m : Option Meant). AgreeOn (environment variables names standings) (environment variables names others) (refers_at m)) meant agree in
-      members_still ms resources n block (instance_keys (shapes n)) (environment variables names standings) (environment variables names others) (objects n) own
+      let alike = all_by_weaker IsSame (λ a. resolved_names a ≡ others a) (directly_before names n) (λ a h. h.0) before in
+      let refers : AllByRecursion (λ a. resolved_names a ≡ others a) (directly_before names n) = alike in
+      let agree : AgreeOn (environment variables names resolved_names) (environment variables names others) (refers_at (meant_at names n)) = agree_on variables names resolved_names others (refers_at (meant_at names n)) refers in
+      let own : AgreeOn (environment variables names resolved_names) (environment variables names others) (block_refers block) =
+      subst (λ (m : Option Meant). AgreeOn (environment variables names resolved_names) (environment variables names others) (refers_at m)) meant agree in
+      members_still ms resources n block (instance_keys (shapes n)) (environment variables names resolved_names) (environment variables names others) (objects n) own
       (λ key among. still.rest others stands n block key meant among) (still.declared n block meant) (looked_at n block meant before)
 
   same_meant : (n : ℕ) (m : Meant) → meant_at names n ≡ Some m → AllByRecursion IsSame (directly_before names n)
-      → (stands_at (deciding ms resources shapes) n (Some m) (environment variables names standings) ≡ stands_at (applying shapes objects) n (Some m) (environment variables names others))
+      → (stands_at (deciding ms resources shapes) n (Some m) (environment variables names resolved_names) ≡ stands_at (applying shapes objects) n (Some m) (environment variables names others))
       × (is_some (stands_at (applying shapes objects) n (Some m) (environment variables names others)) ≡ true)
   same_meant n (a_local e) meant before =
-      let alike = all_by_weaker IsSame (λ a. standings a ≡ others a) (directly_before names n) (λ a h. h.0) before in
-      let agree : AgreeOn (environment variables names standings) (environment variables names others) (refers_at (meant_at names n)) = agree_on variables names standings others (refers_at (meant_at names n)) alike in
-      let own = subst (λ (m : Option Meant). AgreeOn (environment variables names standings) (environment variables names others) (refers_at m)) meant agree in
-      (ap Some (expressions_local (environment variables names standings) (environment variables names others) e own), refl)
+      let alike = all_by_weaker IsSame (λ a. resolved_names a ≡ others a) (directly_before names n) (λ a h. h.0) before in
+      let agree : AgreeOn (environment variables names resolved_names) (environment variables names others) (refers_at (meant_at names n)) = agree_on variables names resolved_names others (refers_at (meant_at names n)) alike in
+      let own = subst (λ (m : Option Meant). AgreeOn (environment variables names resolved_names) (environment variables names others) (refers_at m)) meant agree in
+      (ap Some (expressions_local (environment variables names resolved_names) (environment variables names others) e own), refl)
   same_meant n (a_block block) meant before =
       let each = block_still n block meant before in
       let records = records_at block.label resources in
       let ks = instance_keys (shapes n) in
-      let env = environment variables names standings in
+      let env = environment variables names resolved_names in
       let go : all_can_go ms resources (shapes n) block ≡ true = all_go (schema_in block.label.type_name ms) block.lifecycle (members ks records)
       (parts_of (IsStill ms resources n block env (objects n)) (λ m. m.is_declared ≡ true) (members ks records) (λ m h. h.2) each) in (
         ap (λ (b : Bool). together (if b then Some (shapes n) else None) (decided_object ms resources n block env)) go
@@ -219,11 +219,11 @@ module _ (ms : List Meaning) (variables : Entries) (names : List NameView) (shap
   same_at : (n : ℕ) → n < length names → AllByRecursion IsSame (directly_before names n) → IsSame n
   same_at n h before =
       let m = meant_there names n h in
-      let seen = all_there standings (directly_before names n) (all_by_weaker IsSame (λ a. is_some (standings a) ≡ true) (directly_before names n) (λ a g. g.1) before) in
-      let env = environment variables names standings in
-      let alone : standings n ≡ stands_at (deciding ms resources shapes) n (meant_at names n) env =
-      all_seen expressions_local (deciding ms resources shapes) variables names standings (stage_local ms resources shapes) solves n h
-      ∙ chosen (all_stand (seen_by standings (directly_before names n))) (stands_at (deciding ms resources shapes) n (meant_at names n) env) None seen in
+      let seen = all_there resolved_names (directly_before names n) (all_by_weaker IsSame (λ a. is_some (resolved_names a) ≡ true) (directly_before names n) (λ a g. g.1) before) in
+      let env = environment variables names resolved_names in
+      let alone : resolved_names n ≡ stands_at (deciding ms resources shapes) n (meant_at names n) env =
+      all_seen expressions_local (deciding ms resources shapes) variables names resolved_names (stage_local ms resources shapes) solves n h
+      ∙ chosen (all_stand (seen_by resolved_names (directly_before names n))) (stands_at (deciding ms resources shapes) n (meant_at names n) env) None seen in
       let applied : stands_at (applying shapes objects) n (meant_at names n) (environment variables names others) ≡ others n =
       next_is shapes objects variables names ranked others others stands n h (λ local. itself (directly_before names n)) in
       let both = same_meant n m.0 m.1 before in
@@ -246,29 +246,29 @@ module _ (ms : List Meaning) (variables : Entries) (names : List NameView) (shap
       within [] g = tt
       within (a ∷ ns) g = (all_same a g.0, within ns g.1)
 
-  meant_none : (n : ℕ) (m : Meant) → meant_at names n ≡ Some m → meant_actions ms resources variables names shapes standings n m ≡ []
+  meant_none : (n : ℕ) (m : Meant) → meant_at names n ≡ Some m → meant_actions ms resources variables names shapes resolved_names n m ≡ []
   meant_none n (a_local e) meant = refl
-  meant_none n (a_block block) meant = by_test (all_stand (seen_by standings (directly_before names n)))
+  meant_none n (a_block block) meant = by_test (all_stand (seen_by resolved_names (directly_before names n)))
     where
-      by_test : (b : Bool) → cond b (member_actions (of_at ms n block.label) (member_outcome (schema_in block.label.type_name ms) block (environment variables names standings)) 0 (block_members (shapes n) block resources)) [] ≡ []
+      by_test : (b : Bool) → cond b (member_actions (of_at ms n block.label) (member_outcome (schema_in block.label.type_name ms) block (environment variables names resolved_names)) 0 (block_members (shapes n) block resources)) [] ≡ []
       by_test false = refl
       by_test true =
           let each = block_still n block meant (before_same n (meant_within names n (a_block block) meant)) in
-          no_actions (of_at ms n block.label) (member_outcome (schema_in block.label.type_name ms) block (environment variables names standings)) 0 (block_members (shapes n) block resources)
-          (parts_of (IsStill ms resources n block (environment variables names standings) (objects n)) (λ m. member_outcome (schema_in block.label.type_name ms) block (environment variables names standings) m ≡ Ok []) (block_members (shapes n) block resources) (λ m h. h.0) each)
+          no_actions (of_at ms n block.label) (member_outcome (schema_in block.label.type_name ms) block (environment variables names resolved_names)) 0 (block_members (shapes n) block resources)
+          (parts_of (IsStill ms resources n block (environment variables names resolved_names) (objects n)) (λ m. member_outcome (schema_in block.label.type_name ms) block (environment variables names resolved_names) m ≡ Ok []) (block_members (shapes n) block resources) (λ m h. h.0) each)
 
-  pub place_none : (n : ℕ) (o : Option NumberedView) → slice_get (numbered names resources) n ≡ o → place_actions ms resources variables names shapes standings n o ≡ []
+  pub place_none : (n : ℕ) (o : Option ResourceRefView) → slice_get (numbered names resources) n ≡ o → place_actions ms resources variables names shapes resolved_names n o ≡ []
   place_none n None e = refl
   place_none n (Some (a_name name)) e = meant_none n name.meant (at_name names resources n name e)
   place_none n (Some (an_orphan r)) e = absurd (no_orphan names resources still.blocks n r e)
 
 pub nothing_at_rest : NothingIsPlannedAtRest
 nothing_at_rest ms variables names outputs shapes objects resources actions ranked still planned =
-    let standings = solution-exists (length names) (directly_before names) (rule (deciding ms resources shapes) variables names) ranked in
+    let resolved_names = solution-exists (length names) (directly_before names) (rule (deciding ms resources shapes) variables names) ranked in
     let others = solution-exists (length names) (directly_before names) (rule (applying shapes objects) variables names) ranked in
-    actions_are ms variables names outputs shapes resources actions planned standings.0 standings.1 ranked
-    ∙ flat_none (λ n. place_actions ms resources variables names shapes standings.0 n (slice_get (numbered names resources) n)) planned.places
-    (λ n. place_none ms variables names shapes objects resources ranked still standings.0 others.0 standings.1 others.1
-    (λ n block meant before. block_fine ms variables names outputs shapes resources actions planned standings.0 standings.1 ranked n block meant
-    (all_there standings.0 (directly_before names n) (all_by_weaker (λ a. (standings.0 a ≡ others.0 a) × (is_some (standings.0 a) ≡ true)) (λ a. is_some (standings.0 a) ≡ true) (directly_before names n) (λ a h. h.1) before)))
+    actions_are ms variables names outputs shapes resources actions planned resolved_names.0 resolved_names.1 ranked
+    ∙ flat_none (λ n. place_actions ms resources variables names shapes resolved_names.0 n (slice_get (numbered names resources) n)) planned.places
+    (λ n. place_none ms variables names shapes objects resources ranked still resolved_names.0 others.0 resolved_names.1 others.1
+    (λ n block meant before. block_fine ms variables names outputs shapes resources actions planned resolved_names.0 resolved_names.1 ranked n block meant
+    (all_there resolved_names.0 (directly_before names n) (all_by_weaker (λ a. (resolved_names.0 a ≡ others.0 a) × (is_some (resolved_names.0 a) ≡ true)) (λ a. is_some (resolved_names.0 a) ≡ true) (directly_before names n) (λ a h. h.1) before)))
     n (slice_get (numbered names resources) n) refl)

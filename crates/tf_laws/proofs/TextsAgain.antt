@@ -10,7 +10,7 @@ use Rattle.tf_cli.specs.Shown.{all_good, cant_write, is_empty, is_good_outcome, 
 use Rattle.tf_cli.specs.declared.applied.Applied.{Applied}
 use Rattle.tf_laws.specs.Quiet.{IsRenewed, QuietAppliesKeepObjects}
 use Rattle.tf_inputs.specs.Texts.{Texts}
-use Rattle.tf_outcome.specs.Outcome.{Done}
+use Rattle.tf_outcome.specs.Outcome.{ActionResultView}
 use Rattle.tf_outcome.specs.declared.excuse.Outcome.{Outcome}
 use Rattle.tf_outcome.specs.declared.excuse.Outcome.TheVariants as outcome
 use Rattle.tf_outputs.specs.Outputs.{outputs_after}
@@ -28,7 +28,7 @@ use Rattle.tf_state_data.specs.State.{StateView, record_in}
 use Rattle.tf_value.proofs.Conjunction.{and-first, and-second}
 use Rattle.tf_laws.proofs.PlannedOverTexts.{Laws, no_entries, none_again, reported, shown_none}
 use Rattle.tf_laws.proofs.Reading.{one_resources}
-use Rattle.tf_laws.specs.Again.{HaveSchemas, NothingIsDoneAgain, NothingIsPlannedAfterSuccess, NothingIsPlannedAgain, WentWell, no_changes, over, with_written}
+use Rattle.tf_laws.specs.ReapplyTexts.{HaveSchemas, NothingIsDoneAgain, NothingIsPlannedAfterSuccess, NothingIsPlannedAgain, WentWell, no_changes, over, with_written}
 
 -- ---- the state that was written reads back
 
@@ -61,7 +61,7 @@ nothing_is_planned_again laws back one ms texts lineage a saved text schemas app
 
 -- ---- a second apply
 
-none_of : (done : List Done) (n : ℕ) → length done ≡ n → n ≡ 0 → map outcome_of done ≡ []
+none_of : (done : List ActionResultView) (n : ℕ) → length done ≡ n → n ≡ 0 → map outcome_of done ≡ []
 none_of [] n all none = refl
 none_of (d ∷ done) n all none = absurd (omega (arith, all, none))
 

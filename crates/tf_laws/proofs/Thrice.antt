@@ -2,10 +2,10 @@
 use Rattle.std.proofs.Common.{◌≡◌, ◌∙◌, ◌+◌, inl, inr, ℕ, Bool, true, false, cond, List, map, refl, sym, ap, subst}
 use Rattle.tf_change.specs.Laws.{InstancesGrow}
 use Rattle.tf_config_data.specs.Config.{ConfigView}
-use Rattle.tf_environment.specs.Laws.{StandingsGrow}
+use Rattle.tf_environment.specs.Laws.{ResolvedNamesGrow}
 use Rattle.tf_state_next.proofs.Composed.{state_is}
-use Rattle.tf_outputs.specs.Outputs.{OutputDone, outputs_after}
-use Rattle.tf_outcome.specs.Outcome.{Done}
+use Rattle.tf_outputs.specs.Outputs.{OutputResultView, outputs_after}
+use Rattle.tf_outcome.specs.Outcome.{ActionResultView}
 use Rattle.tf_plan.proofs.Fitting.{all-by_id}
 use Rattle.tf_plan.specs.Plan.{IsPlan}
 use Rattle.tf_plan_data.specs.Plan.{PlanView}
@@ -20,11 +20,11 @@ use Rattle.tf_laws.proofs.Outputs.{outputs_stay}
 use Rattle.tf_laws.proofs.Twice.{rested, second_resources, second_rests, third_resources, third_same}
 use Rattle.tf_laws.proofs.Valued.{repeated}
 use Rattle.tf_laws.proofs.Whole.{carried_out}
-use Rattle.tf_laws.specs.Converges.{IsCarriedOut, IsSound}
+use Rattle.tf_laws.specs.Reapply.{IsCarriedOut, IsSound}
 use Rattle.tf_laws.specs.Known.{ExpressionsStayKnown}
 use Rattle.tf_laws.specs.Twice.{HasOrderedOutputs, HasOwnNames, HasToldSerial, IsAppliedAgain, IsAppliedWell, ReportsSettle, SecondAppliesChangeFlags, SecondAppliesKeepObjects, SecondSerialsTell, ThirdAppliesChangeNothing, ThirdAppliesKeepRecords, resource_without_flags, without_flags}
 
-pub second_keeps : ExpressionsStayKnown → InstancesGrow → StandingsGrow → SecondAppliesKeepObjects
+pub second_keeps : ExpressionsStayKnown → InstancesGrow → ResolvedNamesGrow → SecondAppliesKeepObjects
 second_keeps law grows grow ms config variables prior plan done outputs after again later sound named carried is =
     let first = subst (λ (p : PlanView). IsCarriedOut ms config variables prior p done outputs after) (homed ms config variables prior plan carried.planned) carried in
     let second = subst (λ (p : PlanView). IsAppliedAgain ms config variables after p later) (homed ms config variables after again is.planned) is in (
@@ -33,14 +33,14 @@ second_keeps law grows grow ms config variables prior plan done outputs after ag
       second.state.after.version,
     )
 
-pub third_keeps : ExpressionsStayKnown → InstancesGrow → StandingsGrow → ThirdAppliesKeepRecords
+pub third_keeps : ExpressionsStayKnown → InstancesGrow → ResolvedNamesGrow → ThirdAppliesKeepRecords
 third_keeps law grows grow ms config variables prior plan done outputs after again later third last sound named carried is also =
     let first = subst (λ (p : PlanView). IsCarriedOut ms config variables prior p done outputs after) (homed ms config variables prior plan carried.planned) carried in
     let second = subst (λ (p : PlanView). IsAppliedAgain ms config variables after p later) (homed ms config variables after again is.planned) is in
     third_resources law grows grow ms config variables prior plan done outputs after sound named first again later second third last
     (subst (λ (p : PlanView). IsAppliedAgain ms config variables later p last) (homed ms config variables later third also.planned) also)
 
-module _ (law : ExpressionsStayKnown) (grows : InstancesGrow) (grow : StandingsGrow) (ms : List Meaning) (config : ConfigView) (variables : Entries) (prior : StateView) (plan : PlanView) (after : StateView)
+module _ (law : ExpressionsStayKnown) (grows : InstancesGrow) (grow : ResolvedNamesGrow) (ms : List Meaning) (config : ConfigView) (variables : Entries) (prior : StateView) (plan : PlanView) (after : StateView)
     (sound : IsSound ms config variables prior) (named : HasOwnNames config) (sorted : HasOrderedOutputs config) (well : IsAppliedWell ms config variables prior (home config variables prior plan) after)
     (again : PlanView) (later : StateView) (is : IsAppliedAgain ms config variables after (home config variables after again) later) where
   abbrev first_outputs : Entries
@@ -107,22 +107,22 @@ again_home : (ms : List Meaning) (config : ConfigView) (variables : Entries) (be
     → IsAppliedAgain ms config variables before (home config variables before again) later
 again_home ms config variables before again later is = subst (λ (p : PlanView). IsAppliedAgain ms config variables before p later) (homed ms config variables before again is.planned) is
 
-pub second_flags : ExpressionsStayKnown → InstancesGrow → StandingsGrow → SecondAppliesChangeFlags
+pub second_flags : ExpressionsStayKnown → InstancesGrow → ResolvedNamesGrow → SecondAppliesChangeFlags
 second_flags law grows grow ms config variables prior plan after again later sound named sorted well is =
     flags_change law grows grow ms config variables prior plan after sound named sorted (well_home ms config variables prior plan after well) again later (again_home ms config variables after again later is)
 
-pub second_serials : ExpressionsStayKnown → InstancesGrow → StandingsGrow → SecondSerialsTell
+pub second_serials : ExpressionsStayKnown → InstancesGrow → ResolvedNamesGrow → SecondSerialsTell
 second_serials law grows grow ms config variables prior plan after again later sound named sorted well is =
     serial_tells law grows grow ms config variables prior plan after sound named sorted (well_home ms config variables prior plan after well) again later (again_home ms config variables after again later is)
 
-pub third_nothing : ExpressionsStayKnown → InstancesGrow → StandingsGrow → ThirdAppliesChangeNothing
+pub third_nothing : ExpressionsStayKnown → InstancesGrow → ResolvedNamesGrow → ThirdAppliesChangeNothing
 third_nothing law grows grow ms config variables prior plan after again later third last sound named sorted well is also =
     nothing_changes law grows grow ms config variables prior plan after sound named sorted (well_home ms config variables prior plan after well) again later (again_home ms config variables after again later is)
     third last (again_home ms config variables later third last also)
 
 -- ---- reports
 
-reported_again : (ms : List Meaning) (config : ConfigView) (variables : Entries) (before : StateView) (again : PlanView) (done : List Done) (outputs : List OutputDone) (report : Report)
+reported_again : (ms : List Meaning) (config : ConfigView) (variables : Entries) (before : StateView) (again : PlanView) (done : List ActionResultView) (outputs : List OutputResultView) (report : Report)
     → IsPlan ms config variables before again → IsTold ms again done outputs report → IsAppliedAgain ms config variables before again (state_of report.state)
 reported_again ms config variables before again done outputs report planned told = record {
   planned = planned;
@@ -133,7 +133,7 @@ reported_again ms config variables before again done outputs report planned told
   in_order = record { resources = report.state.ordered; records = all-by_id report.state.resources.items };
 }
 
-pub reports_settle : ExpressionsStayKnown → InstancesGrow → StandingsGrow → ReportsSettle
+pub reports_settle : ExpressionsStayKnown → InstancesGrow → ResolvedNamesGrow → ReportsSettle
 reports_settle law grows grow ms config variables prior plan again third requests done done_again done_third outputs outputs_again outputs_third report second last sound named sorted planned acyclic are told all each_valued is_again told_again is_third told_third =
     let after = state_of report.state in
     let entries : outputs_after plan.prior.outputs plan.config.outputs outputs ≡ outputs_after prior.outputs config.outputs outputs = λ i. outputs_after (planned.prior i).outputs (planned.config i).outputs outputs in

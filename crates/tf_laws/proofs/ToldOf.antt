@@ -20,7 +20,7 @@ use Rattle.tf_names.specs.KnownNames.{Declared, IsKnown, IsUnknown, NameDemand, 
 use Rattle.tf_names.specs.Needs.{AreCyclic}
 use Rattle.tf_refusal.specs.Code as code
 use Rattle.tf_refusal.specs.Refusal as refusals
-use Rattle.tf_refusal.specs.Refusal.{DetailView, Told, bare, fault}
+use Rattle.tf_refusal.specs.Refusal.{DetailView, RefusalView, bare, fault}
 use Rattle.tf_state.proofs.ByTable.{state_said, state_says}
 use Rattle.tf_state.specs.Reading.{state_in}
 use Rattle.tf_state.specs.Table.{IsBeyond, Reads, last_serial, max_resources}
@@ -36,10 +36,10 @@ use Rattle.tf_laws.proofs.DecidedChecks.{IsDecidedBy, IsDemandDecided, each_deci
 use Rattle.tf_laws.specs.OneOfTwo.{AreRead, AreToldOf}
 
 -- some fault is refused
-abbrev pub SomeFault : (Told → Type 0) → Type 0
+abbrev pub SomeFault : (RefusalView → Type 0) → Type 0
 SomeFault P = (its_code : ℕ) × (place : List ℕ) × (detail : DetailView) × P (fault its_code place detail)
 
-fault_of : (P : Told → Type 0) (its_code : ℕ) (place : List ℕ) (detail : DetailView) → P (fault its_code place detail) → SomeFault P
+fault_of : (P : RefusalView → Type 0) (its_code : ℕ) (place : List ℕ) (detail : DetailView) → P (fault its_code place detail) → SomeFault P
 fault_of P its_code place detail h = (its_code, place, detail, h)
 
 -- ---- counts
@@ -111,13 +111,13 @@ state_told (Some bytes) lineage = elim (tree_told bytes) [
 
 -- ---- the laws that all this rests on
 
-pub record Standing : Type 0 where
+pub record Resolved : Type 0 where
   pub stands : FaultlessStands
   pub values : FaultlessHaveValues
 
 -- ---- where each check is decided, or what follows from that holds anyway
 
-module _ (laws : Standing) (R : Type 0) (decided : (checks : Checks) → (AllMet IsDemandDecided checks → R) → R) where
+module _ (laws : Resolved) (R : Type 0) (decided : (checks : Checks) → (AllMet IsDemandDecided checks → R) → R) where
   module _ (bytes : List ℕ) (read : (c : ConfigView) → IsRead bytes c → R) (refused : SomeFault (config.IsRefused bytes) → R) where
     by_counts : (tree : Data) → length bytes ≤ config.max_bytes → IsTree bytes tree → AllMet IsMet (configuration_checks tree) → R
     by_counts tree small is met =

@@ -8,18 +8,18 @@ use Rattle.tf_address.specs.ObjectId.{ObjectIdView}
 use Rattle.tf_change.specs.Laws.{InstancesGrow}
 use Rattle.tf_config_data.specs.Config.{BlockView, ConfigView}
 use Rattle.tf_config_data.specs.Names.{NameView, a_block, meant_at, names_of}
-use Rattle.tf_environment.specs.Laws.{StandingsGrow}
+use Rattle.tf_environment.specs.Laws.{ResolvedNamesGrow}
 use Rattle.tf_state_next.proofs.One.{state_after_one}
 use Rattle.tf_state_next.specs.Events.{ends_in, given_in}
 use Rattle.tf_state_next.specs.StateAfter.{IsStateAfter, next_serial}
-use Rattle.tf_outcome.specs.Outcome.{Done}
+use Rattle.tf_outcome.specs.Outcome.{ActionResultView}
 use Rattle.tf_outputs.specs.Outputs.{outputs_after}
 use Rattle.tf_plan_data.specs.Plan.{PlanView}
-use Rattle.tf_precedence.specs.Ties.{TiesView}
+use Rattle.tf_precedence.specs.OrderInput.{OrderInputView}
 use Rattle.tf_protocol.specs.Meaning.{Meaning}
 use Rattle.tf_walk_report.specs.Events.{events}
 use Rattle.tf_plan_resources.specs.Dependencies.{dependencies}
-use Rattle.tf_plan_resources.specs.Numbering.{NumberedView, a_name, an_orphan, has_block, numbered, orphans}
+use Rattle.tf_plan_resources.specs.ResourceIndex.{ResourceRefView, a_name, an_orphan, has_block, numbered, orphans}
 use Rattle.tf_state_next.specs.After.{renewed}
 use Rattle.tf_state_data.specs.Equality.{state_Decides}
 use Rattle.tf_state_data.specs.Provider.{provider_text}
@@ -33,7 +33,7 @@ use Rattle.tf_laws.proofs.Homes.{Depends, IsAtRest, first_rests, given_again, ho
 use Rattle.tf_laws.proofs.Stays.{rest_still}
 use Rattle.tf_plan.proofs.Tied.{late_same}
 use Rattle.tf_laws.proofs.Whole.{own_depends}
-use Rattle.tf_laws.specs.Converges.{IsCarriedOut, IsSound}
+use Rattle.tf_laws.specs.Reapply.{IsCarriedOut, IsSound}
 use Rattle.tf_laws.specs.Known.{ExpressionsStayKnown}
 use Rattle.tf_laws.specs.Twice.{HasOwnNames, IsAppliedAgain, record_without_flag, resource_without_flags}
 
@@ -49,7 +49,7 @@ no_orphans names (r ∷ rs) h = by_test (has_block names r.label) h.0 (no_orphan
 numbers_are : (names : List NameView) (rs : List ResourceView) → AllByRecursion (λ r. has_block names r.label ≡ true) rs → numbered names rs ≡ map a_name names ++ []
 numbers_are names rs h = ap (λ (qs : List ResourceView). map a_name names ++ map an_orphan qs) (no_orphans names rs h)
 
-abbrev ties : (again : PlanView) → (ℕ → ℕ → Bool) → TiesView
+abbrev ties : (again : PlanView) → (ℕ → ℕ → Bool) → OrderInputView
 ties again needed = record { needs = again.needs; needed = needed; late = again.late }
 
 -- ---- one apply over a state at rest
@@ -114,7 +114,7 @@ module _ (ms : List Meaning) (config : ConfigView) (variables : Entries) (s : St
 
 -- ---- the second apply
 
-module _ (law : ExpressionsStayKnown) (grows : InstancesGrow) (grow : StandingsGrow) (ms : List Meaning) (config : ConfigView) (variables : Entries) (prior : StateView) (plan : PlanView) (done : List Done) (outputs : Entries) (after : StateView)
+module _ (law : ExpressionsStayKnown) (grows : InstancesGrow) (grow : ResolvedNamesGrow) (ms : List Meaning) (config : ConfigView) (variables : Entries) (prior : StateView) (plan : PlanView) (done : List ActionResultView) (outputs : Entries) (after : StateView)
     (sound : IsSound ms config variables prior) (named : HasOwnNames config) (carried : IsCarriedOut ms config variables prior (home config variables prior plan) done outputs after) where
   abbrev pub rested : IsAtRest ms config variables after
   rested = first_rests law grows grow ms config variables prior plan done outputs after sound carried
@@ -157,7 +157,7 @@ module _ (law : ExpressionsStayKnown) (grows : InstancesGrow) (grow : StandingsG
           let second = is.planned.planned.ordered in
           let numbers = numbers_are (names_of config) later.resources second_rests.rests.blocks ∙ sym (numbers_are (names_of config) after.resources rested.rests.blocks) in
           late_same (names_of config) later.resources after.resources (ties third third_ordered.needed) (ties again second.needed) third_ordered.tied second.tied numbers
-          (ap (λ (all : List NumberedView). dependencies all later.resources) numbers ∙ same_stored (numbered (names_of config) after.resources) later.resources after.resources second_resources) n
+          (ap (λ (all : List ResourceRefView). dependencies all later.resources) numbers ∙ same_stored (numbered (names_of config) after.resources) later.resources after.resources second_resources) n
 
       -- it changes no record
       pub third_records : (label : LabelView) (id : ObjectIdView) → record_in label id last ≡ record_in label id later

@@ -13,21 +13,21 @@ use Rattle.tf_deciding.specs.Stage.{deciding, records_at}
 use Rattle.tf_deciding.specs.Steps.{decided_steps}
 use Rattle.tf_deciding.specs.Whole.{decided, nothing_decided, with_meant, with_numbered}
 use Rattle.tf_decision.specs.Decision as decision
-use Rattle.tf_decision.specs.Decision.{DecisionView, RefusalView, change, current, unless_prevented, unless_unfit}
+use Rattle.tf_decision.specs.Decision.{DecisionView, DecisionFaultView, change, current, unless_prevented, unless_unfit}
 use Rattle.tf_decision.specs.Ignored.{heeding, ignored_fault}
 use Rattle.tf_decision.specs.Prior.{PriorFaultView, first_unfit}
 use Rattle.tf_environment.proofs.Places.{all_places}
 use Rattle.tf_environment.proofs.Seen.{agree_on}
-use Rattle.tf_environment.specs.Shape.{ShapeView, instance_keys}
+use Rattle.tf_environment.specs.InstanceKeys.{InstanceKeysView, instance_keys}
 use Rattle.tf_environment.specs.Stages.{applying}
-use Rattle.tf_environment.specs.Standing.{StandingView, AreStandings, all_stand, environment, rule}
+use Rattle.tf_environment.specs.Resolved.{ResolvedView, AreResolvedNames, all_stand, environment, rule}
 use Rattle.tf_eval.proofs.Locality.{expressions_local}
 use Rattle.tf_eval.specs.Environment.{Environment}
 use Rattle.tf_eval.specs.ExprMeaning.{meaning}
 use Rattle.tf_eval.specs.Locality.{AgreeOn}
 use Rattle.tf_graph.proofs.Solving.{all_by_weaker, solution-exists}
 use Rattle.tf_graph.specs.Solutions.{Ranked, seen_by}
-use Rattle.tf_plan_resources.specs.Members.{MemberView, member, members, is_among, records_of}
+use Rattle.tf_plan_resources.specs.Members.{InstanceToPlanView, member, members, is_among, records_of}
 use Rattle.tf_operators.specs.Answer.{Answer}
 use Rattle.tf_plan.proofs.Listing.{decided-actions, place_actions}
 use Rattle.tf_plan.specs.Outputs.{output_fault, output_refusals}
@@ -35,8 +35,8 @@ use Rattle.tf_plan.specs.Planned.{planned_in}
 use Rattle.tf_plan.specs.Told.{instance_told}
 use Rattle.tf_protocol.specs.Meaning.{Meaning, schema_in}
 use Rattle.tf_protocol.specs.Schema.{SchemaView}
-use Rattle.tf_refusal.specs.Refusal.{Told}
-use Rattle.tf_plan_resources.specs.Numbering.{NumberedView, a_name, an_orphan, numbered}
+use Rattle.tf_refusal.specs.Refusal.{RefusalView}
+use Rattle.tf_plan_resources.specs.ResourceIndex.{ResourceRefView, a_name, an_orphan, numbered}
 use Rattle.tf_state_data.specs.Record.{RecordView}
 use Rattle.tf_state_data.specs.Resource.{ResourceView}
 use Rattle.tf_syntax.specs.ExprNames.{named_by}
@@ -84,7 +84,7 @@ member_fine ms block ks all key env seen object among rest free agree =
 
 -- ---- what is refused
 
-none_more : (of : OfView) (becomes : MemberView → OutcomeView) (i : ℕ) (ms : List MemberView) (d : DecidedView) → AllByRecursion (λ m. becomes m ≡ Ok []) ms → (with_members of becomes i ms d).refusals ≡ d.refusals
+none_more : (of : OfView) (becomes : InstanceToPlanView → OutcomeView) (i : ℕ) (ms : List InstanceToPlanView) (d : DecidedView) → AllByRecursion (λ m. becomes m ≡ Ok []) ms → (with_members of becomes i ms d).refusals ≡ d.refusals
 none_more of becomes i [] d h = refl
 none_more of becomes i (m ∷ ms) d h = none_more of becomes (i + 1) ms (with_outcome of i m.key (becomes m) d) h.1 ∙ ap (λ (o : OutcomeView). (with_outcome of i m.key o d).refusals) h.0
 
@@ -99,76 +99,76 @@ parts_of : {A : Type 0} (P Q : A → Type 0) (xs : List A) → ((x : A) → P x 
 parts_of P Q [] f h = tt
 parts_of P Q (x ∷ xs) f h = (f x h.0, parts_of P Q xs f h.1)
 
-module _ (ms : List Meaning) (variables : Entries) (names : List NameView) (shapes : ℕ → ShapeView) (objects : ℕ → InstanceKeyView → Tree) (resources : List ResourceView)
+module _ (ms : List Meaning) (variables : Entries) (names : List NameView) (shapes : ℕ → InstanceKeysView) (objects : ℕ → InstanceKeyView → Tree) (resources : List ResourceView)
     (ranked : Ranked (directly_before names)) (still : AreAtRest ms variables names shapes objects resources)
-    (standings others : ℕ → StandingView) (solves : AreStandings (deciding ms resources shapes) variables names standings) (stands : AreStandings (applying shapes objects) variables names others)
+    (resolved_names others : ℕ → ResolvedView) (solves : AreResolvedNames (deciding ms resources shapes) variables names resolved_names) (stands : AreResolvedNames (applying shapes objects) variables names others)
     (free : (n : ℕ) (block : BlockView) (key : InstanceKeyView) → meant_at names n ≡ Some (a_block block) → is_among (instance_keys (shapes n)) key ≡ true
     → IsUnrefused ms block key (environment variables names others) (records_of key (records_at block.label resources))) where
-  looked_at : AreLookedAt ms variables names shapes resources standings others
+  looked_at : AreLookedAt ms variables names shapes resources resolved_names others
   looked_at n block meant before =
-      let alike = all_by_weaker (λ a. (standings a ≡ others a) × (is_some (standings a) ≡ true)) (λ a. standings a ≡ others a) (directly_before names n) (λ a h. h.0) before in
-      let agree : AgreeOn (environment variables names standings) (environment variables names others) (refers_at (meant_at names n)) = agree_on variables names standings others (refers_at (meant_at names n)) alike in
-      let own : AgreeOn (environment variables names standings) (environment variables names others) (block_refers block) =
-      subst (λ (m : Option Meant). AgreeOn (environment variables names standings) (environment variables names others) (refers_at m)) meant agree in
-      members_hold (λ m. IsFine (member_outcome (schema_in block.label.type_name ms) block (environment variables names standings) m)) (instance_keys (shapes n)) (records_at block.label resources) (still.declared n block meant)
+      let alike = all_by_weaker (λ a. (resolved_names a ≡ others a) × (is_some (resolved_names a) ≡ true)) (λ a. resolved_names a ≡ others a) (directly_before names n) (λ a h. h.0) before in
+      let agree : AgreeOn (environment variables names resolved_names) (environment variables names others) (refers_at (meant_at names n)) = agree_on variables names resolved_names others (refers_at (meant_at names n)) alike in
+      let own : AgreeOn (environment variables names resolved_names) (environment variables names others) (block_refers block) =
+      subst (λ (m : Option Meant). AgreeOn (environment variables names resolved_names) (environment variables names others) (refers_at m)) meant agree in
+      members_hold (λ m. IsFine (member_outcome (schema_in block.label.type_name ms) block (environment variables names resolved_names) m)) (instance_keys (shapes n)) (records_at block.label resources) (still.declared n block meant)
       (λ key among.
-      member_fine ms block (instance_keys (shapes n)) (records_at block.label resources) key (environment variables names standings) (environment variables names others) (objects n key) among
+      member_fine ms block (instance_keys (shapes n)) (records_at block.label resources) key (environment variables names resolved_names) (environment variables names others) (objects n key) among
       (still.rest others stands n block key meant among) (free n block key meant among) own)
 
-  meant_free : (n : ℕ) (m : Meant) (d : DecidedView) → meant_at names n ≡ Some m → (with_meant ms resources variables names shapes standings n m d).refusals ≡ d.refusals
+  meant_free : (n : ℕ) (m : Meant) (d : DecidedView) → meant_at names n ≡ Some m → (with_meant ms resources variables names shapes resolved_names n m d).refusals ≡ d.refusals
   meant_free n (a_local e) d meant = refl
-  meant_free n (a_block block) d meant = by_test (all_stand (seen_by standings (directly_before names n)))
+  meant_free n (a_block block) d meant = by_test (all_stand (seen_by resolved_names (directly_before names n)))
     where
-      by_test : (b : Bool) → (cond b (with_block ms resources n block (environment variables names standings) (shapes n) d) d).refusals ≡ d.refusals
+      by_test : (b : Bool) → (cond b (with_block ms resources n block (environment variables names resolved_names) (shapes n) d) d).refusals ≡ d.refusals
       by_test false = refl
       by_test true =
           let schema = schema_in block.label.type_name ms in
-          let before = before_same ms variables names shapes objects resources ranked still standings others solves stands looked_at n (meant_within names n (a_block block) meant) in
-          let each = block_still ms variables names shapes objects resources ranked still standings others solves stands looked_at n block meant before in
-          none_more (record { resource = n; label = block.label; version = version_of schema }) (member_outcome schema block (environment variables names standings)) 0 (members (instance_keys (shapes n)) (records_at block.label resources)) d
-          (parts_of _ (λ m. member_outcome (schema_in block.label.type_name ms) block (environment variables names standings) m ≡ Ok []) (members (instance_keys (shapes n)) (records_at block.label resources)) (λ m h. h.0) each)
+          let before = before_same ms variables names shapes objects resources ranked still resolved_names others solves stands looked_at n (meant_within names n (a_block block) meant) in
+          let each = block_still ms variables names shapes objects resources ranked still resolved_names others solves stands looked_at n block meant before in
+          none_more (record { resource = n; label = block.label; version = version_of schema }) (member_outcome schema block (environment variables names resolved_names)) 0 (members (instance_keys (shapes n)) (records_at block.label resources)) d
+          (parts_of _ (λ m. member_outcome (schema_in block.label.type_name ms) block (environment variables names resolved_names) m ≡ Ok []) (members (instance_keys (shapes n)) (records_at block.label resources)) (λ m h. h.0) each)
 
-  numbered_free : (n : ℕ) (o : Option NumberedView) (d : DecidedView) → slice_get (numbered names resources) n ≡ o → (with_numbered ms resources variables names shapes standings n o d).refusals ≡ d.refusals
+  numbered_free : (n : ℕ) (o : Option ResourceRefView) (d : DecidedView) → slice_get (numbered names resources) n ≡ o → (with_numbered ms resources variables names shapes resolved_names n o d).refusals ≡ d.refusals
   numbered_free n None d e = refl
   numbered_free n (Some (a_name name)) d e = meant_free n name.meant d (at_name names resources n name e)
   numbered_free n (Some (an_orphan r)) d e = absurd (no_orphan names resources still.blocks n r e)
 
-  all_free : (order : List ℕ) (d : DecidedView) → (fold (λ e n. with_numbered ms resources variables names shapes standings n (slice_get (numbered names resources) n) e) d order).refusals ≡ d.refusals
+  all_free : (order : List ℕ) (d : DecidedView) → (fold (λ e n. with_numbered ms resources variables names shapes resolved_names n (slice_get (numbered names resources) n) e) d order).refusals ≡ d.refusals
   all_free [] d = refl
   all_free (n ∷ order) d =
-      all_free order (with_numbered ms resources variables names shapes standings n (slice_get (numbered names resources) n) d)
+      all_free order (with_numbered ms resources variables names shapes resolved_names n (slice_get (numbered names resources) n) d)
       ∙ numbered_free n (slice_get (numbered names resources) n) d refl
 
-  outputs_free : (es : expr.Entries) → EachMeans (environment variables names others) es → output_refusals variables names standings es ≡ []
+  outputs_free : (es : expr.Entries) → EachMeans (environment variables names others) es → output_refusals variables names resolved_names es ≡ []
   outputs_free expr.no_entries h = refl
   outputs_free (expr.entry name e es) h =
-      let agree : AgreeOn (environment variables names standings) (environment variables names others) (named_by e) =
-      agree_on variables names standings others (named_by e)
-      (all_places (λ a. standings a ≡ others a) names (named_by e) (λ a k. (all_same ms variables names shapes objects resources ranked still standings others solves stands looked_at a k).0)) in
-      let means = expressions_local (environment variables names standings) (environment variables names others) e agree ∙ h.0.1 in
-      ap₂ (λ (xs ys : List Told). xs ++ ys)
-      (either_none (all_stand (seen_by standings (places names (named_by e)))) (output_fault name (meaning (environment variables names standings) e)) (fine_output name (meaning (environment variables names standings) e) h.0.0 means))
+      let agree : AgreeOn (environment variables names resolved_names) (environment variables names others) (named_by e) =
+      agree_on variables names resolved_names others (named_by e)
+      (all_places (λ a. resolved_names a ≡ others a) names (named_by e) (λ a k. (all_same ms variables names shapes objects resources ranked still resolved_names others solves stands looked_at a k).0)) in
+      let means = expressions_local (environment variables names resolved_names) (environment variables names others) e agree ∙ h.0.1 in
+      ap₂ (λ (xs ys : List RefusalView). xs ++ ys)
+      (either_none (all_stand (seen_by resolved_names (places names (named_by e)))) (output_fault name (meaning (environment variables names resolved_names) e)) (fine_output name (meaning (environment variables names resolved_names) e) h.0.0 means))
       (outputs_free es h.1)
 
   pub plans_nothing : (outputs : expr.Entries) (order : List ℕ) → EachMeans (environment variables names others) outputs
-      → planned_in ms resources variables names outputs shapes order standings ≡ record { actions = []; refusals = [] }
+      → planned_in ms resources variables names outputs shapes order resolved_names ≡ record { actions = []; refusals = [] }
   plans_nothing outputs order means =
-      let done : (decided ms resources variables names shapes standings (numbered names resources) order).actions ≡ [] =
-      decided-actions ms resources variables names shapes standings (numbered names resources) order
-      ∙ flat_none (λ n. place_actions ms resources variables names shapes standings n (slice_get (numbered names resources) n)) order
-      (λ n. place_none ms variables names shapes objects resources ranked still standings others solves stands looked_at n (slice_get (numbered names resources) n) refl) in
-      let refused : map instance_told (decided ms resources variables names shapes standings (numbered names resources) order).refusals ++ output_refusals variables names standings outputs ≡ [] =
-      ap (λ rs. map instance_told rs ++ output_refusals variables names standings outputs) (all_free order nothing_decided) ∙ outputs_free outputs means in
+      let done : (decided ms resources variables names shapes resolved_names (numbered names resources) order).actions ≡ [] =
+      decided-actions ms resources variables names shapes resolved_names (numbered names resources) order
+      ∙ flat_none (λ n. place_actions ms resources variables names shapes resolved_names n (slice_get (numbered names resources) n)) order
+      (λ n. place_none ms variables names shapes objects resources ranked still resolved_names others solves stands looked_at n (slice_get (numbered names resources) n) refl) in
+      let refused : map instance_told (decided ms resources variables names shapes resolved_names (numbered names resources) order).refusals ++ output_refusals variables names resolved_names outputs ≡ [] =
+      ap (λ rs. map instance_told rs ++ output_refusals variables names resolved_names outputs) (all_free order nothing_decided) ∙ outputs_free outputs means in
       λ i. record { actions = done i; refusals = refused i }
 
 pub nothing_refused : NothingIsRefusedAtRest
 nothing_refused ms variables names outputs shapes objects resources order ranked still free in_order =
     let others = solution-exists (length names) (directly_before names) (rule (applying shapes objects) variables names) ranked in
-    let standings = solution-exists (length names) (directly_before names) (rule (deciding ms resources shapes) variables names) ranked in
+    let resolved_names = solution-exists (length names) (directly_before names) (rule (deciding ms resources shapes) variables names) ranked in
     record {
       places = order;
       in_order = in_order;
-      standings = standings.0;
-      stand = standings.1;
-      decided = plans_nothing ms variables names shapes objects resources ranked still standings.0 others.0 standings.1 others.1 (free.instances others.0 others.1) outputs order (free.outputs_mean others.0 others.1);
+      resolved_names = resolved_names.0;
+      stand = resolved_names.1;
+      decided = plans_nothing ms variables names shapes objects resources ranked still resolved_names.0 others.0 resolved_names.1 others.1 (free.instances others.0 others.1) outputs order (free.outputs_mean others.0 others.1);
     }

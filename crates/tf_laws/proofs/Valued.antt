@@ -7,16 +7,16 @@ use Rattle.tf_address.specs.ObjectId.{InstanceKeyView}
 use Rattle.tf_config_data.specs.Config.{BlockView, ConfigView}
 use Rattle.tf_config_data.specs.Names.{Meant, a_local, a_block, directly_before, meant_at, names_of}
 use Rattle.tf_decision.specs.Decision.{current}
-use Rattle.tf_environment.specs.Shape.{ShapeView, instance_keys}
+use Rattle.tf_environment.specs.InstanceKeys.{InstanceKeysView, instance_keys}
 use Rattle.tf_environment.specs.Stages.{applying}
-use Rattle.tf_environment.specs.Standing.{StandingView, AreStandings, all_stand, environment, result_in, rule, stands_at, together, where_all}
+use Rattle.tf_environment.specs.Resolved.{ResolvedView, AreResolvedNames, all_stand, environment, result_in, rule, stands_at, together, where_all}
 use Rattle.tf_eval.specs.Environment.{Environment}
 use Rattle.tf_graph.proofs.Solving.{solution-exists}
 use Rattle.tf_graph.specs.Solutions.{seen_by}
 use Rattle.tf_plan_resources.specs.Members.{is_among}
 use Rattle.tf_outcome.specs.Objects.{objects_seen, prior_object}
-use Rattle.tf_outcome.specs.Outcome.{Done, done_at}
-use Rattle.tf_outputs.specs.Outputs.{AreOutputsDone, IsOutputDone, OutputDone, excused, faulted, not_evaluated, valued}
+use Rattle.tf_outcome.specs.Outcome.{ActionResultView, done_at}
+use Rattle.tf_outputs.specs.Outputs.{AreOutputsDone, IsOutputDone, OutputResultView, excused, faulted, not_evaluated, valued}
 use Rattle.tf_outputs.specs.Settled.{names_are_settled}
 use Rattle.tf_plan.proofs.Solved.{same_shapes}
 use Rattle.tf_plan.specs.Planned.{AreInstances}
@@ -33,10 +33,10 @@ use Rattle.tf_laws.proofs.Homes.{IsAtRest, home}
 use Rattle.tf_laws.proofs.OneRecord.{current_known}
 use Rattle.tf_laws.proofs.Outputs.{AreRepeated, IsRepeated}
 use Rattle.tf_laws.proofs.Still.{current_is, together_same}
-use Rattle.tf_laws.specs.Converges.{IsValued}
+use Rattle.tf_laws.specs.Reapply.{IsValued}
 
 module _ (ms : List Meaning) (config : ConfigView) (variables : Entries) (s : StateView) (at : IsAtRest ms config variables s)
-    (again : PlanView) (done : List Done) (none : again.actions ≡ []) (instances : AreInstances variables (names_of config) again.shapes) where
+    (again : PlanView) (done : List ActionResultView) (none : again.actions ≡ []) (instances : AreInstances variables (names_of config) again.shapes) where
   abbrev objects : ℕ → InstanceKeyView → Tree
   objects = objects_after (home config variables s again) done
 
@@ -45,8 +45,8 @@ module _ (ms : List Meaning) (config : ConfigView) (variables : Entries) (s : St
       → objects_after (home config variables s again) done n key ≡ at.objects n key
   objects_again n block key meant among =
       let names = names_of config in
-      let standings = solution-exists (length names) (directly_before names) (rule (applying at.shapes at.objects) variables names) at.ranked in
-      let resting = at.rests.rest standings.0 standings.1 n block key meant among in
+      let resolved_names = solution-exists (length names) (directly_before names) (rule (applying at.shapes at.objects) variables names) at.ranked in
+      let resting = at.rests.rest resolved_names.0 resolved_names.1 n block key meant among in
       let found : record_in block.label (object_at key None) s ≡ Some resting.only =
       sym (current_known block.label key s) ∙ ap current resting.alone ∙ current_is resting.only resting.current in
       ap (λ (xs : List ActionView). objects_seen names s again.actions (seen_by (done_at done) (range_with_len 0 (length xs))) n key) none
@@ -63,31 +63,31 @@ module _ (ms : List Meaning) (config : ConfigView) (variables : Entries) (s : St
   stands_again n (Some (a_local e)) env meant h = refl
   stands_again n (Some (a_block block)) env meant h =
       together_same (λ key. Some (at.objects n key)) (λ key. Some (objects_after (home config variables s again) done n key)) (at.shapes n) (λ key among. ap Some (sym (objects_again n block key meant among)))
-      ∙ ap (λ (shape : ShapeView). together (Some shape) (λ key. Some (objects_after (home config variables s again) done n key))) (shapes_again n h)
+      ∙ ap (λ (shape : InstanceKeysView). together (Some shape) (λ key. Some (objects_after (home config variables s again) done n key))) (shapes_again n h)
 
   -- so names stand for the same
-  standings_again : (standings : ℕ → StandingView) → AreStandings (applying at.shapes at.objects) variables (names_of config) standings
-      → AreStandings (applying again.shapes (objects_after (home config variables s again) done)) variables (names_of config) standings
-  standings_again standings solves k below =
+  standings_again : (resolved_names : ℕ → ResolvedView) → AreResolvedNames (applying at.shapes at.objects) variables (names_of config) resolved_names
+      → AreResolvedNames (applying again.shapes (objects_after (home config variables s again) done)) variables (names_of config) resolved_names
+  standings_again resolved_names solves k below =
       let names = names_of config in
       solves k below
-      ∙ ap (where_all (all_stand (seen_by standings (directly_before names k))))
-      (stands_again k (meant_at names k) (environment variables names (result_in (seen_by standings (directly_before names k)))) refl below)
+      ∙ ap (where_all (all_stand (seen_by resolved_names (directly_before names k))))
+      (stands_again k (meant_at names k) (environment variables names (result_in (seen_by resolved_names (directly_before names k)))) refl below)
 
-  module _ (settled others : ℕ → Bool) (standings : ℕ → StandingView) (solves : AreStandings (applying at.shapes at.objects) variables (names_of config) standings) where
-    repeated_one : (e : expr.Tree) (d f : OutputDone) → IsValued d → IsOutputDone variables (names_of config) at.shapes at.objects settled e d
+  module _ (settled others : ℕ → Bool) (resolved_names : ℕ → ResolvedView) (solves : AreResolvedNames (applying at.shapes at.objects) variables (names_of config) resolved_names) where
+    repeated_one : (e : expr.Tree) (d f : OutputResultView) → IsValued d → IsOutputDone variables (names_of config) at.shapes at.objects settled e d
         → IsOutputDone variables (names_of config) again.shapes (objects_after (home config variables s again) done) others e f → IsRepeated d f
     repeated_one e d not_evaluated v own also = tt
     repeated_one e d excused v own also = tt
     repeated_one e d (faulted why) v own also = tt
     repeated_one e d (valued u) v own also =
         let names = names_of config in
-        let first : IsOutputDone variables names at.shapes at.objects settled e (valued v.0) = subst (λ (x : OutputDone). IsOutputDone variables names at.shapes at.objects settled e x) v.1 own in
+        let first : IsOutputDone variables names at.shapes at.objects settled e (valued v.0) = subst (λ (x : OutputResultView). IsOutputDone variables names at.shapes at.objects settled e x) v.1 own in
         let evaluated = decided (names_are_settled names settled e) first (λ (no_value : valued v.0 ≡ not_evaluated). absurd (cc)) in
         let evaluated_too = decided (names_are_settled names others e) also (λ (no_value : valued u ≡ not_evaluated). absurd (cc)) in
-        v.1 ∙ evaluated.means standings solves ∙ sym (evaluated_too.means standings (standings_again standings solves))
+        v.1 ∙ evaluated.means resolved_names solves ∙ sym (evaluated_too.means resolved_names (standings_again resolved_names solves))
 
-    repeated_all : (es : expr.Entries) (ds fs : List OutputDone) → AllByRecursion IsValued ds → AreOutputsDone variables (names_of config) at.shapes at.objects settled es ds
+    repeated_all : (es : expr.Entries) (ds fs : List OutputResultView) → AllByRecursion IsValued ds → AreOutputsDone variables (names_of config) at.shapes at.objects settled es ds
         → AreOutputsDone variables (names_of config) again.shapes (objects_after (home config variables s again) done) others es fs → AreRepeated es ds fs
     repeated_all expr.no_entries ds fs v own also = tt
     repeated_all (expr.entry name e es) [] fs v own also = absurd own
@@ -95,9 +95,9 @@ module _ (ms : List Meaning) (config : ConfigView) (variables : Entries) (s : St
     repeated_all (expr.entry name e es) (d ∷ ds) (f ∷ fs) v own also = (repeated_one e d f v.0 own.0 also.0, repeated_all es ds fs v.1 own.1 also.1)
 
   -- each output has the value again that it had, or none
-  pub repeated : (settled : ℕ → Bool) (ds fs : List OutputDone) → AllByRecursion IsValued ds → AreOutputsDone variables (names_of config) at.shapes at.objects settled config.outputs ds
+  pub repeated : (settled : ℕ → Bool) (ds fs : List OutputResultView) → AllByRecursion IsValued ds → AreOutputsDone variables (names_of config) at.shapes at.objects settled config.outputs ds
       → AreOutputsOf (home config variables s again) done fs → AreRepeated config.outputs ds fs
   repeated settled ds fs v own also =
       let names = names_of config in
-      let standings = solution-exists (length names) (directly_before names) (rule (applying at.shapes at.objects) variables names) at.ranked in
-      repeated_all settled also.0 standings.0 standings.1 config.outputs ds fs v own also.2
+      let resolved_names = solution-exists (length names) (directly_before names) (rule (applying at.shapes at.objects) variables names) at.ranked in
+      repeated_all settled also.0 resolved_names.0 resolved_names.1 config.outputs ds fs v own also.2

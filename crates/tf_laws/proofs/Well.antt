@@ -13,7 +13,7 @@ use Rattle.tf_graph.specs.Solutions.{seen_by}
 use Rattle.tf_outcome.specs.Asked.{Requests, asked_by_step, asked_for, create_of, destroy_of, ignored_by, op_of, update_of}
 use Rattle.tf_outcome.specs.Excuse.{Moment, excuse_of}
 use Rattle.tf_outcome.specs.Objects.{object_of}
-use Rattle.tf_outcome.specs.Outcome.{AreOutcomes, Done, all_good, call_at, call_of, call_of_provider, call_with, called, comes_of, done_at, excused, faulted, is_good, objects_by, or_excused, skipped}
+use Rattle.tf_outcome.specs.Outcome.{AreOutcomes, ActionResultView, all_good, call_at, call_of, call_of_provider, call_with, called, comes_of, done_at, excused, faulted, is_good, objects_by, or_excused, skipped}
 use Rattle.tf_outcome.specs.declared.excuse.Excuse.{Excuse}
 use Rattle.tf_plan_data.specs.Fits.{is_apply}
 use Rattle.tf_plan_data.specs.Plan.{PlanView, plan_names}
@@ -24,14 +24,14 @@ use Rattle.tf_protocol.specs.declared.request.Op.{Op}
 use Rattle.tf_protocol.specs.declared.request.Op.TheVariants.{Create, Update, Destroy}
 use Rattle.tf_protocol.specs.declared.verdict.Verdict.{Verdict}
 use Rattle.tf_protocol.specs.declared.verdict.Verdict.TheVariants as verdict
-use Rattle.tf_state_next.specs.Ends.{AppliedView, LeftView, SavedView, saved, unchanged}
+use Rattle.tf_state_next.specs.Ends.{ApplyResultView, LeftView, SavedView, saved, unchanged}
 use Rattle.tf_state_next.specs.Ends as ends
 use Rattle.tf_state_next.specs.Saved.{left_by_destroy}
 use Rattle.tf_value.specs.Tree.{Tree}
 
 -- ---- the rule
 
-good_run : (g : Bool) (m : Option Moment) (c d : Done) → d ≡ cond g (or_excused m c) skipped → is_good d ≡ true → d ≡ c
+good_run : (g : Bool) (m : Option Moment) (c d : ActionResultView) → d ≡ cond g (or_excused m c) skipped → is_good d ≡ true → d ≡ c
 good_run true None c d e h = e
 good_run true (Some m) c d e h = let no : is_good (excused m) ≡ true = sym (ap is_good e) ∙ h in absurd (cc)
 good_run false m c d e h = let no : is_good skipped ≡ true = sym (ap is_good e) ∙ h in absurd (cc)
@@ -39,14 +39,14 @@ good_run false m c d e h = let no : is_good skipped ≡ true = sym (ap is_good e
 -- ---- the call
 
 -- a request was made, and called to this end
-record IsCalled (ms : List Meaning) (d : Done) (makes : SchemaView → Result Asked InstanceFaultView) (found : Option SchemaView) : Type 0 where
+record IsCalled (ms : List Meaning) (d : ActionResultView) (makes : SchemaView → Result Asked InstanceFaultView) (found : Option SchemaView) : Type 0 where
   schema : SchemaView
   has : found ≡ Some schema
   asked : Asked
   made : makes schema ≡ Ok asked
   calls : d ≡ call_of ms asked
 
-by_schema : (ms : List Meaning) (d : Done) (makes : SchemaView → Result Asked InstanceFaultView) (found : Option SchemaView) → d ≡ option_map_or (λ s. comes_of ms (makes s)) found skipped → is_good d ≡ true → IsCalled ms d makes found
+by_schema : (ms : List Meaning) (d : ActionResultView) (makes : SchemaView → Result Asked InstanceFaultView) (found : Option SchemaView) → d ≡ option_map_or (λ s. comes_of ms (makes s)) found skipped → is_good d ≡ true → IsCalled ms d makes found
 by_schema ms d makes None e h = let no : is_good skipped ≡ true = sym (ap is_good e) ∙ h in absurd (cc)
 by_schema ms d makes (Some schema) e h = by_request (makes schema) refl e
   where
@@ -55,17 +55,17 @@ by_schema ms d makes (Some schema) e h = by_request (makes schema) refl e
     by_request (Err why) is f = let no : is_good (faulted why) ≡ true = sym (ap is_good f) ∙ h in absurd (cc)
 
 -- an answer was judged by the schema of its provider
-record IsAnswered (d : Done) (asked : Asked) (found : Option SchemaView) : Type 0 where
+record IsAnswered (d : ActionResultView) (asked : Asked) (found : Option SchemaView) : Type 0 where
   answer : Answer
   schema : SchemaView
   has : found ≡ Some schema
   is : d ≡ called asked (Some answer) (verdict_on asked (Some answer) schema)
 
-by_own : (d : Done) (asked : Asked) (m : Meaning) (found : Option SchemaView) → d ≡ option_map_or (λ s. called asked (Some (m.answer asked)) (verdict_on asked (Some (m.answer asked)) s)) found skipped → is_good d ≡ true → IsAnswered d asked found
+by_own : (d : ActionResultView) (asked : Asked) (m : Meaning) (found : Option SchemaView) → d ≡ option_map_or (λ s. called asked (Some (m.answer asked)) (verdict_on asked (Some (m.answer asked)) s)) found skipped → is_good d ≡ true → IsAnswered d asked found
 by_own d asked m None e h = let no : is_good skipped ≡ true = sym (ap is_good e) ∙ h in absurd (cc)
 by_own d asked m (Some schema) e h = record { answer = m.answer asked; schema = schema; has = refl; is = e }
 
-by_provider : (d : Done) (asked : Asked) (found : Option Meaning) → d ≡ option_map_or (call_of_provider asked) found skipped → is_good d ≡ true → IsAnswered d asked (option_and_then (λ m. m.schema_of asked.type_name) found)
+by_provider : (d : ActionResultView) (asked : Asked) (found : Option Meaning) → d ≡ option_map_or (call_of_provider asked) found skipped → is_good d ≡ true → IsAnswered d asked (option_and_then (λ m. m.schema_of asked.type_name) found)
 by_provider d asked None e h = let no : is_good skipped ≡ true = sym (ap is_good e) ∙ h in absurd (cc)
 by_provider d asked (Some m) e h = by_own d asked m (m.schema_of asked.type_name) e h
 
@@ -109,7 +109,7 @@ object_answered asked (failed message there) schema op h = absurd (cc)
 -- ---- a good action
 
 -- What came of a good action: it was called, with what was asked by what its instance's block made, and answered.
-pub record IsGoodCall (ms : List Meaning) (requests : Requests) (plan : PlanView) (objects : ℕ → InstanceKeyView → Tree) (a : ActionView) (d : Done) : Type 0 where
+pub record IsGoodCall (ms : List Meaning) (requests : Requests) (plan : PlanView) (objects : ℕ → InstanceKeyView → Tree) (a : ActionView) (d : ActionResultView) : Type 0 where
   pub schema : SchemaView
   pub has : schema_in a.label.type_name ms ≡ Some schema
   pub asked : Asked
@@ -120,7 +120,7 @@ pub record IsGoodCall (ms : List Meaning) (requests : Requests) (plan : PlanView
   pub type_name : asked.type_name ≡ a.label.type_name
   pub op : asked.op ≡ op_of a.step
 
-pub good_call : (ms : List Meaning) (requests : Requests) (plan : PlanView) (excuses : List Excuse) (done : List Done) (k : ℕ) (a : ActionView) → AreOutcomes ms requests plan excuses done → k < length plan.actions
+pub good_call : (ms : List Meaning) (requests : Requests) (plan : PlanView) (excuses : List Excuse) (done : List ActionResultView) (k : ℕ) (a : ActionView) → AreOutcomes ms requests plan excuses done → k < length plan.actions
     → slice_get plan.actions k ≡ Some a → is_good (done_at done k) ≡ true
     → IsGoodCall ms requests plan (objects_by plan (seen_by (done_at done) (predecessors_of plan.order k))) a (done_at done k)
 good_call ms requests plan excuses done k a are inside at good =
@@ -128,7 +128,7 @@ good_call ms requests plan excuses done k a are inside at good =
     let objects = objects_by plan seen in
     let d = done_at done k in
     let run = good_run (all_good seen) (excuse_of excuses k) (call_at ms requests plan k seen) d (are.solves k inside) good in
-    let with_a = run ∙ ap (λ (o : Option ActionView). option_map_or {U = Done} (call_with ms requests plan objects) o skipped) at in
+    let with_a = run ∙ ap (λ (o : Option ActionView). option_map_or {U = ActionResultView} (call_with ms requests plan objects) o skipped) at in
     let made = by_schema ms d (λ s. asked_for (plan_names plan) s a (requests objects a s)) (schema_in a.label.type_name ms) with_a good in
     let own = asks_own (ignored_by (meant_at (plan_names plan) a.resource)) made.schema a (requests objects a made.schema) a.step made.asked made.made in
     let answered = by_provider d made.asked (first_with made.asked.type_name ms) made.calls good in
@@ -148,7 +148,7 @@ good_call ms requests plan excuses done k a are inside at good =
     }
 
 -- What it changes: what was answered is saved, and what was destroyed is gone.
-pub record IsDoneWell (ms : List Meaning) (a : ActionView) (d : Done) : Type 0 where
+pub record IsDoneWell (ms : List Meaning) (a : ActionView) (d : ActionResultView) : Type 0 where
   pub applied : is_apply a.step ≡ true → applied_of_done ms (op_of a.step) d ≡ saved (object_of d, false)
   pub destroyed : is_apply a.step ≡ false → left_of_done ms d ≡ ends.gone
 
@@ -157,7 +157,7 @@ saves schema Create asked t h = refl
 saves schema Update asked t h = refl
 saves schema Destroy asked t h = absurd (cc)
 
-pub done_well : (ms : List Meaning) (requests : Requests) (plan : PlanView) (objects : ℕ → InstanceKeyView → Tree) (a : ActionView) (d : Done) → IsGoodCall ms requests plan objects a d → IsDoneWell ms a d
+pub done_well : (ms : List Meaning) (requests : Requests) (plan : PlanView) (objects : ℕ → InstanceKeyView → Tree) (a : ActionView) (d : ActionResultView) → IsGoodCall ms requests plan objects a d → IsDoneWell ms a d
 done_well ms requests plan objects a d call =
     let schema_of : schema_in call.asked.type_name ms ≡ Some call.schema = ap (λ (n : List ℕ). schema_in n ms) call.type_name ∙ call.has in
     record {
@@ -167,14 +167,14 @@ done_well ms requests plan objects a d call =
           let is : d ≡ called call.asked (Some (object t.0)) verdict.Good = call.is ∙ ap (λ (x : Answer). called call.asked (Some x) verdict.Good) t.1 in
           ap (applied_of_done ms (op_of a.step)) is
           ∙ ap (λ (o : Option SchemaView). as_applied (option_map_or {U = Option SavedView} (λ s. saved_by (op_of a.step) s call.asked (Some (object t.0)) verdict.Good) o None)) schema_of
-          ∙ saves call.schema (op_of a.step) call.asked t.0 op ∙ ap (λ (x : Done). saved (object_of x, false)) (sym is);
+          ∙ saves call.schema (op_of a.step) call.asked t.0 op ∙ ap (λ (x : ActionResultView). saved (object_of x, false)) (sym is);
       destroyed = λ destroys.
           ap (left_of_done ms) call.is
           ∙ ap (λ (o : Option SchemaView). option_map_or (λ s. left_by_destroy s (Some call.answer) verdict.Good) o unchanged) schema_of;
     }
 
 -- and the object that it answered
-pub good_object : (ms : List Meaning) (requests : Requests) (plan : PlanView) (objects : ℕ → InstanceKeyView → Tree) (a : ActionView) (d : Done) (call : IsGoodCall ms requests plan objects a d) → is_apply a.step ≡ true
+pub good_object : (ms : List Meaning) (requests : Requests) (plan : PlanView) (objects : ℕ → InstanceKeyView → Tree) (a : ActionView) (d : ActionResultView) (call : IsGoodCall ms requests plan objects a d) → is_apply a.step ≡ true
     → is_good_verdict (verdict_on_object call.schema call.asked.object (object_of d)) ≡ true
 good_object ms requests plan objects a d call applies =
     let t = object_answered call.asked call.answer call.schema (ap is_destroy call.op ∙ apply_op a.step applies) call.well in

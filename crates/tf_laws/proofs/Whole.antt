@@ -9,18 +9,18 @@ use Rattle.tf_change.specs.Laws.{InstancesGrow}
 use Rattle.tf_config_data.specs.Config.{BlockView, ConfigView}
 use Rattle.tf_config_data.specs.Names.{NameView, Meant, a_local, a_block, directly_before, meant_at}
 use Rattle.tf_deciding.specs.Stage.{deciding, records_at}
-use Rattle.tf_environment.specs.Laws.{StandingsGrow}
-use Rattle.tf_environment.specs.Shape.{ShapeView, instance_keys}
+use Rattle.tf_environment.specs.Laws.{ResolvedNamesGrow}
+use Rattle.tf_environment.specs.InstanceKeys.{InstanceKeysView, instance_keys}
 use Rattle.tf_environment.specs.Stages.{applying}
-use Rattle.tf_environment.specs.Standing.{all_stand, environment, result_in, rule, stands_at, together, where_all}
+use Rattle.tf_environment.specs.Resolved.{all_stand, environment, result_in, rule, stands_at, together, where_all}
 use Rattle.tf_eval.specs.Environment.{Environment}
 use Rattle.tf_graph.proofs.Solving.{solution-exists}
 use Rattle.tf_graph.specs.Solutions.{Ranked, seen_by}
 use Rattle.tf_plan_resources.specs.Members.{is_among}
 use Rattle.tf_names.specs.Needs.{IsAcyclic}
-use Rattle.tf_outcome.specs.Outcome.{AreRequests, Done, Requests, called, excused, faulted, is_good, is_good_verdict, skipped}
+use Rattle.tf_outcome.specs.Outcome.{AreRequests, ActionResultView, Requests, called, excused, faulted, is_good, is_good_verdict, skipped}
 use Rattle.tf_outcome.specs.declared.excuse.Outcome.TheVariants.{Judged}
-use Rattle.tf_outputs.specs.Outputs.{OutputDone, outputs_after}
+use Rattle.tf_outputs.specs.Outputs.{OutputResultView, outputs_after}
 use Rattle.tf_plan.proofs.Blocks.{names-apart}
 use Rattle.tf_plan.proofs.Fitting.{all-by_id, plan-fits}
 use Rattle.tf_plan.proofs.Solved.{same_shapes}
@@ -49,7 +49,7 @@ use Rattle.tf_laws.proofs.Rests.{after_rests}
 use Rattle.tf_laws.proofs.Still.{nothing_at_rest}
 use Rattle.tf_laws.proofs.Unrefused.{nothing_refused}
 use Rattle.tf_laws.proofs.OwnParts.{plan_from, planned_of}
-use Rattle.tf_laws.specs.Converges.{Converges, IsCarriedOut, IsSound, NothingIsRefusedAgain, ReportsConverge, StateAfterIsAtRest}
+use Rattle.tf_laws.specs.Reapply.{Converges, IsCarriedOut, IsSound, NothingIsRefusedAgain, ReportsConverge, StateAfterIsAtRest}
 use Rattle.tf_laws.specs.Known.{ExpressionsStayKnown}
 use Rattle.tf_laws.specs.Rest.{AreAtRest}
 
@@ -58,7 +58,7 @@ use Rattle.tf_laws.specs.Rest.{AreAtRest}
 by_id : (s : StateView) → IsValid s → AllByRecursion (λ r. AreById r.records) s.resources
 by_id s valid = all_weaker IsPresent (λ r. AreById r.records) s.resources (λ r present. present.0.records.1) valid.resources.0
 
-module _ (ms : List Meaning) (config : ConfigView) (variables : Entries) (prior : StateView) (plan : PlanView) (done : List Done) (outputs : Entries) (after : StateView)
+module _ (ms : List Meaning) (config : ConfigView) (variables : Entries) (prior : StateView) (plan : PlanView) (done : List ActionResultView) (outputs : Entries) (after : StateView)
     (sound : IsSound ms config variables prior) (carried : IsCarriedOut ms config variables prior plan done outputs after) where
   own_planned : IsPlannedFrom ms plan.prior.resources plan.variables (plan_names plan) plan.config.outputs plan.needs plan.shapes plan.actions plan.late plan.order
   own_planned = plan_from ms config variables prior plan carried.planned
@@ -89,7 +89,7 @@ module _ (ms : List Meaning) (config : ConfigView) (variables : Entries) (prior 
         outputs = outputs;
         after = after;
         planned = own_planned.planned;
-        standings = found.0;
+        resolved_names = found.0;
         solves = found.1;
         ranked = own_ranked;
         apart = apart;
@@ -109,7 +109,7 @@ module _ (ms : List Meaning) (config : ConfigView) (variables : Entries) (prior 
         in_order = carried.in_order;
       }
 
-  own_rests : ExpressionsStayKnown → InstancesGrow → StandingsGrow → AreAtRest ms plan.variables (plan_names plan) plan.shapes (objects_after plan done) after.resources
+  own_rests : ExpressionsStayKnown → InstancesGrow → ResolvedNamesGrow → AreAtRest ms plan.variables (plan_names plan) plan.shapes (objects_after plan done) after.resources
   unfolding applied
   own_rests law grows grow = after_rests applied law grows grow
 
@@ -123,10 +123,10 @@ module _ (ms : List Meaning) (config : ConfigView) (variables : Entries) (prior 
       let same : kept.only ≡ y = (cc) in
       sym (ap (λ (r : RecordView). r.dependencies) same) ∙ depends applied n block key meant kept
 
-pub state_rests : ExpressionsStayKnown → InstancesGrow → StandingsGrow → StateAfterIsAtRest
+pub state_rests : ExpressionsStayKnown → InstancesGrow → ResolvedNamesGrow → StateAfterIsAtRest
 state_rests law grows grow ms config variables prior plan done outputs after sound carried = own_rests ms config variables prior plan done outputs after sound carried law grows grow
 
-pub refuses_nothing : ExpressionsStayKnown → InstancesGrow → StandingsGrow → NothingIsRefusedAgain
+pub refuses_nothing : ExpressionsStayKnown → InstancesGrow → ResolvedNamesGrow → NothingIsRefusedAgain
 unfolding applied
 refuses_nothing law grows grow ms config variables prior plan done outputs after places sound carried made in_order =
     nothing_refused ms plan.variables (plan_names plan) plan.config.outputs plan.shapes (objects_after plan done) after.resources places
@@ -135,27 +135,27 @@ refuses_nothing law grows grow ms config variables prior plan done outputs after
 
 -- ---- the same instances
 
-stands_same : (shapes others : ℕ → ShapeView) (objects : ℕ → InstanceKeyView → Tree) (n : ℕ) (m : Option Meant) (env : Environment) → shapes n ≡ others n → stands_at (applying others objects) n m env ≡ stands_at (applying shapes objects) n m env
+stands_same : (shapes others : ℕ → InstanceKeysView) (objects : ℕ → InstanceKeyView → Tree) (n : ℕ) (m : Option Meant) (env : Environment) → shapes n ≡ others n → stands_at (applying others objects) n m env ≡ stands_at (applying shapes objects) n m env
 stands_same shapes others objects n None env e = refl
 stands_same shapes others objects n (Some (a_local x)) env e = refl
-stands_same shapes others objects n (Some (a_block block)) env e = ap (λ (s : ShapeView). together (Some s) (λ key. Some (objects n key))) (sym e)
+stands_same shapes others objects n (Some (a_block block)) env e = ap (λ (s : InstanceKeysView). together (Some s) (λ key. Some (objects n key))) (sym e)
 
 -- resources at rest are so with these
-pub rest_same : (ms : List Meaning) (variables : Entries) (names : List NameView) (shapes others : ℕ → ShapeView) (objects : ℕ → InstanceKeyView → Tree) (resources : List ResourceView)
+pub rest_same : (ms : List Meaning) (variables : Entries) (names : List NameView) (shapes others : ℕ → InstanceKeysView) (objects : ℕ → InstanceKeyView → Tree) (resources : List ResourceView)
     → ((n : ℕ) → n < length names → shapes n ≡ others n) → AreAtRest ms variables names shapes objects resources → AreAtRest ms variables names others objects resources
 rest_same ms variables names shapes others objects resources same h = record {
   blocks = h.blocks;
   declared = λ n block meant.
-      subst (λ (s : ShapeView). AllByRecursion (λ x. is_among (instance_keys s) x.id.key ≡ true) (records_at block.label resources)) (same n (meant_within names n (a_block block) meant)) (h.declared n block meant);
-  rest = λ standings solves n block key meant among.
-      h.rest standings
-      (λ k below. solves k below ∙ ap (where_all (all_stand (seen_by standings (directly_before names k)))) (stands_same shapes others objects k (meant_at names k) (environment variables names (result_in (seen_by standings (directly_before names k)))) (same k below)))
-      n block key meant (subst (λ (s : ShapeView). is_among (instance_keys s) key ≡ true) (sym (same n (meant_within names n (a_block block) meant))) among);
+      subst (λ (s : InstanceKeysView). AllByRecursion (λ x. is_among (instance_keys s) x.id.key ≡ true) (records_at block.label resources)) (same n (meant_within names n (a_block block) meant)) (h.declared n block meant);
+  rest = λ resolved_names solves n block key meant among.
+      h.rest resolved_names
+      (λ k below. solves k below ∙ ap (where_all (all_stand (seen_by resolved_names (directly_before names k)))) (stands_same shapes others objects k (meant_at names k) (environment variables names (result_in (seen_by resolved_names (directly_before names k)))) (same k below)))
+      n block key meant (subst (λ (s : InstanceKeysView). is_among (instance_keys s) key ≡ true) (sym (same n (meant_within names n (a_block block) meant))) among);
 }
 
 -- ---- nothing is planned again
 
-pub converges : ExpressionsStayKnown → InstancesGrow → StandingsGrow → Converges
+pub converges : ExpressionsStayKnown → InstancesGrow → ResolvedNamesGrow → Converges
 converges law grows grow ms config variables prior plan done outputs after again sound carried is =
     let first = plan_from ms config variables prior plan carried.planned in
     let second = planned_of ms after.resources variables plan.variables config plan.config again.needs again.shapes again.actions again.late again.order carried.planned.variables carried.planned.config is.planned in
@@ -167,18 +167,18 @@ converges law grows grow ms config variables prior plan done outputs after again
 
 -- ---- a report
 
-good_one : (d : Done) → outcome_of d ≡ Judged verdict.Good → is_good d ≡ true
+good_one : (d : ActionResultView) → outcome_of d ≡ Judged verdict.Good → is_good d ≡ true
 good_one skipped e = absurd (cc)
 good_one (excused moment) e = absurd (cc)
 good_one (faulted why) e = absurd (cc)
 good_one (called asked answer v) e = let same : v ≡ verdict.Good = (cc) in ap is_good_verdict same
 
-all_good : (done : List Done) → AllByRecursion (λ o. o ≡ Judged verdict.Good) (map outcome_of done) → AllByRecursion (λ d. is_good d ≡ true) done
+all_good : (done : List ActionResultView) → AllByRecursion (λ o. o ≡ Judged verdict.Good) (map outcome_of done) → AllByRecursion (λ d. is_good d ≡ true) done
 all_good [] h = tt
 all_good (d ∷ done) h = (good_one d h.0, all_good done h.1)
 
 -- what the report on a walk says was carried out, where each action was good
-pub carried_out : (ms : List Meaning) (config : ConfigView) (variables : Entries) (prior : StateView) (plan : PlanView) (requests : Requests) (done : List Done) (outputs : List OutputDone) (report : Report)
+pub carried_out : (ms : List Meaning) (config : ConfigView) (variables : Entries) (prior : StateView) (plan : PlanView) (requests : Requests) (done : List ActionResultView) (outputs : List OutputResultView) (report : Report)
     → IsPlan ms config variables prior plan → ((n : ℕ) → plan.needs n n ≡ false) → AreRequests plan requests → IsReport ms requests plan done outputs report
     → AllByRecursion (λ o. o ≡ Judged verdict.Good) report.outcomes.items → IsCarriedOut ms config variables prior plan done (outputs_after plan.prior.outputs plan.config.outputs outputs) (state_of report.state)
 carried_out ms config variables prior plan requests done outputs report planned acyclic are told all = record {
@@ -193,7 +193,7 @@ carried_out ms config variables prior plan requests done outputs report planned 
   in_order = record { resources = report.state.ordered; records = all-by_id report.state.resources.items };
 }
 
-pub reports_converge : ExpressionsStayKnown → InstancesGrow → StandingsGrow → ReportsConverge
+pub reports_converge : ExpressionsStayKnown → InstancesGrow → ResolvedNamesGrow → ReportsConverge
 reports_converge law grows grow ms config variables prior plan again requests done outputs report sound planned acyclic are told all is =
     converges law grows grow ms config variables prior plan done (outputs_after plan.prior.outputs plan.config.outputs outputs) (state_of report.state) again sound
     (carried_out ms config variables prior plan requests done outputs report planned acyclic are told all)

@@ -2,7 +2,7 @@
 use Rattle.std.proofs.Common.{◌≡◌, List, sym, subst}
 use Rattle.tf_state_next.specs.Laws.{StateAfterIsOne}
 use Rattle.tf_outcome.specs.Laws.{RequestsAreOne}
-use Rattle.tf_outcome.specs.Outcome.{AreOutcomes, Done}
+use Rattle.tf_outcome.specs.Outcome.{AreOutcomes, ActionResultView}
 use Rattle.tf_outcome.specs.declared.excuse.Excuse.{Excuse}
 use Rattle.tf_outputs.specs.Laws.{OutputsAreOne, SettledAreOne}
 use Rattle.tf_walk_report.specs.Report.{IsTold}
@@ -15,6 +15,6 @@ pub reports_one : RequestsAreOne → SettledAreOne → OutputsAreOne → KeyIsOn
 reports_one requests settled outputs keys after ms plan report other founded one two x =
     let solved : AreOutcomes ms two.requests plan report.excused.items two.done = subst (λ (es : List Excuse). AreOutcomes ms two.requests plan es two.done) (sym x) two.is_report.solved in
     let same : one.done ≡ two.done = outcomes_one requests ms plan one.requests two.requests founded one.are_requests two.are_requests report.excused.items one.done two.done one.is_report.solved solved in
-    let told : IsTold ms plan one.done two.outputs other = subst (λ (d : List Done). IsTold ms plan d two.outputs other) (sym same) two.is_report.told in
+    let told : IsTold ms plan one.done two.outputs other = subst (λ (d : List ActionResultView). IsTold ms plan d two.outputs other) (sym same) two.is_report.told in
     let rest = told_one keys after settled outputs ms plan one.done one.outputs two.outputs report other founded.names one.is_report.told told x in
     (same, rest.0, rest.1)

@@ -2,7 +2,7 @@
 use Rattle.std.specs.Prelude.{◌≡◌, ◌↔◌, ℕ, zero, suc, Bool, true, List, Option, Some, None, slice_get, Contains}
 use Rattle.std.specs.List.{AllByRecursion}
 use Rattle.tf_outcome.specs.Excuse.{before_call, during_call, by_stop}
-use Rattle.tf_outcome.specs.Outcome.{Done, excused}
+use Rattle.tf_outcome.specs.Outcome.{ActionResultView, excused}
 use Rattle.tf_outcome.specs.declared.excuse.Excuse.{Excuse}
 use Rattle.tf_outcome.specs.declared.excuse.Excuse.TheVariants.{Before, During, Left, Output}
 use Rattle.tf_outcome.specs.declared.excuse.Outcome.TheVariants as outcome
@@ -33,7 +33,7 @@ expression_at (expr.entry name e es) zero = Some e
 expression_at (expr.entry name e es) (suc n) = expression_at es n
 
 -- The output at a place is to be evaluated anew, by what came of the actions: each name that it names is settled.
-pub record IsToBeEvaluated (plan : PlanView) (done : List Done) (n : ℕ) : Type 0 where
+pub record IsToBeEvaluated (plan : PlanView) (done : List ActionResultView) (n : ℕ) : Type 0 where
   pub settled : ℕ → Bool
   pub are_settled : AreSettled (plan_names plan) (are_good_at plan.actions done) settled
   pub expression : expr.Tree
@@ -42,7 +42,7 @@ pub record IsToBeEvaluated (plan : PlanView) (done : List Done) (n : ℕ) : Type
 
 -- An excuse is due: the action that it names was excused at the moment that it tells; or the output that it names is to be
 -- evaluated anew, and memory was refused for it.
-abbrev pub IsDue : PlanView → List Done → List outputs.OutputDone → Excuse → Type 0
+abbrev pub IsDue : PlanView → List ActionResultView → List outputs.OutputResultView → Excuse → Type 0
 IsDue plan done ended (Before n) = slice_get done n ≡ Some (excused before_call)
 IsDue plan done ended (During n) = slice_get done n ≡ Some (excused during_call)
 IsDue plan done ended (Left n) = slice_get done n ≡ Some (excused by_stop)

@@ -6,9 +6,9 @@ use Rattle.tf_config_data.specs.Config.{BlockView, ConfigView, for_each}
 use Rattle.tf_config_data.specs.Names.{a_block, meant_at}
 use Rattle.tf_deciding.specs.Stage.{deciding}
 use Rattle.tf_environment.specs.Repetition.{instances}
-use Rattle.tf_environment.specs.Shape.{ShapeView}
+use Rattle.tf_environment.specs.InstanceKeys.{InstanceKeysView}
 use Rattle.tf_environment.specs.Stages.{applying, expansion}
-use Rattle.tf_environment.specs.Standing.{StandingView, AreStandings, environment}
+use Rattle.tf_environment.specs.Resolved.{ResolvedView, AreResolvedNames, environment}
 use Rattle.tf_outcome.specs.Asked.{AreRequests, Requests, asked_for}
 use Rattle.tf_plan_data.specs.Fits.{is_apply}
 use Rattle.tf_plan_data.specs.Plan.{PlanView, plan_names}
@@ -22,49 +22,49 @@ use Rattle.tf_laws.specs.Requests.{IsSoundPlan}
 -- The instances of each resource of a plan are those of the expansion.
 abbrev pub InstancesAreExpanded : Type 0
 InstancesAreExpanded =
-    (ms : List Meaning) (config : ConfigView) (variables : Entries) (prior : StateView) (plan : PlanView) (standings : ℕ → StandingView)
-    → IsSoundPlan ms config variables prior plan → AreStandings expansion plan.variables (plan_names plan) standings
+    (ms : List Meaning) (config : ConfigView) (variables : Entries) (prior : StateView) (plan : PlanView) (resolved_names : ℕ → ResolvedView)
+    → IsSoundPlan ms config variables prior plan → AreResolvedNames expansion plan.variables (plan_names plan) resolved_names
     → (n : ℕ) (block : BlockView) → meant_at (plan_names plan) n ≡ Some (a_block block)
-    → instances block.repetition (environment plan.variables (plan_names plan) standings) ≡ Ok (plan.shapes n)
+    → instances block.repetition (environment plan.variables (plan_names plan) resolved_names) ≡ Ok (plan.shapes n)
 
 -- where `count` or `for_each` of a resource comes to instances, they are those that a plan has
-abbrev pub HavePlannedInstances : PlanView → (ℕ → StandingView) → Type 0
-HavePlannedInstances plan standings =
-    (n : ℕ) (block : BlockView) (shape : ShapeView) → meant_at (plan_names plan) n ≡ Some (a_block block)
-    → instances block.repetition (environment plan.variables (plan_names plan) standings) ≡ Ok shape → shape ≡ plan.shapes n
+abbrev pub HavePlannedInstances : PlanView → (ℕ → ResolvedView) → Type 0
+HavePlannedInstances plan resolved_names =
+    (n : ℕ) (block : BlockView) (shape : InstanceKeysView) → meant_at (plan_names plan) n ≡ Some (a_block block)
+    → instances block.repetition (environment plan.variables (plan_names plan) resolved_names) ≡ Ok shape → shape ≡ plan.shapes n
 
 -- They stay where names stand for what is planned.
 abbrev pub InstancesStayInPlans : Type 0
 InstancesStayInPlans =
-    (ms : List Meaning) (config : ConfigView) (variables : Entries) (prior : StateView) (plan : PlanView) (standings : ℕ → StandingView)
-    → IsSoundPlan ms config variables prior plan → AreStandings (deciding ms plan.prior.resources plan.shapes) plan.variables (plan_names plan) standings
-    → HavePlannedInstances plan standings
+    (ms : List Meaning) (config : ConfigView) (variables : Entries) (prior : StateView) (plan : PlanView) (resolved_names : ℕ → ResolvedView)
+    → IsSoundPlan ms config variables prior plan → AreResolvedNames (deciding ms plan.prior.resources plan.shapes) plan.variables (plan_names plan) resolved_names
+    → HavePlannedInstances plan resolved_names
 
 -- And in an apply, whatever objects instances stand for.
 abbrev pub InstancesStayInApplies : Type 0
 InstancesStayInApplies =
-    (ms : List Meaning) (config : ConfigView) (variables : Entries) (prior : StateView) (plan : PlanView) (objects : ℕ → InstanceKeyView → Tree) (standings : ℕ → StandingView)
-    → IsSoundPlan ms config variables prior plan → AreStandings (applying plan.shapes objects) plan.variables (plan_names plan) standings
-    → HavePlannedInstances plan standings
+    (ms : List Meaning) (config : ConfigView) (variables : Entries) (prior : StateView) (plan : PlanView) (objects : ℕ → InstanceKeyView → Tree) (resolved_names : ℕ → ResolvedView)
+    → IsSoundPlan ms config variables prior plan → AreResolvedNames (applying plan.shapes objects) plan.variables (plan_names plan) resolved_names
+    → HavePlannedInstances plan resolved_names
 
 -- what the `for_each` of a resource comes to are the instances that a plan has
-abbrev pub HasPlannedKeys : PlanView → (ℕ → StandingView) → ℕ → Type 0
-HasPlannedKeys plan standings n =
+abbrev pub HasPlannedKeys : PlanView → (ℕ → ResolvedView) → ℕ → Type 0
+HasPlannedKeys plan resolved_names n =
     (block : BlockView) (e : expr.Tree) → meant_at (plan_names plan) n ≡ Some (a_block block) → block.repetition ≡ for_each e
-    → instances (for_each e) (environment plan.variables (plan_names plan) standings) ≡ Ok (plan.shapes n)
+    → instances (for_each e) (environment plan.variables (plan_names plan) resolved_names) ≡ Ok (plan.shapes n)
 
 -- Of an instance that is made or changed, `for_each` has the plan's keys where names stand for what is planned.
 abbrev pub KeysStayInPlans : Type 0
 KeysStayInPlans =
-    (ms : List Meaning) (config : ConfigView) (variables : Entries) (prior : StateView) (plan : PlanView) (standings : ℕ → StandingView) (a : ActionView)
-    → IsSoundPlan ms config variables prior plan → AreStandings (deciding ms plan.prior.resources plan.shapes) plan.variables (plan_names plan) standings
-    → Contains plan.actions a → is_apply a.step ≡ true → HasPlannedKeys plan standings a.resource
+    (ms : List Meaning) (config : ConfigView) (variables : Entries) (prior : StateView) (plan : PlanView) (resolved_names : ℕ → ResolvedView) (a : ActionView)
+    → IsSoundPlan ms config variables prior plan → AreResolvedNames (deciding ms plan.prior.resources plan.shapes) plan.variables (plan_names plan) resolved_names
+    → Contains plan.actions a → is_apply a.step ≡ true → HasPlannedKeys plan resolved_names a.resource
 
 -- And in an apply, where its request can be made, whatever objects instances stand for.
 abbrev pub KeysStayInRequests : Type 0
 KeysStayInRequests =
-    (ms : List Meaning) (config : ConfigView) (variables : Entries) (prior : StateView) (plan : PlanView) (requests : Requests) (objects : ℕ → InstanceKeyView → Tree) (standings : ℕ → StandingView)
+    (ms : List Meaning) (config : ConfigView) (variables : Entries) (prior : StateView) (plan : PlanView) (requests : Requests) (objects : ℕ → InstanceKeyView → Tree) (resolved_names : ℕ → ResolvedView)
     (a : ActionView) (schema : SchemaView) (asked : Asked)
-    → IsSoundPlan ms config variables prior plan → AreRequests plan requests → AreStandings (applying plan.shapes objects) plan.variables (plan_names plan) standings
+    → IsSoundPlan ms config variables prior plan → AreRequests plan requests → AreResolvedNames (applying plan.shapes objects) plan.variables (plan_names plan) resolved_names
     → Contains plan.actions a → is_apply a.step ≡ true → asked_for (plan_names plan) schema a (requests objects a schema) ≡ Ok asked
-    → HasPlannedKeys plan standings a.resource
+    → HasPlannedKeys plan resolved_names a.resource

@@ -10,7 +10,7 @@ pub mod Requests
 pub mod Known
 pub mod InstancesAtRest
 pub mod Rest
-pub mod Converges
+pub mod Reapply
 pub mod Quiet
 pub mod Twice
 pub mod Read
@@ -21,4 +21,4 @@ pub mod Refusals
 pub mod Success
 pub mod Applies
 pub mod OneOfTwo
-pub mod Again
+pub mod ReapplyTexts

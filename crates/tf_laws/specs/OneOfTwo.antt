@@ -5,10 +5,10 @@ use Rattle.tf_cli.specs.Refusals.{AreApplyRefusals, AreRefusals}
 use Rattle.tf_config_data.specs.Config.{ConfigView}
 use Rattle.tf_expr.specs.Demand.{IsTemplate}
 use Rattle.tf_inputs.specs.Refusals.{IsToldOf}
-use Rattle.tf_inputs.specs.Texts.{StandFor, Texts}
+use Rattle.tf_inputs.specs.Texts.{ReadAs, Texts}
 use Rattle.tf_plan_data.specs.Plan.{PlanView}
 use Rattle.tf_protocol.specs.Meaning.{Meaning}
-use Rattle.tf_refusal.specs.Refusal.{Told, no_memory}
+use Rattle.tf_refusal.specs.Refusal.{RefusalView, no_memory}
 use Rattle.tf_run.specs.Run.{are_workers}
 use Rattle.tf_state_data.specs.State.{StateView}
 use Rattle.tf_syntax.specs.TemplateTree.{Woven}
@@ -18,13 +18,13 @@ use Rattle.tf_value.specs.Tree.{Entries}
 abbrev pub NeverNeither : Type 0 → Type 0 → Type 0
 NeverNeither A B = ¬ (¬ A × ¬ B)
 
--- texts stand for a configuration, values of its variables and a prior state
+-- texts read as a configuration, values of its variables and a prior state
 abbrev pub AreRead : Texts → List ℕ → Type 0
-AreRead texts lineage = (config : ConfigView) × (values : Entries) × (prior : StateView) × StandFor texts lineage config values prior
+AreRead texts lineage = (config : ConfigView) × (values : Entries) × (prior : StateView) × ReadAs texts lineage config values prior
 
 -- some refusal is told of texts, which isn't want of memory
 abbrev pub AreToldOf : Texts → Type 0
-AreToldOf texts = (refusal : Told) × (refusal ≢ no_memory) × IsToldOf texts refusal
+AreToldOf texts = (refusal : RefusalView) × (refusal ≢ no_memory) × IsToldOf texts refusal
 
 -- texts have a plan
 abbrev pub HavePlan : List Meaning → Texts → List ℕ → Type 0
@@ -32,7 +32,7 @@ HavePlan ms texts lineage = (plan : PlanView) × IsPlanOf ms texts lineage plan
 
 -- texts have refusals
 abbrev pub HaveRefusals : List Meaning → Texts → Type 0
-HaveRefusals ms texts = (tolds : List Told) × AreRefusals ms texts tolds
+HaveRefusals ms texts = (refusal_views : List RefusalView) × AreRefusals ms texts refusal_views
 
 -- Of no texts it is so that they can't be read, and that nothing is told of them but want of memory.
 abbrev pub TextsAreReadOrRefused : Type 0
@@ -46,7 +46,7 @@ TextsHavePlanOrRefusals = (ms : List Meaning) (texts : Texts) (lineage : List �
 abbrev pub AppliesHavePlanOrRefusals : Type 0
 AppliesHavePlanOrRefusals =
     (ms : List Meaning) (texts : Texts) (lineage : List ℕ) (count : ℕ)
-    → NeverNeither (HavePlan ms texts lineage × (are_workers count ≡ true)) ((tolds : List Told) × AreApplyRefusals ms texts lineage count tolds)
+    → NeverNeither (HavePlan ms texts lineage × (are_workers count ≡ true)) ((refusal_views : List RefusalView) × AreApplyRefusals ms texts lineage count refusal_views)
 
 -- of each text it can be told whether it is a template, no deeper than allowed
 abbrev pub TemplatesAreTold : Type 0

@@ -12,7 +12,7 @@ use Rattle.tf_plan.specs.Refused.{AreRefused}
 use Rattle.tf_plan_data.specs.Plan.{PlanView, plan_names}
 use Rattle.tf_plan_text.specs.Text.{plan_text}
 use Rattle.tf_protocol.specs.Meaning.{Meaning}
-use Rattle.tf_refusal.specs.Refusal.{Told}
+use Rattle.tf_refusal.specs.Refusal.{RefusalView}
 use Rattle.tf_state_data.specs.Addresses.{AreByAddress}
 use Rattle.tf_state_data.specs.Ids.{AreById}
 use Rattle.tf_state_data.specs.State.{StateView}
@@ -57,14 +57,14 @@ PlanTextsAreOne =
 -- Where there is a plan, nothing is refused.
 abbrev pub PlansAreNotRefused : Type 0
 PlansAreNotRefused =
-    (ms : List Meaning) (config : ConfigView) (variables : Entries) (prior : StateView) (plan : PlanView) (tolds : List Told)
-    → AreOrderly config prior → IsPlan ms config variables prior plan → ¬ AreRefused ms config variables prior tolds
+    (ms : List Meaning) (config : ConfigView) (variables : Entries) (prior : StateView) (plan : PlanView) (refusal_views : List RefusalView)
+    → AreOrderly config prior → IsPlan ms config variables prior plan → ¬ AreRefused ms config variables prior refusal_views
 
 -- Two lists of what is refused of one configuration, one list of values and one prior state are the same.
 abbrev pub RefusalsAreOne : Type 0
 RefusalsAreOne =
-    (ms : List Meaning) (config : ConfigView) (variables : Entries) (prior : StateView) (tolds others : List Told)
-    → AreOrderly config prior → AreRefused ms config variables prior tolds → AreRefused ms config variables prior others → tolds ≡ others
+    (ms : List Meaning) (config : ConfigView) (variables : Entries) (prior : StateView) (refusal_views others : List RefusalView)
+    → AreOrderly config prior → AreRefused ms config variables prior refusal_views → AreRefused ms config variables prior others → refusal_views ≡ others
 
 -- Where no name of a configuration needs itself, there is a plan, or something is refused: of fewer names than 2^63, which is
 -- more than any memory holds.
@@ -72,4 +72,4 @@ abbrev pub PlannedOrRefused : Type 0
 PlannedOrRefused =
     (ms : List Meaning) (config : ConfigView) (variables : Entries) (prior : StateView)
     → length (names_of config) < 2 ^ 63 → ((pair : Pair) → ¬ Needs (names_of config) pair pair)
-    → ((plan : PlanView) × IsPlan ms config variables prior plan) ⊎ ((tolds : List Told) × AreRefused ms config variables prior tolds)
+    → ((plan : PlanView) × IsPlan ms config variables prior plan) ⊎ ((refusal_views : List RefusalView) × AreRefused ms config variables prior refusal_views)

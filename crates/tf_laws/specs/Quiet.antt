@@ -2,7 +2,7 @@
 use Rattle.std.specs.Prelude.{◌≡◌, ℕ, Bool, List, [], Option, Some, None}
 use Rattle.tf_address.specs.Label.{LabelView}
 use Rattle.tf_address.specs.ObjectId.{ObjectIdView}
-use Rattle.tf_outcome.specs.Outcome.{Done}
+use Rattle.tf_outcome.specs.Outcome.{ActionResultView}
 use Rattle.tf_plan_data.specs.Plan.{PlanView}
 use Rattle.tf_protocol.specs.Meaning.{Meaning}
 use Rattle.tf_walk_report.specs.Report.{IsStateOf}
@@ -20,6 +20,6 @@ IsRenewed (Some r) after = (dependencies : List (List ℕ)) × (late : Bool) × 
 -- the flag `create_before_destroy` that it is given anew.
 abbrev pub QuietAppliesKeepObjects : Type 0
 QuietAppliesKeepObjects =
-    (ms : List Meaning) (plan : PlanView) (done : List Done) (outputs : Entries) (after : StateView)
+    (ms : List Meaning) (plan : PlanView) (done : List ActionResultView) (outputs : Entries) (after : StateView)
     → plan.actions ≡ [] → IsStateOf ms plan done outputs after
     → (label : LabelView) (id : ObjectIdView) → IsRenewed (record_in label id plan.prior) (record_in label id after)

@@ -9,7 +9,7 @@ use Rattle.tf_state.specs.Valid.{IsValid}
 use Rattle.tf_state_data.specs.State.{StateView}
 use Rattle.tf_value.specs.Tree.{Entries}
 use Rattle.tf_variables.specs.Values.{AreValues}
-use Rattle.tf_laws.specs.Converges.{IsSound}
+use Rattle.tf_laws.specs.Reapply.{IsSound}
 use Rattle.tf_laws.specs.Twice.{HasOrderedOutputs, HasOwnNames}
 
 -- What a plan starts from is sound where the configuration was read, its variables have these values by a variables file or by

@@ -1,16 +1,16 @@
 -- For what the texts that a user gives stand, where they are read more than once.
 use Rattle.std.specs.Prelude.{◌≡◌, ℕ, List, []}
 use Rattle.tf_config_data.specs.Config.{ConfigView}
-use Rattle.tf_inputs.specs.Texts.{StandFor, Texts}
+use Rattle.tf_inputs.specs.Texts.{ReadAs, Texts}
 use Rattle.tf_state_data.specs.State.{StateView}
 use Rattle.tf_value.specs.Tree.{Entries}
 
--- Texts stand for one configuration, one list of values of its variables and one prior state, which is of the same lineage
+-- Texts read as one configuration, one list of values of its variables and one prior state, which is of the same lineage
 -- where none is given.
-abbrev pub TextsStandForOne : Type 0
-TextsStandForOne =
+abbrev pub TextsReadAsOne : Type 0
+TextsReadAsOne =
     (texts : Texts) (lineage : List ℕ) (config config_again : ConfigView) (values values_again : Entries) (prior prior_again : StateView)
-    → StandFor texts lineage config values prior → StandFor texts lineage config_again values_again prior_again
+    → ReadAs texts lineage config values prior → ReadAs texts lineage config_again values_again prior_again
     → (config_again ≡ config) × (values_again ≡ values) × (prior_again ≡ prior)
 
 -- a state but for its lineage
@@ -19,8 +19,8 @@ without_lineage s = record s { lineage = [] }
 
 -- By different lineages, too, they stand for one configuration and one list of values; and the prior states are the same but for their
 -- lineages.
-abbrev pub TextsStandForOneApart : Type 0
-TextsStandForOneApart =
+abbrev pub TextsReadAsOneApart : Type 0
+TextsReadAsOneApart =
     (texts : Texts) (lineage other : List ℕ) (config config_again : ConfigView) (values values_again : Entries) (prior prior_again : StateView)
-    → StandFor texts lineage config values prior → StandFor texts other config_again values_again prior_again
+    → ReadAs texts lineage config values prior → ReadAs texts other config_again values_again prior_again
     → (config_again ≡ config) × (values_again ≡ values) × (without_lineage prior_again ≡ without_lineage prior)

@@ -5,10 +5,10 @@ use Rattle.tf_address.specs.ObjectId.{InstanceKeyView}
 use Rattle.tf_asks.specs.Laws.{RefinesWhere, planned_object}
 use Rattle.tf_config_data.specs.Config.{ConfigView}
 use Rattle.tf_config_data.specs.Names.{meant_at}
-use Rattle.tf_laws.specs.Converges.{IsSound}
+use Rattle.tf_laws.specs.Reapply.{IsSound}
 use Rattle.tf_outcome.specs.Asked.{AreRequests, Requests, asked_for, op_of}
 use Rattle.tf_outcome.specs.Objects.{prior_object}
-use Rattle.tf_outcome.specs.Outcome.{AreOutcomes, Done, called, done_at}
+use Rattle.tf_outcome.specs.Outcome.{AreOutcomes, ActionResultView, called, done_at}
 use Rattle.tf_outcome.specs.declared.excuse.Excuse.{Excuse}
 use Rattle.tf_plan.specs.Plan.{IsPlan}
 use Rattle.tf_plan_data.specs.Address.{address_text}
@@ -70,7 +70,7 @@ RequestsAreAsPlanned =
 -- its object in the plan stood unchanged in the request.
 abbrev pub CallsAreAsPlanned : Type 0
 CallsAreAsPlanned =
-    (ms : List Meaning) (config : ConfigView) (variables : Entries) (prior : StateView) (plan : PlanView) (requests : Requests) (excuses : List Excuse) (done : List Done)
+    (ms : List Meaning) (config : ConfigView) (variables : Entries) (prior : StateView) (plan : PlanView) (requests : Requests) (excuses : List Excuse) (done : List ActionResultView)
     → IsSoundPlan ms config variables prior plan → AreRequests plan requests → AreOutcomes ms requests plan excuses done
     → (k : ℕ) (a : ActionView) (asked : Asked) (answer : Option Answer) (v : Verdict) → slice_get plan.actions k ≡ Some a → done_at done k ≡ called asked answer v
     → IsAskedAsPlanned a asked

@@ -11,9 +11,9 @@ use Rattle.tf_deciding.specs.Stage.{records_at}
 use Rattle.tf_decision.specs.Decision.{change, nothing}
 use Rattle.tf_decision.specs.Ignored.{ignored_fault}
 use Rattle.tf_decision.specs.Prior.{first_unfit}
-use Rattle.tf_environment.specs.Shape.{ShapeView, instance_keys}
+use Rattle.tf_environment.specs.InstanceKeys.{InstanceKeysView, instance_keys}
 use Rattle.tf_environment.specs.Stages.{applying}
-use Rattle.tf_environment.specs.Standing.{StandingView, AreStandings, environment}
+use Rattle.tf_environment.specs.Resolved.{ResolvedView, AreResolvedNames, environment}
 use Rattle.tf_eval.specs.Environment.{Environment}
 use Rattle.tf_eval.specs.ExprMeaning.{meaning}
 use Rattle.tf_graph.specs.Solutions.{Ranked}
@@ -21,7 +21,7 @@ use Rattle.tf_plan_resources.specs.Members.{is_among, records_of}
 use Rattle.tf_plan.specs.Planned.{IsPlanned, unrefused}
 use Rattle.tf_protocol.specs.Meaning.{Meaning, schema_in}
 use Rattle.tf_protocol.specs.Schema.{SchemaView}
-use Rattle.tf_plan_resources.specs.Numbering.{has_block, numbered}
+use Rattle.tf_plan_resources.specs.ResourceIndex.{has_block, numbered}
 use Rattle.tf_state_data.specs.Record.{RecordView}
 use Rattle.tf_state_data.specs.Resource.{ResourceView}
 use Rattle.tf_syntax.specs.ExprTree as expr
@@ -39,18 +39,18 @@ pub record IsResting (ms : List Meaning) (block : BlockView) (key : InstanceKeyV
 
 -- The resources of a state are at rest: each has a block, and each record of one is of an instance that the block has; and
 -- each instance is at rest where resources stand for these objects of their instances.
-pub record AreAtRest (ms : List Meaning) (variables : Entries) (names : List NameView) (shapes : ℕ → ShapeView) (objects : ℕ → InstanceKeyView → Tree) (resources : List ResourceView) : Type 0 where
+pub record AreAtRest (ms : List Meaning) (variables : Entries) (names : List NameView) (shapes : ℕ → InstanceKeysView) (objects : ℕ → InstanceKeyView → Tree) (resources : List ResourceView) : Type 0 where
   pub blocks : AllByRecursion (λ r. has_block names r.label ≡ true) resources
   pub declared : (n : ℕ) (block : BlockView) → meant_at names n ≡ Some (a_block block) → AllByRecursion (λ x. is_among (instance_keys (shapes n)) x.id.key ≡ true) (records_at block.label resources)
-  pub rest : (standings : ℕ → StandingView) → AreStandings (applying shapes objects) variables names standings
+  pub rest : (resolved_names : ℕ → ResolvedView) → AreResolvedNames (applying shapes objects) variables names resolved_names
       → (n : ℕ) (block : BlockView) (key : InstanceKeyView) → meant_at names n ≡ Some (a_block block) → is_among (instance_keys (shapes n)) key ≡ true
-      → IsResting ms block key (environment variables names standings) (objects n key) (records_of key (records_at block.label resources))
+      → IsResting ms block key (environment variables names resolved_names) (objects n key) (records_of key (records_at block.label resources))
 
 -- Beside resources at rest nothing is planned: where no name needs itself, each plan without a refusal is without an action.
 -- In it names stand for what they do where resources stand for the objects at rest.
 abbrev pub NothingIsPlannedAtRest : Type 0
 NothingIsPlannedAtRest =
-    (ms : List Meaning) (variables : Entries) (names : List NameView) (outputs : expr.Entries) (shapes : ℕ → ShapeView) (objects : ℕ → InstanceKeyView → Tree) (resources : List ResourceView) (actions : List ActionView)
+    (ms : List Meaning) (variables : Entries) (names : List NameView) (outputs : expr.Entries) (shapes : ℕ → InstanceKeysView) (objects : ℕ → InstanceKeyView → Tree) (resources : List ResourceView) (actions : List ActionView)
     → Ranked (directly_before names) → AreAtRest ms variables names shapes objects resources
     → IsPlanned ms resources variables names outputs shapes (unrefused actions) → actions ≡ []
 
@@ -72,15 +72,15 @@ EachMeans env expr.no_entries = ⊤
 EachMeans env (expr.entry name e es) = ((t : Tree) × (meaning env e ≡ Ok t)) × EachMeans env es
 
 -- No instance and no output is refused where resources stand for these objects of their instances.
-pub record AreUnrefused (ms : List Meaning) (variables : Entries) (names : List NameView) (outputs : expr.Entries) (shapes : ℕ → ShapeView) (objects : ℕ → InstanceKeyView → Tree) (resources : List ResourceView) : Type 0 where
-  pub instances : (standings : ℕ → StandingView) → AreStandings (applying shapes objects) variables names standings
+pub record AreUnrefused (ms : List Meaning) (variables : Entries) (names : List NameView) (outputs : expr.Entries) (shapes : ℕ → InstanceKeysView) (objects : ℕ → InstanceKeyView → Tree) (resources : List ResourceView) : Type 0 where
+  pub instances : (resolved_names : ℕ → ResolvedView) → AreResolvedNames (applying shapes objects) variables names resolved_names
       → (n : ℕ) (block : BlockView) (key : InstanceKeyView) → meant_at names n ≡ Some (a_block block) → is_among (instance_keys (shapes n)) key ≡ true
-      → IsUnrefused ms block key (environment variables names standings) (records_of key (records_at block.label resources))
-  pub outputs_mean : (standings : ℕ → StandingView) → AreStandings (applying shapes objects) variables names standings → EachMeans (environment variables names standings) outputs
+      → IsUnrefused ms block key (environment variables names resolved_names) (records_of key (records_at block.label resources))
+  pub outputs_mean : (resolved_names : ℕ → ResolvedView) → AreResolvedNames (applying shapes objects) variables names resolved_names → EachMeans (environment variables names resolved_names) outputs
 
 -- Then beside resources at rest there is a plan, with nothing to do and nothing to refuse, in each address order.
 abbrev pub NothingIsRefusedAtRest : Type 0
 NothingIsRefusedAtRest =
-    (ms : List Meaning) (variables : Entries) (names : List NameView) (outputs : expr.Entries) (shapes : ℕ → ShapeView) (objects : ℕ → InstanceKeyView → Tree) (resources : List ResourceView) (places : List ℕ)
+    (ms : List Meaning) (variables : Entries) (names : List NameView) (outputs : expr.Entries) (shapes : ℕ → InstanceKeysView) (objects : ℕ → InstanceKeyView → Tree) (resources : List ResourceView) (places : List ℕ)
     → Ranked (directly_before names) → AreAtRest ms variables names shapes objects resources → AreUnrefused ms variables names outputs shapes objects resources
     → AreInAddressOrder (numbered names resources) places → IsPlanned ms resources variables names outputs shapes (unrefused [])

@@ -2,11 +2,11 @@
 use Rattle.std.specs.Prelude.{◌≡◌, ℕ, false, List, Ok, String, string_bytes}
 use Rattle.std.specs.List.{AllByRecursion}
 use Rattle.std.specs.declared.alloc.Global.{Global}
-use Rattle.tf_laws.specs.Again.{HaveSchemas, WentWell, over}
+use Rattle.tf_laws.specs.ReapplyTexts.{HaveSchemas, WentWell, over}
 use Rattle.tf_cli.specs.Applies.{IsApplied, state_in}
 use Rattle.tf_cli.specs.Shown.{applied_status, is_torn}
 use Rattle.tf_cli.specs.declared.applied.Applied.{Applied}
-use Rattle.tf_laws.specs.Converges.{IsValued}
+use Rattle.tf_laws.specs.Reapply.{IsValued}
 use Rattle.tf_laws.specs.Twice.{HasToldSerial, without_flags}
 use Rattle.tf_inputs.specs.Texts.{Texts}
 use Rattle.tf_plan_data.specs.Plan.{PlanView}

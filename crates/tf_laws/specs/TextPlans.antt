@@ -8,7 +8,7 @@ use Rattle.tf_laws.specs.Plans.{AreOne}
 use Rattle.tf_laws.specs.Readings.{without_lineage}
 use Rattle.tf_plan_data.specs.Plan.{PlanView}
 use Rattle.tf_protocol.specs.Meaning.{Meaning}
-use Rattle.tf_refusal.specs.Refusal.{Told}
+use Rattle.tf_refusal.specs.Refusal.{RefusalView}
 use Rattle.tf_state_data.specs.State.{StateView}
 
 -- Texts have one plan, where a new state is of one lineage.
@@ -38,8 +38,8 @@ AppliesShowThePlan = (ms : List Meaning) (texts : Texts) (lineage shown : List �
 
 -- Where texts have a plan, no list is one of what their plan is refused for.
 abbrev pub PlannedTextsAreNotRefused : Type 0
-PlannedTextsAreNotRefused = (ms : List Meaning) (texts : Texts) (lineage : List ℕ) (plan : PlanView) (tolds : List Told) → IsPlanOf ms texts lineage plan → ¬ IsPlanRefused ms texts tolds
+PlannedTextsAreNotRefused = (ms : List Meaning) (texts : Texts) (lineage : List ℕ) (plan : PlanView) (refusal_views : List RefusalView) → IsPlanOf ms texts lineage plan → ¬ IsPlanRefused ms texts refusal_views
 
 -- Two lists of what the plan of texts is refused for are the same.
 abbrev pub RefusalsOfTextsAreOne : Type 0
-RefusalsOfTextsAreOne = (ms : List Meaning) (texts : Texts) (tolds others : List Told) → IsPlanRefused ms texts tolds → IsPlanRefused ms texts others → tolds ≡ others
+RefusalsOfTextsAreOne = (ms : List Meaning) (texts : Texts) (refusal_views others : List RefusalView) → IsPlanRefused ms texts refusal_views → IsPlanRefused ms texts others → refusal_views ≡ others

@@ -7,9 +7,9 @@ use Rattle.std.specs.Ordering.{nat_cmp}
 use Rattle.tf_config.specs.Config.{names_in}
 use Rattle.tf_config_data.specs.Config.{ConfigView}
 use Rattle.tf_state_next.specs.Laws.{IsInOrder}
-use Rattle.tf_outcome.specs.Outcome.{AreRequests, Done, Requests}
+use Rattle.tf_outcome.specs.Outcome.{AreRequests, ActionResultView, Requests}
 use Rattle.tf_outcome.specs.declared.excuse.Outcome.TheVariants.{Judged}
-use Rattle.tf_outputs.specs.Outputs.{OutputDone, outputs_after}
+use Rattle.tf_outputs.specs.Outputs.{OutputResultView, outputs_after}
 use Rattle.tf_plan.specs.Plan.{IsPlan}
 use Rattle.tf_plan_data.specs.Plan.{PlanView}
 use Rattle.tf_protocol.specs.Meaning.{Meaning}
@@ -20,7 +20,7 @@ use Rattle.tf_state_data.specs.Record.{RecordView}
 use Rattle.tf_state_data.specs.Resource.{ResourceView}
 use Rattle.tf_state_data.specs.State.{StateView, state_of}
 use Rattle.tf_value.specs.Tree.{Entries}
-use Rattle.tf_laws.specs.Converges.{IsCarriedOut, IsSound, IsValued}
+use Rattle.tf_laws.specs.Reapply.{IsCarriedOut, IsSound, IsValued}
 
 -- ---- states but for their flags
 
@@ -51,8 +51,8 @@ HasOrderedOutputs config = IsStrictlySortedBy (slice_cmp nat_cmp) (names_in conf
 -- state that came of it, whatever came of its outputs.
 pub record IsAppliedAgain (ms : List Meaning) (config : ConfigView) (variables : Entries) (before : StateView) (again : PlanView) (later : StateView) : Type 0 where
   pub planned : IsPlan ms config variables before again
-  pub done : List Done
-  pub outputs : List OutputDone
+  pub done : List ActionResultView
+  pub outputs : List OutputResultView
   pub are_outputs : AreOutputsOf again done outputs
   pub state : IsStateOf ms again done (outputs_after again.prior.outputs again.config.outputs outputs) later
   pub in_order : IsInOrder later
@@ -64,15 +64,15 @@ pub record IsAppliedAgain (ms : List Meaning) (config : ConfigView) (variables :
 -- were others. No object appears or goes, and lineage and version stay.
 abbrev pub SecondAppliesKeepObjects : Type 0
 SecondAppliesKeepObjects =
-    (ms : List Meaning) (config : ConfigView) (variables : Entries) (prior : StateView) (plan : PlanView) (done : List Done) (outputs : Entries) (after : StateView) (again : PlanView) (later : StateView)
+    (ms : List Meaning) (config : ConfigView) (variables : Entries) (prior : StateView) (plan : PlanView) (done : List ActionResultView) (outputs : Entries) (after : StateView) (again : PlanView) (later : StateView)
     → IsSound ms config variables prior → HasOwnNames config → IsCarriedOut ms config variables prior plan done outputs after
     → IsAppliedAgain ms config variables after again later
     → (map resource_without_flags later.resources ≡ map resource_without_flags after.resources) × (later.lineage ≡ after.lineage) × (later.terraform_version ≡ after.terraform_version)
 
 -- An apply that went well, of which each output has a value.
 pub record IsAppliedWell (ms : List Meaning) (config : ConfigView) (variables : Entries) (prior : StateView) (plan : PlanView) (after : StateView) : Type 0 where
-  pub done : List Done
-  pub outputs : List OutputDone
+  pub done : List ActionResultView
+  pub outputs : List OutputResultView
   pub carried : IsCarriedOut ms config variables prior plan done (outputs_after prior.outputs config.outputs outputs) after
   pub are_outputs : AreOutputsOf plan done outputs
   pub each_valued : AllByRecursion IsValued outputs
@@ -102,7 +102,7 @@ SecondSerialsTell =
 -- the second began from, so the same are late.
 abbrev pub ThirdAppliesKeepRecords : Type 0
 ThirdAppliesKeepRecords =
-    (ms : List Meaning) (config : ConfigView) (variables : Entries) (prior : StateView) (plan : PlanView) (done : List Done) (outputs : Entries) (after : StateView) (again : PlanView) (later : StateView) (third : PlanView) (last : StateView)
+    (ms : List Meaning) (config : ConfigView) (variables : Entries) (prior : StateView) (plan : PlanView) (done : List ActionResultView) (outputs : Entries) (after : StateView) (again : PlanView) (later : StateView) (third : PlanView) (last : StateView)
     → IsSound ms config variables prior → HasOwnNames config → IsCarriedOut ms config variables prior plan done outputs after
     → IsAppliedAgain ms config variables after again later → IsAppliedAgain ms config variables later third last → last.resources ≡ later.resources
 
@@ -122,7 +122,7 @@ ThirdAppliesChangeNothing =
 abbrev pub ReportsSettle : Type 0
 ReportsSettle =
     (ms : List Meaning) (config : ConfigView) (variables : Entries) (prior : StateView) (plan again third : PlanView) (requests : Requests)
-    (done done_again done_third : List Done) (outputs outputs_again outputs_third : List OutputDone) (report second last : Report)
+    (done done_again done_third : List ActionResultView) (outputs outputs_again outputs_third : List OutputResultView) (report second last : Report)
     → IsSound ms config variables prior → HasOwnNames config → HasOrderedOutputs config
     → IsPlan ms config variables prior plan → ((n : ℕ) → plan.needs n n ≡ false) → AreRequests plan requests
     → IsReport ms requests plan done outputs report → AllByRecursion (λ o. o ≡ Judged Good) report.outcomes.items → AllByRecursion IsValued outputs

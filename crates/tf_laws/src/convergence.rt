@@ -1,6 +1,6 @@
 //! Laws on plans after an apply.
 
-ghost use Rattle.tf_laws.specs.Converges.{Converges, NothingIsRefusedAgain, ReportsConverge, StateAfterIsAtRest, ValuedOutputsMean};
+ghost use Rattle.tf_laws.specs.Reapply.{Converges, NothingIsRefusedAgain, ReportsConverge, StateAfterIsAtRest, ValuedOutputsMean};
 ghost use Rattle.tf_laws.specs.InstancesAtRest.{AnsweredInstancesRest, ObjectsAreSettled, UntouchedInstancesRest};
 ghost use Rattle.tf_laws.specs.Known.{ExpressionsStayKnown};
 ghost use Rattle.tf_laws.specs.Quiet.{QuietAppliesKeepObjects};
@@ -9,7 +9,7 @@ ghost use Rattle.tf_laws.specs.Rest.{NothingIsPlannedAtRest, NothingIsRefusedAtR
 ghost use Rattle.tf_laws.specs.Twice.{ReportsSettle, SecondAppliesChangeFlags, SecondAppliesKeepObjects, SecondSerialsTell, ThirdAppliesChangeNothing, ThirdAppliesKeepRecords};
 
 use tf_change::laws::objects_grow;
-use tf_environment::laws::standings_grow;
+use tf_environment::laws::resolved_names_grow;
 use tf_operators::laws::known_stays_known;
 
 /// Where all that names stand for is known, so is what an expression means, and what a block makes of an instance but for
@@ -45,7 +45,7 @@ pub fn applies_converge()
     ensures outputs { ValuedOutputsMean }
 {
     known_names_give_known_values();
-    standings_grow();
+    resolved_names_grow();
     objects_grow();
 }
 
@@ -67,7 +67,7 @@ pub fn applies_settle()
     ensures reports { ReportsSettle }
 {
     known_names_give_known_values();
-    standings_grow();
+    resolved_names_grow();
     objects_grow();
 }
 

@@ -4,7 +4,7 @@ ghost use Rattle.tf_laws.specs.Instances.{InstancesAreExpanded, InstancesStayInA
 ghost use Rattle.tf_laws.specs.Requests.{CallsAreAsPlanned, RequestsAreAsPlanned};
 
 use tf_asks::laws::{planned_objects_are_asked, requests_grow};
-use tf_environment::laws::{instances_stay, standings_are_one, standings_grow};
+use tf_environment::laws::{instances_stay, resolved_names_are_one, resolved_names_grow};
 use tf_eval::expr_knowledge_grows;
 use tf_expand::laws::all_stand_where_none_is_refused;
 
@@ -27,8 +27,8 @@ pub fn instances_are_as_expanded()
     ensures planned_keys { KeysStayInPlans }
     ensures requested_keys { KeysStayInRequests }
 {
-    standings_are_one();
-    standings_grow();
+    resolved_names_are_one();
+    resolved_names_grow();
     instances_stay();
     expr_knowledge_grows();
     all_stand_where_none_is_refused();

@@ -1,13 +1,13 @@
 //! Laws on texts.
 
 ghost use Rattle.std.specs.Prelude.{[], ◌∷◌};
-ghost use Rattle.tf_laws.specs.Again.{HaveSchemas, NothingIsDoneAgain, NothingIsPlannedAfterSuccess, NothingIsPlannedAgain, OnlyInstancesAreRefused};
+ghost use Rattle.tf_laws.specs.ReapplyTexts.{HaveSchemas, NothingIsDoneAgain, NothingIsPlannedAfterSuccess, NothingIsPlannedAgain, OnlyInstancesAreRefused};
 ghost use Rattle.tf_laws.specs.Applies.{AppliesAreOne};
 ghost use Rattle.tf_laws.specs.ReadingLaws.{Laws};
 ghost use Rattle.tf_laws.specs.OneOfTwo.{AppliesHavePlanOrRefusals, PlansAreTold, ReadingsAreTold, TextsAreReadOrRefused, TextsHavePlanOrRefusals};
 ghost use Rattle.tf_laws.specs.TextPlans.{AppliesShowThePlan, PlannedTextsAreNotRefused, RefusalsOfTextsAreOne, TextsHaveOnePlan, TextsHaveOnePlanApart, TextsShowOnePlan};
 ghost use Rattle.tf_laws.specs.Refusals.{ApplyRefusalsTellTheSame, PlannedTextsHaveNoRefusals, ReadTextsAreNotRefused, RefusalsTellTheSame, RefusedReadingsAreOne};
-ghost use Rattle.tf_laws.specs.Readings.{TextsStandForOne, TextsStandForOneApart};
+ghost use Rattle.tf_laws.specs.Readings.{TextsReadAsOne, TextsReadAsOneApart};
 ghost use Rattle.tf_laws.specs.Success.{SecondAppliesSettle, SuccessIsComplete, ThirdAppliesChangeNothing};
 ghost use Rattle.tf_sim.specs.Table.{sim_meaning};
 
@@ -35,11 +35,11 @@ fn laws_of_reading()
     read_configurations_fit();
 }
 
-/// Texts stand for one configuration, one list of values of its variables and one prior state, where a new state is of
+/// Texts read as one configuration, one list of values of its variables and one prior state, where a new state is of
 /// one lineage; and by another lineage no more than that of a new state is another.
-pub fn texts_stand_for_one()
-    ensures one { TextsStandForOne }
-    ensures apart { TextsStandForOneApart }
+pub fn texts_read_as_one()
+    ensures one { TextsReadAsOne }
+    ensures apart { TextsReadAsOneApart }
 {
     laws_of_reading();
 }
@@ -66,7 +66,7 @@ pub fn plans_exclude_refusals()
     refusals_are_one();
 }
 
-/// Of texts that stand for something no refusal is told, but that there was no memory; so texts that have a plan have no
+/// Of texts that read as something no refusal is told, but that there was no memory; so texts that have a plan have no
 /// list of refusals.
 pub fn readings_exclude_refusals()
     ensures read { ReadTextsAreNotRefused }

@@ -2,8 +2,8 @@
 use Rattle.std.proofs.Common.{◌≡◌, ℕ, zero, suc, ◌+◌, ◌<◌, ◌≤◌, List, [], ◌∷◌, ◌++◌, Option, None, Some, option_map, length, get_or, drop, drop-cons, map, refl, sym, ap, ◌∙◌, add-one, arith, append_assoc}
 use Rattle.tf_config_data.specs.Names.{NameView, meant_at, place_of, place_before, places}
 use Rattle.tf_syntax.specs.TemplateNames.{Pair}
-use Rattle.tf_names.specs.Table.{named_view}
-use Rattle.tf_names.specs.declared.named.Named.{Named}
+use Rattle.tf_names.specs.Table.{declaration_of}
+use Rattle.tf_names.specs.declared.declaration.Declaration.{Declaration}
 
 -- what is left of a list, one element further on
 pub drop_next : {A : Type 0} → (all : List A) (i : ℕ) (x : A) → i < length all → x ≡ get_or all i x → drop i all ≡ x ∷ drop (i + 1) all
@@ -19,14 +19,14 @@ drop_all (x ∷ all) zero h = absurd (omega arith)
 drop_all (x ∷ all) (suc i) h = drop_all all i (omega arith)
 
 -- what stands at a place means what the name there does
-pub meant_at-map : (ns : List Named) (i : ℕ) (n : Named) → i < length ns → n ≡ get_or ns i n → meant_at (map named_view ns) i ≡ Some (named_view n).meant
+pub meant_at-map : (ns : List Declaration) (i : ℕ) (n : Declaration) → i < length ns → n ≡ get_or ns i n → meant_at (map declaration_of ns) i ≡ Some (declaration_of n).meant
 meant_at-map [] i n h is = absurd (omega arith)
-meant_at-map (x ∷ ns) zero n h is = ap (λ y. Some (named_view y).meant) (sym is)
+meant_at-map (x ∷ ns) zero n h is = ap (λ y. Some (declaration_of y).meant) (sym is)
 meant_at-map (x ∷ ns) (suc i) n h is = meant_at-map ns i n (omega arith) is
 
 -- the place of a name among those from a position on
-abbrev pub place_from : List Named → ℕ → Pair → Option ℕ
-place_from all i pair = option_map (λ k. k + i) (place_of (map named_view (drop i all)) pair)
+abbrev pub place_from : List Declaration → ℕ → Pair → Option ℕ
+place_from all i pair = option_map (λ k. k + i) (place_of (map declaration_of (drop i all)) pair)
 
 -- the places of names one after another
 place_before-append : (o : Option ℕ) (xs ys : List ℕ) → place_before o (xs ++ ys) ≡ place_before o xs ++ ys

@@ -2,7 +2,7 @@
 use Rattle.std.specs.Prelude.{◌⊎◌}
 use Rattle.tf_config_data.specs.Config.{ConfigView}
 use Rattle.tf_config_data.specs.Names.{names_of}
-use Rattle.tf_refusal.specs.Refusal.{Told}
+use Rattle.tf_refusal.specs.Refusal.{RefusalView}
 use Rattle.tf_names.specs.Cyclic.{RefusesCycle}
 use Rattle.tf_names.specs.KnownNames.{declared_in, config_checks, AreKnown, RefusesNames}
 
@@ -11,5 +11,5 @@ abbrev pub AllAreKnown : ConfigView → Type 0
 AllAreKnown c = AreKnown (declared_in c) (config_checks c)
 
 -- The first name that isn't known is told; where each is known, the names that need themselves.
-abbrev pub RefusesItsNames : ConfigView → Told → Type 0
+abbrev pub RefusesItsNames : ConfigView → RefusalView → Type 0
 RefusesItsNames c refusal = RefusesNames (declared_in c) (config_checks c) refusal ⊎ (AllAreKnown c × RefusesCycle (names_of c) refusal)

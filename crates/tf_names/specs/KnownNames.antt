@@ -12,7 +12,7 @@ use Rattle.tf_json_path.specs.Check.{Check, AllMet, IsFirst, demanded}
 use Rattle.tf_operators.specs.Functions.{function_named}
 use Rattle.tf_refusal.specs.Code as code
 use Rattle.tf_refusal.specs.OfExpression.{Way}
-use Rattle.tf_refusal.specs.Refusal.{bare, Told, no_memory, workers, fault, told}
+use Rattle.tf_refusal.specs.Refusal.{bare, RefusalView, no_memory, workers, fault, refusal_of}
 use Rattle.tf_refusal.specs.declared.refusal.Refusal.{Refusal}
 use Rattle.tf_syntax.specs.ExprTree.{Tree, null, boolean, whole, template, list, map, Trees, no_trees, tree, Entries, no_entries, entry}
 use Rattle.tf_syntax.specs.TemplateNames.{Pair, called, named}
@@ -175,11 +175,11 @@ abbrev pub AreKnown : Declared → NameChecks → Type 0
 AreKnown declared = AllMet (IsKnown declared)
 
 -- the first check that fails is what is told, or there was no memory
-abbrev pub RefusesNames : Declared → NameChecks → Told → Type 0
+abbrev pub RefusesNames : Declared → NameChecks → RefusalView → Type 0
 RefusesNames declared checks no_memory = Unit {0}
 RefusesNames declared checks workers = ⊥
 RefusesNames declared checks (fault code place detail) = IsFirst (IsKnown declared) (IsUnknown declared) place (code, detail) checks
 
 -- an answer that only judges: each name is known, or the first check that fails is told
 abbrev pub JudgesNames : {T : Type 0} → Declared → NameChecks → Result T Refusal → Type 0
-JudgesNames declared checks answer = MatchResult answer (λ _. AreKnown declared checks) (λ refusal. RefusesNames declared checks (told refusal))
+JudgesNames declared checks answer = MatchResult answer (λ _. AreKnown declared checks) (λ refusal. RefusesNames declared checks (refusal_of refusal))

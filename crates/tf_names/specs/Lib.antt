@@ -2,7 +2,7 @@ pub mod Cyclic
 pub mod Edges
 pub mod Judging
 pub mod KnownNames
-pub mod Named
+pub mod Declaration
 pub mod Needs
 pub mod Places
 pub mod Properties

@@ -4,10 +4,10 @@ use Rattle.tf_address.specs.Label.{label_of}
 use Rattle.tf_syntax.specs.ExprTree.{tree_of}
 use Rattle.tf_names.specs.KnownNames.{PropertyView, an_expression, the_resources}
 use Rattle.tf_names.specs.declared.properties.Property.{Property}
-use Rattle.tf_names.specs.declared.properties.Value.{Value}
-use Rattle.tf_names.specs.declared.properties.Value.TheVariants.{Expression, Resources}
+use Rattle.tf_names.specs.declared.properties.PropertyValue.{PropertyValue}
+use Rattle.tf_names.specs.declared.properties.PropertyValue.TheVariants.{Expression, Resources}
 
-abbrev pub value_view : Value → PropertyView
+abbrev pub value_view : PropertyValue → PropertyView
 value_view (Expression context expr) = an_expression context (tree_of expr.now)
 value_view (Resources labels) = the_resources (map label_of labels.now)
 

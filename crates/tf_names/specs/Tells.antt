@@ -1,10 +1,10 @@
 -- What a refusal tells of a place.
 use Rattle.std.specs.Prelude.{◌≡◌, ℕ, List}
 use Rattle.tf_refusal.specs.OfExpression.{Way}
-use Rattle.tf_refusal.specs.Refusal.{Told, no_memory, workers, fault}
+use Rattle.tf_refusal.specs.Refusal.{RefusalView, no_memory, workers, fault}
 
 -- a fault at the place, or there was no memory to say so
-abbrev pub TellsAt : List ℕ → Way → Told → Type 0
+abbrev pub TellsAt : List ℕ → Way → RefusalView → Type 0
 TellsAt place way no_memory = Unit {0}
 TellsAt place way workers = ⊥
 TellsAt place way (fault code place' detail) = (place' ≡ place) × ((code, detail) ≡ way)

@@ -4,12 +4,12 @@ ghost use Rattle.std.specs.List.Sorted.{IsStrictlySortedBy};
 ghost use Rattle.std.specs.Prelude.{◌≡◌, IfOk, OnOk, map, string_bytes, string_cmp, if◌then◌else◌};
 ghost use Rattle.tf_names.specs.Cyclic.{JudgesCycles};
 ghost use Rattle.tf_names.specs.Needs.{pair_text, AreCyclic, IsAcyclic, IsDependence};
-ghost use Rattle.tf_names.specs.Table.{named_view, names_in};
+ghost use Rattle.tf_names.specs.Table.{declaration_of, names_in};
 ghost use Rattle.tf_names.specs.Texts.{put_text};
 
+use crate::declaration::Declaration;
 use crate::dependence::Dependence;
-use crate::named::Named;
-use crate::table::Names;
+use crate::table::Declarations;
 use std::alloc::{AllocError, Global};
 use std::collections::BTreeSet;
 use tf_refusal::code::CYCLE;
@@ -21,7 +21,7 @@ impl Dependence {
     /// # Errors
     ///
     /// Only where memory runs out.
-    pub fn cyclic(&self, alloc: Global, names: &Names<'_>) -> Result<Vec<String>, AllocError>
+    pub fn cyclic(&self, alloc: Global, names: &Declarations<'_>) -> Result<Vec<String>, AllocError>
         requires { IsDependence (names_in names.now) self.now }
         ensures { IfOk result (λ texts. AreCyclic (names_in names.now) (map string_bytes texts.items)) }
     {
@@ -43,7 +43,7 @@ impl Dependence {
 /// was no memory.
 pub fn demand_acyclic(
     alloc: Global,
-    names: &Names<'_>,
+    names: &Declarations<'_>,
     dependence: &Dependence,
 ) -> Result<(), Refusal>
     requires { IsDependence (names_in names.now) dependence.now }
@@ -66,11 +66,11 @@ pub fn demand_acyclic(
 fn note(
     alloc: Global,
     found: &mut BTreeSet<String>,
-    named: Named<'_>,
+    named: Declaration<'_>,
     needs_itself: bool,
 ) -> Result<(), AllocError>
     ensures { OnOk result (map string_bytes found.new.keys
-        ≡ (if needs_itself then put_text (map string_bytes found.old.keys) (pair_text (named_view named.entry).name)
+        ≡ (if needs_itself then put_text (map string_bytes found.old.keys) (pair_text (declaration_of named.entry).name)
         else map string_bytes found.old.keys)) }
 {
     if needs_itself {
@@ -80,15 +80,15 @@ fn note(
 }
 
 /// A name as it stands in a text.
-fn text_of(alloc: Global, named: Named<'_>) -> Result<String, AllocError>
-    ensures { IfOk result (λ text. string_bytes text ≡ pair_text (named_view named.entry).name) }
+fn text_of(alloc: Global, named: Declaration<'_>) -> Result<String, AllocError>
+    ensures { IfOk result (λ text. string_bytes text ≡ pair_text (declaration_of named.entry).name) }
 {
     match named {
-        Named::Local(name, _) => {
+        Declaration::Local(name, _) => {
             let name = name.as_str();
             format!(in alloc; "local.{name}")
         }
-        Named::Resource(label, _) => format!(in alloc; "{label}"),
+        Declaration::Resource(label, _) => format!(in alloc; "{label}"),
     }
 }
 

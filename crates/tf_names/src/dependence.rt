@@ -8,7 +8,7 @@ ghost use Rattle.tf_names.specs.Edges.{edges_into};
 ghost use Rattle.tf_names.specs.Needs.{before_in, is_referred_to, needs_in, order_in, IsDependence};
 ghost use Rattle.tf_names.specs.Table.{names_in};
 
-use crate::table::Names;
+use crate::table::Declarations;
 use std::alloc::{AllocError, Global};
 use tf_graph::{Closure, Graph};
 
@@ -26,7 +26,7 @@ impl Dependence {
     /// # Errors
     ///
     /// Only where memory runs out.
-    pub fn new(alloc: Global, names: &Names<'_>) -> Result<Dependence, AllocError>
+    pub fn new(alloc: Global, names: &Declarations<'_>) -> Result<Dependence, AllocError>
         requires { length (names_in names.now) ≤ 8000 }
         ensures { IfOk result (λ d. IsDependence (names_in names.now) d) }
     {
@@ -123,7 +123,7 @@ fn is_referred_to(dependence: &Dependence, name: usize) -> bool
 }
 
 /// An edge to each name from each that it refers to.
-fn edges_of(alloc: Global, names: &Names<'_>) -> Result<Vec<(usize, usize)>, AllocError>
+fn edges_of(alloc: Global, names: &Declarations<'_>) -> Result<Vec<(usize, usize)>, AllocError>
     ensures within { IfOk result (λ edges. AllByRecursion
         (λ e. (e.0 < length (names_in names.now)) × (e.1 < length (names_in names.now))) edges.items) }
     ensures before { IfOk result (λ edges. (n : ℕ)

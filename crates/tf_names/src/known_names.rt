@@ -10,10 +10,10 @@ ghost use Rattle.tf_names.specs.Properties.{property_view, value_view};
 ghost use Rattle.tf_names.specs.Table.{names_in};
 ghost use Rattle.tf_names.specs.declared.known_names.Context.TheVariants.{Plain};
 ghost use Rattle.tf_names.specs.Tells.{TellsAt};
-ghost use Rattle.tf_refusal.specs.Refusal.{told};
+ghost use Rattle.tf_refusal.specs.Refusal.{refusal_of};
 
-use crate::properties::{Property, Value, properties_of};
-use crate::table::Names;
+use crate::properties::{Property, PropertyValue, properties_of};
+use crate::table::Declarations;
 use std::alloc::{AllocError, Global};
 use std::collections::BTreeMap;
 use tf_address::Label;
@@ -54,7 +54,7 @@ impl Context {
 struct Known<'a, 'n> {
     alloc: Global,
     config: &'a Config,
-    names: &'a Names<'n>,
+    names: &'a Declarations<'n>,
 }
 
 impl Known<'_, '_> {
@@ -118,7 +118,7 @@ fn is_function(name: &str) -> bool
 
 /// The text at the place names or calls something that isn't known.
 fn names_unknown(alloc: Global, path: &Path<'_>) -> Refusal
-    ensures { TellsAt (dotted (place_at path.now)) unknown_name (told result) }
+    ensures { TellsAt (dotted (place_at path.now)) unknown_name (refusal_of result) }
 {
     match path.text(alloc) {
         Ok(place) => Refusal::Fault {
@@ -137,7 +137,11 @@ fn names_unknown(alloc: Global, path: &Path<'_>) -> Refusal
 /// # Errors
 ///
 /// `UnknownName` at the first place in walk order where this isn't so; or there was no memory.
-pub fn demand_known_names(alloc: Global, config: &Config, names: &Names<'_>) -> Result<(), Refusal>
+pub fn demand_known_names(
+    alloc: Global,
+    config: &Config,
+    names: &Declarations<'_>,
+) -> Result<(), Refusal>
     requires { names_in names.now ≡ names_of (config_of config.now) }
     ensures { JudgesNames (declared_in (config_of config.now)) (config_checks (config_of config.now)) result }
 {
@@ -220,13 +224,13 @@ fn demand_properties<'a>(
 fn demand_value<'a>(
     known: Known<'_, '_>,
     path: &'a Path<'a>,
-    value: &'a Value<'a>,
+    value: &'a PropertyValue<'a>,
 ) -> Result<(), Refusal>
     ensures { JudgesNames (declared_of known.entry) (property_checks (place_at path.now) (value_view value.now)) result }
 {
     match value {
-        Value::Expression(context, expr) => demand_expr(known, *context, path, expr),
-        Value::Resources(labels) => demand_labels(known, path, labels),
+        PropertyValue::Expression(context, expr) => demand_expr(known, *context, path, expr),
+        PropertyValue::Resources(labels) => demand_labels(known, path, labels),
     }
 }
 

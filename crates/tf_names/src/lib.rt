@@ -5,18 +5,18 @@
 #![tactic(auto)]
 
 mod cycles;
+mod declaration;
 mod dependence;
 mod judging;
 mod known_names;
-mod named;
 mod places;
 mod properties;
 mod table;
 
 pub use cycles::demand_acyclic;
+pub use declaration::Declaration;
 pub use dependence::Dependence;
-pub use judging::judge;
+pub use judging::check_names;
 pub use known_names::{Context, demand_known_names};
-pub use named::Named;
 pub use places::Places;
-pub use table::Names;
+pub use table::Declarations;

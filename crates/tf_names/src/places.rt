@@ -2,11 +2,11 @@
 
 ghost use Rattle.std.specs.Prelude.{◌≡◌, ℕ, None, Some, IfOk, OnOk, if◌then◌else◌, map};
 ghost use Rattle.tf_config_data.specs.Names.{place_of, same_pair};
-ghost use Rattle.tf_names.specs.Named.{named_view};
+ghost use Rattle.tf_names.specs.Declaration.{declaration_of};
 ghost use Rattle.tf_names.specs.Places.{found_in};
 ghost use Rattle.tf_syntax.specs.TemplateNames.{Pair};
 
-use crate::named::Named;
+use crate::declaration::Declaration;
 use std::alloc::{AllocError, Global};
 use std::collections::BTreeMap;
 
@@ -31,8 +31,8 @@ impl Places {
     /// # Errors
     ///
     /// Only where memory runs out.
-    pub(crate) fn of(alloc: Global, entries: &[Named<'_>]) -> Result<Places, AllocError>
-        ensures { IfOk result (λ places. (pair : Pair) → found_in places pair ≡ place_of (map named_view entries.now) pair) }
+    pub(crate) fn of(alloc: Global, entries: &[Declaration<'_>]) -> Result<Places, AllocError>
+        ensures { IfOk result (λ places. (pair : Pair) → found_in places pair ≡ place_of (map declaration_of entries.now) pair) }
     {
         let mut places = Places::empty(alloc);
         for place in (0..entries.len()).rev() {

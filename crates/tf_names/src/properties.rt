@@ -17,7 +17,7 @@ use tf_syntax::Expr;
 
 /// What a property of a block's body says.
 #[derive(Clone, Copy)]
-pub(crate) enum Value<'a> {
+pub(crate) enum PropertyValue<'a> {
     /// An expression, and what is known in it.
     Expression(Context, &'a Expr),
     /// Resources.
@@ -28,7 +28,7 @@ pub(crate) enum Value<'a> {
 #[derive(Clone, Copy)]
 pub(crate) struct Property<'a> {
     pub(crate) name: &'a str,
-    pub(crate) value: Value<'a>,
+    pub(crate) value: PropertyValue<'a>,
 }
 
 /// The properties of a block's body in byte order of their names: its arguments, `count` or `for_each`, and
@@ -42,7 +42,7 @@ pub(crate) fn properties_of<'a>(
     let mut body = arguments_of(alloc, context_in(&block.repetition), &block.arguments)?;
     let depends_on = Property {
         name: "depends_on",
-        value: Value::Resources(block.depends_on.as_slice()),
+        value: PropertyValue::Resources(block.depends_on.as_slice()),
     };
     put(&mut body, depends_on)?;
     put_repetition(&mut body, &block.repetition)?;
@@ -70,7 +70,7 @@ fn arguments_of<'a>(
     for (name, expr) in arguments.iter() {
         body.push(Property {
             name: name.as_str(),
-            value: Value::Expression(context, expr),
+            value: PropertyValue::Expression(context, expr),
         })?;
     }
     Ok(body)
@@ -96,7 +96,7 @@ fn plain<'a>(name: &'a str, expr: &'a Expr) -> Property<'a>
 {
     Property {
         name,
-        value: Value::Expression(Context::Plain, expr),
+        value: PropertyValue::Expression(Context::Plain, expr),
     }
 }
 

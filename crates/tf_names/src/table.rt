@@ -2,10 +2,10 @@
 
 ghost use Rattle.std.specs.Prelude.{◌≡◌, ◌<◌, ◌++◌, ◌∷◌, [], Some, IfOk, OnOk, length, map, slice_get};
 ghost use Rattle.tf_config_data.specs.Words.{block_at, block_refers, config_of, directly_before, entries_view, label_of, label_pair, LabelView, meant_at, named_below, named_by, named_in_repetition, names_of, Pair, place_of, places, refers, repetition_of, tree_of};
-ghost use Rattle.tf_names.specs.Named.{named_view};
+ghost use Rattle.tf_names.specs.Declaration.{declaration_of};
 ghost use Rattle.tf_names.specs.Places.{found_in};
 
-use crate::named::Named;
+use crate::declaration::Declaration;
 use crate::places::Places;
 use std::alloc::{AllocError, Global};
 use std::collections::BTreeMap;
@@ -16,13 +16,13 @@ use tf_syntax::Expr;
 /// The names of a configuration that need and can be needed: its locals in byte order, then its resources in
 /// address order. Each stands at a place, from 0 on.
 #[derive(Drop)]
-pub struct Names<'a> {
-    entries: Vec<Named<'a>>,
+pub struct Declarations<'a> {
+    entries: Vec<Declaration<'a>>,
     places: Places,
-    ghost placed: { (pair : Pair) → found_in places pair ≡ place_of (map named_view entries.items) pair },
+    ghost placed: { (pair : Pair) → found_in places pair ≡ place_of (map declaration_of entries.items) pair },
 }
 
-impl<'a> Names<'a> {
+impl<'a> Declarations<'a> {
     ghost use Rattle.tf_names.specs.Table.{names_in};
 
     /// The names of a configuration.
@@ -30,18 +30,18 @@ impl<'a> Names<'a> {
     /// # Errors
     ///
     /// Only where memory runs out.
-    pub fn new(alloc: Global, config: &'a Config) -> Result<Names<'a>, AllocError>
+    pub fn new(alloc: Global, config: &'a Config) -> Result<Declarations<'a>, AllocError>
         ensures { IfOk result (λ names. names_in names ≡ names_of (config_of config.now)) }
     {
         let mut entries = Vec::new(alloc);
         for (name, expr) in config.locals.iter() {
-            entries.push(Named::Local(name, expr))?;
+            entries.push(Declaration::Local(name, expr))?;
         }
         for (label, block) in config.resources.iter() {
-            entries.push(Named::Resource(label, block))?;
+            entries.push(Declaration::Resource(label, block))?;
         }
         let places = Places::of(alloc, entries.as_slice())?;
-        Ok(Names { entries, places })
+        Ok(Declarations { entries, places })
     }
 
     /// How many names there are.
@@ -52,10 +52,10 @@ impl<'a> Names<'a> {
     }
 
     /// What stands at a place.
-    pub fn at(&self, place: usize) -> Named<'a>
+    pub fn at(&self, place: usize) -> Declaration<'a>
         requires { place < length (names_in self.now) }
-        ensures name { slice_get (names_in self.now) place ≡ Some (named_view result) }
-        ensures meant { meant_at (names_in self.now) place ≡ Some (named_view result).meant }
+        ensures name { slice_get (names_in self.now) place ≡ Some (declaration_of result) }
+        ensures meant { meant_at (names_in self.now) place ≡ Some (declaration_of result).meant }
     {
         self.entries[place]
     }
@@ -97,13 +97,13 @@ impl<'a> Names<'a> {
     }
 
     /// Adds the places of what a name refers to.
-    fn add_meant(&self, named: Named<'_>, found: &mut Vec<usize>) -> Result<(), AllocError>
+    fn add_meant(&self, named: Declaration<'_>, found: &mut Vec<usize>) -> Result<(), AllocError>
         ensures { OnOk result (found.new.items
-            ≡ found.old.items ++ places (names_in self.now) (refers (named_view named.entry).meant)) }
+            ≡ found.old.items ++ places (names_in self.now) (refers (declaration_of named.entry).meant)) }
     {
         match named {
-            Named::Local(_, expr) => self.add_named(expr, found),
-            Named::Resource(_, block) => {
+            Declaration::Local(_, expr) => self.add_named(expr, found),
+            Declaration::Resource(_, block) => {
                 self.add_block(block, found)?;
                 Ok(())
             }

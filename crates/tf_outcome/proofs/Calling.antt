@@ -7,7 +7,7 @@ use Rattle.tf_config_data.specs.Names.{NameView}
 use Rattle.tf_plan_data.specs.Action.{ActionView}
 use Rattle.tf_plan_data.specs.Plan.{PlanView, plan_names}
 use Rattle.tf_protocol.specs.Meaning.{Meaning}
-use Rattle.tf_outcome.specs.Outcome.{Done, skipped, Requests, call_at, call_with, objects_by, objects_seen}
+use Rattle.tf_outcome.specs.Outcome.{ActionResultView, skipped, Requests, call_at, call_with, objects_by, objects_seen}
 use Rattle.tf_outcome.specs.Run.{IsRun}
 
 -- what an index reads of a list that is seen in another way
@@ -27,18 +27,18 @@ pub read_at : {A B : Type 0} (f : A → B) (P : B → Type 0) (xs : List A) (n :
 read_at f P xs n x h below e = all_at P (map f xs) n (f x) h (slice_get-map f xs n x below e)
 
 -- what comes of the action at a place
-pub call_at-is : (ms : List Meaning) (requests : Requests) (plan : PlanView) (n : ℕ) (seen : List (ℕ × Done)) (a : ActionView) → slice_get plan.actions n ≡ Some a
+pub call_at-is : (ms : List Meaning) (requests : Requests) (plan : PlanView) (n : ℕ) (seen : List (ℕ × ActionResultView)) (a : ActionView) → slice_get plan.actions n ≡ Some a
     → call_at ms requests plan n seen ≡ call_with ms requests plan (objects_by plan seen) a
-call_at-is ms requests plan n seen a e = ap (λ (o : Option ActionView). option_map_or {U = Done} (call_with ms requests plan (objects_by plan seen)) o skipped) e
+call_at-is ms requests plan n seen a e = ap (λ (o : Option ActionView). option_map_or {U = ActionResultView} (call_with ms requests plan (objects_by plan seen)) o skipped) e
 
 -- an action whose request was made has what comes of that
-pub run_at : (ms : List Meaning) (requests : Requests) (plan : PlanView) (n : ℕ) (seen : List (ℕ × Done)) (a : ActionView) (call d : Done) → slice_get plan.actions n ≡ Some a
+pub run_at : (ms : List Meaning) (requests : Requests) (plan : PlanView) (n : ℕ) (seen : List (ℕ × ActionResultView)) (a : ActionView) (call d : ActionResultView) → slice_get plan.actions n ≡ Some a
     → call ≡ call_with ms requests plan (objects_by plan seen) a → IsRun call d → IsRun (call_at ms requests plan n seen) d
-run_at ms requests plan n seen a call d here is h = subst (λ (x : Done). IsRun x d) (is ∙ sym (call_at-is ms requests plan n seen a here)) h
+run_at ms requests plan n seen a call d here is h = subst (λ (x : ActionResultView). IsRun x d) (is ∙ sym (call_at-is ms requests plan n seen a here)) h
 
 -- what instances stand for by the parts of a plan is what they stand for by the plan
-pub seen_objects : (plan : PlanView) (names : List NameView) (actions : List ActionView) (seen also : List (ℕ × Done)) → names ≡ plan_names plan → actions ≡ plan.actions → seen ≡ also
+pub seen_objects : (plan : PlanView) (names : List NameView) (actions : List ActionView) (seen also : List (ℕ × ActionResultView)) → names ≡ plan_names plan → actions ≡ plan.actions → seen ≡ also
     → objects_seen names plan.prior actions seen ≡ objects_by plan also
 seen_objects plan names actions seen also same alike is =
     ap (λ (ns : List NameView). objects_seen ns plan.prior actions seen) same
-    ∙ ap₂ (λ (xs : List ActionView) (ds : List (ℕ × Done)). objects_seen (plan_names plan) plan.prior xs ds) alike is
+    ∙ ap₂ (λ (xs : List ActionView) (ds : List (ℕ × ActionResultView)). objects_seen (plan_names plan) plan.prior xs ds) alike is

@@ -8,7 +8,7 @@ use Rattle.tf_protocol.specs.Schema.{SchemaView}
 use Rattle.tf_protocol.specs.Verdict.{verdict_on, asks_fully}
 use Rattle.tf_protocol.specs.declared.verdict.Verdict.{Verdict}
 use Rattle.tf_protocol.specs.declared.verdict.Verdict.TheVariants as verdict
-use Rattle.tf_outcome.specs.Ended.{done_by}
+use Rattle.tf_outcome.specs.ResultViews.{result_by}
 use Rattle.tf_outcome.specs.Journal.{entered_verdict}
 use Rattle.tf_outcome.specs.Outcome.{called, skipped, call_of_provider, is_faulted}
 use Rattle.tf_outcome.specs.Run.{IsRun}
@@ -35,7 +35,7 @@ not_faulted m r (Some s) = refl
 
 -- a call that was made so is one that the action may have
 pub call-runs : (m : Meaning) (r : Asked) (answer : Option Answer) (v : Verdict) → IsServed m r → IfSome answer (λ a. a ≡ m.answer r)
-    → IfSome (m.schema_of r.type_name) (λ s. v ≡ verdict_on r answer s) → IsRun (call_of_provider r m) (done_by r answer v)
+    → IfSome (m.schema_of r.type_name) (λ s. v ≡ verdict_on r answer s) → IsRun (call_of_provider r m) (result_by r answer v)
 call-runs m r answer verdict.Excused served h e = not_faulted m r (m.schema_of r.type_name)
 call-runs m r answer verdict.Good served h e = judged_run m r answer verdict.Good served h e (λ same. cc)
 call-runs m r answer verdict.Failed served h e = judged_run m r answer verdict.Failed served h e (λ same. cc)
@@ -43,7 +43,7 @@ call-runs m r answer (verdict.Contradicted n) served h e = judged_run m r answer
 call-runs m r answer verdict.Malformed served h e = judged_run m r answer verdict.Malformed served h e (λ same. cc)
 
 -- its entry has the verdict that the journal is to have of it
-pub call-entered : (r : Asked) (answer : Option Answer) (v : Verdict) → Some v ≡ entered_verdict (done_by r answer v)
+pub call-entered : (r : Asked) (answer : Option Answer) (v : Verdict) → Some v ≡ entered_verdict (result_by r answer v)
 call-entered r answer verdict.Excused = refl
 call-entered r answer verdict.Good = refl
 call-entered r answer verdict.Failed = refl

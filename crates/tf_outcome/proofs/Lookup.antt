@@ -9,10 +9,10 @@ use Rattle.tf_config_data.specs.Names.{NameView, meant_at}
 use Rattle.tf_graph.specs.Solutions.{seen_by}
 use Rattle.tf_state_data.specs.State.{StateView}
 use Rattle.tf_value.specs.Tree.{Tree, null}
-use Rattle.tf_outcome.specs.Done.{Done}
+use Rattle.tf_outcome.specs.ActionResult.{ActionResultView}
 use Rattle.tf_outcome.specs.Objects.{is_of, object_of, objects_seen, prior_object}
 
-module _ (names : List NameView) (prior : StateView) (actions : List ActionView) (results : ℕ → Done) (seen : List ℕ) (i place : ℕ) (key : InstanceKeyView) where
+module _ (names : List NameView) (prior : StateView) (actions : List ActionView) (results : ℕ → ActionResultView) (seen : List ℕ) (i place : ℕ) (key : InstanceKeyView) where
   -- what the actions from one on give
   abbrev pub object_from : ℕ → Tree
   object_from k = objects_seen names prior actions (seen_by results (drop k seen)) place key

@@ -11,7 +11,7 @@ use Rattle.tf_protocol.specs.declared.request.Op.{Op}
 use Rattle.tf_protocol.specs.declared.verdict.Verdict.{Verdict}
 use Rattle.tf_protocol.specs.declared.verdict.Verdict.TheVariants as verdict
 use Rattle.tf_outcome.specs.Asked.{op_of}
-use Rattle.tf_outcome.specs.Done.{Done, excused, called}
+use Rattle.tf_outcome.specs.ActionResult.{ActionResultView, excused, called}
 use Rattle.tf_outcome.specs.Excuse.{during_call}
 use Rattle.tf_outcome.specs.Outcome.{done_at}
 
@@ -20,7 +20,7 @@ abbrev pub verdict_in : List Entry → ℕ → Option Verdict
 verdict_in entries n = option_map (λ e. e.verdict) (find (λ e. e.action == n) entries)
 
 -- An action that was called has an entry with its verdict, and so has one whose provider had no memory.
-abbrev pub entered_verdict : Done → Option Verdict
+abbrev pub entered_verdict : ActionResultView → Option Verdict
 entered_verdict (called asked answer v) = Some v
 entered_verdict (excused during_call) = Some verdict.Excused
 entered_verdict _ = None
@@ -35,7 +35,7 @@ IsOfAction actions e = op_at actions e.action ≡ Some e.op
 
 -- A journal holds exactly the called actions, each once with its verdict and with what its provider was to do, none before an
 -- action that it depends on.
-pub record IsJournal (plan : PlanView) (done : List Done) (entries : List Entry) : Type 0 where
+pub record IsJournal (plan : PlanView) (done : List ActionResultView) (entries : List Entry) : Type 0 where
   pub in_order : IsInOrder (predecessors_of plan.order) (actions_of entries)
   pub verdicts : (n : ℕ) → verdict_in entries n ≡ entered_verdict (done_at done n)
   pub ops : AllByRecursion (IsOfAction plan.actions) entries

@@ -1,6 +1,6 @@
 pub mod Asked
-pub mod Done
-pub mod Ended
+pub mod ActionResult
+pub mod ResultViews
 pub mod Excuse
 pub mod Fallback
 pub mod Journal

@@ -10,10 +10,10 @@ use Rattle.tf_plan_data.specs.Fits.{is_apply}
 use Rattle.tf_protocol.specs.Meaning.{object}
 use Rattle.tf_state_data.specs.State.{StateView, record_in}
 use Rattle.tf_value.specs.Tree.{Tree, null}
-use Rattle.tf_outcome.specs.Done.{Done, called}
+use Rattle.tf_outcome.specs.ActionResult.{ActionResultView, called}
 
 -- the object that a provider answered to an action; null where there is none
-abbrev pub object_of : Done → Tree
+abbrev pub object_of : ActionResultView → Tree
 object_of (called asked (Some (object t)) v) = t
 object_of _ = null
 
@@ -33,7 +33,7 @@ prior_object prior key _ = null
 
 -- What instances stand for after the actions that are seen. One that is created or updated stands for the object that its
 -- provider answered, whatever was there before, and each other one for its prior object.
-abbrev pub objects_seen : List NameView → StateView → List ActionView → List (ℕ × Done) → ℕ → InstanceKeyView → Tree
+abbrev pub objects_seen : List NameView → StateView → List ActionView → List (ℕ × ActionResultView) → ℕ → InstanceKeyView → Tree
 objects_seen names prior actions [] place key = prior_object prior key (meant_at names place)
 objects_seen names prior actions ((m, d) ∷ seen) place key =
     if is_of (slice_get actions m) place key then object_of d else objects_seen names prior actions seen place key

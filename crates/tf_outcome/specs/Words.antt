@@ -11,12 +11,12 @@ pub use Rattle.tf_graph.specs.Digraph.{predecessors_of}
 pub use Rattle.tf_provider.specs.Entries.{fault_of}
 pub use Rattle.tf_names.specs.Texts.{put_text}
 pub use Rattle.tf_outcome.specs.Asked.{AreRequests, asked_for, create_of, destroy_of, ignored_by, Requests, unless_faulty, update_of}
-pub use Rattle.tf_outcome.specs.Ended.{HasCause, done_of, done_or_skipped, dones_of, ended_action}
+pub use Rattle.tf_outcome.specs.ResultViews.{HasCause, action_result_of, result_or_skipped, action_results_of, ended_action}
 pub use Rattle.tf_outcome.specs.Fallback.{has_stored_attributes}
 pub use Rattle.tf_outcome.specs.Journal.{entered_verdict, IsJournal, IsOfAction, op_at}
 pub use Rattle.tf_outcome.specs.Message.{fault_message}
 pub use Rattle.tf_outcome.specs.Objects.{object_of, objects_seen}
-pub use Rattle.tf_outcome.specs.Outcome.{call_of, call_of_provider, call_with, comes_of, Done, done_at, is_good, op_of}
+pub use Rattle.tf_outcome.specs.Outcome.{call_of, call_of_provider, call_with, comes_of, ActionResultView, done_at, is_good, op_of}
 pub use Rattle.tf_outcome.specs.Room.{message_fits}
 pub use Rattle.tf_outcome.specs.Run.{IsRun}
 pub use Rattle.tf_protocol.specs.Meaning.{Answer, answered, Asked, asked, schema_in}

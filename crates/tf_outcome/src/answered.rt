@@ -2,14 +2,14 @@
 
 ghost use Rattle.std.specs.Prelude.{◌≡◌, IfOk, map, option_map, slice_get};
 ghost use Rattle.tf_plan_data.specs.Words.{action_of, instance_key_of, is_apply, label_of, meant_at, names_in, null, seen_by, state_of, step_of, tree_of};
-ghost use Rattle.tf_outcome.specs.Ended.{done_or_skipped, dones_of};
+ghost use Rattle.tf_outcome.specs.ResultViews.{result_or_skipped, action_results_of};
 ghost use Rattle.tf_outcome.specs.Objects.{current_object, is_of, object_of, objects_seen, prior_object};
 ghost use Rattle.tf_outcome.specs.Outcome.{done_at};
 
-use crate::ended::Ended;
+use crate::action_result::ActionResult;
 use std::alloc::{AllocError, Global};
 use tf_address::{InstanceKey, Label, ObjectId};
-use tf_names::{Named, Names};
+use tf_names::{Declaration, Declarations};
 use tf_plan_data::{Action, Step};
 use tf_protocol::Reply;
 use tf_request::Results;
@@ -21,7 +21,7 @@ use tf_value::{Value, copy};
 #[derive(Drop)]
 pub struct Answered<'a> {
     /// The names of the plan's configuration.
-    pub names: &'a Names<'a>,
+    pub names: &'a Declarations<'a>,
     /// The state that the plan starts from.
     pub prior: &'a State,
     /// All actions of the plan.
@@ -29,11 +29,11 @@ pub struct Answered<'a> {
     /// The actions that are seen, by their places.
     pub seen: &'a [usize],
     /// What came of each action, where that is known.
-    pub results: &'a [Option<Ended>],
+    pub results: &'a [Option<ActionResult>],
 }
 
 impl Results for Answered<'_> {
-    ghost objects = { λ s. objects_seen (names_in s.names.now) (state_of s.prior.now) (map action_of s.actions.now) (seen_by (done_at (dones_of s.results.now)) s.seen.now) };
+    ghost objects = { λ s. objects_seen (names_in s.names.now) (state_of s.prior.now) (map action_of s.actions.now) (seen_by (done_at (action_results_of s.results.now)) s.seen.now) };
 
     fn object(&self, alloc: Global, place: usize, key: &InstanceKey) -> Result<Value, AllocError> {
         for action in self.seen {
@@ -60,7 +60,7 @@ pub fn applies_to(actions: &[Action], action: usize, place: usize, key: &Instanc
 ///
 /// Only where memory runs out.
 pub fn prior_object(
-    names: &Names<'_>,
+    names: &Declarations<'_>,
     prior: &State,
     place: usize,
     key: &InstanceKey,
@@ -71,8 +71,8 @@ pub fn prior_object(
         return Ok(no_object());
     }
     match names.at(place) {
-        Named::Resource(label, _) => current_object(prior, label, key),
-        Named::Local(_, _) => Ok(Value::Null),
+        Declaration::Resource(label, _) => current_object(prior, label, key),
+        Declaration::Local(_, _) => Ok(Value::Null),
     }
 }
 
@@ -124,13 +124,17 @@ fn is_apply(step: &Step) -> bool
 {
     matches!(
         step,
-        Step::Create(_) | Step::Update(_, _, _) | Step::Replacement(_, _)
+        Step::Create(_) | Step::Update(_, _, _) | Step::CreateReplacement(_, _)
     )
 }
 
 /// The object that a provider answered to the action at a place, copied; null where there is none.
-fn object_at(alloc: Global, results: &[Option<Ended>], action: usize) -> Result<Value, AllocError>
-    ensures { IfOk result (λ value. tree_of value ≡ object_of (done_at (dones_of results.now) action)) }
+fn object_at(
+    alloc: Global,
+    results: &[Option<ActionResult>],
+    action: usize,
+) -> Result<Value, AllocError>
+    ensures { IfOk result (λ value. tree_of value ≡ object_of (done_at (action_results_of results.now) action)) }
 {
     match results.get(action) {
         Some(ended) => answered_object(alloc, ended),
@@ -139,11 +143,11 @@ fn object_at(alloc: Global, results: &[Option<Ended>], action: usize) -> Result<
 }
 
 /// The object that a provider answered, copied; null where there is none.
-fn answered_object(alloc: Global, ended: &Option<Ended>) -> Result<Value, AllocError>
-    ensures { IfOk result (λ value. tree_of value ≡ object_of (done_or_skipped ended.now)) }
+fn answered_object(alloc: Global, ended: &Option<ActionResult>) -> Result<Value, AllocError>
+    ensures { IfOk result (λ value. tree_of value ≡ object_of (result_or_skipped ended.now)) }
 {
     match ended {
-        Some(Ended::Called(served)) => match served.call.reply() {
+        Some(ActionResult::Called(served)) => match served.call.reply() {
             Reply::Object(object) => copy(object),
             _ => Ok(Value::Null),
         },

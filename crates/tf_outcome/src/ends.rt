@@ -1,51 +1,51 @@
 //! How an action is ended, and what an end says of it.
 
 ghost use Rattle.std.specs.Prelude.{◌≡◌, true, false, MatchOption};
-ghost use Rattle.tf_outcome.specs.Ended.{done_of, ended_action};
+ghost use Rattle.tf_outcome.specs.ResultViews.{action_result_of, ended_action};
 ghost use Rattle.tf_outcome.specs.Outcome.{is_good};
-ghost use Rattle.tf_outcome.specs.declared.ended.Ended.TheVariants as ended;
+ghost use Rattle.tf_outcome.specs.declared.action_result.ActionResult.TheVariants as ended;
 
-use crate::ended::{Ended, Faulted};
+use crate::action_result::{ActionResult, Faulted};
 use crate::not_good::NotGood;
 use crate::stop::Stopped;
 use tf_claim::{Finished, Permit};
 use tf_provider::{Verdict, waive_for};
 
-impl Ended {
+impl ActionResult {
     /// An action that is skipped, since this one directly before it isn't good, and the right to report it as done.
-    pub fn skipped(permit: Permit, bad: NotGood) -> (Ended, Finished)
+    pub fn skipped(permit: Permit, bad: NotGood) -> (ActionResult, Finished)
         ensures ended { result.0 ≡ ended.Skipped permit bad }
         ensures finished { result.1 ≡ permit }
     {
         let (finished, waived) = waive_for(permit);
-        (Ended::Skipped(waived, bad), finished)
+        (ActionResult::Skipped(waived, bad), finished)
     }
 
     /// An action for whose request memory was refused, and the right to report it as done.
-    pub fn not_asked(permit: Permit) -> (Ended, Finished)
+    pub fn not_asked(permit: Permit) -> (ActionResult, Finished)
         ensures ended { result.0 ≡ ended.NotAsked permit }
         ensures finished { result.1 ≡ permit }
     {
         let (finished, waived) = waive_for(permit);
-        (Ended::NotAsked(waived), finished)
+        (ActionResult::NotAsked(waived), finished)
     }
 
     /// An action that is left, since the walk is to stop, and the right to report it as done.
-    pub fn left(permit: Permit, stopped: Stopped) -> (Ended, Finished)
+    pub fn left(permit: Permit, stopped: Stopped) -> (ActionResult, Finished)
         ensures ended { result.0 ≡ ended.Left permit stopped }
         ensures finished { result.1 ≡ permit }
     {
         let (finished, waived) = waive_for(permit);
-        (Ended::Left(waived, stopped), finished)
+        (ActionResult::Left(waived, stopped), finished)
     }
 
     /// An action for which nothing can be asked, and the right to report it as done.
-    pub fn faulted(permit: Permit, faulted: Faulted) -> (Ended, Finished)
+    pub fn faulted(permit: Permit, faulted: Faulted) -> (ActionResult, Finished)
         ensures ended { result.0 ≡ ended.Faulted faulted permit }
         ensures finished { result.1 ≡ permit }
     {
         let (finished, waived) = waive_for(permit);
-        (Ended::Faulted(faulted, waived), finished)
+        (ActionResult::Faulted(faulted, waived), finished)
     }
 
     /// The action of which this came.
@@ -53,21 +53,21 @@ impl Ended {
         ensures { result ≡ ended_action self.now }
     {
         match self {
-            Ended::Skipped(waived, _)
-            | Ended::NotAsked(waived)
-            | Ended::Left(waived, _)
-            | Ended::Faulted(_, waived) => waived.action(),
-            Ended::NotServed(unserved) => unserved.action(),
-            Ended::Called(served) => served.call.action(),
+            ActionResult::Skipped(waived, _)
+            | ActionResult::NotAsked(waived)
+            | ActionResult::Left(waived, _)
+            | ActionResult::Faulted(_, waived) => waived.action(),
+            ActionResult::NotServed(unserved) => unserved.action(),
+            ActionResult::Called(served) => served.call.action(),
         }
     }
 
     /// Whether the action is good: its provider was called, and its reply was judged so.
     pub fn is_good(&self) -> bool
-        ensures { result ≡ is_good (done_of self.now) }
+        ensures { result ≡ is_good (action_result_of self.now) }
     {
         match self {
-            Ended::Called(served) => served.call.verdict() == Verdict::Good,
+            ActionResult::Called(served) => served.call.verdict() == Verdict::Good,
             _ => false,
         }
     }
@@ -75,8 +75,8 @@ impl Ended {
     /// The evidence that the action isn't good, where it isn't.
     pub fn not_good(&self) -> Option<NotGood>
         ensures { MatchOption result
-            (is_good (done_of self.now) ≡ true)
-            (λ bad. (is_good (done_of self.now) ≡ false) × (bad ≡ ended_action self.now)) }
+            (is_good (action_result_of self.now) ≡ true)
+            (λ bad. (is_good (action_result_of self.now) ≡ false) × (bad ≡ ended_action self.now)) }
     {
         if self.is_good() {
             None

@@ -2,12 +2,12 @@
 
 ghost use Rattle.tf_outcome.specs.Laws.{RequestsAreOne, RequestsExist};
 
-use tf_environment::laws::standings_are_one;
+use tf_environment::laws::resolved_names_are_one;
 
 /// Where no name needs itself, there is something that is asked, or wrong, for each action of a plan, and it is one.
 pub fn requests_exist()
     ensures exist { RequestsExist }
     ensures one { RequestsAreOne }
 {
-    standings_are_one();
+    resolved_names_are_one();
 }

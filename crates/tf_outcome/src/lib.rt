@@ -3,20 +3,20 @@
 //! stopped.
 #![tactic(auto)]
 
+mod action_result;
 mod answered;
-mod asking;
-mod ended;
 mod ends;
 mod excuse;
 pub mod laws;
 mod not_good;
+mod prepared_call;
 mod recorded;
 mod stop;
 
+pub use action_result::{ActionResult, Faulted, Served, not_ended};
 pub use answered::{Answered, applies_to, prior_object};
-pub use asking::Asking;
-pub use ended::{Ended, Faulted, Served, not_ended};
 pub use excuse::{Excuse, Outcome};
 pub use not_good::NotGood;
+pub use prepared_call::PreparedCall;
 pub use recorded::ended_by;
 pub use stop::{Stop, Stopped, stops_are_shared};

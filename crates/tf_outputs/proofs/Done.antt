@@ -12,9 +12,9 @@ use Rattle.std.specs.Ordering.{match_ordering}
 use Rattle.std.specs.declared.alloc.Global.{Global}
 use Rattle.tf_address.specs.ObjectId.{InstanceKeyView}
 use Rattle.tf_config_data.specs.Names.{NameView, places, directly_before}
-use Rattle.tf_environment.specs.Shape.{ShapeView}
+use Rattle.tf_environment.specs.InstanceKeys.{InstanceKeysView}
 use Rattle.tf_environment.specs.Stages.{applying}
-use Rattle.tf_environment.specs.Standing.{StandingView, AreStandings, environment, rule}
+use Rattle.tf_environment.specs.Resolved.{ResolvedView, AreResolvedNames, environment, rule}
 use Rattle.tf_eval.specs.ExprMeaning.{meaning}
 use Rattle.tf_graph.proofs.Solving.{solution-exists}
 use Rattle.tf_graph.specs.Solutions.{Ranked, seen_by}
@@ -22,9 +22,9 @@ use Rattle.tf_operators.specs.Answer.{Answer}
 use Rattle.tf_operators.specs.declared.fault.EvalFault.{EvalFault}
 use Rattle.tf_operators.specs.declared.fault.EvalFault.TheVariants.{TooLarge}
 use Rattle.tf_outputs.specs.Keeping.{IsKept, IsSameOrExcused, MayBeSaved}
-use Rattle.tf_outputs.specs.Outputs.{OutputDone, not_evaluated, excused, valued, faulted, done_with, IsEvaluated, IsMeant, IsOutputDone, AreOutputsDone, AreOutputsEnded, end_of, is_null, with_output, with_outputs, without}
+use Rattle.tf_outputs.specs.Outputs.{OutputResultView, not_evaluated, excused, valued, faulted, done_with, IsEvaluated, IsMeant, IsOutputDone, AreOutputsDone, AreOutputsEnded, end_of, is_null, with_output, with_outputs, without}
 use Rattle.tf_outputs.specs.Settled.{all_settled, names_are_settled}
-use Rattle.tf_outputs.specs.declared.ends.OutputEnd.{OutputEnd}
+use Rattle.tf_outputs.specs.declared.ends.OutputResult.{OutputResult}
 use Rattle.tf_request.specs.Requests.{IsOutput, without_sets}
 use Rattle.tf_state_data.specs.State.{outputs_of}
 use Rattle.tf_state_data.specs.declared.object.Object.{Object}
@@ -72,11 +72,11 @@ other_put false es fs h = refl
 other_put true es fs h = absurd (cc)
 
 -- null takes what was there away, and any other value is put
-pub kept_null : (name : List ℕ) (t : Tree) (end : OutputEnd) (before after : Entries) → is_null t ≡ true → end ≡ end_of (valued t) → after ≡ without name before → IsKept name (valued t) end before after
+pub kept_null : (name : List ℕ) (t : Tree) (end : OutputResult) (before after : Entries) → is_null t ≡ true → end ≡ end_of (valued t) → after ≡ without name before → IsKept name (valued t) end before after
 kept_null name t end before after null told same =
     record { kept = valued t; same = inl refl; told = told; saves = same ∙ null_left (is_null t) (without name before) (put name t before) null }
 
-pub kept_value : (name : List ℕ) (t : Tree) (end : OutputEnd) (before after : Entries) → is_null t ≡ false → end ≡ end_of (valued t) → after ≡ put name t before → IsKept name (valued t) end before after
+pub kept_value : (name : List ℕ) (t : Tree) (end : OutputResult) (before after : Entries) → is_null t ≡ false → end ≡ end_of (valued t) → after ≡ put name t before → IsKept name (valued t) end before after
 kept_value name t end before after other told put_in =
     record { kept = valued t; same = inl refl; told = told; saves = put_in ∙ other_put (is_null t) (without name before) (put name t before) other }
 
@@ -93,9 +93,9 @@ match_false : (b : Bool) (P Q : Type 0) → b ≡ false → Q → MatchBool b P 
 match_false false P Q h q = q
 match_false true P Q h q = absurd (cc)
 
-module _ (variables : Entries) (names : List NameView) (shapes : ℕ → ShapeView) (objects : ℕ → InstanceKeyView → Tree) where
+module _ (variables : Entries) (names : List NameView) (shapes : ℕ → InstanceKeysView) (objects : ℕ → InstanceKeyView → Tree) where
   abbrev pub OutputMeans : expr.Tree → Answer → Type 0
-  OutputMeans e a = (standings : ℕ → StandingView) → AreStandings (applying shapes objects) variables names standings → without_sets (meaning (environment variables names standings) e) ≡ a
+  OutputMeans e a = (resolved_names : ℕ → ResolvedView) → AreResolvedNames (applying shapes objects) variables names resolved_names → without_sets (meaning (environment variables names resolved_names) e) ≡ a
 
   -- the value of an output has no set in it
   pub output_no_set : Ranked (directly_before names) → (e : expr.Tree) (v : Value) → IsOutput variables names shapes objects e (Ok v) → has_no_set (tree_of v) ≡ true
@@ -104,27 +104,27 @@ module _ (variables : Entries) (names : List NameView) (shapes : ℕ → ShapeVi
       listed_no_set (meaning (environment variables names there.0) e) (tree_of v) (output there.0 there.1)
 
   -- where no name needs itself, names stand for something
-  meant_by : Ranked (directly_before names) → (e : expr.Tree) (d : OutputDone)
-      → ((standings : ℕ → StandingView) → AreStandings (applying shapes objects) variables names standings → d ≡ done_with (without_sets (meaning (environment variables names standings) e)))
+  meant_by : Ranked (directly_before names) → (e : expr.Tree) (d : OutputResultView)
+      → ((resolved_names : ℕ → ResolvedView) → AreResolvedNames (applying shapes objects) variables names resolved_names → d ≡ done_with (without_sets (meaning (environment variables names resolved_names) e)))
       → IsMeant variables names shapes objects e d
   meant_by ranked e d means =
       let there = solution-exists (length names) (directly_before names) (rule (applying shapes objects) variables names) ranked in
-      record { standings = there.0; are_standings = there.1; means = means }
+      record { resolved_names = there.0; are_standings = there.1; means = means }
 
-  evaluated_value : Ranked (directly_before names) → (e : expr.Tree) (t : Tree) (b : Bool) (d : OutputDone) → is_within t ≡ b → OutputMeans e (Ok t)
+  evaluated_value : Ranked (directly_before names) → (e : expr.Tree) (t : Tree) (b : Bool) (d : OutputResultView) → is_within t ≡ b → OutputMeans e (Ok t)
       → IsSameOrExcused (if b then valued (with_nulls t) else faulted TooLarge) d → IsEvaluated variables names shapes objects e d
   evaluated_value ranked e t true d within means (inl is) =
-      subst (IsEvaluated variables names shapes objects e) (sym is) (meant_by ranked e (valued (with_nulls t)) (λ standings stand. rw (means standings stand, within) refl))
+      subst (IsEvaluated variables names shapes objects e) (sym is) (meant_by ranked e (valued (with_nulls t)) (λ resolved_names stand. rw (means resolved_names stand, within) refl))
   evaluated_value ranked e t true d within means (inr is) = subst (IsEvaluated variables names shapes objects e) (sym is) tt
   evaluated_value ranked e t false d within means is =
-      subst (IsEvaluated variables names shapes objects e) (sym is) (meant_by ranked e (faulted TooLarge) (λ standings stand. rw (means standings stand, within) refl))
+      subst (IsEvaluated variables names shapes objects e) (sym is) (meant_by ranked e (faulted TooLarge) (λ resolved_names stand. rw (means resolved_names stand, within) refl))
 
   module _ (settled : ℕ → Bool) (e : expr.Tree) where
     pub done_unsettled : (ps : List ℕ) (b : Bool) → ps ≡ places names (named_by e) → b ≡ all_settled (seen_by settled ps) → b ≡ false → IsOutputDone variables names shapes objects settled e not_evaluated
     done_unsettled ps b are is not =
         match_false (names_are_settled names settled e) _ (not_evaluated ≡ not_evaluated) (ap (λ qs. all_settled (seen_by settled qs)) (sym are) ∙ sym is ∙ not) refl
 
-    done_settled : (ps : List ℕ) (b : Bool) (d : OutputDone) → ps ≡ places names (named_by e) → b ≡ all_settled (seen_by settled ps) → b ≡ true
+    done_settled : (ps : List ℕ) (b : Bool) (d : OutputResultView) → ps ≡ places names (named_by e) → b ≡ all_settled (seen_by settled ps) → b ≡ true
         → IsEvaluated variables names shapes objects e d → IsOutputDone variables names shapes objects settled e d
     done_settled ps b d are is so evaluated =
         match_true (names_are_settled names settled e) (IsEvaluated variables names shapes objects e d) (d ≡ not_evaluated) (ap (λ qs. all_settled (seen_by settled qs)) (sym are) ∙ sym is ∙ so) evaluated
@@ -136,15 +136,15 @@ module _ (variables : Entries) (names : List NameView) (shapes : ℕ → ShapeVi
     -- a fault
     pub done_faulted : Ranked (directly_before names) → (ps : List ℕ) (b : Bool) (why : EvalFault) → ps ≡ places names (named_by e) → b ≡ all_settled (seen_by settled ps) → b ≡ true
         → IsOutput variables names shapes objects e (Err why) → IsOutputDone variables names shapes objects settled e (faulted why)
-    done_faulted ranked ps b why are is so output = done_settled ps b (faulted why) are is so (meant_by ranked e (faulted why) (λ standings stand. rw (output standings stand) refl))
+    done_faulted ranked ps b why are is so output = done_settled ps b (faulted why) are is so (meant_by ranked e (faulted why) (λ resolved_names stand. rw (output resolved_names stand) refl))
 
     -- a value
-    pub done_valued : Ranked (directly_before names) → (ps : List ℕ) (b : Bool) (v : Value) (d : OutputDone) → ps ≡ places names (named_by e) → b ≡ all_settled (seen_by settled ps) → b ≡ true
+    pub done_valued : Ranked (directly_before names) → (ps : List ℕ) (b : Bool) (v : Value) (d : OutputResultView) → ps ≡ places names (named_by e) → b ≡ all_settled (seen_by settled ps) → b ≡ true
         → IsOutput variables names shapes objects e (Ok v) → IsSameOrExcused (done_with (Ok (tree_of v))) d → IsOutputDone variables names shapes objects settled e d
     done_valued ranked ps b v d are is so output same = done_settled ps b d are is so (evaluated_value ranked e (tree_of v) (is_within (tree_of v)) d refl output same)
 
     -- an output whose entry found no memory is excused
-    done_kept : (d kept : OutputDone) → IsSameOrExcused d kept → IsOutputDone variables names shapes objects settled e d → IsOutputDone variables names shapes objects settled e kept
+    done_kept : (d kept : OutputResultView) → IsSameOrExcused d kept → IsOutputDone variables names shapes objects settled e d → IsOutputDone variables names shapes objects settled e kept
     done_kept not_evaluated kept same done = subst (IsOutputDone variables names shapes objects settled e) (sym same) done
     done_kept excused kept same done = subst (IsOutputDone variables names shapes objects settled e) (sym same) done
     done_kept (faulted why) kept same done = subst (IsOutputDone variables names shapes objects settled e) (sym same) done
@@ -158,17 +158,17 @@ module _ (variables : Entries) (names : List NameView) (shapes : ℕ → ShapeVi
         excused_too false h = absurd (cc)
 
   -- what is told and saved so far, whatever comes of those that are left
-  abbrev pub EndsWith : (ℕ → Bool) → Entries → expr.Entries → expr.Entries → List OutputEnd → Entries → Type 0
+  abbrev pub EndsWith : (ℕ → Bool) → Entries → expr.Entries → expr.Entries → List OutputResult → Entries → Type 0
   EndsWith settled kept all left ends saved =
-      (dones : List OutputDone) → AreOutputsDone variables names shapes objects settled left dones
+      (dones : List OutputResultView) → AreOutputsDone variables names shapes objects settled left dones
       → AreOutputsEnded variables names shapes objects settled kept all (ends ++ map end_of dones) (with_outputs left dones saved)
 
-  pub ends_start : (settled : ℕ → Bool) (kept : Entries) (all left : expr.Entries) (ends : List OutputEnd) → left ≡ all → ends ≡ [] → EndsWith settled kept all left ends kept
+  pub ends_start : (settled : ℕ → Bool) (kept : Entries) (all left : expr.Entries) (ends : List OutputResult) → left ≡ all → ends ≡ [] → EndsWith settled kept all left ends kept
   ends_start settled kept all left ends given none =
       subst (λ es. EndsWith settled kept all es ends kept) (sym given) (λ dones each. rw none (record { dones = dones; each = each; told = refl; saves = refl }))
 
   -- one output more
-  pub ends_more : (settled : ℕ → Bool) (kept : Entries) (all : expr.Entries) (name : List ℕ) (e : expr.Tree) (left : expr.Entries) (ends now : List OutputEnd) (saved after : Entries) (d : OutputDone) (end : OutputEnd)
+  pub ends_more : (settled : ℕ → Bool) (kept : Entries) (all : expr.Entries) (name : List ℕ) (e : expr.Tree) (left : expr.Entries) (ends now : List OutputResult) (saved after : Entries) (d : OutputResultView) (end : OutputResult)
       → IsOutputDone variables names shapes objects settled e d → IsKept name d end saved after → now ≡ ends ++ end ∷ []
       → EndsWith settled kept all (expr.entry name e left) ends saved → EndsWith settled kept all left now after
   ends_more settled kept all name e left ends now saved after d end done k more before dones each =
@@ -178,7 +178,7 @@ module _ (variables : Entries) (names : List NameView) (shapes : ℕ → ShapeVi
       rw (told, k.saves) whole
 
   -- none is left
-  pub ends_all : (settled : ℕ → Bool) (kept : Entries) (all left : expr.Entries) (ends : List OutputEnd) (saved : Entries) → left ≡ expr.no_entries → EndsWith settled kept all left ends saved
+  pub ends_all : (settled : ℕ → Bool) (kept : Entries) (all left : expr.Entries) (ends : List OutputResult) (saved : Entries) → left ≡ expr.no_entries → EndsWith settled kept all left ends saved
       → AreOutputsEnded variables names shapes objects settled kept all ends saved
   ends_all settled kept all expr.no_entries ends saved none before =
       subst (λ xs. AreOutputsEnded variables names shapes objects settled kept all xs saved) (append-nil ends) (before [] tt)
@@ -218,7 +218,7 @@ table_without : (name : List ℕ) (es : Entries) → IsTable es → IsTable (wit
 table_without name es h = (sorted_without name es h.0, stored_without name es h.1)
 
 -- the values that are saved may be stored
-kept_table : (name : List ℕ) (d kept : OutputDone) (found : Entries) → MayBeSaved d → IsSameOrExcused d kept → IsTable found → IsTable (with_output name kept found)
+kept_table : (name : List ℕ) (d kept : OutputResultView) (found : Entries) → MayBeSaved d → IsSameOrExcused d kept → IsTable found → IsTable (with_output name kept found)
 kept_table name not_evaluated kept found may same table = rw same table
 kept_table name excused kept found may same table = rw same table
 kept_table name (faulted why) kept found may same table = rw same table
@@ -229,7 +229,7 @@ kept_table name (valued t) kept found may (inl same) table = rw same (by_null (i
     by_null true = table_without name found table
     by_null false = table-put name t found may table
 
-pub table_more : (name : List ℕ) (d : OutputDone) (end : OutputEnd) (saved after : Entries) → MayBeSaved d → IsKept name d end saved after → IsTable saved → IsTable after
+pub table_more : (name : List ℕ) (d : OutputResultView) (end : OutputResult) (saved after : Entries) → MayBeSaved d → IsKept name d end saved after → IsTable saved → IsTable after
 table_more name d end saved after may k table = subst IsTable (sym k.saves) (kept_table name d k.kept saved may k.same table)
 
 pub none_listed : {A : Type 0} (xs : List A) → length xs ≡ 0 → xs ≡ []

@@ -1,8 +1,8 @@
 -- Rooms of outputs, one after another.
 use Rattle.std.proofs.Common.{◌≡◌, ℕ, List, [], ◌∷◌, ◌++◌, string_bytes, refl, ap, ap₂}
 use Rattle.std.specs.List.{AllByRecursion}
-use Rattle.tf_outputs.specs.Rooms.{outputs_in}
-use Rattle.tf_outputs.specs.declared.rooms.OutputRoom.{OutputRoom}
+use Rattle.tf_outputs.specs.Buffers.{outputs_in}
+use Rattle.tf_outputs.specs.declared.buffers.OutputBuffers.{OutputBuffers}
 use Rattle.tf_syntax.specs.ExprTree.{Tree, Entries, no_entries, entry, tree_of}
 
 -- outputs with others behind them
@@ -15,7 +15,7 @@ none_behind no_entries = refl
 none_behind (entry name e es) = ap (entry name e) (none_behind es)
 
 -- a room more is one for the first of those behind
-pub room_behind : (rooms : List OutputRoom) (room : OutputRoom) (name : List ℕ) (e : Tree) (es : Entries) → string_bytes room.name ≡ name → tree_of room.expr.now ≡ e
+pub room_behind : (rooms : List OutputBuffers) (room : OutputBuffers) (name : List ℕ) (e : Tree) (es : Entries) → string_bytes room.name ≡ name → tree_of room.expr.now ≡ e
     → behind (outputs_in (rooms ++ room ∷ [])) es ≡ behind (outputs_in rooms) (entry name e es)
 room_behind [] room name e es h g = ap₂ (λ n t. entry n t es) h g
 room_behind (r ∷ rooms) room name e es h g = ap (entry (string_bytes r.name) (tree_of r.expr.now)) (room_behind rooms room name e es h g)

@@ -4,12 +4,12 @@ use Rattle.std.specs.List.{AllByRecursion}
 use Rattle.tf_address.specs.ObjectId.{InstanceKeyView}
 use Rattle.tf_config_data.specs.Names.{NameView, Meant, a_local, a_block, meant_at, directly_before, places}
 use Rattle.tf_environment.proofs.Places.{along, all_places, names_stay}
-use Rattle.tf_environment.specs.Shape.{ShapeView}
+use Rattle.tf_environment.specs.InstanceKeys.{InstanceKeysView}
 use Rattle.tf_graph.proofs.Edges.{all_by_contained}
 use Rattle.tf_graph.proofs.Solving.{all_by_at}
 use Rattle.tf_graph.specs.Solutions.{Ranked, seen_by}
 use Rattle.tf_outputs.specs.Laws.{StandsFor, itself, through, EvaluatedWhereGood, OutputsAreOne}
-use Rattle.tf_outputs.specs.Outputs.{OutputDone, not_evaluated, excused, valued, faulted, IsEvaluated}
+use Rattle.tf_outputs.specs.Outputs.{OutputResultView, not_evaluated, excused, valued, faulted, IsEvaluated}
 use Rattle.tf_outputs.specs.Settled.{AreSettled, all_settled, settled_as, names_are_settled}
 use Rattle.tf_syntax.specs.ExprNames.{named_by}
 use Rattle.tf_syntax.specs.ExprTree as expr
@@ -63,18 +63,18 @@ evaluated_where_good names good settled e ranked solves =
       λ all. settled_each settled ps (all_by_contained (λ a. settled a ≡ true) ps (λ a c. settled_from names good settled solves ranked a (all_by_at (λ a. a < length names) ps a below c) (λ b leads. all a b c leads))),
     )
 
-module _ (variables : Entries) (names : List NameView) (shapes : ℕ → ShapeView) (objects : ℕ → InstanceKeyView → Tree) (e : expr.Tree) where
-  one_evaluated : (d other : OutputDone) → IsEvaluated variables names shapes objects e d → IsEvaluated variables names shapes objects e other → (d ≡ excused → ⊥) → (other ≡ excused → ⊥) → d ≡ other
+module _ (variables : Entries) (names : List NameView) (shapes : ℕ → InstanceKeysView) (objects : ℕ → InstanceKeyView → Tree) (e : expr.Tree) where
+  one_evaluated : (d other : OutputResultView) → IsEvaluated variables names shapes objects e d → IsEvaluated variables names shapes objects e other → (d ≡ excused → ⊥) → (other ≡ excused → ⊥) → d ≡ other
   one_evaluated not_evaluated other h g s t = absurd h
   one_evaluated excused other h g s t = absurd (s refl)
   one_evaluated d not_evaluated h g s t = absurd g
   one_evaluated d excused h g s t = absurd (t refl)
-  one_evaluated (valued v) (valued w) h g s t = h.means h.standings h.are_standings ∙ sym (g.means h.standings h.are_standings)
-  one_evaluated (valued v) (faulted why) h g s t = h.means h.standings h.are_standings ∙ sym (g.means h.standings h.are_standings)
-  one_evaluated (faulted why) (valued w) h g s t = h.means h.standings h.are_standings ∙ sym (g.means h.standings h.are_standings)
-  one_evaluated (faulted why) (faulted but) h g s t = h.means h.standings h.are_standings ∙ sym (g.means h.standings h.are_standings)
+  one_evaluated (valued v) (valued w) h g s t = h.means h.resolved_names h.are_standings ∙ sym (g.means h.resolved_names h.are_standings)
+  one_evaluated (valued v) (faulted why) h g s t = h.means h.resolved_names h.are_standings ∙ sym (g.means h.resolved_names h.are_standings)
+  one_evaluated (faulted why) (valued w) h g s t = h.means h.resolved_names h.are_standings ∙ sym (g.means h.resolved_names h.are_standings)
+  one_evaluated (faulted why) (faulted but) h g s t = h.means h.resolved_names h.are_standings ∙ sym (g.means h.resolved_names h.are_standings)
 
-  one_done : (b : Bool) (d other : OutputDone) → MatchBool b (IsEvaluated variables names shapes objects e d) (d ≡ not_evaluated) → MatchBool b (IsEvaluated variables names shapes objects e other) (other ≡ not_evaluated)
+  one_done : (b : Bool) (d other : OutputResultView) → MatchBool b (IsEvaluated variables names shapes objects e d) (d ≡ not_evaluated) → MatchBool b (IsEvaluated variables names shapes objects e other) (other ≡ not_evaluated)
       → (d ≡ excused → ⊥) → (other ≡ excused → ⊥) → d ≡ other
   one_done true d other h g s t = one_evaluated d other h g s t
   one_done false d other h g s t = h ∙ sym g

@@ -3,9 +3,9 @@ use Rattle.std.specs.Prelude.{◌≡◌, ◌<◌, ◌↔◌, ℕ, Bool, true, Li
 use Rattle.tf_address.specs.ObjectId.{InstanceKeyView}
 use Rattle.tf_config_data.specs.Config.{BlockView}
 use Rattle.tf_config_data.specs.Names.{NameView, a_local, a_block, meant_at, directly_before, places}
-use Rattle.tf_environment.specs.Shape.{ShapeView}
+use Rattle.tf_environment.specs.InstanceKeys.{InstanceKeysView}
 use Rattle.tf_graph.specs.Solutions.{Ranked}
-use Rattle.tf_outputs.specs.Outputs.{OutputDone, excused, IsOutputDone}
+use Rattle.tf_outputs.specs.Outputs.{OutputResultView, excused, IsOutputDone}
 use Rattle.tf_outputs.specs.Settled.{AreSettled, names_are_settled}
 use Rattle.tf_syntax.specs.ExprNames.{named_by}
 use Rattle.tf_syntax.specs.ExprTree as expr
@@ -36,6 +36,6 @@ EvaluatedWhereGood =
 -- What comes of an output is determined, apart from whether it is excused.
 abbrev pub OutputsAreOne : Type 0
 OutputsAreOne =
-    (variables : Entries) (names : List NameView) (shapes : ℕ → ShapeView) (objects : ℕ → InstanceKeyView → Tree) (settled : ℕ → Bool) (e : expr.Tree) (d other : OutputDone)
+    (variables : Entries) (names : List NameView) (shapes : ℕ → InstanceKeysView) (objects : ℕ → InstanceKeyView → Tree) (settled : ℕ → Bool) (e : expr.Tree) (d other : OutputResultView)
     → Ranked (directly_before names) → IsOutputDone variables names shapes objects settled e d → IsOutputDone variables names shapes objects settled e other
     → (d ≡ excused → ⊥) → (other ≡ excused → ⊥) → d ≡ other

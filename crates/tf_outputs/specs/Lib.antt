@@ -1,5 +1,5 @@
 pub mod Settled
 pub mod Outputs
-pub mod Rooms
+pub mod Buffers
 pub mod Keeping
 pub mod Laws

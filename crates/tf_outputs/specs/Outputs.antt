@@ -3,16 +3,16 @@ use Rattle.std.specs.Prelude.{◌≡◌, ◌||◌, ℕ, Bool, true, false, if◌
 use Rattle.std.specs.Str.{bytes_eq}
 use Rattle.tf_address.specs.ObjectId.{InstanceKeyView}
 use Rattle.tf_config_data.specs.Names.{NameView}
-use Rattle.tf_environment.specs.Shape.{ShapeView}
+use Rattle.tf_environment.specs.InstanceKeys.{InstanceKeysView}
 use Rattle.tf_environment.specs.Stages.{applying}
-use Rattle.tf_environment.specs.Standing.{StandingView, AreStandings, environment}
+use Rattle.tf_environment.specs.Resolved.{ResolvedView, AreResolvedNames, environment}
 use Rattle.tf_eval.specs.ExprMeaning.{meaning}
 use Rattle.tf_operators.specs.Answer.{Answer}
 use Rattle.tf_operators.specs.declared.fault.EvalFault.{EvalFault}
 use Rattle.tf_operators.specs.declared.fault.EvalFault.TheVariants.{TooLarge}
 use Rattle.tf_outputs.specs.Settled.{names_are_settled}
-use Rattle.tf_outputs.specs.declared.ends.OutputEnd.{OutputEnd}
-use Rattle.tf_outputs.specs.declared.ends.OutputEnd.TheVariants.{NotEvaluated, NoMemory, Faulted, Valued}
+use Rattle.tf_outputs.specs.declared.ends.OutputResult.{OutputResult}
+use Rattle.tf_outputs.specs.declared.ends.OutputResult.TheVariants.{NotEvaluated, NoMemory, Faulted, Valued}
 use Rattle.tf_request.specs.Requests.{without_sets}
 use Rattle.tf_syntax.specs.ExprTree as expr
 use Rattle.tf_value.specs.Measure.{is_within}
@@ -20,37 +20,37 @@ use Rattle.tf_value.specs.Nulls.{with_nulls}
 use Rattle.tf_value.specs.Tree.{Tree, null, Entries, no_entries, entry, put}
 
 -- What comes of an output: it isn't evaluated anew, memory is refused for it, it has a value, or a fault.
-pub data OutputDone : Type 0 where
-  not_evaluated : OutputDone
-  excused : OutputDone
-  valued : Tree → OutputDone
-  faulted : EvalFault → OutputDone
+pub data OutputResultView : Type 0 where
+  not_evaluated : OutputResultView
+  excused : OutputResultView
+  valued : Tree → OutputResultView
+  faulted : EvalFault → OutputResultView
 
 -- What comes of an answer: a value beyond the limits is a fault, and null is saved for what isn't known.
-abbrev pub done_with : Answer → OutputDone
+abbrev pub done_with : Answer → OutputResultView
 done_with (Ok t) = if is_within t then valued (with_nulls t) else faulted TooLarge
 done_with (Err why) = faulted why
 
 -- What comes of an output's expression: names stand for something in the apply, and by whatever they may stand for there, this is
 -- what the expression means, with lists in place of sets.
-pub record IsMeant (variables : Entries) (names : List NameView) (shapes : ℕ → ShapeView) (objects : ℕ → InstanceKeyView → Tree) (e : expr.Tree) (done : OutputDone) : Type 0 where
-  pub standings : ℕ → StandingView
-  pub are_standings : AreStandings (applying shapes objects) variables names standings
-  pub means : (others : ℕ → StandingView) → AreStandings (applying shapes objects) variables names others → done ≡ done_with (without_sets (meaning (environment variables names others) e))
+pub record IsMeant (variables : Entries) (names : List NameView) (shapes : ℕ → InstanceKeysView) (objects : ℕ → InstanceKeyView → Tree) (e : expr.Tree) (done : OutputResultView) : Type 0 where
+  pub resolved_names : ℕ → ResolvedView
+  pub are_standings : AreResolvedNames (applying shapes objects) variables names resolved_names
+  pub means : (others : ℕ → ResolvedView) → AreResolvedNames (applying shapes objects) variables names others → done ≡ done_with (without_sets (meaning (environment variables names others) e))
 
 -- What comes of an output that is evaluated anew: what its expression means; or memory is refused.
-abbrev pub IsEvaluated : Entries → List NameView → (ℕ → ShapeView) → (ℕ → InstanceKeyView → Tree) → expr.Tree → OutputDone → Type 0
+abbrev pub IsEvaluated : Entries → List NameView → (ℕ → InstanceKeysView) → (ℕ → InstanceKeyView → Tree) → expr.Tree → OutputResultView → Type 0
 IsEvaluated variables names shapes objects e not_evaluated = ⊥
 IsEvaluated variables names shapes objects e excused = ⊤
 IsEvaluated variables names shapes objects e done = IsMeant variables names shapes objects e done
 
 -- An output is evaluated anew exactly where each name that it names is settled.
-abbrev pub IsOutputDone : Entries → List NameView → (ℕ → ShapeView) → (ℕ → InstanceKeyView → Tree) → (ℕ → Bool) → expr.Tree → OutputDone → Type 0
+abbrev pub IsOutputDone : Entries → List NameView → (ℕ → InstanceKeysView) → (ℕ → InstanceKeyView → Tree) → (ℕ → Bool) → expr.Tree → OutputResultView → Type 0
 IsOutputDone variables names shapes objects settled e done =
     MatchBool (names_are_settled names settled e) (IsEvaluated variables names shapes objects e done) (done ≡ not_evaluated)
 
 -- what comes of each output, in byte order of their names
-abbrev pub AreOutputsDone : Entries → List NameView → (ℕ → ShapeView) → (ℕ → InstanceKeyView → Tree) → (ℕ → Bool) → expr.Entries → List OutputDone → Type 0
+abbrev pub AreOutputsDone : Entries → List NameView → (ℕ → InstanceKeysView) → (ℕ → InstanceKeyView → Tree) → (ℕ → Bool) → expr.Entries → List OutputResultView → Type 0
 AreOutputsDone variables names shapes objects settled expr.no_entries [] = ⊤
 AreOutputsDone variables names shapes objects settled expr.no_entries (d ∷ ds) = ⊥
 AreOutputsDone variables names shapes objects settled (expr.entry name e es) [] = ⊥
@@ -68,11 +68,11 @@ without name (entry k t es) = if bytes_eq name k then es else entry k t (without
 
 -- A value is saved under the output's name in place of what was there; where it is null there is no entry. Without a value
 -- what was there stays.
-abbrev pub with_output : List ℕ → OutputDone → Entries → Entries
+abbrev pub with_output : List ℕ → OutputResultView → Entries → Entries
 with_output name (valued t) found = if is_null t then without name found else put name t found
 with_output name _ found = found
 
-abbrev pub with_outputs : expr.Entries → List OutputDone → Entries → Entries
+abbrev pub with_outputs : expr.Entries → List OutputResultView → Entries → Entries
 with_outputs (expr.entry name e es) (d ∷ ds) found = with_outputs es ds (with_output name d found)
 with_outputs _ _ found = found
 
@@ -88,23 +88,23 @@ kept_entries es (entry k t found) = if is_declared es k then entry k t (kept_ent
 
 -- The outputs after an apply, in byte order of their names: of each declared one the entry of its value, or its prior entry
 -- where it has no value.
-abbrev pub outputs_after : Entries → expr.Entries → List OutputDone → Entries
+abbrev pub outputs_after : Entries → expr.Entries → List OutputResultView → Entries
 outputs_after prior es ds = with_outputs es ds (kept_entries es prior)
 
 -- those after the first apply
-abbrev pub saved_outputs : expr.Entries → List OutputDone → Entries
+abbrev pub saved_outputs : expr.Entries → List OutputResultView → Entries
 saved_outputs es ds = with_outputs es ds no_entries
 
 -- what is told of an output
-abbrev pub end_of : OutputDone → OutputEnd
+abbrev pub end_of : OutputResultView → OutputResult
 end_of not_evaluated = NotEvaluated
 end_of excused = NoMemory
 end_of (valued t) = Valued
 end_of (faulted why) = Faulted why
 
 -- What comes of each output, with what is told of it and what is saved beside the entries that were kept.
-pub record AreOutputsEnded (variables : Entries) (names : List NameView) (shapes : ℕ → ShapeView) (objects : ℕ → InstanceKeyView → Tree) (settled : ℕ → Bool) (kept : Entries) (outputs : expr.Entries) (ends : List OutputEnd) (saved : Entries) : Type 0 where
-  pub dones : List OutputDone
+pub record AreOutputsEnded (variables : Entries) (names : List NameView) (shapes : ℕ → InstanceKeysView) (objects : ℕ → InstanceKeyView → Tree) (settled : ℕ → Bool) (kept : Entries) (outputs : expr.Entries) (ends : List OutputResult) (saved : Entries) : Type 0 where
+  pub dones : List OutputResultView
   pub each : AreOutputsDone variables names shapes objects settled outputs dones
   pub told : ends ≡ map end_of dones
   pub saves : saved ≡ with_outputs outputs dones kept

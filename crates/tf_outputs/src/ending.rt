@@ -1,22 +1,22 @@
 //! Outputs are worked out after an apply.
 
 ghost use Rattle.std.specs.Prelude.{◌≡◌, ◌≤◌, [], IfOk, Ok, length, true, vec_capacity};
-ghost use Rattle.tf_environment.specs.Words.{entries_view, has, has_no_set, IsAcyclic, IsDependence, IsTable, named_by, names_in, shapes_of, standings_of, tree_of, with_nulls};
+ghost use Rattle.tf_environment.specs.Words.{entries_view, has, has_no_set, IsAcyclic, IsDependence, IsTable, named_by, names_in, shapes_of, resolved_names_of, tree_of, with_nulls};
 ghost use Rattle.tf_config_data.specs.Names.{places as places_of};
 ghost use Rattle.tf_outputs.specs.Keeping.{IsSameOrExcused, MayBeSaved, done_of};
 ghost use Rattle.tf_outputs.specs.Outputs.{AreOutputsEnded, IsOutputDone, done_with};
-ghost use Rattle.tf_request.specs.Requests.{AreStandingsSoFar, IsOutput};
-ghost use Rattle.tf_outputs.specs.Rooms.{HavePlaces, outputs_in};
+ghost use Rattle.tf_request.specs.Requests.{AreResolvedSoFar, IsOutput};
+ghost use Rattle.tf_outputs.specs.Buffers.{HavePlaces, outputs_in};
 ghost use Rattle.tf_state_data.specs.State.{outputs_of};
 ghost use Rattle.tf_syntax.specs.ExprTree.{tree_of as expr_of};
 
-use crate::ends::{Ended, OutputEnd};
+use crate::buffers::OutputBuffers;
+use crate::ends::{EvaluatedOutput, OutputResult};
 use crate::keeping::keep;
-use crate::rooms::OutputRoom;
 use crate::settling::all_settled;
 use std::alloc::{AllocError, Global};
 use std::collections::BTreeMap;
-use tf_environment::{Declarations, Shape, Standing};
+use tf_environment::{InstanceKeys, Module, Resolved};
 use tf_eval::EvalFault;
 use tf_request::{Results, output_value};
 use tf_state_data::Object;
@@ -30,13 +30,13 @@ use tf_value::{Value, is_known, is_within_limits, with_nulls};
 /// memory runs out over the value of one, that is let go, and the output is tried by itself.
 pub fn renew_outputs<R: Results>(
     alloc: Global,
-    declared: &Declarations,
-    shapes: &[Shape],
-    rooms: Vec<OutputRoom<'_>>,
+    declared: &Module,
+    shapes: &[InstanceKeys],
+    rooms: Vec<OutputBuffers<'_>>,
     settled: &[bool],
     results: &R,
     kept: BTreeMap<String, Object>,
-    ends: &mut Vec<OutputEnd>,
+    ends: &mut Vec<OutputResult>,
 ) -> BTreeMap<String, Object>
     requires dependence { IsDependence (names_in declared.now.names.now) declared.now.dependence.now }
     requires acyclic { IsAcyclic declared.now.dependence.now }
@@ -50,7 +50,7 @@ pub fn renew_outputs<R: Results>(
     let mut outputs = kept;
     let mut stood = Vec::new(alloc);
     for room in rooms {
-        let OutputRoom { name, expr, places } = room;
+        let OutputBuffers { name, expr, places } = room;
         let ended = end_output(
             alloc, declared, shapes, expr, &places, settled, results, &mut stood,
         );
@@ -62,31 +62,31 @@ pub fn renew_outputs<R: Results>(
 /// What comes of one output, by the places of what it names. `stood` has what names stand for so far.
 fn end_output<R: Results>(
     alloc: Global,
-    declared: &Declarations,
-    shapes: &[Shape],
+    declared: &Module,
+    shapes: &[InstanceKeys],
     expr: &Expr,
     places: &[usize],
     settled: &[bool],
     results: &R,
-    stood: &mut Vec<Standing>,
-) -> Ended
+    stood: &mut Vec<Resolved>,
+) -> EvaluatedOutput
     requires dependence { IsDependence (names_in declared.now.names.now) declared.now.dependence.now }
     requires acyclic { IsAcyclic declared.now.dependence.now }
     requires places { places.now ≡ places_of (names_in declared.now.names.now) (named_by (expr_of expr.now)) }
-    requires answered { AreStandingsSoFar (entries_view declared.now.variables.now.entries) (names_in declared.now.names.now)
-        (shapes_of shapes.now) (R.objects results.now) (standings_of stood.old.items) }
-    ensures answered { AreStandingsSoFar (entries_view declared.now.variables.now.entries) (names_in declared.now.names.now)
-        (shapes_of shapes.now) (R.objects results.now) (standings_of stood.new.items) }
+    requires answered { AreResolvedSoFar (entries_view declared.now.variables.now.entries) (names_in declared.now.names.now)
+        (shapes_of shapes.now) (R.objects results.now) (resolved_names_of stood.old.items) }
+    ensures answered { AreResolvedSoFar (entries_view declared.now.variables.now.entries) (names_in declared.now.names.now)
+        (shapes_of shapes.now) (R.objects results.now) (resolved_names_of stood.new.items) }
     ensures done { IsOutputDone (entries_view declared.now.variables.now.entries) (names_in declared.now.names.now)
         (shapes_of shapes.now) (R.objects results.now) (has settled.now) (expr_of expr.now) (done_of result) }
     ensures stored { MayBeSaved (done_of result) }
 {
     if !all_settled(settled, places) {
-        return Ended::NotEvaluated;
+        return EvaluatedOutput::NotEvaluated;
     }
     match shared_value(alloc, declared, shapes, expr, results, stood) {
-        Err(_) => Ended::NoMemory,
-        Ok(Err(fault)) => Ended::Faulted(fault),
+        Err(_) => EvaluatedOutput::NoMemory,
+        Ok(Err(fault)) => EvaluatedOutput::Faulted(fault),
         Ok(Ok(value)) => within_limits(alloc, value),
     }
 }
@@ -95,18 +95,18 @@ fn end_output<R: Results>(
 /// stood, that is let go, and the output is tried by itself.
 fn shared_value<R: Results>(
     alloc: Global,
-    declared: &Declarations,
-    shapes: &[Shape],
+    declared: &Module,
+    shapes: &[InstanceKeys],
     expr: &Expr,
     results: &R,
-    stood: &mut Vec<Standing>,
+    stood: &mut Vec<Resolved>,
 ) -> Result<Result<Value, EvalFault>, AllocError>
     requires dependence { IsDependence (names_in declared.now.names.now) declared.now.dependence.now }
     requires acyclic { IsAcyclic declared.now.dependence.now }
-    requires answered { AreStandingsSoFar (entries_view declared.now.variables.now.entries) (names_in declared.now.names.now)
-        (shapes_of shapes.now) (R.objects results.now) (standings_of stood.old.items) }
-    ensures answered { AreStandingsSoFar (entries_view declared.now.variables.now.entries) (names_in declared.now.names.now)
-        (shapes_of shapes.now) (R.objects results.now) (standings_of stood.new.items) }
+    requires answered { AreResolvedSoFar (entries_view declared.now.variables.now.entries) (names_in declared.now.names.now)
+        (shapes_of shapes.now) (R.objects results.now) (resolved_names_of stood.old.items) }
+    ensures answered { AreResolvedSoFar (entries_view declared.now.variables.now.entries) (names_in declared.now.names.now)
+        (shapes_of shapes.now) (R.objects results.now) (resolved_names_of stood.new.items) }
     ensures output { IfOk result (λ output. IsOutput (entries_view declared.now.variables.now.entries) (names_in declared.now.names.now)
         (shapes_of shapes.now) (R.objects results.now) (expr_of expr.now) output) }
 {
@@ -122,18 +122,18 @@ fn shared_value<R: Results>(
 /// The same, without a second try. Where memory runs out, what stood is let go.
 fn value_by<R: Results>(
     alloc: Global,
-    declared: &Declarations,
-    shapes: &[Shape],
+    declared: &Module,
+    shapes: &[InstanceKeys],
     expr: &Expr,
     results: &R,
-    stood: &mut Vec<Standing>,
+    stood: &mut Vec<Resolved>,
 ) -> Result<Result<Value, EvalFault>, AllocError>
     requires dependence { IsDependence (names_in declared.now.names.now) declared.now.dependence.now }
     requires acyclic { IsAcyclic declared.now.dependence.now }
-    requires answered { AreStandingsSoFar (entries_view declared.now.variables.now.entries) (names_in declared.now.names.now)
-        (shapes_of shapes.now) (R.objects results.now) (standings_of stood.old.items) }
-    ensures answered { AreStandingsSoFar (entries_view declared.now.variables.now.entries) (names_in declared.now.names.now)
-        (shapes_of shapes.now) (R.objects results.now) (standings_of stood.new.items) }
+    requires answered { AreResolvedSoFar (entries_view declared.now.variables.now.entries) (names_in declared.now.names.now)
+        (shapes_of shapes.now) (R.objects results.now) (resolved_names_of stood.old.items) }
+    ensures answered { AreResolvedSoFar (entries_view declared.now.variables.now.entries) (names_in declared.now.names.now)
+        (shapes_of shapes.now) (R.objects results.now) (resolved_names_of stood.new.items) }
     ensures output { IfOk result (λ output. IsOutput (entries_view declared.now.variables.now.entries) (names_in declared.now.names.now)
         (shapes_of shapes.now) (R.objects results.now) (expr_of expr.now) output) }
 {
@@ -147,17 +147,17 @@ fn value_by<R: Results>(
 }
 
 /// What comes of an output with a value.
-fn within_limits(alloc: Global, value: Value) -> Ended
+fn within_limits(alloc: Global, value: Value) -> EvaluatedOutput
     requires { has_no_set (tree_of value) ≡ true }
     ensures done { IsSameOrExcused (done_with (Ok (tree_of value))) (done_of result) }
     ensures stored { MayBeSaved (done_of result) }
 {
     if !is_within_limits(&value) {
-        return Ended::Faulted(EvalFault::TooLarge);
+        return EvaluatedOutput::Faulted(EvalFault::TooLarge);
     }
     match known_object(alloc, value) {
-        Ok(object) => Ended::Valued(object),
-        Err(_) => Ended::NoMemory,
+        Ok(object) => EvaluatedOutput::Valued(object),
+        Err(_) => EvaluatedOutput::NoMemory,
     }
 }
 

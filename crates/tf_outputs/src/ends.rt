@@ -5,7 +5,7 @@ use tf_state_data::Object;
 
 /// What came of one output.
 #[derive(Clone, Copy, Debug, PartialEq, Eq, Drop)]
-pub enum OutputEnd {
+pub enum OutputResult {
     /// It wasn't evaluated anew, as a name that it names isn't settled.
     NotEvaluated,
     /// Memory was refused for its value or its entry.
@@ -18,7 +18,7 @@ pub enum OutputEnd {
 
 /// What came of one output, with its value.
 #[derive(Drop)]
-pub(crate) enum Ended {
+pub(crate) enum EvaluatedOutput {
     NotEvaluated,
     NoMemory,
     Faulted(EvalFault),

@@ -7,7 +7,7 @@ ghost use Rattle.tf_state_data.specs.State.{outputs_of};
 ghost use Rattle.tf_environment.specs.Words.{IsTable, put, tree_of};
 ghost use Rattle.tf_syntax.specs.ExprTree.{entries_view};
 
-use crate::ends::{Ended, OutputEnd};
+use crate::ends::{EvaluatedOutput, OutputResult};
 use std::alloc::{AllocError, Global};
 use std::collections::BTreeMap;
 use tf_state_data::Object;
@@ -16,28 +16,32 @@ use tf_value::Value;
 
 /// Puts an output's value under its name, in place of what was there, where it has one, and tells what came of the output.
 /// Where there is no memory for the entry, that is told.
-pub(crate) fn keep(outputs: &mut BTreeMap<String, Object>, name: String, ended: Ended) -> OutputEnd
+pub(crate) fn keep(
+    outputs: &mut BTreeMap<String, Object>,
+    name: String,
+    ended: EvaluatedOutput,
+) -> OutputResult
     ensures { IsKept (string_bytes name) (done_of ended) result (outputs_of outputs.old.entries) (outputs_of outputs.new.entries) }
 {
     match ended {
-        Ended::NotEvaluated => OutputEnd::NotEvaluated,
-        Ended::NoMemory => OutputEnd::NoMemory,
-        Ended::Faulted(fault) => OutputEnd::Faulted(fault),
-        Ended::Valued(object) => put_value(outputs, name, object),
+        EvaluatedOutput::NotEvaluated => OutputResult::NotEvaluated,
+        EvaluatedOutput::NoMemory => OutputResult::NoMemory,
+        EvaluatedOutput::Faulted(fault) => OutputResult::Faulted(fault),
+        EvaluatedOutput::Valued(object) => put_value(outputs, name, object),
     }
 }
 
 /// Puts a value under a name, in place of what was there; a null takes that away.
-fn put_value(outputs: &mut BTreeMap<String, Object>, name: String, object: Object) -> OutputEnd
+fn put_value(outputs: &mut BTreeMap<String, Object>, name: String, object: Object) -> OutputResult
     ensures { IsKept (string_bytes name) (valued (tree_of object.value)) result (outputs_of outputs.old.entries) (outputs_of outputs.new.entries) }
 {
     if is_null(&object.value) {
         outputs.remove(name.as_str());
-        return OutputEnd::Valued;
+        return OutputResult::Valued;
     }
     match outputs.insert(name, object) {
-        Ok(_) => OutputEnd::Valued,
-        Err(_) => OutputEnd::NoMemory,
+        Ok(_) => OutputResult::Valued,
+        Err(_) => OutputResult::NoMemory,
     }
 }
 

@@ -6,15 +6,15 @@
 //! no value, the entry of the prior state stays. By then providers were called, so nothing here may fail.
 #![tactic(auto)]
 
+mod buffers;
 mod ending;
 mod ends;
 mod keeping;
 pub mod laws;
-mod rooms;
 mod settling;
 
+pub use buffers::{OutputBuffers, reserve_outputs};
 pub use ending::renew_outputs;
-pub use ends::OutputEnd;
+pub use ends::OutputResult;
 pub use keeping::kept_outputs;
-pub use rooms::{OutputRoom, rooms_for_outputs};
 pub use settling::settle_names;

@@ -4,13 +4,13 @@ ghost use Rattle.std.specs.Prelude.{◌≡◌, ◌<◌, ℕ, length, Contains};
 ghost use Rattle.tf_environment.specs.Words.{directly_before, has, IsAcyclic, IsDependence, IsInOrder, names_in, seen_by};
 ghost use Rattle.tf_outputs.specs.Settled.{AreSettled, AreSettledAmong, all_settled as all_that_are, settled_rule};
 
-use tf_environment::Declarations;
-use tf_names::Named;
+use tf_environment::Module;
+use tf_names::Declaration;
 
 /// Works out which names are settled, by place: a resource where all its creates and updates are good, a local where each name that
 /// it refers to directly is. `good` says of the place of each resource whether all its creates and updates are good; one without
 /// actions is. Takes no memory.
-pub fn settle_names(declared: &Declarations, good: &[bool], settled: &mut [bool])
+pub fn settle_names(declared: &Module, good: &[bool], settled: &mut [bool])
     requires dependence { IsDependence (names_in declared.now.names.now) declared.now.dependence.now }
     requires acyclic { IsAcyclic declared.now.dependence.now }
     requires good { length good.now ≡ length (names_in declared.now.names.now) }
@@ -21,7 +21,7 @@ pub fn settle_names(declared: &Declarations, good: &[bool], settled: &mut [bool]
 }
 
 /// The same, of the names in a list in which each stands after all that it refers to.
-fn settle_in(declared: &Declarations, order: &[usize], good: &[bool], settled: &mut [bool])
+fn settle_in(declared: &Module, order: &[usize], good: &[bool], settled: &mut [bool])
     requires dependence { IsDependence (names_in declared.now.names.now) declared.now.dependence.now }
     requires order { IsInOrder (directly_before (names_in declared.now.names.now)) order.now }
     requires within { (n : ℕ) → Contains order.now n → n < length (names_in declared.now.names.now) }
@@ -36,7 +36,7 @@ fn settle_in(declared: &Declarations, order: &[usize], good: &[bool], settled: &
 }
 
 /// Whether the name at a place is settled, by which names are so far.
-fn is_settled(declared: &Declarations, good: &[bool], settled: &[bool], place: usize) -> bool
+fn is_settled(declared: &Module, good: &[bool], settled: &[bool], place: usize) -> bool
     requires place { place < length (names_in declared.now.names.now) }
     requires dependence { IsDependence (names_in declared.now.names.now) declared.now.dependence.now }
     requires good { length good.now ≡ length (names_in declared.now.names.now) }
@@ -44,8 +44,8 @@ fn is_settled(declared: &Declarations, good: &[bool], settled: &[bool], place: u
         (seen_by (has settled.now) (directly_before (names_in declared.now.names.now) place)) }
 {
     match declared.names.at(place) {
-        Named::Local(_, _) => all_settled(settled, declared.dependence.before(place)),
-        Named::Resource(_, _) => good[place],
+        Declaration::Local(_, _) => all_settled(settled, declared.dependence.before(place)),
+        Declaration::Resource(_, _) => good[place],
     }
 }
 

@@ -8,7 +8,7 @@ use Rattle.tf_address.specs.Label.{LabelView}
 use Rattle.tf_address.specs.ObjectId.{InstanceKeyView}
 use Rattle.tf_deciding.specs.Deciding.{OfView, action}
 use Rattle.tf_deciding.specs.Outcome.{OutcomeView}
-use Rattle.tf_plan_resources.specs.Members.{MemberView, all_keys, member, members}
+use Rattle.tf_plan_resources.specs.Members.{InstanceToPlanView, all_keys, member, members}
 use Rattle.tf_plan.proofs.Distinct.{AreDistinct, distinct-flat, distinct-told, in_flat_map, in_map}
 use Rattle.tf_plan.proofs.Listing.{member_actions, outcome_actions}
 use Rattle.tf_plan.proofs.Objects.{keys-distinct}
@@ -51,7 +51,7 @@ about-outcome of i key (Ok steps) = map-about of i key steps
 about-outcome of i key (Err why) = refl
 
 -- what the actions of members are about, one after another
-about-members : (of : OfView) (becomes : MemberView → OutcomeView) (i : ℕ) (ms : List MemberView)
+about-members : (of : OfView) (becomes : InstanceToPlanView → OutcomeView) (i : ℕ) (ms : List InstanceToPlanView)
     → map about (member_actions of becomes i ms) ≡ flat_map (λ m. outcome_abouts of.label m.key (becomes m)) ms
 about-members of becomes i [] = refl
 about-members of becomes i (m ∷ ms) =
@@ -64,20 +64,20 @@ flat-mapped g h [] = refl
 flat-mapped g h (x ∷ xs) = ap (λ ys. g (h x) ++ ys) (flat-mapped g h xs)
 
 -- no two actions of a resource are about the same, where no two of an instance are
-pub resource-distinct : (of : OfView) (becomes : MemberView → OutcomeView) (keys : List InstanceKeyView) (records : List RecordView)
+pub resource-distinct : (of : OfView) (becomes : InstanceToPlanView → OutcomeView) (keys : List InstanceKeyView) (records : List RecordView)
     → ((key : InstanceKeyView) → AreDistinct (outcome_signs (becomes (member keys records key)))) → AreDistinct (map about (member_actions of becomes 0 (members keys records)))
 resource-distinct of becomes keys records each =
     let ks : List InstanceKeyView = all_keys keys records in
     let g = λ (key : InstanceKeyView). outcome_abouts of.label key (becomes (member keys records key)) in
-    let same = about-members of becomes 0 (members keys records) ∙ flat-mapped (λ (m : MemberView). outcome_abouts of.label m.key (becomes m)) (member keys records) ks in
+    let same = about-members of becomes 0 (members keys records) ∙ flat-mapped (λ (m : InstanceToPlanView). outcome_abouts of.label m.key (becomes m)) (member keys records) ks in
     subst AreDistinct (sym same)
     (distinct-flat g ks (keys-distinct keys records) (λ key c. outcome-distinct of.label key (becomes (member keys records key)) (each key))
     (λ j k b cj ck bj bk.
     sym (outcome-about of.label j (becomes (member keys records j)) b bj).1 ∙ (outcome-about of.label k (becomes (member keys records k)) b bk).1))
 
 -- all of them are about it
-pub resource-about : (of : OfView) (becomes : MemberView → OutcomeView) (i : ℕ) (ms : List MemberView) (b : AboutView) → Contains (map about (member_actions of becomes i ms)) b → b.label ≡ of.label
+pub resource-about : (of : OfView) (becomes : InstanceToPlanView → OutcomeView) (i : ℕ) (ms : List InstanceToPlanView) (b : AboutView) → Contains (map about (member_actions of becomes i ms)) b → b.label ≡ of.label
 resource-about of becomes i ms b c =
     let there = subst (λ xs. Contains xs b) (about-members of becomes i ms) c in
-    let m = in_flat_map (λ (m : MemberView). outcome_abouts of.label m.key (becomes m)) ms b there in
+    let m = in_flat_map (λ (m : InstanceToPlanView). outcome_abouts of.label m.key (becomes m)) ms b there in
     (outcome-about of.label m.0.key (becomes m.0) b m.2).0

@@ -18,15 +18,15 @@ use Rattle.tf_graph.proofs.Edges.{contains_head, contains_tail}
 use Rattle.tf_plan.proofs.Distinct.{AreDistinct, distinct-sorted}
 use Rattle.tf_plan_resources.proofs.Standing.{places-true}
 use Rattle.tf_plan_resources.specs.Laws.{AreApart}
-use Rattle.tf_plan_resources.specs.Numbering.{NumberedView, a_name, address_of, is_address, is_at, place_in}
+use Rattle.tf_plan_resources.specs.ResourceIndex.{ResourceRefView, a_name, address_of, is_address, is_at, place_in}
 use Rattle.tf_syntax.specs.ExprTree as expr
 
 -- ---- addresses that are distinct are at one place each
 
-abbrev addresses : List NumberedView → List LabelView
+abbrev addresses : List ResourceRefView → List LabelView
 addresses all = filter_map address_of all
 
-address-there : (all : List NumberedView) (i : ℕ) (x : NumberedView) (label : LabelView) → slice_get all i ≡ Some x → address_of x ≡ Some label → Contains (addresses all) label
+address-there : (all : List ResourceRefView) (i : ℕ) (x : ResourceRefView) (label : LabelView) → slice_get all i ≡ Some x → address_of x ≡ Some label → Contains (addresses all) label
 address-there [] i x label e a = absurd (cc)
 address-there (z ∷ all) zero x label e a =
     let here : address_of z ≡ Some label = ap address_of (same_Some z x e) ∙ a in
@@ -37,7 +37,7 @@ address-there (z ∷ all) (suc i) x label e a = by_option (address_of z) (addres
     by_option None c = c
     by_option (Some other) c = contains_tail label other (addresses all) c
 
-apart-from : (all : List NumberedView) → AreDistinct (addresses all) → AreApart all
+apart-from : (all : List ResourceRefView) → AreDistinct (addresses all) → AreApart all
 apart-from [] d i j x y label ei ej ai aj = absurd (cc)
 apart-from (z ∷ all) d i j x y label ei ej ai aj = by_option (address_of z) refl d i j ei ej (λ rest k l ek el. apart-from all rest k l x y label ek el ai aj)
   where
@@ -73,7 +73,7 @@ names-apart config sorted =
 
 -- ---- the place of what stands at a place
 
-found : (all : List NumberedView) (n : ℕ) (x : NumberedView) (label : LabelView) → slice_get all n ≡ Some x → address_of x ≡ Some label → (k : ℕ) × (place_in all label ≡ Some k)
+found : (all : List ResourceRefView) (n : ℕ) (x : ResourceRefView) (label : LabelView) → slice_get all n ≡ Some x → address_of x ≡ Some label → (k : ℕ) × (place_in all label ≡ Some k)
 found [] n x label e a = absurd (cc)
 found (z ∷ all) zero x label e a =
     let here : is_at label z ≡ true = ap (is_address label) (ap address_of (same_Some z x e) ∙ a) ∙ (label_Decides label label).1 refl in
@@ -85,7 +85,7 @@ found (z ∷ all) (suc n) x label e a = by_test (is_at label z) (found all n x l
     by_test false later = (suc later.0, ap (option_map suc) later.1)
 
 -- where no two are at one address, what stands at a place is found there
-pub placed-at : (all : List NumberedView) (n : ℕ) (x : NumberedView) (label : LabelView) → AreApart all → slice_get all n ≡ Some x → address_of x ≡ Some label → place_in all label ≡ Some n
+pub placed-at : (all : List ResourceRefView) (n : ℕ) (x : ResourceRefView) (label : LabelView) → AreApart all → slice_get all n ≡ Some x → address_of x ≡ Some label → place_in all label ≡ Some n
 placed-at all n x label apart e a =
     let k = found all n x label e a in
     let y = places-true all label k.0 k.1 in

@@ -5,7 +5,7 @@ use Rattle.std.specs.List.{AllByRecursion, range_with_len}
 use Rattle.tf_address.specs.ObjectId.{number, name}
 use Rattle.tf_config_data.specs.Config.{BlockView}
 use Rattle.tf_config_data.specs.Names.{NameView, a_block, meant_at}
-use Rattle.tf_environment.specs.Shape.{ShapeView, one, many, named, instance_keys}
+use Rattle.tf_environment.specs.InstanceKeys.{InstanceKeysView, one, many, named, instance_keys}
 use Rattle.tf_expand.specs.Expanding.{instance_count, instances_before}
 use Rattle.tf_plan_data.specs.Fits.{IsNumbered}
 
@@ -17,12 +17,12 @@ all-named : (names : List (List ℕ)) → AllByRecursion IsNumbered (map name na
 all-named [] = tt
 all-named (s ∷ names) = (tt, all-named names)
 
-keys-numbered : (block : BlockView) (shape : ShapeView) → instance_count (Some (a_block block)) shape ≤ 2000 → AllByRecursion IsNumbered (instance_keys shape)
+keys-numbered : (block : BlockView) (shape : InstanceKeysView) → instance_count (Some (a_block block)) shape ≤ 2000 → AllByRecursion IsNumbered (instance_keys shape)
 keys-numbered block one h = (tt, tt)
 keys-numbered block (many n) h = numbered 0 n (omega arith)
 keys-numbered block (named names) h = all-named names
 
-module _ (names : List NameView) (shapes : ℕ → ShapeView) where
+module _ (names : List NameView) (shapes : ℕ → InstanceKeysView) where
   count-within : (k n : ℕ) → k < n → instance_count (meant_at names k) (shapes k) ≤ instances_before names shapes n
   count-within k zero h = absurd (omega arith)
   count-within k (suc n) h = elim (cases_eq k n) [

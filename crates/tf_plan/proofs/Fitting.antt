@@ -16,8 +16,8 @@ use Rattle.tf_deciding.proofs.Standing.{named_within}
 use Rattle.tf_deciding.specs.Outcome.{member_outcome, orphan_outcome}
 use Rattle.tf_deciding.specs.Stage.{block_members, records_at}
 use Rattle.tf_deciding.specs.Whole.{decided}
-use Rattle.tf_environment.specs.Shape.{ShapeView, instance_keys}
-use Rattle.tf_environment.specs.Standing.{StandingView, all_stand, environment}
+use Rattle.tf_environment.specs.InstanceKeys.{InstanceKeysView, instance_keys}
+use Rattle.tf_environment.specs.Resolved.{ResolvedView, all_stand, environment}
 use Rattle.tf_expand.specs.Expanding.{instances_before}
 use Rattle.tf_graph.specs.Digraph.{Digraph}
 use Rattle.tf_graph.specs.Solutions.{seen_by}
@@ -37,7 +37,7 @@ use Rattle.tf_plan_data.specs.Served.{AreServed, IsServedBy}
 use Rattle.tf_protocol.specs.Meaning.{Meaning, schema_in}
 use Rattle.tf_plan_resources.proofs.Standing.{numbers-in_order, resources-apart}
 use Rattle.tf_plan_resources.specs.Laws as resources_laws
-use Rattle.tf_plan_resources.specs.Numbering.{NumberedView, a_name, an_orphan, address_of, block_address, has_block, numbered, orphans, place_in}
+use Rattle.tf_plan_resources.specs.ResourceIndex.{ResourceRefView, a_name, an_orphan, address_of, block_address, has_block, numbered, orphans, place_in}
 use Rattle.tf_state_data.specs.Addresses.{AreByAddress}
 use Rattle.tf_state_data.specs.Ids.{AreById}
 use Rattle.tf_state_data.specs.Resource.{ResourceView, resource_of}
@@ -110,30 +110,30 @@ name-stands names resources n name e =
     (inside, meant-get names n ∙ name-get (slice_get names n) name (sym ((numbers-in_order names resources).first_names n inside) ∙ e))
 
 -- an action is of the resource at its number, of a block's instance where it makes or changes an object, and served
-abbrev FitsAll : List Meaning → List NameView → List NumberedView → ActionView → Type 0
+abbrev FitsAll : List Meaning → List NameView → List ResourceRefView → ActionView → Type 0
 FitsAll ms names all a = IsPlaced all a × IsDeclared names a × IsServedBy ms a
 
-module _ (ms : List Meaning) (resources : List ResourceView) (variables : Entries) (names : List NameView) (shapes : ℕ → ShapeView) (standings : ℕ → StandingView) (sorted : AreAllById resources) where
+module _ (ms : List Meaning) (resources : List ResourceView) (variables : Entries) (names : List NameView) (shapes : ℕ → InstanceKeysView) (resolved_names : ℕ → ResolvedView) (sorted : AreAllById resources) where
   abbrev actions-at : ℕ → List ActionView
-  actions-at n = place_actions ms resources variables names shapes standings n (slice_get (numbered names resources) n)
+  actions-at n = place_actions ms resources variables names shapes resolved_names n (slice_get (numbered names resources) n)
 
   -- ---- no two are about the same
 
-  meant-distinct : (n : ℕ) (m : Meant) → AreDistinct (map about (meant_actions ms resources variables names shapes standings n m))
+  meant-distinct : (n : ℕ) (m : Meant) → AreDistinct (map about (meant_actions ms resources variables names shapes resolved_names n m))
   meant-distinct n (a_local e) = tt
-  meant-distinct n (a_block block) = by_test (all_stand (seen_by standings (directly_before names n)))
+  meant-distinct n (a_block block) = by_test (all_stand (seen_by resolved_names (directly_before names n)))
     where
-      by_test : (b : Bool) → AreDistinct (map about (cond b (block_actions ms resources n block (environment variables names standings) (shapes n)) []))
+      by_test : (b : Bool) → AreDistinct (map about (cond b (block_actions ms resources n block (environment variables names resolved_names) (shapes n)) []))
       by_test true =
           let schema = schema_in block.label.type_name ms in
-          let env = environment variables names standings in
+          let env = environment variables names resolved_names in
           let keys = instance_keys (shapes n) in
           let records = records_at block.label resources in
           resource-distinct (of_at ms n block.label) (member_outcome schema block env) keys records
           (λ key. member-distinct schema block env (member keys records key) (deposed-distinct key records (records-sorted block.label resources sorted)))
       by_test false = tt
 
-  place-distinct : (n : ℕ) (o : Option NumberedView) → slice_get (numbered names resources) n ≡ o → AreDistinct (map about (place_actions ms resources variables names shapes standings n o))
+  place-distinct : (n : ℕ) (o : Option ResourceRefView) → slice_get (numbered names resources) n ≡ o → AreDistinct (map about (place_actions ms resources variables names shapes resolved_names n o))
   place-distinct n None e = tt
   place-distinct n (Some (a_name name)) e = meant-distinct n name.meant
   place-distinct n (Some (an_orphan r)) e =
@@ -141,22 +141,22 @@ module _ (ms : List Meaning) (resources : List ResourceView) (variables : Entrie
       resource-distinct (of_at ms n r.label) (orphan_outcome schema) [] r.records
       (λ key. orphan-distinct schema (member [] r.records key) (deposed-distinct key r.records (orphan-sorted names resources n r sorted e)))
 
-  meant-about : (n : ℕ) (m : Meant) (b : AboutView) → Contains (map about (meant_actions ms resources variables names shapes standings n m)) b → block_address m ≡ Some b.label
+  meant-about : (n : ℕ) (m : Meant) (b : AboutView) → Contains (map about (meant_actions ms resources variables names shapes resolved_names n m)) b → block_address m ≡ Some b.label
   meant-about n (a_local e) b c = absurd (omega (arith, c.1))
-  meant-about n (a_block block) b c = by_test (all_stand (seen_by standings (directly_before names n))) c
+  meant-about n (a_block block) b c = by_test (all_stand (seen_by resolved_names (directly_before names n))) c
     where
-      by_test : (t : Bool) → Contains (map about (cond t (block_actions ms resources n block (environment variables names standings) (shapes n)) [])) b → Some block.label ≡ Some b.label
+      by_test : (t : Bool) → Contains (map about (cond t (block_actions ms resources n block (environment variables names resolved_names) (shapes n)) [])) b → Some block.label ≡ Some b.label
       by_test true d =
           ap Some
-          (sym (resource-about (of_at ms n block.label) (member_outcome (schema_in block.label.type_name ms) block (environment variables names standings)) 0 (block_members (shapes n) block resources) b d))
+          (sym (resource-about (of_at ms n block.label) (member_outcome (schema_in block.label.type_name ms) block (environment variables names resolved_names)) 0 (block_members (shapes n) block resources) b d))
       by_test false d = absurd (omega (arith, d.1))
 
-  place-about : (n : ℕ) (o : Option NumberedView) (b : AboutView) → Contains (map about (place_actions ms resources variables names shapes standings n o)) b → option_and_then address_of o ≡ Some b.label
+  place-about : (n : ℕ) (o : Option ResourceRefView) (b : AboutView) → Contains (map about (place_actions ms resources variables names shapes resolved_names n o)) b → option_and_then address_of o ≡ Some b.label
   place-about n None b c = absurd (omega (arith, c.1))
   place-about n (Some (a_name name)) b c = meant-about n name.meant b c
   place-about n (Some (an_orphan r)) b c = ap Some (sym (resource-about (of_at ms n r.label) (orphan_outcome (schema_in r.label.type_name ms)) 0 (members [] r.records) b c))
 
-  at-address : (o : Option NumberedView) (label : LabelView) → option_and_then address_of o ≡ Some label → (x : NumberedView) × (o ≡ Some x) × (address_of x ≡ Some label)
+  at-address : (o : Option ResourceRefView) (label : LabelView) → option_and_then address_of o ≡ Some label → (x : ResourceRefView) × (o ≡ Some x) × (address_of x ≡ Some label)
   at-address None label e = absurd (cc)
   at-address (Some x) label e = (x, refl, e)
 
@@ -174,7 +174,7 @@ module _ (ms : List Meaning) (resources : List ResourceView) (variables : Entrie
 
     -- ---- each fits
 
-    fits-all : (n : ℕ) (x : NumberedView) (label : LabelView) (xs : List ActionView) → slice_get (numbered names resources) n ≡ Some x → address_of x ≡ Some label
+    fits-all : (n : ℕ) (x : ResourceRefView) (label : LabelView) (xs : List ActionView) → slice_get (numbered names resources) n ≡ Some x → address_of x ≡ Some label
         → AllByRecursion (IsOfResource ms names n label) xs → AllByRecursion (FitsAll ms names (numbered names resources)) xs
     fits-all n x label xs e address all =
         let at = placed-at (numbered names resources) n x label apart e address in
@@ -183,23 +183,23 @@ module _ (ms : List Meaning) (resources : List ResourceView) (variables : Entrie
 
     module _ (few : instances_before names shapes (length names) ≤ 2000) where
       meant-fits : (n : ℕ) (name : NameView) (m : Meant) → slice_get (numbered names resources) n ≡ Some (a_name name) → name.meant ≡ m
-          → AllByRecursion (FitsAll ms names (numbered names resources)) (meant_actions ms resources variables names shapes standings n m)
+          → AllByRecursion (FitsAll ms names (numbered names resources)) (meant_actions ms resources variables names shapes resolved_names n m)
       meant-fits n name (a_local expression) e is = tt
-      meant-fits n name (a_block block) e is = by_test (all_stand (seen_by standings (directly_before names n)))
+      meant-fits n name (a_block block) e is = by_test (all_stand (seen_by resolved_names (directly_before names n)))
         where
-          by_test : (b : Bool) → AllByRecursion (FitsAll ms names (numbered names resources)) (cond b (block_actions ms resources n block (environment variables names standings) (shapes n)) [])
+          by_test : (b : Bool) → AllByRecursion (FitsAll ms names (numbered names resources)) (cond b (block_actions ms resources n block (environment variables names resolved_names) (shapes n)) [])
           by_test true =
               let stands = name-stands names resources n name e in
               let meant : meant_at names n ≡ Some (a_block block) = stands.1 ∙ ap Some is in
               let keys = instance_keys (shapes n) in
               let records = records_at block.label resources in
-              let env = environment variables names standings in
+              let env = environment variables names resolved_names in
               fits-all n (a_name name) block.label (block_actions ms resources n block env (shapes n)) e (ap block_address is)
               (members-fit ms names n block meant env 0 (members keys records) (members-numbered keys records (instances-numbered names shapes n block stands.0 meant few)))
           by_test false = tt
 
-      place-fits : (n : ℕ) (o : Option NumberedView) → slice_get (numbered names resources) n ≡ o
-          → AllByRecursion (FitsAll ms names (numbered names resources)) (place_actions ms resources variables names shapes standings n o)
+      place-fits : (n : ℕ) (o : Option ResourceRefView) → slice_get (numbered names resources) n ≡ o
+          → AllByRecursion (FitsAll ms names (numbered names resources)) (place_actions ms resources variables names shapes resolved_names n o)
       place-fits n None e = tt
       place-fits n (Some (a_name name)) e = meant-fits n name name.meant e refl
       place-fits n (Some (an_orphan r)) e = fits-all n (an_orphan r) r.label (orphan_actions ms n r) e refl (orphans-fit ms names n r.label 0 (members [] r.records))
@@ -220,7 +220,7 @@ apart-by : (actions : List ActionView) → AreDistinct (map about actions) → A
 apart-by actions distinct i j a b ei ej same =
     distinct-at (map about actions) i j (about a) distinct (slice_get-map about actions i ∙ ap (option_map about) ei) (slice_get-map about actions j ∙ ap (option_map about) ej ∙ ap Some (sym same))
 
-pub plan-fits : (ms : List Meaning) (resources : List ResourceView) (variables : Entries) (names : List NameView) (outputs : expr.Entries) (shapes : ℕ → ShapeView) (actions : List ActionView)
+pub plan-fits : (ms : List Meaning) (resources : List ResourceView) (variables : Entries) (names : List NameView) (outputs : expr.Entries) (shapes : ℕ → InstanceKeysView) (actions : List ActionView)
     → AreInstances variables names shapes → IsPlanned ms resources variables names outputs shapes (unrefused actions) → resources_laws.AreApart (map a_name names)
     → AreByAddress resources → AreAllById resources → AreFit ms names resources actions
 plan-fits ms resources variables names outputs shapes actions instances planned blocks by_address by_id =
@@ -228,15 +228,15 @@ plan-fits ms resources variables names outputs shapes actions instances planned 
     let few = instances.expanded.few in
     let apart = resources-apart names resources blocks by_address in
     let once : AreDistinct planned.places = places-distinct (is_resource all) (length all) planned.places planned.in_order.each in
-    let made : (decided ms resources variables names shapes planned.standings all planned.places).actions ≡ actions = ap (λ (p : PlannedView). p.actions) planned.decided in
-    let same = sym (decided-actions ms resources variables names shapes planned.standings all planned.places) ∙ made in
+    let made : (decided ms resources variables names shapes planned.resolved_names all planned.places).actions ≡ actions = ap (λ (p : PlannedView). p.actions) planned.decided in
+    let same = sym (decided-actions ms resources variables names shapes planned.resolved_names all planned.places) ∙ made in
     let fit : AllByRecursion (FitsAll ms names all) actions =
-    subst (AllByRecursion (FitsAll ms names all)) same (all-fit ms resources variables names shapes planned.standings by_id apart few planned.places) in
+    subst (AllByRecursion (FitsAll ms names all)) same (all-fit ms resources variables names shapes planned.resolved_names by_id apart few planned.places) in
     record {
       placed = all-weaker (FitsAll ms names all) (IsPlaced all) actions (λ a h. h.0) fit;
       declared = all-weaker (FitsAll ms names all) (IsDeclared names) actions (λ a h. h.1) fit;
       served = all-weaker (FitsAll ms names all) (IsServedBy ms) actions (λ a h. h.2) fit;
-      apart = apart-by actions (subst (λ xs. AreDistinct (map about xs)) same (all-distinct ms resources variables names shapes planned.standings by_id apart planned.places once));
+      apart = apart-by actions (subst (λ xs. AreDistinct (map about xs)) same (all-distinct ms resources variables names shapes planned.resolved_names by_id apart planned.places once));
     }
 
 -- the records of each resource of a state stand by their ids
@@ -245,7 +245,7 @@ all-by_id [] = tt
 all-by_id (r ∷ resources) = (r.ordered, all-by_id resources)
 
 -- what is planned from a state fits
-pub made-fits : (ms : List Meaning) (names : List NameView) (outputs : expr.Entries) (valued : Entries) (prior : State) (needs : ℕ → ℕ → Bool) (shapes : ℕ → ShapeView) (actions : List ActionView) (late : ℕ → Bool) (order : Digraph)
+pub made-fits : (ms : List Meaning) (names : List NameView) (outputs : expr.Entries) (valued : Entries) (prior : State) (needs : ℕ → ℕ → Bool) (shapes : ℕ → InstanceKeysView) (actions : List ActionView) (late : ℕ → Bool) (order : Digraph)
     → resources_laws.AreApart (map a_name names) → IsPlannedFrom ms (state_of prior).resources valued names outputs needs shapes actions late order
     → AreFit ms names (state_of prior).resources actions
 made-fits ms names outputs valued prior needs shapes actions late order blocks made =

@@ -11,13 +11,13 @@ use Rattle.tf_deciding.specs.Deciding.{DecidedView, OfView, action, version_of, 
 use Rattle.tf_deciding.specs.Outcome.{OutcomeView, member_outcome, orphan_outcome}
 use Rattle.tf_deciding.specs.Stage.{block_members}
 use Rattle.tf_deciding.specs.Whole.{decided, nothing_decided, with_meant, with_numbered}
-use Rattle.tf_environment.specs.Shape.{ShapeView}
-use Rattle.tf_environment.specs.Standing.{StandingView, all_stand, environment}
+use Rattle.tf_environment.specs.InstanceKeys.{InstanceKeysView}
+use Rattle.tf_environment.specs.Resolved.{ResolvedView, all_stand, environment}
 use Rattle.tf_eval.specs.Environment.{Environment}
 use Rattle.tf_graph.specs.Solutions.{seen_by}
-use Rattle.tf_plan_resources.specs.Members.{MemberView, members}
+use Rattle.tf_plan_resources.specs.Members.{InstanceToPlanView, members}
 use Rattle.tf_protocol.specs.Meaning.{Meaning, schema_in}
-use Rattle.tf_plan_resources.specs.Numbering.{NumberedView, a_name, an_orphan}
+use Rattle.tf_plan_resources.specs.ResourceIndex.{ResourceRefView, a_name, an_orphan}
 use Rattle.tf_state_data.specs.Resource.{ResourceView}
 use Rattle.tf_value.specs.Tree.{Entries}
 
@@ -32,7 +32,7 @@ abbrev pub outcome_actions : OfView → ℕ → InstanceKeyView → OutcomeView 
 outcome_actions of i key (Ok steps) = map (action of i key) steps
 outcome_actions of i key (Err why) = []
 
-abbrev pub member_actions : OfView → (MemberView → OutcomeView) → ℕ → List MemberView → List ActionView
+abbrev pub member_actions : OfView → (InstanceToPlanView → OutcomeView) → ℕ → List InstanceToPlanView → List ActionView
 member_actions of becomes i [] = []
 member_actions of becomes i (m ∷ ms) = outcome_actions of i m.key (becomes m) ++ member_actions of becomes (i + 1) ms
 
@@ -40,7 +40,7 @@ with_outcome-actions : (of : OfView) (i : ℕ) (key : InstanceKeyView) (o : Outc
 with_outcome-actions of i key (Ok steps) d = refl
 with_outcome-actions of i key (Err why) d = sym (append-none d.actions)
 
-with_members-actions : (of : OfView) (becomes : MemberView → OutcomeView) (i : ℕ) (ms : List MemberView) (d : DecidedView) → (with_members of becomes i ms d).actions ≡ d.actions ++ member_actions of becomes i ms
+with_members-actions : (of : OfView) (becomes : InstanceToPlanView → OutcomeView) (i : ℕ) (ms : List InstanceToPlanView) (d : DecidedView) → (with_members of becomes i ms d).actions ≡ d.actions ++ member_actions of becomes i ms
 with_members-actions of becomes i [] d = sym (append-none d.actions)
 with_members-actions of becomes i (m ∷ ms) d =
     with_members-actions of becomes (i + 1) ms (with_outcome of i m.key (becomes m) d)
@@ -53,49 +53,49 @@ with_members-actions of becomes i (m ∷ ms) d =
 abbrev pub of_at : List Meaning → ℕ → LabelView → OfView
 of_at ms n label = record { resource = n; label = label; version = version_of (schema_in label.type_name ms) }
 
-abbrev pub block_actions : List Meaning → List ResourceView → ℕ → BlockView → Environment → ShapeView → List ActionView
+abbrev pub block_actions : List Meaning → List ResourceView → ℕ → BlockView → Environment → InstanceKeysView → List ActionView
 block_actions ms resources n block env shape =
     member_actions (of_at ms n block.label) (member_outcome (schema_in block.label.type_name ms) block env) 0 (block_members shape block resources)
 
 abbrev pub orphan_actions : List Meaning → ℕ → ResourceView → List ActionView
 orphan_actions ms n r = member_actions (of_at ms n r.label) (orphan_outcome (schema_in r.label.type_name ms)) 0 (members [] r.records)
 
-module _ (ms : List Meaning) (resources : List ResourceView) (variables : Entries) (names : List NameView) (shapes : ℕ → ShapeView) (standings : ℕ → StandingView) where
+module _ (ms : List Meaning) (resources : List ResourceView) (variables : Entries) (names : List NameView) (shapes : ℕ → InstanceKeysView) (resolved_names : ℕ → ResolvedView) where
   abbrev pub meant_actions : ℕ → Meant → List ActionView
   meant_actions n (a_local e) = []
   meant_actions n (a_block block) =
-      if all_stand (seen_by standings (directly_before names n)) then block_actions ms resources n block (environment variables names standings) (shapes n) else []
+      if all_stand (seen_by resolved_names (directly_before names n)) then block_actions ms resources n block (environment variables names resolved_names) (shapes n) else []
 
-  abbrev pub place_actions : ℕ → Option NumberedView → List ActionView
+  abbrev pub place_actions : ℕ → Option ResourceRefView → List ActionView
   place_actions n None = []
   place_actions n (Some (a_name name)) = meant_actions n name.meant
   place_actions n (Some (an_orphan r)) = orphan_actions ms n r
 
-  with_meant-actions : (n : ℕ) (m : Meant) (d : DecidedView) → (with_meant ms resources variables names shapes standings n m d).actions ≡ d.actions ++ meant_actions n m
+  with_meant-actions : (n : ℕ) (m : Meant) (d : DecidedView) → (with_meant ms resources variables names shapes resolved_names n m d).actions ≡ d.actions ++ meant_actions n m
   with_meant-actions n (a_local e) d = sym (append-none d.actions)
-  with_meant-actions n (a_block block) d = by_test (all_stand (seen_by standings (directly_before names n)))
+  with_meant-actions n (a_block block) d = by_test (all_stand (seen_by resolved_names (directly_before names n)))
     where
       by_test : (b : Bool)
-          → (cond b (with_block ms resources n block (environment variables names standings) (shapes n) d) d).actions
-          ≡ d.actions ++ cond b (block_actions ms resources n block (environment variables names standings) (shapes n)) []
+          → (cond b (with_block ms resources n block (environment variables names resolved_names) (shapes n) d) d).actions
+          ≡ d.actions ++ cond b (block_actions ms resources n block (environment variables names resolved_names) (shapes n)) []
       by_test true =
-          with_members-actions (of_at ms n block.label) (member_outcome (schema_in block.label.type_name ms) block (environment variables names standings)) 0 (block_members (shapes n) block resources) d
+          with_members-actions (of_at ms n block.label) (member_outcome (schema_in block.label.type_name ms) block (environment variables names resolved_names)) 0 (block_members (shapes n) block resources) d
       by_test false = sym (append-none d.actions)
 
-  with_numbered-actions : (n : ℕ) (o : Option NumberedView) (d : DecidedView) → (with_numbered ms resources variables names shapes standings n o d).actions ≡ d.actions ++ place_actions n o
+  with_numbered-actions : (n : ℕ) (o : Option ResourceRefView) (d : DecidedView) → (with_numbered ms resources variables names shapes resolved_names n o d).actions ≡ d.actions ++ place_actions n o
   with_numbered-actions n None d = sym (append-none d.actions)
   with_numbered-actions n (Some (a_name name)) d = with_meant-actions n name.meant d
   with_numbered-actions n (Some (an_orphan r)) d = with_members-actions (of_at ms n r.label) (orphan_outcome (schema_in r.label.type_name ms)) 0 (members [] r.records) d
 
-  fold-actions : (all : List NumberedView) (order : List ℕ) (d : DecidedView)
-      → (fold (λ e n. with_numbered ms resources variables names shapes standings n (slice_get all n) e) d order).actions ≡ d.actions ++ flat_map (λ n. place_actions n (slice_get all n)) order
+  fold-actions : (all : List ResourceRefView) (order : List ℕ) (d : DecidedView)
+      → (fold (λ e n. with_numbered ms resources variables names shapes resolved_names n (slice_get all n) e) d order).actions ≡ d.actions ++ flat_map (λ n. place_actions n (slice_get all n)) order
   fold-actions all [] d = sym (append-none d.actions)
   fold-actions all (n ∷ order) d =
-      fold-actions all order (with_numbered ms resources variables names shapes standings n (slice_get all n) d)
+      fold-actions all order (with_numbered ms resources variables names shapes resolved_names n (slice_get all n) d)
       ∙ ap (λ xs. xs ++ flat_map (λ k. place_actions k (slice_get all k)) order) (with_numbered-actions n (slice_get all n) d)
       ∙ append_assoc d.actions (place_actions n (slice_get all n)) (flat_map (λ k. place_actions k (slice_get all k)) order)
 
   -- all actions that are decided
-  pub decided-actions : (all : List NumberedView) (order : List ℕ)
-      → (decided ms resources variables names shapes standings all order).actions ≡ flat_map (λ n. place_actions n (slice_get all n)) order
+  pub decided-actions : (all : List ResourceRefView) (order : List ℕ)
+      → (decided ms resources variables names shapes resolved_names all order).actions ≡ flat_map (λ n. place_actions n (slice_get all n)) order
   decided-actions all order = fold-actions all order nothing_decided

@@ -10,8 +10,8 @@ use Rattle.tf_deciding.specs.Deciding.{DecidedView}
 use Rattle.tf_deciding.specs.Rows.{AreDecided, AreOnce, gathered, row}
 use Rattle.tf_deciding.specs.Stage.{deciding}
 use Rattle.tf_environment.proofs.Seen.{agree_on}
-use Rattle.tf_environment.specs.Shape.{ShapeView}
-use Rattle.tf_environment.specs.Standing.{StandingView, AreStandings, all_stand, environment}
+use Rattle.tf_environment.specs.InstanceKeys.{InstanceKeysView}
+use Rattle.tf_environment.specs.Resolved.{ResolvedView, AreResolvedNames, all_stand, environment}
 use Rattle.tf_eval.proofs.Locality.{both_halves, expressions_local}
 use Rattle.tf_eval.specs.ExprMeaning.{meaning}
 use Rattle.tf_graph.proofs.Edges.{all_by_contained}
@@ -30,24 +30,24 @@ use Rattle.tf_plan.specs.Told.{instance_told}
 use Rattle.tf_plan.specs.Wanted.{IsWanted}
 use Rattle.tf_plan.specs.declared.deciding.PlannedInstances.{PlannedInstances}
 use Rattle.tf_protocol.specs.Meaning.{Meaning}
-use Rattle.tf_plan_resources.specs.Numbering.{NumberedView, a_name, numbered}
+use Rattle.tf_plan_resources.specs.ResourceIndex.{ResourceRefView, a_name, numbered}
 use Rattle.tf_state_data.specs.Resource.{ResourceView}
 use Rattle.tf_syntax.specs.ExprNames.{named_below, named_by}
 use Rattle.tf_syntax.specs.ExprTree as expr
 use Rattle.tf_value.specs.Tree.{Entries}
 
-module _ (variables : Entries) (names : List NameView) (kept standings : ℕ → StandingView) where
+module _ (variables : Entries) (names : List NameView) (kept resolved_names : ℕ → ResolvedView) where
   abbrev IsSame : ℕ → Type 0
-  IsSame a = kept a ≡ standings a
+  IsSame a = kept a ≡ resolved_names a
 
-  output-looked : (name : List ℕ) (e : expr.Tree) → AllByRecursion IsSame (places names (named_by e)) → output_refusal variables names kept name e ≡ output_refusal variables names standings name e
+  output-looked : (name : List ℕ) (e : expr.Tree) → AllByRecursion IsSame (places names (named_by e)) → output_refusal variables names kept name e ≡ output_refusal variables names resolved_names name e
   output-looked name e along =
-      let seen : seen_by kept (places names (named_by e)) ≡ seen_by standings (places names (named_by e)) = seen_by-same kept standings (places names (named_by e)) along in
-      let means : meaning (environment variables names kept) e ≡ meaning (environment variables names standings) e =
-      expressions_local (environment variables names kept) (environment variables names standings) e (agree_on variables names kept standings (named_by e) along) in
+      let seen : seen_by kept (places names (named_by e)) ≡ seen_by resolved_names (places names (named_by e)) = seen_by-same kept resolved_names (places names (named_by e)) along in
+      let means : meaning (environment variables names kept) e ≡ meaning (environment variables names resolved_names) e =
+      expressions_local (environment variables names kept) (environment variables names resolved_names) e (agree_on variables names kept resolved_names (named_by e) along) in
       (λ i. if all_stand (seen i) then output_fault name (means i) else [])
 
-  outputs-looked : (outputs : expr.Entries) → AllByRecursion IsSame (places names (named_below outputs)) → output_refusals variables names kept outputs ≡ output_refusals variables names standings outputs
+  outputs-looked : (outputs : expr.Entries) → AllByRecursion IsSame (places names (named_below outputs)) → output_refusals variables names kept outputs ≡ output_refusals variables names resolved_names outputs
   outputs-looked expr.no_entries along = refl
   outputs-looked (expr.entry name e es) along =
       let halves = both_halves IsSame (places names (named_by e)) (places names (named_below es)) (subst (AllByRecursion IsSame) (places-append names (named_by e) (named_below es)) along) in
@@ -56,24 +56,24 @@ module _ (variables : Entries) (names : List NameView) (kept standings : ℕ →
       (λ i. first i ++ rest i)
 
 -- What is planned of what is kept of each name is what all names plan.
-module _ (variables : Entries) (names : List NameView) (d : Dependence) (outputs : expr.Entries) (is : IsDependence names d) (acyclic : IsAcyclic d) (ms : List Meaning) (resources : List ResourceView) (shapes : ℕ → ShapeView) (kept : ℕ → StandingView)
-    (rows : ℕ → DecidedView) (standings : ℕ → StandingView) (solves : AreStandings (deciding ms resources shapes) variables names standings) (same : (n : ℕ) → IsWanted names d outputs n → kept n ≡ standings n)
+module _ (variables : Entries) (names : List NameView) (d : Dependence) (outputs : expr.Entries) (is : IsDependence names d) (acyclic : IsAcyclic d) (ms : List Meaning) (resources : List ResourceView) (shapes : ℕ → InstanceKeysView) (kept : ℕ → ResolvedView)
+    (rows : ℕ → DecidedView) (resolved_names : ℕ → ResolvedView) (solves : AreResolvedNames (deciding ms resources shapes) variables names resolved_names) (same : (n : ℕ) → IsWanted names d outputs n → kept n ≡ resolved_names n)
     (done : AreDecided ms resources variables names shapes (order_in d) rows) where
-  row-right : (n : ℕ) (name : NameView) → slice_get (numbered names resources) n ≡ Some (a_name name) → rows n ≡ row ms resources variables names shapes standings n (Some name.meant)
+  row-right : (n : ℕ) (name : NameView) → slice_get (numbered names resources) n ≡ Some (a_name name) → rows n ≡ row ms resources variables names shapes resolved_names n (Some name.meant)
   row-right n name e =
       let stands = name-stands names resources n name e in
-      done standings solves n (is.whole acyclic n stands.0) ∙ ap (row ms resources variables names shapes standings n) stands.1
+      done resolved_names solves n (is.whole acyclic n stands.0) ∙ ap (row ms resources variables names shapes resolved_names n) stands.1
 
-  planned-looked : (order : List ℕ) → with_outputs variables names kept outputs (gathered ms rows (numbered names resources) order) ≡ planned_in ms resources variables names outputs shapes order standings
+  planned-looked : (order : List ℕ) → with_outputs variables names kept outputs (gathered ms rows (numbered names resources) order) ≡ planned_in ms resources variables names outputs shapes order resolved_names
   planned-looked order =
-      let decides = gathered_is ms resources variables names shapes standings rows (numbered names resources) row-right order in
-      let told = outputs-looked variables names kept standings outputs (all_by_contained (λ a. kept a ≡ standings a) (places names (named_below outputs)) (λ a held. same a (inr (inl held)))) in
+      let decides = gathered_is ms resources variables names shapes resolved_names rows (numbered names resources) row-right order in
+      let told = outputs-looked variables names kept resolved_names outputs (all_by_contained (λ a. kept a ≡ resolved_names a) (places names (named_below outputs)) (λ a held. same a (inr (inl held)))) in
       (λ i. record { actions = (decides i).actions; refusals = map instance_told (decides i).refusals ++ told i })
 
--- what is planned where the wanted names stand for the very standings, and what is kept of each is what is decided of it
-pub planned-is : (ms : List Meaning) (resources : List ResourceView) (variables : Entries) (names : List NameView) (outputs : expr.Entries) (shapes : ℕ → ShapeView) (order : List ℕ) (kept : ℕ → StandingView) (rows : ℕ → DecidedView) (d : Dependence)
+-- what is planned where the wanted names resolve to the very same, and what is kept of each is what is decided of it
+pub planned-is : (ms : List Meaning) (resources : List ResourceView) (variables : Entries) (names : List NameView) (outputs : expr.Entries) (shapes : ℕ → InstanceKeysView) (order : List ℕ) (kept : ℕ → ResolvedView) (rows : ℕ → DecidedView) (d : Dependence)
     (result : Result PlannedInstances AllocError) → IsDependence names d → IsAcyclic d → AreInAddressOrder (numbered names resources) order
-    → ((standings : ℕ → StandingView) → AreStandings (deciding ms resources shapes) variables names standings → (n : ℕ) → IsWanted names d outputs n → kept n ≡ standings n)
+    → ((resolved_names : ℕ → ResolvedView) → AreResolvedNames (deciding ms resources shapes) variables names resolved_names → (n : ℕ) → IsWanted names d outputs n → kept n ≡ resolved_names n)
     → AreDecided ms resources variables names shapes (order_in d) rows
     → IfOk result (λ p. planned_of p ≡ with_outputs variables names kept outputs (gathered ms rows (numbered names resources) order)) → IfOk result (λ p. IsPlanned ms resources variables names outputs shapes (planned_of p))
 planned-is ms resources variables names outputs shapes order kept rows d (Ok p) is acyclic sorted same done made =
@@ -81,7 +81,7 @@ planned-is ms resources variables names outputs shapes order kept rows d (Ok p) 
     record {
       places = order;
       in_order = sorted;
-      standings = found.0;
+      resolved_names = found.0;
       stand = found.1;
       decided = sym (planned-looked variables names d outputs is acyclic ms resources shapes kept rows found.0 found.1 (same found.0 found.1) done order) ∙ sym made;
     }
@@ -92,5 +92,5 @@ once-distinct [] d = tt
 once-distinct (n ∷ ns) d = (all_by_contained (λ m. m ≢ n) ns (λ m held same. d.0 (subst (λ k. Contains ns k) same held)), once-distinct ns d.1)
 
 -- no place stands twice in the order of addresses
-pub once-placed : (all : List NumberedView) (places : List ℕ) → AreInAddressOrder all places → AreOnce places
+pub once-placed : (all : List ResourceRefView) (places : List ℕ) → AreInAddressOrder all places → AreOnce places
 once-placed all places sorted = once-distinct places (places-distinct (is_resource all) (length all) places sorted.each)

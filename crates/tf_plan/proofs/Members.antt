@@ -13,9 +13,9 @@ use Rattle.tf_config_data.specs.Names.{NameView, a_block, meant_at}
 use Rattle.tf_deciding.specs.Deciding.{action}
 use Rattle.tf_deciding.specs.Outcome.{by_decision, by_removal, declared_outcome, member_outcome, orphan_outcome, removal_outcome}
 use Rattle.tf_deciding.specs.Steps.{decided_steps, removal_steps}
-use Rattle.tf_decision.specs.Decision.{DecisionView, RefusalView, decision, removal_refusal}
+use Rattle.tf_decision.specs.Decision.{DecisionView, DecisionFaultView, decision, removal_fault}
 use Rattle.tf_eval.specs.Environment.{Environment}
-use Rattle.tf_plan_resources.specs.Members.{MemberView, is_among, member, members, all_keys}
+use Rattle.tf_plan_resources.specs.Members.{InstanceToPlanView, is_among, member, members, all_keys}
 use Rattle.tf_plan.proofs.Distinct.{AreDistinct}
 use Rattle.tf_plan.proofs.Listing.{member_actions, of_at, outcome_actions}
 use Rattle.tf_plan.proofs.Objects.{one_key}
@@ -29,25 +29,25 @@ use Rattle.tf_state_data.specs.Record.{RecordView}
 
 -- ---- no two are about the same
 
-by_decision-distinct : (records : List RecordView) (d : Result DecisionView RefusalView) → AreDistinct (deposed_of records) → AreDistinct (outcome_signs (by_decision records d))
+by_decision-distinct : (records : List RecordView) (d : Result DecisionView DecisionFaultView) → AreDistinct (deposed_of records) → AreDistinct (outcome_signs (by_decision records d))
 by_decision-distinct records (Ok d) distinct = decided-distinct records d distinct
 by_decision-distinct records (Err why) distinct = tt
 
-by_removal-distinct : (records : List RecordView) (o : Option RefusalView) → AreDistinct (deposed_of records) → AreDistinct (outcome_signs (by_removal records o))
+by_removal-distinct : (records : List RecordView) (o : Option DecisionFaultView) → AreDistinct (deposed_of records) → AreDistinct (outcome_signs (by_removal records o))
 by_removal-distinct records None distinct = removal-distinct records distinct
 by_removal-distinct records (Some why) distinct = tt
 
-pub member-distinct : (schema : Option SchemaView) (block : BlockView) (env : Environment) (m : MemberView) → AreDistinct (deposed_of m.records) → AreDistinct (outcome_signs (member_outcome schema block env m))
+pub member-distinct : (schema : Option SchemaView) (block : BlockView) (env : Environment) (m : InstanceToPlanView) → AreDistinct (deposed_of m.records) → AreDistinct (outcome_signs (member_outcome schema block env m))
 member-distinct None block env m distinct = tt
 member-distinct (Some schema) block env m distinct = by_test m.is_declared
   where
     by_test : (b : Bool) → AreDistinct (outcome_signs (cond b (declared_outcome schema block env m) (removal_outcome schema (Some block.lifecycle) m)))
     by_test true = by_decision-distinct m.records (decision schema block.lifecycle m.records (instance_object schema block m.key env)) distinct
-    by_test false = by_removal-distinct m.records (removal_refusal schema (Some block.lifecycle) m.records) distinct
+    by_test false = by_removal-distinct m.records (removal_fault schema (Some block.lifecycle) m.records) distinct
 
-pub orphan-distinct : (schema : Option SchemaView) (m : MemberView) → AreDistinct (deposed_of m.records) → AreDistinct (outcome_signs (orphan_outcome schema m))
+pub orphan-distinct : (schema : Option SchemaView) (m : InstanceToPlanView) → AreDistinct (deposed_of m.records) → AreDistinct (outcome_signs (orphan_outcome schema m))
 orphan-distinct None m distinct = tt
-orphan-distinct (Some schema) m distinct = by_removal-distinct m.records (removal_refusal schema None m.records) distinct
+orphan-distinct (Some schema) m distinct = by_removal-distinct m.records (removal_fault schema None m.records) distinct
 
 -- ---- each is of its resource
 
@@ -71,17 +71,17 @@ module _ (ms : List Meaning) (names : List NameView) (n : ℕ) where
     destroys-fit label i key steps served all.1,
   )
 
-  removal-fits : (label : LabelView) (i : ℕ) (key : InstanceKeyView) (records : List RecordView) (o : Option RefusalView) → is_some (schema_in label.type_name ms) ≡ true
+  removal-fits : (label : LabelView) (i : ℕ) (key : InstanceKeyView) (records : List RecordView) (o : Option DecisionFaultView) → is_some (schema_in label.type_name ms) ≡ true
       → AllByRecursion (IsOfResource ms names n label) (outcome_actions (of_at ms n label) i key (by_removal records o))
   removal-fits label i key records None served = destroys-fit label i key (removal_steps records) served (removal-destroys records)
   removal-fits label i key records (Some why) served = tt
 
-  orphan-fits : (label : LabelView) (schema : Option SchemaView) (i : ℕ) (m : MemberView) → schema ≡ schema_in label.type_name ms
+  orphan-fits : (label : LabelView) (schema : Option SchemaView) (i : ℕ) (m : InstanceToPlanView) → schema ≡ schema_in label.type_name ms
       → AllByRecursion (IsOfResource ms names n label) (outcome_actions (of_at ms n label) i m.key (orphan_outcome schema m))
   orphan-fits label None i m is = tt
-  orphan-fits label (Some schema) i m is = removal-fits label i m.key m.records (removal_refusal schema None m.records) (ap is_some (sym is))
+  orphan-fits label (Some schema) i m is = removal-fits label i m.key m.records (removal_fault schema None m.records) (ap is_some (sym is))
 
-  pub orphans-fit : (label : LabelView) (i : ℕ) (all : List MemberView) → AllByRecursion (IsOfResource ms names n label) (member_actions (of_at ms n label) (orphan_outcome (schema_in label.type_name ms)) i all)
+  pub orphans-fit : (label : LabelView) (i : ℕ) (all : List InstanceToPlanView) → AllByRecursion (IsOfResource ms names n label) (member_actions (of_at ms n label) (orphan_outcome (schema_in label.type_name ms)) i all)
   orphans-fit label i [] = tt
   orphans-fit label i (m ∷ all) =
       let schema = schema_in label.type_name ms in
@@ -97,12 +97,12 @@ module _ (ms : List Meaning) (names : List NameView) (n : ℕ) where
       steps-fit i key steps served numbered,
     )
 
-    decision-fits : (i : ℕ) (key : InstanceKeyView) (records : List RecordView) (d : Result DecisionView RefusalView) → is_some (schema_in block.label.type_name ms) ≡ true → IsNumbered key
+    decision-fits : (i : ℕ) (key : InstanceKeyView) (records : List RecordView) (d : Result DecisionView DecisionFaultView) → is_some (schema_in block.label.type_name ms) ≡ true → IsNumbered key
         → AllByRecursion (IsOfResource ms names n block.label) (outcome_actions (of_at ms n block.label) i key (by_decision records d))
     decision-fits i key records (Ok d) served numbered = steps-fit i key (decided_steps records d) served numbered
     decision-fits i key records (Err why) served numbered = tt
 
-    member-fits : (env : Environment) (schema : Option SchemaView) (i : ℕ) (m : MemberView) → schema ≡ schema_in block.label.type_name ms → (m.is_declared ≡ true → IsNumbered m.key)
+    member-fits : (env : Environment) (schema : Option SchemaView) (i : ℕ) (m : InstanceToPlanView) → schema ≡ schema_in block.label.type_name ms → (m.is_declared ≡ true → IsNumbered m.key)
         → AllByRecursion (IsOfResource ms names n block.label) (outcome_actions (of_at ms n block.label) i m.key (member_outcome schema block env m))
     member-fits env None i m is numbered = tt
     member-fits env (Some schema) i m is numbered = by_test m.is_declared numbered
@@ -112,9 +112,9 @@ module _ (ms : List Meaning) (names : List NameView) (n : ℕ) where
             (outcome_actions (of_at ms n block.label) i m.key (cond b (declared_outcome schema block env m) (removal_outcome schema (Some block.lifecycle) m)))
         by_test true below =
             decision-fits i m.key m.records (decision schema block.lifecycle m.records (instance_object schema block m.key env)) (ap is_some (sym is)) (below refl)
-        by_test false below = removal-fits block.label i m.key m.records (removal_refusal schema (Some block.lifecycle) m.records) (ap is_some (sym is))
+        by_test false below = removal-fits block.label i m.key m.records (removal_fault schema (Some block.lifecycle) m.records) (ap is_some (sym is))
 
-    pub members-fit : (env : Environment) (i : ℕ) (all : List MemberView) → AllByRecursion (λ m. m.is_declared ≡ true → IsNumbered m.key) all
+    pub members-fit : (env : Environment) (i : ℕ) (all : List InstanceToPlanView) → AllByRecursion (λ m. m.is_declared ≡ true → IsNumbered m.key) all
         → AllByRecursion (IsOfResource ms names n block.label) (member_actions (of_at ms n block.label) (member_outcome (schema_in block.label.type_name ms) block env) i all)
     members-fit env i [] numbered = tt
     members-fit env i (m ∷ all) numbered =

@@ -16,11 +16,11 @@ use Rattle.tf_names.specs.declared.dependence.Dependence.{Dependence}
 use Rattle.tf_plan.specs.Ordered.{AreTied, stored_graph}
 use Rattle.tf_precedence.specs.Late.{IsLate, Leads}
 use Rattle.tf_precedence.specs.Stored.{turned}
-use Rattle.tf_precedence.specs.Ties.{TiesView}
+use Rattle.tf_precedence.specs.OrderInput.{OrderInputView}
 use Rattle.tf_plan_resources.specs.Dependencies.{dependencies}
 use Rattle.tf_plan_resources.specs.Marks.{is_marked}
 use Rattle.tf_plan_resources.specs.Laws.{AreApart}
-use Rattle.tf_plan_resources.specs.Numbering.{NumberedView, a_name, address_of, block_address, numbered}
+use Rattle.tf_plan_resources.specs.ResourceIndex.{ResourceRefView, a_name, address_of, block_address, numbered}
 use Rattle.tf_state_data.specs.Resource.{ResourceView}
 use Rattle.tf_syntax.specs.ExprTree as expr
 use Rattle.tf_syntax.specs.TemplateNames.{Pair}
@@ -85,7 +85,7 @@ block_holds P expr.no_entries blocks n block all e = meant_holds P blocks n bloc
 block_holds P (expr.entry name x es) blocks zero block all e = absurd (cc)
 block_holds P (expr.entry name x es) blocks (suc n) block all e = block_holds P es blocks n block all e
 
-slot : (names : List NameView) (n : ℕ) (block : BlockView) → meant_at names n ≡ Some (a_block block) → (x : NumberedView) × (slice_get (map a_name names) n ≡ Some x) × (address_of x ≡ Some block.label)
+slot : (names : List NameView) (n : ℕ) (block : BlockView) → meant_at names n ≡ Some (a_block block) → (x : ResourceRefView) × (slice_get (map a_name names) n ≡ Some x) × (address_of x ≡ Some block.label)
 slot [] n block e = absurd (cc)
 slot (x ∷ names) zero block e = let same : x.meant ≡ a_block block = (cc) in (a_name x, refl, ap block_address same)
 slot (x ∷ names) (suc n) block e = slot names n block e
@@ -145,7 +145,7 @@ late_too g h needed marked same n l = (l.0, l.1, by_path l.2)
     by_path (inl here) = inl here
     by_path (inr p) = inr (path_too (Leads g needed) (Leads h needed) (leads_too g h needed same) l.0 n p)
 
-module _ (names : List NameView) (rs qs : List ResourceView) (one two : TiesView) (tied : AreTied names rs one) (also : AreTied names qs two)
+module _ (names : List NameView) (rs qs : List ResourceView) (one two : OrderInputView) (tied : AreTied names rs one) (also : AreTied names qs two)
     (same_numbers : numbered names rs ≡ numbered names qs) (same_stored : dependencies (numbered names rs) rs ≡ dependencies (numbered names qs) qs) where
   before_same : (n : ℕ) → predecessors_of tied.dependence.graph n ≡ predecessors_of also.dependence.graph n
   before_same n = tied.is_dependence.before n ∙ sym (also.is_dependence.before n)
@@ -172,5 +172,5 @@ module _ (names : List NameView) (rs qs : List ResourceView) (one two : TiesView
       (subst (λ (ms : List Bool). IsLate tied.dependence.graph (stored_graph (numbered names qs) qs) ms n) (sym marks_same) l)))
 
 -- what needed what is the same over the same numbers and stored dependencies
-pub needed_same : (names : List NameView) (resources : List ResourceView) (one two : TiesView) → AreTied names resources one → AreTied names resources two → (a b : ℕ) → one.needed a b ≡ two.needed a b
+pub needed_same : (names : List NameView) (resources : List ResourceView) (one two : OrderInputView) → AreTied names resources one → AreTied names resources two → (a b : ℕ) → one.needed a b ≡ two.needed a b
 needed_same names resources one two tied also a b = same_truth (one.needed a b) (two.needed a b) (λ h. (also.needed a b).1 ((tied.needed a b).0 h)) (λ h. (tied.needed a b).1 ((also.needed a b).0 h))

@@ -13,11 +13,11 @@ use Rattle.tf_plan.specs.Refused.{AreManyPairsBy, HasManyPairs, Tells}
 use Rattle.tf_plan.specs.declared.refused.Refused.{Refused}
 use Rattle.tf_precedence.specs.Late.{AreLate, IsLate, Leads}
 use Rattle.tf_precedence.specs.Stored.{IsStored, Needed}
-use Rattle.tf_precedence.specs.Ties.{AreSound}
-use Rattle.tf_precedence.specs.declared.stored.Stored.{Stored}
+use Rattle.tf_precedence.specs.OrderInput.{AreSound}
+use Rattle.tf_precedence.specs.declared.stored.StoredDependencies.{StoredDependencies}
 use Rattle.tf_plan_resources.specs.Dependencies.{dependencies}
 use Rattle.tf_plan_resources.specs.Marks.{is_marked}
-use Rattle.tf_plan_resources.specs.Numbering.{NumberedView, numbered}
+use Rattle.tf_plan_resources.specs.ResourceIndex.{ResourceRefView, numbered}
 use Rattle.tf_state_data.specs.Resource.{ResourceView}
 
 late-onward : (needs needed : Digraph) (marked : List Bool) (a b : ℕ) → IsLate needs needed marked a → Leads needs needed a b → IsLate needs needed marked b
@@ -30,7 +30,7 @@ late-onward needs needed marked a b is lead = (
   ],
 )
 
-module _ (names : List NameView) (resources : List ResourceView) (all : List NumberedView) (d : Dependence) (stored : Stored) (late : List Bool) (is : IsDependence names d) (numbers : all ≡ numbered names resources) (kept : IsStored (length all) (dependencies all resources) stored) where
+module _ (names : List NameView) (resources : List ResourceView) (all : List ResourceRefView) (d : Dependence) (stored : StoredDependencies) (late : List Bool) (is : IsDependence names d) (numbers : all ≡ numbered names resources) (kept : IsStored (length all) (dependencies all resources) stored) where
   pub ties-sound : (marked : List Bool) → IsAcyclic d → AreLate d.graph stored.graph marked late → AreSound (ties_by d stored late)
   ties-sound marked acyclic are = record {
     strict = record { irreflexive = acyclic; transitive = is.transitive };
@@ -41,7 +41,7 @@ module _ (names : List NameView) (resources : List ResourceView) (all : List Num
   whole-graph : stored.graph ≡ stored_graph all resources
   whole-graph i = record { nodes = kept.nodes i; edges = kept.edges i }
 
-  ties-by_all : AreLate d.graph (stored_graph all resources) (map is_marked all) late → (all2 : List NumberedView) → all ≡ all2
+  ties-by_all : AreLate d.graph (stored_graph all resources) (map is_marked all) late → (all2 : List ResourceRefView) → all ≡ all2
       → (n : ℕ) → (slice_index_or late n false ≡ true) ↔ IsLate d.graph (stored_graph all2 resources) (map is_marked all2) n
   ties-by_all are all2 same = subst (λ xs. (n : ℕ) → (slice_index_or late n false ≡ true) ↔ IsLate d.graph (stored_graph xs resources) (map is_marked xs) n) same are
 
@@ -61,4 +61,4 @@ module _ (names : List NameView) (resources : List ResourceView) (all : List Num
   pub pairs-refused : (actions : List ActionView) (refused : Refused) → AreLate d.graph stored.graph (map is_marked all) late → Tells (AreManyPairsBy (ties_by d stored late) actions) refused
       → Tells (HasManyPairs names resources actions) refused
   pairs-refused actions refused are told =
-      tells-weaker (AreManyPairsBy (ties_by d stored late) actions) (HasManyPairs names resources actions) refused (λ tolds h. record { ties = ties_by d stored late; tied = ties-are are; many = h }) told
+      tells-weaker (AreManyPairsBy (ties_by d stored late) actions) (HasManyPairs names resources actions) refused (λ refusal_views h. record { ties = ties_by d stored late; tied = ties-are are; many = h }) told

@@ -1,4 +1,4 @@
--- The names that a plan looks at have their standings, and refer only to such names.
+-- The names that a plan looks at are resolved, and refer only to such names.
 use Rattle.std.proofs.Common.{◌≡◌, ◌<◌, ◌||◌, ℕ, Bool, true, false, List, length, Result, Ok, Err, IfOk, Contains, refl, sym, ap, ◌∙◌, inl, inr}
 use Rattle.std.proofs.lemmas.Bool.{cases_lt}
 use Rattle.std.specs.declared.alloc.AllocError.{AllocError}
@@ -6,8 +6,8 @@ use Rattle.std.specs.Prelude.{◌↔◌, ◌⊎◌}
 use Rattle.tf_config_data.specs.Names.{NameView, directly_before, places}
 use Rattle.tf_deciding.specs.Rows.{NeedsAreWanted}
 use Rattle.tf_environment.proofs.Places.{all_places}
-use Rattle.tf_environment.specs.Kept.{AreClosed, HaveStandings}
-use Rattle.tf_environment.specs.Standing.{StandingView, StageView, AreStandings}
+use Rattle.tf_environment.specs.Kept.{AreClosed, AreResolved}
+use Rattle.tf_environment.specs.Resolved.{ResolvedView, ResourceValuesView, AreResolvedNames}
 use Rattle.tf_expand.proofs.Needing.{needed_below, needed_same}
 use Rattle.tf_expand.specs.Needed.{IsNeeded, IsNeededBy, is_resource}
 use Rattle.tf_graph.proofs.Edges.{all_by_contained}
@@ -118,9 +118,9 @@ module _ (names : List NameView) (d : Dependence) (outputs : expr.Entries) (is :
       (λ a held. let also : IsWanted names d outputs a = inl (record { name = n; is_one = ap is_resource here; needs = is.direct n a held }) in (marked a (wanted_below a also)).1 also)
 
   -- what is kept of wanted names
-  pub wanted_stand : (stage : StageView) (variables : Entries) (wanted : List Bool) {A : Type 0} (kept_in : A → ℕ → StandingView) (result : Result A AllocError) → IsAcyclic d → AreMarked names d outputs wanted
-      → IfOk result (λ r. HaveStandings stage variables names (order_in d) wanted (kept_in r))
-      → IfOk result (λ r. (standings : ℕ → StandingView) → AreStandings stage variables names standings → (n : ℕ) → IsWanted names d outputs n → kept_in r n ≡ standings n)
-  wanted_stand stage variables wanted kept_in (Ok r) acyclic marked have = λ standings solves n wants.
-      have standings solves n (is.whole acyclic n (wanted_below n wants)) ((marked n (wanted_below n wants)).1 wants)
+  pub wanted_stand : (stage : ResourceValuesView) (variables : Entries) (wanted : List Bool) {A : Type 0} (kept_in : A → ℕ → ResolvedView) (result : Result A AllocError) → IsAcyclic d → AreMarked names d outputs wanted
+      → IfOk result (λ r. AreResolved stage variables names (order_in d) wanted (kept_in r))
+      → IfOk result (λ r. (resolved_names : ℕ → ResolvedView) → AreResolvedNames stage variables names resolved_names → (n : ℕ) → IsWanted names d outputs n → kept_in r n ≡ resolved_names n)
+  wanted_stand stage variables wanted kept_in (Ok r) acyclic marked have = λ resolved_names solves n wants.
+      have resolved_names solves n (is.whole acyclic n (wanted_below n wants)) ((marked n (wanted_below n wants)).1 wants)
   wanted_stand stage variables wanted kept_in (Err e) acyclic marked have = have

@@ -1,7 +1,7 @@
 pub mod Told
 pub mod Outputs
 pub mod Wanted
-pub mod Given
+pub mod Input
 pub mod Planned
 pub mod Ordered
 pub mod Plan

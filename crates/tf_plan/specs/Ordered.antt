@@ -10,11 +10,11 @@ use Rattle.tf_names.specs.declared.dependence.Dependence.{Dependence}
 use Rattle.tf_precedence.specs.Late.{IsLate}
 use Rattle.tf_precedence.specs.Order.{pairs}
 use Rattle.tf_precedence.specs.Stored.{Needed, turned}
-use Rattle.tf_precedence.specs.Ties.{TiesView}
-use Rattle.tf_precedence.specs.declared.stored.Stored.{Stored}
+use Rattle.tf_precedence.specs.OrderInput.{OrderInputView}
+use Rattle.tf_precedence.specs.declared.stored.StoredDependencies.{StoredDependencies}
 use Rattle.tf_plan_resources.specs.Dependencies.{dependencies}
 use Rattle.tf_plan_resources.specs.Marks.{is_marked}
-use Rattle.tf_plan_resources.specs.Numbering.{NumberedView, numbered}
+use Rattle.tf_plan_resources.specs.ResourceIndex.{ResourceRefView, numbered}
 use Rattle.tf_state_data.specs.Resource.{ResourceView}
 
 -- the most pairs of actions of which one is before the other that a plan may have
@@ -22,13 +22,13 @@ abbrev pub max_pairs : ℕ
 max_pairs = 200000
 
 -- the graph of what needed what by the dependencies that the state has stored, from what was needed to what needed it
-abbrev pub stored_graph : List NumberedView → List ResourceView → Digraph
+abbrev pub stored_graph : List ResourceRefView → List ResourceView → Digraph
 stored_graph all resources = record { nodes = length all; edges = turned (dependencies all resources) }
 
 -- What ties the resources of a configuration and a state together: which needs which by the configuration, as its
 -- dependence says; which needed which by the dependencies that the state has stored; and which are late, by both and by the
 -- marks of `create_before_destroy`.
-pub record AreTied (names : List NameView) (resources : List ResourceView) (ties : TiesView) : Type 0 where
+pub record AreTied (names : List NameView) (resources : List ResourceView) (ties : OrderInputView) : Type 0 where
   pub dependence : Dependence
   pub is_dependence : IsDependence names dependence
   pub needs : ties.needs ≡ needs_in dependence
@@ -36,11 +36,11 @@ pub record AreTied (names : List NameView) (resources : List ResourceView) (ties
   pub late : (n : ℕ) → (ties.late n ≡ true) ↔ IsLate dependence.graph (stored_graph (numbered names resources) resources) (map is_marked (numbered names resources)) n
 
 -- the same by a dependence, by what is stored, and by a list that says which are late
-abbrev pub ties_by : Dependence → Stored → List Bool → TiesView
+abbrev pub ties_by : Dependence → StoredDependencies → List Bool → OrderInputView
 ties_by d stored late = record { needs = needs_in d; needed = λ a b. reaches stored.table b a; late = λ n. slice_index_or late n false }
 
 -- the pairs of actions of which the first is before the second
-abbrev pub action_pairs : TiesView → List ActionView → List (ℕ × ℕ)
+abbrev pub action_pairs : OrderInputView → List ActionView → List (ℕ × ℕ)
 action_pairs ties actions = pairs ties (map ordered actions)
 
 -- The order of these actions: a node for each, and an edge for each pair of which the first is before the second, by what

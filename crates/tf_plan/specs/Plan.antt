@@ -3,7 +3,7 @@ use Rattle.std.specs.Prelude.{◌≡◌, ◌≤◌, ℕ, Bool, List, length}
 use Rattle.tf_plan_data.specs.Action.{ActionView}
 use Rattle.tf_config_data.specs.Config.{ConfigView}
 use Rattle.tf_config_data.specs.Names.{NameView, names_of}
-use Rattle.tf_environment.specs.Shape.{ShapeView}
+use Rattle.tf_environment.specs.InstanceKeys.{InstanceKeysView}
 use Rattle.tf_graph.specs.Digraph.{Digraph}
 use Rattle.tf_plan.specs.Ordered.{IsOrdered}
 use Rattle.tf_plan.specs.Planned.{AreInstances, IsPlanned, unrefused}
@@ -20,7 +20,7 @@ max_actions = 2000
 
 -- The instances are those of the expansion; the actions are those that are planned of them beside the resources of a state,
 -- with nothing to refuse, and not too many; and these are late, and in this order the actions stand.
-pub record IsPlannedFrom (ms : List Meaning) (resources : List ResourceView) (variables : Entries) (names : List NameView) (outputs : expr.Entries) (needs : ℕ → ℕ → Bool) (shapes : ℕ → ShapeView) (actions : List ActionView) (late : ℕ → Bool) (order : Digraph) : Type 0 where
+pub record IsPlannedFrom (ms : List Meaning) (resources : List ResourceView) (variables : Entries) (names : List NameView) (outputs : expr.Entries) (needs : ℕ → ℕ → Bool) (shapes : ℕ → InstanceKeysView) (actions : List ActionView) (late : ℕ → Bool) (order : Digraph) : Type 0 where
   pub instances : AreInstances variables names shapes
   pub planned : IsPlanned ms resources variables names outputs shapes (unrefused actions)
   pub few : length actions ≤ max_actions

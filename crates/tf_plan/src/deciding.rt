@@ -4,9 +4,9 @@ ghost use Rattle.std.specs.Prelude.{◌≡◌, ℕ, IfOk, map};
 ghost use Rattle.tf_deciding.specs.Rows.{AreDecided, AreOnce, gathered, rows_of};
 ghost use Rattle.tf_deciding.specs.Stage.{deciding};
 ghost use Rattle.tf_names.specs.Needs.{order_in};
-ghost use Rattle.tf_plan_resources.specs.Numbering.{numbered};
-ghost use Rattle.tf_plan_data.specs.Words.{AreStandings, shapes_of, standings_of, StandingView};
-ghost use Rattle.tf_plan.specs.Given.{IsGiven, names_given, outputs_given, resources_given, variables_given};
+ghost use Rattle.tf_plan_resources.specs.ResourceIndex.{numbered};
+ghost use Rattle.tf_plan_data.specs.Words.{AreResolvedNames, shapes_of, resolved_names_of, ResolvedView};
+ghost use Rattle.tf_plan.specs.Input.{IsGiven, names_given, outputs_given, resources_given, variables_given};
 ghost use Rattle.tf_plan.specs.Planned.{IsPlanned, planned_of, with_outputs};
 ghost use Rattle.tf_plan.specs.Wanted.{IsWanted};
 
@@ -15,10 +15,10 @@ use crate::telling::refusals_of;
 use crate::wanted::wanted_names;
 use std::alloc::{AllocError, Global};
 use std::collections::BTreeMap;
-use tf_deciding::{Decided, Deciding, InOrder, decide_in_order, gather};
-use tf_environment::{Declarations, Shape};
+use tf_deciding::{Decided, InOrder, PlannedValues, decide_in_order, gather};
+use tf_environment::{InstanceKeys, Module};
 use tf_plan_data::Action;
-use tf_plan_resources::{Numbering, address_order};
+use tf_plan_resources::{ResourceIndex, address_order};
 use tf_protocol::Provider;
 use tf_refusal::Refusal;
 use tf_state_data::State;
@@ -35,22 +35,22 @@ pub(crate) struct PlannedInstances {
 
 /// What is planned: a configuration beside a prior state.
 #[derive(Drop)]
-pub(crate) struct Given<'a, 'd, 'n, 'm> {
+pub(crate) struct PlanInput<'a, 'd, 'n, 'm> {
     /// The names of the configuration, which needs which, and the values of its variables.
-    pub(crate) declared: &'a Declarations<'d, 'n>,
+    pub(crate) declared: &'a Module<'d, 'n>,
     /// Its outputs.
     pub(crate) outputs: &'a BTreeMap<String, Expr>,
     /// The prior state.
     pub(crate) prior: &'a State,
     /// The numbers of the resources of both.
-    pub(crate) numbering: &'a Numbering<'m>,
+    pub(crate) resource_index: &'a ResourceIndex<'m>,
 }
 
 /// Plans the instances of a configuration and of a prior state together, where names stand for what is decided of them.
 pub(crate) fn plan_instances(
     alloc: Global,
-    given: &Given,
-    shapes: &[Shape],
+    given: &PlanInput,
+    shapes: &[InstanceKeys],
     providers: &[Box<dyn Provider + Sync>],
 ) -> Result<PlannedInstances, AllocError>
     requires { IsGiven given.now }
@@ -58,7 +58,7 @@ pub(crate) fn plan_instances(
         (shapes_of shapes.now) (planned_of planned)) }
 {
     let looked = look_at_names(alloc, given, shapes, providers)?;
-    let places = address_order(alloc, given.numbering)?;
+    let places = address_order(alloc, given.resource_index)?;
     plan_places(alloc, given, providers, looked, places.as_slice())
 }
 
@@ -66,18 +66,18 @@ pub(crate) fn plan_instances(
 /// and no output needs, and each instance is evaluated and decided once.
 fn look_at_names(
     alloc: Global,
-    given: &Given,
-    shapes: &[Shape],
+    given: &PlanInput,
+    shapes: &[InstanceKeys],
     providers: &[Box<dyn Provider + Sync>],
 ) -> Result<InOrder, AllocError>
     requires { IsGiven given.now }
-    ensures standings { IfOk result (λ looked. (standings : ℕ → StandingView)
-        → AreStandings (deciding (map meaning providers.now) (resources_given given.now) (shapes_of shapes.now)) (variables_given given.now) (names_given given.now) standings
-        → (n : ℕ) → IsWanted (names_given given.now) given.now.declared.now.dependence.now (outputs_given given.now) n → standings_of looked.standings.items n ≡ standings n) }
+    ensures resolved_names { IfOk result (λ looked. (resolved_names : ℕ → ResolvedView)
+        → AreResolvedNames (deciding (map meaning providers.now) (resources_given given.now) (shapes_of shapes.now)) (variables_given given.now) (names_given given.now) resolved_names
+        → (n : ℕ) → IsWanted (names_given given.now) given.now.declared.now.dependence.now (outputs_given given.now) n → resolved_names_of looked.resolved_names.items n ≡ resolved_names n) }
     ensures rows { IfOk result (λ looked. AreDecided (map meaning providers.now) (resources_given given.now) (variables_given given.now) (names_given given.now) (shapes_of shapes.now)
         (order_in given.now.declared.now.dependence.now) (rows_of looked.rows.items)) }
 {
-    let stage = Deciding {
+    let stage = PlannedValues {
         shapes,
         state: given.prior,
         providers,
@@ -89,25 +89,28 @@ fn look_at_names(
 /// Plans the instances of what stands at these places, in their order, by what was decided of the names.
 fn plan_places(
     alloc: Global,
-    given: &Given,
+    given: &PlanInput,
     providers: &[Box<dyn Provider + Sync>],
     looked: InOrder,
     places: &[usize],
 ) -> Result<PlannedInstances, AllocError>
     requires given { IsGiven given.now }
     requires once { AreOnce places.now }
-    ensures { IfOk result (λ planned. planned_of planned ≡ with_outputs (variables_given given.now) (names_given given.now) (standings_of looked.standings.items) (outputs_given given.now)
+    ensures { IfOk result (λ planned. planned_of planned ≡ with_outputs (variables_given given.now) (names_given given.now) (resolved_names_of looked.resolved_names.items) (outputs_given given.now)
         (gathered (map meaning providers.now) (rows_of looked.rows.items) (numbered (names_given given.now) (resources_given given.now)) places.now)) }
 {
-    let InOrder { standings, rows } = looked;
-    let decided = gather(alloc, rows, given.numbering, providers, places)?;
+    let InOrder {
+        resolved_names,
+        rows,
+    } = looked;
+    let decided = gather(alloc, rows, given.resource_index, providers, places)?;
     let Decided { actions, refusals } = decided;
     let mut refusals = refusals_of(alloc, refusals)?;
     add_outputs(
         alloc,
         &mut refusals,
         given.declared,
-        standings.as_slice(),
+        resolved_names.as_slice(),
         given.outputs,
     )?;
     Ok(PlannedInstances { actions, refusals })

@@ -4,7 +4,7 @@ ghost use Rattle.std.specs.Prelude.{◌≡◌, ◌<◌, ◌∷◌, [], IfOk, len
 ghost use Rattle.tf_address.specs.Label.{label_of};
 ghost use Rattle.tf_names.specs.Table.{names_in};
 ghost use Rattle.tf_plan.specs.Refused.{IsPlaced, Tells, TellsFault, beyond_limit, instances_refusal};
-ghost use Rattle.tf_refusal.specs.Refusal.{bare, fault, kind, told};
+ghost use Rattle.tf_refusal.specs.Refusal.{bare, fault, kind, refusal_of};
 ghost use Rattle.tf_refusal.specs.Code.{evaluate};
 
 use crate::refused::Refused;
@@ -13,7 +13,7 @@ use tf_address::Label;
 use tf_environment::RepetitionFault;
 use tf_eval::EvalFault;
 use tf_expand::ExpansionFault;
-use tf_names::{Named, Names};
+use tf_names::{Declaration, Declarations};
 use tf_refusal::code::{BAD_COUNT, BAD_FOR_EACH, EVALUATE, LIMIT, UNKNOWN_INSTANCES};
 use tf_refusal::{Detail, Refusal};
 
@@ -24,18 +24,18 @@ use tf_refusal::{Detail, Refusal};
 /// Only where memory runs out, or ran out in the expansion.
 pub(crate) fn expansion_refusal(
     alloc: Global,
-    names: &Names<'_>,
+    names: &Declarations<'_>,
     fault: ExpansionFault,
 ) -> Result<Refusal, AllocError>
     requires { IsPlaced (names_in names.now) fault }
-    ensures { IfOk result (λ refusal. TellsFault (names_in names.now) fault (told refusal)) }
+    ensures { IfOk result (λ refusal. TellsFault (names_in names.now) fault (refusal_of refusal)) }
 {
     match fault {
         ExpansionFault::OutOfMemory => Err(AllocError),
         ExpansionFault::TooMany => limit_refusal(alloc),
         ExpansionFault::Resource(place, why) => match names.at(place) {
-            Named::Resource(label, _) => instances_refusal(alloc, label, why),
-            Named::Local(_, _) => unreachable!(),
+            Declaration::Resource(label, _) => instances_refusal(alloc, label, why),
+            Declaration::Local(_, _) => unreachable!(),
         },
     }
 }
@@ -46,7 +46,7 @@ fn instances_refusal(
     label: &Label,
     why: RepetitionFault,
 ) -> Result<Refusal, AllocError>
-    ensures { IfOk result (λ refusal. told refusal ≡ instances_refusal (label_of label.now) why) }
+    ensures { IfOk result (λ refusal. refusal_of refusal ≡ instances_refusal (label_of label.now) why) }
 {
     let place = label.to_string(alloc)?;
     match why {
@@ -63,7 +63,7 @@ fn instances_refusal(
 ///
 /// Only where memory runs out.
 pub(crate) fn limit_refusal(alloc: Global) -> Result<Refusal, AllocError>
-    ensures { IfOk result (λ refusal. told refusal ≡ beyond_limit) }
+    ensures { IfOk result (λ refusal. refusal_of refusal ≡ beyond_limit) }
 {
     let place = String::from_str(alloc, "configuration")?;
     Ok(bare(LIMIT, place))
@@ -71,7 +71,7 @@ pub(crate) fn limit_refusal(alloc: Global) -> Result<Refusal, AllocError>
 
 /// An evaluation at a place failed.
 pub(crate) fn evaluation(place: String, why: EvalFault) -> Refusal
-    ensures { told result ≡ fault evaluate (string_bytes place) (kind why) }
+    ensures { refusal_of result ≡ fault evaluate (string_bytes place) (kind why) }
 {
     Refusal::Fault {
         code: EVALUATE,
@@ -82,7 +82,7 @@ pub(crate) fn evaluation(place: String, why: EvalFault) -> Refusal
 
 /// A fault at a place of which nothing more is told.
 pub(crate) fn bare(code: u8, place: String) -> Refusal
-    ensures { told result ≡ fault code (string_bytes place) bare }
+    ensures { refusal_of result ≡ fault code (string_bytes place) bare }
 {
     Refusal::Fault {
         code,
@@ -97,7 +97,7 @@ pub(crate) fn bare(code: u8, place: String) -> Refusal
 ///
 /// Only where memory runs out.
 pub(crate) fn alone(alloc: Global, refusal: Refusal) -> Result<Refused, AllocError>
-    ensures { IfOk result (Tells (λ tolds. tolds ≡ told refusal ∷ [])) }
+    ensures { IfOk result (Tells (λ refusal_views. refusal_views ≡ refusal_of refusal ∷ [])) }
 {
     Ok(Refused::These(vec![in alloc; refusal]?))
 }

@@ -8,12 +8,12 @@ ghost use Rattle.tf_plan.specs.Refused.{AreManyPairsBy, HasManyPairs, Tells};
 use crate::faults::{alone, limit_refusal};
 use crate::refused::Refused;
 use std::alloc::{AllocError, Global};
-use tf_environment::Declarations;
+use tf_environment::Module;
 use tf_graph::MAX_NODES;
 use tf_names::Dependence;
 use tf_plan_data::Action;
-use tf_plan_resources::Numbering;
-use tf_precedence::{Order, OrderFault, Stored, Ties, lateness};
+use tf_plan_resources::ResourceIndex;
+use tf_precedence::{Order, OrderFault, OrderInput, StoredDependencies, lateness};
 
 /// The order of a plan's actions.
 #[derive(Drop)]
@@ -27,21 +27,21 @@ pub(crate) struct Ordered {
 /// The order of these actions, or the refusal of so many pairs.
 pub(crate) fn order_actions(
     alloc: Global,
-    declared: &Declarations,
-    numbering: &Numbering<'_>,
+    declared: &Module,
+    resource_index: &ResourceIndex<'_>,
     actions: &[Action],
 ) -> Result<Ordered, Refused>
     requires dependence { IsDependence (names_in declared.now.names.now) declared.now.dependence.now }
     requires acyclic { IsAcyclic declared.now.dependence.now }
-    requires numbered { numbered_in numbering.now ≡ numbered (names_in declared.now.names.now) (resources_in numbering.now) }
-    requires few_numbers { length (numbered_in numbering.now) ≤ MAX_NODES }
+    requires numbered { numbered_in resource_index.now ≡ numbered (names_in declared.now.names.now) (resources_in resource_index.now) }
+    requires few_numbers { length (numbered_in resource_index.now) ≤ MAX_NODES }
     requires few { length actions.now ≤ MAX_NODES }
-    ensures ordered { IfOk result (λ o. IsOrdered (names_in declared.now.names.now) (resources_in numbering.now) (needs_in declared.now.dependence.now)
+    ensures ordered { IfOk result (λ o. IsOrdered (names_in declared.now.names.now) (resources_in resource_index.now) (needs_in declared.now.dependence.now)
         (λ n. slice_index_or o.late.items n false) (map action_of actions.now) o.order) }
-    ensures refused { IfErr result (Tells (HasManyPairs (names_in declared.now.names.now) (resources_in numbering.now) (map action_of actions.now))) }
+    ensures refused { IfErr result (Tells (HasManyPairs (names_in declared.now.names.now) (resources_in resource_index.now) (map action_of actions.now))) }
 {
-    let stored = numbering.stored(alloc)?;
-    let marked = numbering.marked(alloc)?;
+    let stored = resource_index.stored(alloc)?;
+    let marked = resource_index.marked(alloc)?;
     let needs = declared.dependence.graph();
     let late = lateness(alloc, needs, stored.graph(), marked.as_slice())?;
     let order = order_by(
@@ -58,7 +58,7 @@ pub(crate) fn order_actions(
 fn order_by(
     alloc: Global,
     dependence: &Dependence,
-    stored: &Stored,
+    stored: &StoredDependencies,
     late: &[bool],
     actions: &[Action],
 ) -> Result<Order, Refused>
@@ -69,7 +69,7 @@ fn order_by(
     ensures few { IfOk result (λ o. length o.edges ≤ max_pairs) }
     ensures refused { IfErr result (Tells (AreManyPairsBy (ties_by dependence.now stored.now late.now) (map action_of actions.now))) }
 {
-    let ties = Ties {
+    let ties = OrderInput {
         by_configuration: dependence.table(),
         by_state: stored.table(),
         late,
@@ -86,7 +86,10 @@ fn order_by(
 }
 
 /// The actions as their order sees them.
-fn ordered_of(alloc: Global, actions: &[Action]) -> Result<Vec<tf_precedence::Action>, AllocError>
+fn ordered_of(
+    alloc: Global,
+    actions: &[Action],
+) -> Result<Vec<tf_precedence::OrderedAction>, AllocError>
     ensures { IfOk result (λ seen. seen.items ≡ map ordered (map action_of actions.now)) }
 {
     let mut seen = Vec::with_capacity(alloc, actions.len())?;

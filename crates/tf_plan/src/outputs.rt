@@ -1,29 +1,29 @@
 //! What is refused of outputs.
 
 ghost use Rattle.std.specs.Prelude.{◌≡◌, ◌++◌, OnOk, map};
-ghost use Rattle.tf_plan_data.specs.Words.{entries_view, names_in, standings_of};
+ghost use Rattle.tf_plan_data.specs.Words.{entries_view, names_in, resolved_names_of};
 ghost use Rattle.tf_plan.specs.Outputs.{output_refusal, output_refusals};
-ghost use Rattle.tf_refusal.specs.Refusal.{told};
+ghost use Rattle.tf_refusal.specs.Refusal.{refusal_of};
 ghost use Rattle.tf_syntax.specs.ExprTree.{entries_view as expressions_view, tree_of};
 
 use crate::faults::evaluation;
 use std::alloc::{AllocError, Global};
 use std::collections::BTreeMap;
-use tf_environment::{Declarations, NamesScope, Standing, all_stand};
+use tf_environment::{Module, NamesScope, Resolved, all_stand};
 use tf_eval::{EvalFault, find_expr};
 use tf_refusal::Refusal;
 use tf_syntax::Expr;
 
-/// Adds what is refused of outputs, where names stand for these standings.
+/// Adds what is refused of outputs, by these resolved names.
 pub(crate) fn add_outputs(
     alloc: Global,
     refusals: &mut Vec<Refusal>,
-    declared: &Declarations,
-    kept: &[Standing],
+    declared: &Module,
+    kept: &[Resolved],
     outputs: &BTreeMap<String, Expr>,
 ) -> Result<(), AllocError>
-    ensures { OnOk result (map told refusals.new.items ≡ map told refusals.old.items
-        ++ output_refusals (entries_view declared.now.variables.now.entries) (names_in declared.now.names.now) (standings_of kept.now) (expressions_view outputs.now.entries)) }
+    ensures { OnOk result (map refusal_of refusals.new.items ≡ map refusal_of refusals.old.items
+        ++ output_refusals (entries_view declared.now.variables.now.entries) (names_in declared.now.names.now) (resolved_names_of kept.now) (expressions_view outputs.now.entries)) }
 {
     for (name, expr) in outputs.iter() {
         add_output(alloc, refusals, declared, kept, name.as_str(), expr)?;
@@ -35,13 +35,13 @@ pub(crate) fn add_outputs(
 fn add_output(
     alloc: Global,
     refusals: &mut Vec<Refusal>,
-    declared: &Declarations,
-    kept: &[Standing],
+    declared: &Module,
+    kept: &[Resolved],
     name: &str,
     expr: &Expr,
 ) -> Result<(), AllocError>
-    ensures { OnOk result (map told refusals.new.items ≡ map told refusals.old.items
-        ++ output_refusal (entries_view declared.now.variables.now.entries) (names_in declared.now.names.now) (standings_of kept.now) name.now (tree_of expr.now)) }
+    ensures { OnOk result (map refusal_of refusals.new.items ≡ map refusal_of refusals.old.items
+        ++ output_refusal (entries_view declared.now.variables.now.entries) (names_in declared.now.names.now) (resolved_names_of kept.now) name.now (tree_of expr.now)) }
 {
     let named = declared.names.named_in(alloc, expr)?;
     if !all_stand(kept, named.as_slice()) {
@@ -50,7 +50,7 @@ fn add_output(
     let scope = NamesScope {
         variables: declared.variables,
         names: declared.names,
-        standings: kept,
+        resolved_names: kept,
     };
     match find_expr(alloc, expr, &scope) {
         Ok(_) => Ok(()),

@@ -2,24 +2,24 @@
 
 ghost use Rattle.std.specs.Prelude.{◌≡◌, ◌≤◌, ◌<◌, ◌+◌, ◌^◌, IfOk, IfErr, false, length, map, slice_index_or};
 ghost use Rattle.tf_plan_data.specs.Words.{a_name, action_of, AreApart, AreServed, config_of, entries_view, IsAcyclic, IsDependence, names_in, names_of, needs_in, numbered_in, plan_of, shapes_of, state_of};
-ghost use Rattle.tf_plan.specs.Given.{IsGiven, names_given, outputs_given, resources_given, variables_given};
+ghost use Rattle.tf_plan.specs.Input.{IsGiven, names_given, outputs_given, resources_given, variables_given};
 ghost use Rattle.tf_plan.specs.Plan.{IsPlan, IsPlannedFrom, max_actions};
 ghost use Rattle.tf_plan.specs.Planned.{AreInstances, IsPlanned, planned_of, unrefused};
 ghost use Rattle.tf_plan.specs.Refused.{AreRefused, AreRefusedIn, AreRefusedOf, AreRefusedOfSome, AreUnexpanded, Tells};
 
-use crate::deciding::{Given, PlannedInstances, plan_instances};
+use crate::deciding::{PlanInput, PlannedInstances, plan_instances};
 use crate::faults::{alone, expansion_refusal, limit_refusal};
 use crate::ordering::{Ordered, order_actions};
 use crate::refused::Refused;
 use std::alloc::Global;
 use std::collections::BTreeMap;
 use tf_config_data::Config;
-use tf_environment::{Declarations, Shape};
+use tf_environment::{InstanceKeys, Module};
 use tf_expand::expand;
 use tf_graph::MAX_NODES;
-use tf_names::{Dependence, Names};
+use tf_names::{Declarations, Dependence};
 use tf_plan_data::{Action, Plan, Planned};
-use tf_plan_resources::Numbering;
+use tf_plan_resources::ResourceIndex;
 use tf_precedence::Order;
 use tf_protocol::Provider;
 use tf_state_data::State;
@@ -89,7 +89,7 @@ fn blocks_are_apart(config: &Config)
 /// What is worked out for a plan.
 #[derive(Drop)]
 struct PlannedParts {
-    shapes: Vec<Shape>,
+    shapes: Vec<InstanceKeys>,
     actions: Vec<Action>,
     late: Vec<bool>,
     order: Order,
@@ -111,18 +111,18 @@ fn plan_parts<'a>(
         (needs_in dependence.now) (shapes_of parts.shapes.items) (map action_of parts.actions.items) (λ n. slice_index_or parts.late.items n false) parts.order) }
     ensures refused { IfErr result (Tells (AreRefused (map meaning providers.now) (config_of config.now) (entries_view variables.now.entries) (state_of prior.now))) }
 {
-    let names = Names::new(alloc, config)?;
-    let numbering = Numbering::new(alloc, &names, prior)?;
-    let declared = Declarations {
+    let names = Declarations::new(alloc, config)?;
+    let resource_index = ResourceIndex::new(alloc, &names, prior)?;
+    let declared = Module {
         variables,
         names: &names,
         dependence,
     };
-    let given = Given {
+    let given = PlanInput {
         declared: &declared,
         outputs: &config.outputs,
         prior,
-        numbering: &numbering,
+        resource_index: &resource_index,
     };
     plan_given(alloc, &given, providers)
 }
@@ -130,18 +130,23 @@ fn plan_parts<'a>(
 /// Works out what a plan holds.
 fn plan_given(
     alloc: Global,
-    given: &Given,
+    given: &PlanInput,
     providers: &[Box<dyn Provider + Sync>],
 ) -> Result<PlannedParts, Refused>
     requires given { IsGiven given.now }
-    requires few { length (numbered_in given.now.numbering.now) ≤ MAX_NODES }
+    requires few { length (numbered_in given.now.resource_index.now) ≤ MAX_NODES }
     ensures planned { IfOk result (λ parts. IsPlannedFrom (map meaning providers.now) (resources_given given.now) (variables_given given.now) (names_given given.now) (outputs_given given.now)
         (needs_in given.now.declared.now.dependence.now) (shapes_of parts.shapes.items) (map action_of parts.actions.items) (λ n. slice_index_or parts.late.items n false) parts.order) }
     ensures refused { IfErr result (Tells (AreRefusedOf (map meaning providers.now) (resources_given given.now) (variables_given given.now) (names_given given.now) (outputs_given given.now))) }
 {
     let shapes = expanded(alloc, given.declared)?;
     let actions = decided_actions(alloc, given, shapes.as_slice(), providers)?;
-    let ordered = order_actions(alloc, given.declared, given.numbering, actions.as_slice())?;
+    let ordered = order_actions(
+        alloc,
+        given.declared,
+        given.resource_index,
+        actions.as_slice(),
+    )?;
     let Ordered { late, order } = ordered;
     Ok(PlannedParts {
         shapes,
@@ -152,7 +157,7 @@ fn plan_given(
 }
 
 /// How the instances of each resource stand together, or the refusal of that.
-fn expanded(alloc: Global, declared: &Declarations) -> Result<Vec<Shape>, Refused>
+fn expanded(alloc: Global, declared: &Module) -> Result<Vec<InstanceKeys>, Refused>
     requires dependence { IsDependence (names_in declared.now.names.now) declared.now.dependence.now }
     requires acyclic { IsAcyclic declared.now.dependence.now }
     ensures instances { IfOk result (λ shapes. AreInstances (entries_view declared.now.variables.now.entries) (names_in declared.now.names.now) (shapes_of shapes.items)) }
@@ -170,8 +175,8 @@ fn expanded(alloc: Global, declared: &Declarations) -> Result<Vec<Shape>, Refuse
 /// The actions of these instances, or what is refused of them.
 fn decided_actions(
     alloc: Global,
-    given: &Given,
-    shapes: &[Shape],
+    given: &PlanInput,
+    shapes: &[InstanceKeys],
     providers: &[Box<dyn Provider + Sync>],
 ) -> Result<Vec<Action>, Refused>
     requires { IsGiven given.now }

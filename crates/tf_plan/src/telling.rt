@@ -5,13 +5,13 @@ ghost use Rattle.tf_change.specs.Instance.{instance_fault_of};
 ghost use Rattle.tf_deciding.specs.Deciding.{refused_of};
 ghost use Rattle.tf_decision.specs.Answer.{prior_fault_of};
 ghost use Rattle.tf_plan.specs.Told.{argument_told, fault_told, instance_told, unfit_told};
-ghost use Rattle.tf_refusal.specs.Refusal.{told};
+ghost use Rattle.tf_refusal.specs.Refusal.{refusal_of};
 
 use crate::faults::{bare, evaluation};
 use std::alloc::{AllocError, Global};
 use tf_change::{ArgumentFault, InstanceFault};
-use tf_deciding::{Refused as RefusedInstance, Why};
-use tf_decision::{PriorFault, Refusal as Cause};
+use tf_deciding::{RefusedInstance as RefusedInstance, Why};
+use tf_decision::{DecisionFault as Cause, PriorFault};
 use tf_plan_data::address_text;
 use tf_refusal::Refusal;
 use tf_refusal::code::{BAD_ARGUMENT, BAD_STATE, NO_PROVIDER, PREVENT_DESTROY};
@@ -21,7 +21,7 @@ pub(crate) fn refusals_of(
     alloc: Global,
     instances: Vec<RefusedInstance>,
 ) -> Result<Vec<Refusal>, AllocError>
-    ensures { IfOk result (λ refusals. map told refusals.items ≡ map instance_told (map refused_of instances.items)) }
+    ensures { IfOk result (λ refusals. map refusal_of refusals.items ≡ map instance_told (map refused_of instances.items)) }
 {
     let mut refusals = Vec::with_capacity(alloc, instances.len())?;
     for instance in instances {
@@ -32,7 +32,7 @@ pub(crate) fn refusals_of(
 
 /// The refusal of an instance.
 fn instance_refusal(alloc: Global, instance: RefusedInstance) -> Result<Refusal, AllocError>
-    ensures { IfOk result (λ refusal. told refusal ≡ instance_told (refused_of instance)) }
+    ensures { IfOk result (λ refusal. refusal_of refusal ≡ instance_told (refused_of instance)) }
 {
     let RefusedInstance { label, key, why } = instance;
     let address = address_text(alloc, &label, &key)?;
@@ -46,7 +46,7 @@ fn instance_refusal(alloc: Global, instance: RefusedInstance) -> Result<Refusal,
 
 /// The refusal of a prior object of the instance at an address that doesn't fit.
 fn unfit(alloc: Global, address: String, fault: PriorFault) -> Result<Refusal, AllocError>
-    ensures { IfOk result (λ refusal. told refusal ≡ unfit_told (string_bytes address) (prior_fault_of fault)) }
+    ensures { IfOk result (λ refusal. refusal_of refusal ≡ unfit_told (string_bytes address) (prior_fault_of fault)) }
 {
     match fault {
         PriorFault::Whole => Ok(bare(BAD_STATE, address)),
@@ -59,7 +59,7 @@ fn unfit(alloc: Global, address: String, fault: PriorFault) -> Result<Refusal, A
 
 /// The refusal of what is wrong with what is planned for the instance at an address.
 fn faulty(alloc: Global, address: String, fault: InstanceFault) -> Result<Refusal, AllocError>
-    ensures { IfOk result (λ refusal. told refusal ≡ fault_told (string_bytes address) (instance_fault_of fault)) }
+    ensures { IfOk result (λ refusal. refusal_of refusal ≡ fault_told (string_bytes address) (instance_fault_of fault)) }
 {
     match fault {
         InstanceFault::ForEach(why) => Ok(evaluation(address, why)),
@@ -81,7 +81,7 @@ fn attribute_place(alloc: Global, address: String, name: String) -> Result<Strin
 
 /// The refusal of an argument at its place.
 fn argument(place: String, fault: ArgumentFault) -> Refusal
-    ensures { told result ≡ argument_told (string_bytes place) fault }
+    ensures { refusal_of result ≡ argument_told (string_bytes place) fault }
 {
     match fault {
         ArgumentFault::Evaluation(why) => evaluation(place, why),

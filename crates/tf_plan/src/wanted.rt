@@ -11,15 +11,15 @@ ghost use Rattle.tf_syntax.specs.ExprTree.{entries_view};
 
 use std::alloc::{AllocError, Global};
 use std::collections::BTreeMap;
-use tf_environment::{Declarations, is_marked, mark, none_marked};
+use tf_environment::{Module, is_marked, mark, none_marked};
 use tf_expand::{needed_by, needed_by_resources};
-use tf_names::Names;
+use tf_names::Declarations;
 use tf_syntax::Expr;
 
 /// For each place, whether the name there is wanted: a resource or an output needs it.
 pub(crate) fn wanted_names(
     alloc: Global,
-    declared: &Declarations,
+    declared: &Module,
     outputs: &BTreeMap<String, Expr>,
 ) -> Result<Vec<bool>, AllocError>
     requires { IsDependence (names_in declared.now.names.now) declared.now.dependence.now }
@@ -51,7 +51,7 @@ fn is_either(one: &[bool], other: &[bool], third: &[bool], place: usize) -> bool
 /// For each place, whether an output names what stands there.
 fn named_by_outputs(
     alloc: Global,
-    names: &Names<'_>,
+    names: &Declarations<'_>,
     outputs: &BTreeMap<String, Expr>,
 ) -> Result<Vec<bool>, AllocError>
     ensures { IfOk result (λ named. (n : ℕ) → (has named.items n ≡ true) ↔ IsNamed (names_in names.now) (entries_view outputs.now.entries) n) }
@@ -65,7 +65,7 @@ fn named_by_outputs(
 /// The places of what outputs name, as often as they do. What isn't declared is left out.
 fn places_in_outputs(
     alloc: Global,
-    names: &Names<'_>,
+    names: &Declarations<'_>,
     outputs: &BTreeMap<String, Expr>,
 ) -> Result<Vec<usize>, AllocError>
     ensures { IfOk result (λ found. found.items ≡ places (names_in names.now) (named_below (entries_view outputs.now.entries))) }

@@ -45,8 +45,8 @@ names_of = map string_bytes
 abbrev pub step_of : Step → StepView
 step_of (rust.Create asked) = create (tree_of asked)
 step_of (rust.Update prior asked names) = update (prior_of prior) (tree_of asked) (names_of names.items)
-step_of (rust.Replacement asked names) = replacement (tree_of asked) (names_of names.items)
-step_of (rust.Replaced prior) = replaced (prior_of prior)
+step_of (rust.CreateReplacement asked names) = replacement (tree_of asked) (names_of names.items)
+step_of (rust.DestroyReplaced prior) = replaced (prior_of prior)
 step_of (rust.Destroy prior) = destroyed (prior_of prior)
 step_of (rust.DestroyDeposed key prior) = deposed_destroyed (string_bytes key) (prior_of prior)
 

@@ -7,7 +7,7 @@ use Rattle.tf_address.specs.ObjectId.{InstanceKeyView, single, number, name}
 use Rattle.tf_config_data.specs.Config.{BlockView, config_of}
 use Rattle.tf_config_data.specs.Names.{NameView, a_block, meant_at, names_of}
 use Rattle.tf_names.specs.Needs.{IsAcyclic, IsDependence}
-use Rattle.tf_plan_resources.specs.Numbering.{NumberedView, numbered, place_in}
+use Rattle.tf_plan_resources.specs.ResourceIndex.{ResourceRefView, numbered, place_in}
 use Rattle.tf_state_data.specs.State.{state_of}
 use Rattle.tf_plan_data.specs.declared.plan.Plan.{Plan}
 
@@ -24,7 +24,7 @@ deposed_key (deposed_destroyed key prior) = Some key
 deposed_key _ = None
 
 -- an action's resource is the one at its number
-abbrev pub IsPlaced : List NumberedView → ActionView → Type 0
+abbrev pub IsPlaced : List ResourceRefView → ActionView → Type 0
 IsPlaced all a = place_in all a.label ≡ Some a.resource
 
 -- the number of an instance is below the most instances that a configuration may have

@@ -3,7 +3,7 @@ use Rattle.std.specs.Prelude.{ℕ, Bool, false, List, map, slice_index_or}
 use Rattle.tf_plan_data.specs.Action.{ActionView, action_of}
 use Rattle.tf_config_data.specs.Config.{ConfigView, config_of}
 use Rattle.tf_config_data.specs.Names.{NameView, names_of}
-use Rattle.tf_environment.specs.Shape.{ShapeView}
+use Rattle.tf_environment.specs.InstanceKeys.{InstanceKeysView}
 use Rattle.tf_environment.specs.Views.{shapes_of}
 use Rattle.tf_graph.specs.Digraph.{Digraph}
 use Rattle.tf_names.specs.Needs.{needs_in}
@@ -19,7 +19,7 @@ pub record PlanView : Type 0 where
   pub config : ConfigView
   pub variables : Entries
   pub needs : ℕ → ℕ → Bool
-  pub shapes : ℕ → ShapeView
+  pub shapes : ℕ → InstanceKeysView
   pub late : ℕ → Bool
   pub actions : List ActionView
   pub order : Digraph

@@ -26,10 +26,10 @@ pub struct Action {
 
 impl Action {
     /// The action as the order of actions sees it.
-    pub fn ordered(&self) -> tf_precedence::Action
+    pub fn ordered(&self) -> tf_precedence::OrderedAction
         ensures { result ≡ ordered (action_of self.now) }
     {
-        tf_precedence::Action {
+        tf_precedence::OrderedAction {
             resource: self.resource,
             instance: self.instance,
             kind: self.step.kind(),

@@ -5,7 +5,7 @@ ghost use Rattle.std.specs.Prelude.{◌≡◌, vec_len};
 use crate::action::Action;
 use std::collections::BTreeMap;
 use tf_config_data::Config;
-use tf_environment::Shape;
+use tf_environment::InstanceKeys;
 use tf_names::Dependence;
 use tf_precedence::Order;
 use tf_state_data::State;
@@ -24,7 +24,7 @@ pub struct Plan {
     /// Which name of the configuration needs which.
     pub dependence: Dependence,
     /// How the instances of each resource stand together, by the place of its name.
-    pub shapes: Vec<Shape>,
+    pub shapes: Vec<InstanceKeys>,
     /// For each resource of configuration and prior state together, by its number (`tf_plan_resources`), whether it is late:
     /// what replaces an object of it is created before that object is destroyed.
     pub late: Vec<bool>,

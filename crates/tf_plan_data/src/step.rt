@@ -4,7 +4,7 @@ ghost use Rattle.std.specs.Prelude.{◌≡◌};
 ghost use Rattle.tf_plan_data.specs.Action.{step_of};
 ghost use Rattle.tf_plan_data.specs.Precedence.{is_half, kind_of};
 
-use tf_precedence::Kind;
+use tf_precedence::ActionKind;
 use tf_state_data::Object;
 use tf_value::Value;
 
@@ -16,11 +16,11 @@ pub enum Step {
     Create(Value),
     /// Changes the current object, the first, to the second, in the attributes of these names, in byte order.
     Update(Object, Value, Vec<String>),
-    /// Makes this object, which takes the place of the one that is destroyed (`Replaced`). The names, in byte order, are
+    /// Makes this object, which takes the place of the one that is destroyed (`DestroyReplaced`). The names, in byte order, are
     /// those of the attributes whose changes replace the object; there are none where that one is tainted.
-    Replacement(Value, Vec<String>),
-    /// Destroys the current object, whose place another takes (`Replacement`).
-    Replaced(Object),
+    CreateReplacement(Value, Vec<String>),
+    /// Destroys the current object, whose place another takes (`CreateReplacement`).
+    DestroyReplaced(Object),
     /// Destroys the current object, and nothing takes its place.
     Destroy(Object),
     /// Destroys the deposed object of this key.
@@ -29,13 +29,14 @@ pub enum Step {
 
 impl Step {
     /// What it does, as far as the order of actions depends on it.
-    pub fn kind(&self) -> Kind
+    pub fn kind(&self) -> ActionKind
         ensures { result ≡ kind_of (step_of self.now) }
     {
         match self {
-            Step::Create(_) | Step::Update(_, _, _) | Step::Replacement(_, _) => Kind::Apply,
-            Step::Replaced(_) | Step::Destroy(_) => Kind::Destroy,
-            Step::DestroyDeposed(_, _) => Kind::DestroyDeposed,
+            Step::Create(_) | Step::Update(_, _, _) | Step::CreateReplacement(_, _) =>
+                ActionKind::Apply,
+            Step::DestroyReplaced(_) | Step::Destroy(_) => ActionKind::Destroy,
+            Step::DestroyDeposed(_, _) => ActionKind::DestroyDeposed,
         }
     }
 
@@ -43,6 +44,9 @@ impl Step {
     pub fn is_half(&self) -> bool
         ensures { result ≡ is_half (step_of self.now) }
     {
-        matches!(self, Step::Replacement(_, _) | Step::Replaced(_))
+        matches!(
+            self,
+            Step::CreateReplacement(_, _) | Step::DestroyReplaced(_)
+        )
     }
 }

@@ -107,11 +107,11 @@ fn push_step(text: &mut String, address: &str, step: &Step, is_late: bool) -> Re
     match step {
         Step::Create(_) => write!(text, "+ {address}"),
         Step::Update(_, _, _) => write!(text, "~ {address}"),
-        Step::Replacement(_, _) => {
+        Step::CreateReplacement(_, _) => {
             text.push_str(replace_symbol(is_late))?;
             write!(text, "{address} (create)")
         }
-        Step::Replaced(_) => {
+        Step::DestroyReplaced(_) => {
             text.push_str(replace_symbol(is_late))?;
             write!(text, "{address} (destroy)")
         }

@@ -11,7 +11,7 @@ use Rattle.tf_graph.proofs.Edges.{contains_cases, contains_head, contains_tail}
 use Rattle.tf_graph.specs.Digraph.{IsWithin, edge_at}
 use Rattle.tf_plan_resources.specs.Dependencies.{IsStoredDependency, dependencies, is_dot, named_address, named_place, pairs_from, record_pairs, resource_pairs, text_pairs}
 use Rattle.tf_plan_resources.specs.Laws.{AddressesAreNamed, DependenciesAreThose}
-use Rattle.tf_plan_resources.specs.Numbering.{NumberedView, is_at, place_in}
+use Rattle.tf_plan_resources.specs.ResourceIndex.{ResourceRefView, is_at, place_in}
 use Rattle.tf_state_data.specs.Record.{RecordView}
 use Rattle.tf_state_data.specs.Resource.{ResourceView}
 
@@ -45,7 +45,7 @@ pub option_suc : (o : Option ℕ) (n : ℕ) → option_map suc o ≡ Some n → 
 option_suc None n e = absurd (cc)
 option_suc (Some k) n e = (k, refl, cc)
 
-pub place-within : (all : List NumberedView) (label : LabelView) (n : ℕ) → place_in all label ≡ Some n → n < length all
+pub place-within : (all : List ResourceRefView) (label : LabelView) (n : ℕ) → place_in all label ≡ Some n → n < length all
 place-within [] label n e = absurd (cc)
 place-within (x ∷ all) label n e = by_test (is_at label x) (λ k h. place-within all label k h) e
   where
@@ -57,11 +57,11 @@ place-within (x ∷ all) label n e = by_test (is_at label x) (λ k h. place-with
         let is : n ≡ suc next.0 = next.2 in
         omega (arith, is, inside)
 
-by_address : (all : List NumberedView) (o : Option LabelView) (n : ℕ) → option_and_then (place_in all) o ≡ Some n → n < length all
+by_address : (all : List ResourceRefView) (o : Option LabelView) (n : ℕ) → option_and_then (place_in all) o ≡ Some n → n < length all
 by_address all None n h = absurd (cc)
 by_address all (Some label) n h = place-within all label n h
 
-named-within : (all : List NumberedView) (text : List ℕ) (n : ℕ) → named_place all text ≡ Some n → n < length all
+named-within : (all : List ResourceRefView) (text : List ℕ) (n : ℕ) → named_place all text ≡ Some n → n < length all
 named-within all text n e = by_address all (named_address text) n e
 
 -- ---- what lists made of lists have
@@ -120,7 +120,7 @@ to_flat_map f (z ∷ xs) x y c d = elim (contains_cases x z xs c) [
 
 -- ---- the stored dependencies
 
-module _ (all : List NumberedView) where
+module _ (all : List ResourceRefView) where
   -- what is told of a pair that a text gives
   in_texts : (at : ℕ) (texts : List (List ℕ)) (e : ℕ × ℕ) → Contains (text_pairs all at texts) e → (text : List ℕ) × Contains texts text × (named_place all text ≡ Some e.1) × (at ≡ e.0)
   in_texts at texts e c =

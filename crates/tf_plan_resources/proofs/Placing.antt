@@ -6,31 +6,31 @@ use Rattle.std.proofs.lemmas.List.{map-append, take_more}
 use Rattle.std.proofs.lemmas.Option.{get_or_from_slice_get, slice_get-map, slice_get_within}
 use Rattle.tf_address.specs.Label.{LabelView}
 use Rattle.tf_config_data.specs.Names.{NameView}
-use Rattle.tf_names.specs.Named.{named_view}
-use Rattle.tf_names.specs.declared.named.Named.{Named}
+use Rattle.tf_names.specs.Declaration.{declaration_of}
+use Rattle.tf_names.specs.declared.declaration.Declaration.{Declaration}
 use Rattle.tf_plan_resources.specs.Marks.{is_marked}
-use Rattle.tf_plan_resources.specs.Numbered.{numbered_view}
+use Rattle.tf_plan_resources.specs.ResourceRef.{resource_ref_of}
 use Rattle.tf_state_data.specs.Record.{record_of}
 use Rattle.tf_state_data.specs.declared.record.Record.{Record}
-use Rattle.tf_plan_resources.specs.Numbering.{NumberedView, a_name, has_block, is_at, place_in}
-use Rattle.tf_plan_resources.specs.declared.numbered.Numbered.{Numbered}
-use Rattle.tf_plan_resources.specs.declared.numbered.Numbered.TheVariants.{Name}
+use Rattle.tf_plan_resources.specs.ResourceIndex.{ResourceRefView, a_name, has_block, is_at, place_in}
+use Rattle.tf_plan_resources.specs.declared.resource_ref.ResourceRef.{ResourceRef}
+use Rattle.tf_plan_resources.specs.declared.resource_ref.ResourceRef.TheVariants.{Name}
 
 -- the place of a resource among those from a position on
-abbrev pub place_from : List Numbered → ℕ → LabelView → Option ℕ
-place_from all i label = option_map (λ k. k + i) (place_in (map numbered_view (drop i all)) label)
+abbrev pub place_from : List ResourceRef → ℕ → LabelView → Option ℕ
+place_from all i label = option_map (λ k. k + i) (place_in (map resource_ref_of (drop i all)) label)
 
 -- ---- names and orphans, from the first to the last
 
 -- one name more
-pub names-next : (items : List Numbered) (names : List NameView) (i : ℕ) (n : Named) → map numbered_view items ≡ map a_name (take i names) → slice_get names i ≡ Some (named_view n)
-    → map numbered_view (items ++ Name n ∷ []) ≡ map a_name (take (i + 1) names)
+pub names-next : (items : List ResourceRef) (names : List NameView) (i : ℕ) (n : Declaration) → map resource_ref_of items ≡ map a_name (take i names) → slice_get names i ≡ Some (declaration_of n)
+    → map resource_ref_of (items ++ Name n ∷ []) ≡ map a_name (take (i + 1) names)
 names-next items names i n so_far e =
-    let within : i < length names = slice_get_within names i (named_view n) e in
-    let next : take (i + 1) names ≡ take i names ++ named_view n ∷ [] =
-    take_more names i (named_view n) within ∙ ap (λ x. take i names ++ x ∷ []) (get_or_from_slice_get names i (named_view n) (named_view n) e) in
-    map-append numbered_view items (Name n ∷ []) ∙ ap (λ xs. xs ++ a_name (named_view n) ∷ []) so_far
-    ∙ sym (ap (map a_name) next ∙ map-append a_name (take i names) (named_view n ∷ []))
+    let within : i < length names = slice_get_within names i (declaration_of n) e in
+    let next : take (i + 1) names ≡ take i names ++ declaration_of n ∷ [] =
+    take_more names i (declaration_of n) within ∙ ap (λ x. take i names ++ x ∷ []) (get_or_from_slice_get names i (declaration_of n) (declaration_of n) e) in
+    map-append resource_ref_of items (Name n ∷ []) ∙ ap (λ xs. xs ++ a_name (declaration_of n) ∷ []) so_far
+    ∙ sym (ap (map a_name) next ∙ map-append a_name (take i names) (declaration_of n ∷ []))
 
 -- ---- a block is found exactly where there is one
 
@@ -50,7 +50,7 @@ filter-same p q (x ∷ xs) h = rw (h x, filter-same p q xs h) refl
 -- ---- marks
 
 -- one mark more
-pub marks-next : (all : List NumberedView) (i : ℕ) (marks : List Bool) (mark : Bool) → marks ≡ take i (map is_marked all) → option_map is_marked (slice_get all i) ≡ Some mark
+pub marks-next : (all : List ResourceRefView) (i : ℕ) (marks : List Bool) (mark : Bool) → marks ≡ take i (map is_marked all) → option_map is_marked (slice_get all i) ≡ Some mark
     → marks ++ mark ∷ [] ≡ take (i + 1) (map is_marked all)
 marks-next all i marks mark so_far e =
     let at : slice_get (map is_marked all) i ≡ Some mark = slice_get-map is_marked all i ∙ e in

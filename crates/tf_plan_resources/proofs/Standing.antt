@@ -16,7 +16,7 @@ use Rattle.tf_config_data.specs.Names.{NameView}
 use Rattle.tf_graph.proofs.Edges.{contains_cases, contains_head, contains_tail}
 use Rattle.tf_plan_resources.proofs.Naming.{option_suc, to_map}
 use Rattle.tf_plan_resources.specs.Laws.{BlocksComeFirst, EachHasAPlace, NumbersAreFew, NumbersAreInOrder, PlacesAreTrue, PlacesDiffer, ResourcesStayApart}
-use Rattle.tf_plan_resources.specs.Numbering.{NumberedView, a_name, an_orphan, address_of, has_block, is_address, is_at, numbered, orphans, place_in}
+use Rattle.tf_plan_resources.specs.ResourceIndex.{ResourceRefView, a_name, an_orphan, address_of, has_block, is_address, is_at, numbered, orphans, place_in}
 use Rattle.tf_state_data.specs.Addresses.{AreByAddress, addresses_of}
 use Rattle.tf_state_data.specs.Resource.{ResourceView}
 
@@ -26,27 +26,27 @@ address_from : (label : LabelView) (o : Option LabelView) → is_address label o
 address_from label None h = absurd (cc)
 address_from label (Some own) h = ap Some ((label_Decides own label).0 h)
 
-address-at : (label : LabelView) (x : NumberedView) → is_at label x ≡ true → address_of x ≡ Some label
+address-at : (label : LabelView) (x : ResourceRefView) → is_at label x ≡ true → address_of x ≡ Some label
 address-at label x h = address_from label (address_of x) h
 
-at-address : (label : LabelView) (x : NumberedView) → address_of x ≡ Some label → is_at label x ≡ true
+at-address : (label : LabelView) (x : ResourceRefView) → address_of x ≡ Some label → is_at label x ≡ true
 at-address label x e = ap (is_address label) e ∙ (label_Decides label label).1 refl
 
 -- ---- the place of an address
 
-place-true : (all : List NumberedView) (label : LabelView) (n : ℕ) → place_in all label ≡ Some n → (x : NumberedView) × (slice_get all n ≡ Some x) × (address_of x ≡ Some label)
+place-true : (all : List ResourceRefView) (label : LabelView) (n : ℕ) → place_in all label ≡ Some n → (x : ResourceRefView) × (slice_get all n ≡ Some x) × (address_of x ≡ Some label)
 place-true [] label n e = absurd (cc)
 place-true (x ∷ all) label n e = by_test (is_at label x) refl (λ k h. place-true all label k h) e
   where
-    by_test : (b : Bool) → is_at label x ≡ b → ((k : ℕ) → place_in all label ≡ Some k → (y : NumberedView) × (slice_get all k ≡ Some y) × (address_of y ≡ Some label))
-        → cond b (Some 0) (option_map suc (place_in all label)) ≡ Some n → (y : NumberedView) × (slice_get (x ∷ all) n ≡ Some y) × (address_of y ≡ Some label)
+    by_test : (b : Bool) → is_at label x ≡ b → ((k : ℕ) → place_in all label ≡ Some k → (y : ResourceRefView) × (slice_get all k ≡ Some y) × (address_of y ≡ Some label))
+        → cond b (Some 0) (option_map suc (place_in all label)) ≡ Some n → (y : ResourceRefView) × (slice_get (x ∷ all) n ≡ Some y) × (address_of y ≡ Some label)
     by_test true is again h = let zeroth : n ≡ 0 = cc in (x, ap (slice_get (x ∷ all)) zeroth, address-at label x is)
     by_test false is again h =
         let next = option_suc (place_in all label) n h in
         let y = again next.0 next.1 in
         (y.0, ap (slice_get (x ∷ all)) next.2 ∙ y.1, y.2)
 
-place-found : (all : List NumberedView) (label : LabelView) (x : NumberedView) → Contains all x → address_of x ≡ Some label → (n : ℕ) × (place_in all label ≡ Some n)
+place-found : (all : List ResourceRefView) (label : LabelView) (x : ResourceRefView) → Contains all x → address_of x ≡ Some label → (n : ℕ) × (place_in all label ≡ Some n)
 place-found [] label x c e = absurd (omega (arith, c.1))
 place-found (z ∷ all) label x c e = by_test (is_at label z) refl (contains_cases x z all c) (λ d. place-found all label x d e)
   where
@@ -106,12 +106,12 @@ shorter test (x ∷ xs) = by_test (test x) (shorter test xs)
     by_test false h = omega (arith, h)
 
 -- a resource that stands among names is a block
-block-at : (names : List NameView) (n : ℕ) (x : NumberedView) (label : LabelView) → slice_get (map a_name names) n ≡ Some x → address_of x ≡ Some label → has_block names label ≡ true
+block-at : (names : List NameView) (n : ℕ) (x : ResourceRefView) (label : LabelView) → slice_get (map a_name names) n ≡ Some x → address_of x ≡ Some label → has_block names label ≡ true
 block-at [] n x label e a = absurd (cc)
 block-at (m ∷ names) zero x label e a = or_left _ _ (at-address label (a_name m) (ap address_of (same_Some (a_name m) x e) ∙ a))
 block-at (m ∷ names) (suc n) x label e a = or_right _ _ (block-at names n x label e a)
 
-orphan-at : (os : List ResourceView) (i : ℕ) (x : NumberedView) → slice_get (map an_orphan os) i ≡ Some x → (r : ResourceView) × (slice_get os i ≡ Some r) × (x ≡ an_orphan r)
+orphan-at : (os : List ResourceView) (i : ℕ) (x : ResourceRefView) → slice_get (map an_orphan os) i ≡ Some x → (r : ResourceView) × (slice_get os i ≡ Some r) × (x ≡ an_orphan r)
 orphan-at os i x e = by_option (slice_get os i) (sym (slice_get-map an_orphan os i) ∙ e)
   where
     by_option : (o : Option ResourceView) → option_map an_orphan o ≡ Some x → (r : ResourceView) × (o ≡ Some r) × (x ≡ an_orphan r)
@@ -137,19 +137,19 @@ module _ (names : List NameView) (resources : List ResourceView) where
       omega (arith, all, length-map names a_name, length-map left an_orphan)
 
   -- what stands behind the names is an orphan, without a block
-  orphan-behind : (k : ℕ) (x : NumberedView) (label : LabelView) → length names ≤ k → slice_get (numbered names resources) k ≡ Some x → address_of x ≡ Some label
+  orphan-behind : (k : ℕ) (x : ResourceRefView) (label : LabelView) → length names ≤ k → slice_get (numbered names resources) k ≡ Some x → address_of x ≡ Some label
       → (r : ResourceView) × (slice_get left (k - length names) ≡ Some r) × (r.label ≡ label)
   orphan-behind k x label h e a =
       let o = orphan-at left (k - length names) x (sym (behind k (k - length names) (omega (arith, h))) ∙ e) in
       (o.0, o.1, same_Some o.0.label label (ap address_of (sym o.2) ∙ a))
 
-  no_block-behind : (k : ℕ) (x : NumberedView) (label : LabelView) → length names ≤ k → slice_get (numbered names resources) k ≡ Some x → address_of x ≡ Some label
+  no_block-behind : (k : ℕ) (x : ResourceRefView) (label : LabelView) → length names ≤ k → slice_get (numbered names resources) k ≡ Some x → address_of x ≡ Some label
       → has_block names label ≡ false
   no_block-behind k x label h e a =
       let o = orphan-behind k x label h e a in
       ap (has_block names) (sym o.2) ∙ has_no_block (k - length names) o.0 o.1
 
-  block-in_front : (k : ℕ) (x : NumberedView) (label : LabelView) → k < length names → slice_get (numbered names resources) k ≡ Some x → address_of x ≡ Some label
+  block-in_front : (k : ℕ) (x : ResourceRefView) (label : LabelView) → k < length names → slice_get (numbered names resources) k ≡ Some x → address_of x ≡ Some label
       → has_block names label ≡ true
   block-in_front k x label h e a = block-at names k x label (sym (in_front k h) ∙ e) a
 

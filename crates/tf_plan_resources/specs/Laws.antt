@@ -4,7 +4,7 @@ use Rattle.std.specs.List.{list_any}
 use Rattle.tf_address.specs.Label.{LabelView, label_text}
 use Rattle.tf_config_data.specs.Names.{NameView}
 use Rattle.tf_plan_resources.specs.Dependencies.{IsStoredDependency, dependencies, is_dot, named_address}
-use Rattle.tf_plan_resources.specs.Numbering.{NumberedView, a_name, an_orphan, address_of, has_block, numbered, orphans, place_in}
+use Rattle.tf_plan_resources.specs.ResourceIndex.{ResourceRefView, a_name, an_orphan, address_of, has_block, numbered, orphans, place_in}
 use Rattle.tf_state_data.specs.Addresses.{AreByAddress}
 use Rattle.tf_state_data.specs.Resource.{ResourceView}
 
@@ -16,16 +16,16 @@ EachHasAPlace =
 -- At the place of an address stands the resource at that address.
 abbrev pub PlacesAreTrue : Type 0
 PlacesAreTrue =
-    (all : List NumberedView) (label : LabelView) (n : ℕ) → place_in all label ≡ Some n → (x : NumberedView) × (slice_get all n ≡ Some x) × (address_of x ≡ Some label)
+    (all : List ResourceRefView) (label : LabelView) (n : ℕ) → place_in all label ≡ Some n → (x : ResourceRefView) × (slice_get all n ≡ Some x) × (address_of x ≡ Some label)
 
 -- Two different addresses have different places.
 abbrev pub PlacesDiffer : Type 0
-PlacesDiffer = (all : List NumberedView) (a b : LabelView) (n : ℕ) → place_in all a ≡ Some n → place_in all b ≡ Some n → a ≡ b
+PlacesDiffer = (all : List ResourceRefView) (a b : LabelView) (n : ℕ) → place_in all a ≡ Some n → place_in all b ≡ Some n → a ≡ b
 
 -- no two resources are at one address
-abbrev pub AreApart : List NumberedView → Type 0
+abbrev pub AreApart : List ResourceRefView → Type 0
 AreApart all =
-    (i j : ℕ) (x y : NumberedView) (label : LabelView) → slice_get all i ≡ Some x → slice_get all j ≡ Some y → address_of x ≡ Some label → address_of y ≡ Some label
+    (i j : ℕ) (x y : ResourceRefView) (label : LabelView) → slice_get all i ≡ Some x → slice_get all j ≡ Some y → address_of x ≡ Some label → address_of y ≡ Some label
     → i ≡ j
 
 -- Where no two blocks are at one address, no two resources of both together are. So each resource of the state stands at
@@ -60,4 +60,4 @@ AddressesAreNamed = (label : LabelView) → list_any is_dot label.type_name ≡ 
 -- The list of stored dependencies has exactly those pairs of places.
 abbrev pub DependenciesAreThose : Type 0
 DependenciesAreThose =
-    (all : List NumberedView) (resources : List ResourceView) (place other : ℕ) → Contains (dependencies all resources) (place, other) ↔ IsStoredDependency all resources place other
+    (all : List ResourceRefView) (resources : List ResourceView) (place other : ℕ) → Contains (dependencies all resources) (place, other) ↔ IsStoredDependency all resources place other

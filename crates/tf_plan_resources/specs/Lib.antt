@@ -1,7 +1,7 @@
-pub mod Numbering
+pub mod ResourceIndex
 pub mod Dependencies
 pub mod Marks
-pub mod Numbered
+pub mod ResourceRef
 pub mod Table
 pub mod Laws
 pub mod Words

@@ -3,11 +3,11 @@ use Rattle.std.specs.Prelude.{List, map}
 use Rattle.std.specs.BTreeSet.{BTreeSet}
 use Rattle.tf_address.specs.ObjectId.{InstanceKeyView, instance_key_of}
 use Rattle.tf_address.specs.declared.object_id.InstanceKey.{InstanceKey}
-use Rattle.tf_plan_resources.specs.Members.{MemberView}
-use Rattle.tf_plan_resources.specs.declared.member.Member.{Member}
+use Rattle.tf_plan_resources.specs.Members.{InstanceToPlanView}
+use Rattle.tf_plan_resources.specs.declared.instance_to_plan.InstanceToPlan.{InstanceToPlan}
 use Rattle.tf_state_data.specs.Record.{record_of}
 
-abbrev pub member_of : Member → MemberView
+abbrev pub member_of : InstanceToPlan → InstanceToPlanView
 member_of m = record { key = instance_key_of m.key; is_declared = m.is_declared; records = map record_of m.records.now }
 
 -- the keys in a set, in order

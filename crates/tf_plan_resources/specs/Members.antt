@@ -8,7 +8,7 @@ use Rattle.tf_address.specs.Same.{same_instance_key}
 use Rattle.tf_state_data.specs.Record.{RecordView}
 
 -- An instance of a resource: whether the configuration has it, and the records of its objects.
-pub record MemberView : Type 0 where
+pub record InstanceToPlanView : Type 0 where
   pub key : InstanceKeyView
   pub is_declared : Bool
   pub records : List RecordView
@@ -30,25 +30,25 @@ abbrev pub is_recorded : List RecordView → InstanceKeyView → Bool
 is_recorded records key = list_any (is_of key) records
 
 -- the instances that members are
-abbrev pub keys_of : List MemberView → List InstanceKeyView
+abbrev pub keys_of : List InstanceToPlanView → List InstanceKeyView
 keys_of members = map (λ m. m.key) members
 
 -- The members of a resource, of which the configuration has the instances of some keys and the state has some records: all
 -- instances of both, each once, in address order.
-pub record AreMembers (keys : List InstanceKeyView) (records : List RecordView) (members : List MemberView) : Type 0 where
+pub record AreMembers (keys : List InstanceKeyView) (records : List RecordView) (members : List InstanceToPlanView) : Type 0 where
   -- they stand in address order, each once
   pub sorted : IsStrictlySortedBy instance_key_cmp (keys_of members)
   -- an instance is there exactly where the configuration has it, or there is a record of it
   pub there : (key : InstanceKeyView) → is_among (keys_of members) key ≡ (is_among keys key || is_recorded records key)
   -- each says exactly whether the configuration has it
-  pub declared : (m : MemberView) → Contains members m → m.is_declared ≡ is_among keys m.key
+  pub declared : (m : InstanceToPlanView) → Contains members m → m.is_declared ≡ is_among keys m.key
   -- and has exactly the records of its objects, in their order
-  pub recorded : (m : MemberView) → Contains members m → m.records ≡ records_of m.key records
+  pub recorded : (m : InstanceToPlanView) → Contains members m → m.records ≡ records_of m.key records
 
 -- The same as a list.
 
 -- the member that an instance is
-abbrev pub member : List InstanceKeyView → List RecordView → InstanceKeyView → MemberView
+abbrev pub member : List InstanceKeyView → List RecordView → InstanceKeyView → InstanceToPlanView
 member keys records key = record { key = key; is_declared = is_among keys key; records = records_of key records }
 
 -- keys with some more, each at its place in address order and each once
@@ -64,5 +64,5 @@ abbrev pub all_keys : List InstanceKeyView → List RecordView → List Instance
 all_keys keys records = with_keys (with_keys [] keys) (recorded_keys records)
 
 -- the members
-abbrev pub members : List InstanceKeyView → List RecordView → List MemberView
+abbrev pub members : List InstanceKeyView → List RecordView → List InstanceToPlanView
 members keys records = map (member keys records) (all_keys keys records)

@@ -1,15 +1,15 @@
--- A numbering, without where it lies in memory.
+-- An index of resources, without where it lies in memory.
 use Rattle.std.specs.Prelude.{List, map}
-use Rattle.tf_plan_resources.specs.Numbered.{numbered_view}
-use Rattle.tf_plan_resources.specs.Numbering.{NumberedView}
-use Rattle.tf_plan_resources.specs.declared.numbering.Numbering.{Numbering}
+use Rattle.tf_plan_resources.specs.ResourceRef.{resource_ref_of}
+use Rattle.tf_plan_resources.specs.ResourceIndex.{ResourceRefView}
+use Rattle.tf_plan_resources.specs.declared.resource_index.ResourceIndex.{ResourceIndex}
 use Rattle.tf_state_data.specs.Resource.{ResourceView}
 use Rattle.tf_state_data.specs.State.{state_of}
 
--- all that a numbering numbers, in order
-abbrev pub numbered_in : Numbering → List NumberedView
-numbered_in n = map numbered_view n.numbered.items
+-- all that an index numbers, in order
+abbrev pub numbered_in : ResourceIndex → List ResourceRefView
+numbered_in n = map resource_ref_of n.numbered.items
 
 -- the resources of the state that it numbers
-abbrev pub resources_in : Numbering → List ResourceView
+abbrev pub resources_in : ResourceIndex → List ResourceView
 resources_in n = (state_of n.state.now).resources

@@ -7,28 +7,28 @@ ghost use Rattle.tf_plan_resources.specs.Dependencies.{dependencies, record_pair
 ghost use Rattle.tf_plan_resources.specs.Table.{numbered_in, resources_in};
 ghost use Rattle.tf_plan_resources.specs.Words.{record_of, resource_of};
 
-use crate::numbering::Numbering;
+use crate::resource_index::ResourceIndex;
 use std::alloc::{AllocError, Global};
 use tf_graph::MAX_NODES;
-use tf_precedence::Stored;
+use tf_precedence::StoredDependencies;
 use tf_state_data::{Record, Resource};
 
 /// Pairs of a place and one that it depends on.
 type Pairs = Vec<(usize, usize)>;
 
-impl Numbering<'_> {
+impl ResourceIndex<'_> {
     /// What needed what when it was made, by the dependencies that the state has stored.
     ///
     /// # Errors
     ///
     /// Only where memory runs out.
-    pub fn stored(&self, alloc: Global) -> Result<Stored, AllocError>
+    pub fn stored(&self, alloc: Global) -> Result<StoredDependencies, AllocError>
         requires few { length (numbered_in self.now) ≤ MAX_NODES }
         ensures { IfOk result (λ stored. IsStored (length (numbered_in self.now))
             (dependencies (numbered_in self.now) (resources_in self.now)) stored) }
     {
         let pairs = self.dependencies(alloc)?;
-        Stored::new(alloc, self.len(), pairs.as_slice())
+        StoredDependencies::new(alloc, self.len(), pairs.as_slice())
     }
 
     /// The stored dependencies: the place of each resource of the state with the places of what any of its objects

@@ -6,20 +6,20 @@
 #![tactic(auto)]
 
 mod dependencies;
+mod instance_to_plan;
 pub mod laws;
 mod marks;
-mod member;
 pub mod member_laws;
 mod merging;
-mod numbered;
-mod numbering;
 mod order;
 mod own;
 mod places;
+mod resource_index;
+mod resource_ref;
 
-pub use member::Member;
+pub use instance_to_plan::InstanceToPlan;
 pub use merging::members;
-pub use numbered::Numbered;
-pub use numbering::Numbering;
 pub use order::address_order;
 pub use own::records_of;
+pub use resource_index::ResourceIndex;
+pub use resource_ref::ResourceRef;

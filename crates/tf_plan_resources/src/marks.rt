@@ -5,13 +5,13 @@ ghost use Rattle.std.specs.List.{list_any};
 ghost use Rattle.tf_plan_resources.specs.Marks.{is_marked};
 ghost use Rattle.tf_plan_resources.specs.Table.{numbered_in};
 
-use crate::numbered::Numbered;
-use crate::numbering::Numbering;
+use crate::resource_index::ResourceIndex;
+use crate::resource_ref::ResourceRef;
 use std::alloc::{AllocError, Global};
-use tf_names::Named;
+use tf_names::Declaration;
 use tf_state_data::Record;
 
-impl Numbering<'_> {
+impl ResourceIndex<'_> {
     /// For each place whether the resource there is marked (`is_marked`).
     ///
     /// # Errors
@@ -34,9 +34,11 @@ impl Numbering<'_> {
         ensures { option_map is_marked (slice_get (numbered_in self.now) place) ≡ Some result }
     {
         match self.at(place) {
-            Numbered::Orphan(resource) => any_says_so(resource.records()),
-            Numbered::Name(Named::Resource(_, block)) => block.lifecycle.create_before_destroy,
-            Numbered::Name(Named::Local(_, _)) => false,
+            ResourceRef::Orphan(resource) => any_says_so(resource.records()),
+            ResourceRef::Name(Declaration::Resource(_, block)) => block
+                .lifecycle
+                .create_before_destroy,
+            ResourceRef::Name(Declaration::Local(_, _)) => false,
         }
     }
 }

@@ -7,7 +7,7 @@ ghost use Rattle.tf_plan_resources.specs.MemberViews.{keys_in, member_of};
 ghost use Rattle.tf_state_data.specs.Ids.{AreById};
 ghost use Rattle.tf_state_data.specs.Record.{record_of};
 
-use crate::member::Member;
+use crate::instance_to_plan::InstanceToPlan;
 use crate::own::records_of;
 use std::alloc::{AllocError, Global};
 use std::collections::BTreeSet;
@@ -24,7 +24,7 @@ pub fn members<'a>(
     alloc: Global,
     keys: &[InstanceKey],
     records: &'a [Record],
-) -> Result<Vec<Member<'a>>, AllocError>
+) -> Result<Vec<InstanceToPlan<'a>>, AllocError>
     requires { AreById (map record_of records.now) }
     ensures { IfOk result (λ members. AreMembers (map instance_key_of keys.now) (map record_of records.now) (map member_of members.items)) }
 {
@@ -61,14 +61,14 @@ fn each_member<'a>(
     declared: &BTreeSet<InstanceKey>,
     all: &BTreeSet<InstanceKey>,
     records: &'a [Record],
-) -> Result<Vec<Member<'a>>, AllocError>
+) -> Result<Vec<InstanceToPlan<'a>>, AllocError>
     requires { AreById (map record_of records.now) }
     ensures { IfOk result (λ members. map member_of members.items
         ≡ map (member (keys_in declared.now) (map record_of records.now)) (keys_in all.now)) }
 {
     let mut members = Vec::new(alloc);
     for key in all.iter() {
-        members.push(Member {
+        members.push(InstanceToPlan {
             key: key.clone()?,
             is_declared: declared.contains(key),
             records: records_of(records, key),

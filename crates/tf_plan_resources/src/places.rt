@@ -1,11 +1,11 @@
 //! The places of resources.
 
 ghost use Rattle.std.specs.Prelude.{◌≡◌, Some, IfOk, OnOk, if◌then◌else◌, map};
-ghost use Rattle.tf_plan_resources.specs.Numbered.{numbered_view};
-ghost use Rattle.tf_plan_resources.specs.Numbering.{is_at, place_in};
+ghost use Rattle.tf_plan_resources.specs.ResourceRef.{resource_ref_of};
+ghost use Rattle.tf_plan_resources.specs.ResourceIndex.{is_at, place_in};
 ghost use Rattle.tf_plan_resources.specs.Words.{found_in, label_pair, LabelView};
 
-use crate::numbered::Numbered;
+use crate::resource_ref::ResourceRef;
 use std::alloc::{AllocError, Global};
 use tf_names::Places;
 
@@ -15,9 +15,9 @@ use tf_names::Places;
 /// # Errors
 ///
 /// Only where memory runs out.
-pub(crate) fn places_of(alloc: Global, numbered: &[Numbered<'_>]) -> Result<Places, AllocError>
+pub(crate) fn places_of(alloc: Global, numbered: &[ResourceRef<'_>]) -> Result<Places, AllocError>
     ensures { IfOk result (λ places. (label : LabelView)
-        → found_in places (label_pair label) ≡ place_in (map numbered_view numbered.now) label) }
+        → found_in places (label_pair label) ≡ place_in (map resource_ref_of numbered.now) label) }
 {
     let mut places = Places::empty(alloc);
     for place in (0..numbered.len()).rev() {
@@ -30,11 +30,11 @@ pub(crate) fn places_of(alloc: Global, numbered: &[Numbered<'_>]) -> Result<Plac
 fn put(
     places: &mut Places,
     alloc: Global,
-    numbered: Numbered<'_>,
+    numbered: ResourceRef<'_>,
     place: usize,
 ) -> Result<(), AllocError>
     ensures { OnOk result ((label : LabelView) → found_in places.new (label_pair label)
-        ≡ (if is_at label (numbered_view numbered.entry) then Some place else found_in places.old (label_pair label))) }
+        ≡ (if is_at label (resource_ref_of numbered.entry) then Some place else found_in places.old (label_pair label))) }
 {
     match numbered.address() {
         Some(label) => {

@@ -65,12 +65,12 @@ fn show_step(
             write!(text, "~ {address}\n")?;
             show_changes(alloc, text, asked, names.as_slice())
         }
-        Step::Replacement(asked, _) => {
+        Step::CreateReplacement(asked, _) => {
             text.push_str(replace_symbol(is_late))?;
             write!(text, "{address}\n")?;
             show_object(alloc, text, asked)
         }
-        Step::Replaced(_) => Ok(()),
+        Step::DestroyReplaced(_) => Ok(()),
         Step::Destroy(_) => write!(text, "- {address}\n"),
         Step::DestroyDeposed(key, _) => write!(text, "- {address} (deposed {key})\n"),
     }
@@ -197,7 +197,7 @@ fn counts(actions: &[Action]) -> (usize, usize, usize)
 fn adds(action: &Action) -> bool
     ensures { result ≡ adds (step_of action.now.step) }
 {
-    matches!(action.step, Step::Create(_) | Step::Replacement(_, _))
+    matches!(action.step, Step::Create(_) | Step::CreateReplacement(_, _))
 }
 
 /// Whether it changes one.

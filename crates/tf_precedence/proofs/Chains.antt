@@ -4,39 +4,39 @@ use Rattle.std.proofs.lemmas.Bool.{and_from, and_parts, both_ways, cases_Bool, e
 use Rattle.tf_graph.specs.Path.{Path, direct, onward}
 use Rattle.tf_precedence.specs.Before.{IsApply, IsDestroy, Before, needed_first, dependent_destroyed_first, old_destroyed_first, new_created_first, dependent_applied_first}
 use Rattle.tf_precedence.specs.Laws.{stage, stage_by, NoChainLeadsBack, StagesNeverFall, StageIsStrict}
-use Rattle.tf_precedence.specs.Ties.{TiesView, AreSound}
-use Rattle.tf_precedence.specs.declared.action.Action.{Action}
+use Rattle.tf_precedence.specs.OrderInput.{OrderInputView, AreSound}
+use Rattle.tf_precedence.specs.declared.action.OrderedAction.{OrderedAction}
 
 -- one needed the other, and not the other way round
-abbrev goes_first : TiesView → ℕ → ℕ → Bool
+abbrev goes_first : OrderInputView → ℕ → ℕ → Bool
 goes_first t a b = t.needed a b && not (t.needed b a)
 
 -- what ties two resources whose actions are of one stage
-abbrev pub tied : TiesView → ℕ → ℕ → ℕ → Bool
+abbrev pub tied : OrderInputView → ℕ → ℕ → ℕ → Bool
 tied t zero a b = goes_first t a b
 tied t (suc zero) a b = t.needs b a
 tied t (suc (suc n)) a b = goes_first t a b
 
 -- a later stage, or tied within one
-abbrev pub Below : TiesView → Action → Action → Type 0
+abbrev pub Below : OrderInputView → OrderedAction → OrderedAction → Type 0
 Below t x y = (stage t x < stage t y) ⊎ ((stage t x ≡ stage t y) × (tied t (stage t x) x.resource y.resource ≡ true))
 
 not_both : (b : Bool) → (b && not b) ≡ false
 not_both true = refl
 not_both false = refl
 
-stage-apply : (t : TiesView) (x : Action) → IsApply x → stage t x ≡ 1
+stage-apply : (t : OrderInputView) (x : OrderedAction) → IsApply x → stage t x ≡ 1
 stage-apply t x h = ap (λ k. stage_by k (t.late x.resource)) h
 
-stage-late : (t : TiesView) (x : Action) → IsDestroy x → t.late x.resource ≡ true → stage t x ≡ 2
+stage-late : (t : OrderInputView) (x : OrderedAction) → IsDestroy x → t.late x.resource ≡ true → stage t x ≡ 2
 stage-late t x (inl h) late = ap (λ k. stage_by k (t.late x.resource)) h ∙ rw late refl
 stage-late t x (inr h) late = ap (λ k. stage_by k (t.late x.resource)) h ∙ rw late refl
 
-stage-early : (t : TiesView) (x : Action) → IsDestroy x → t.late x.resource ≡ false → stage t x ≡ 0
+stage-early : (t : OrderInputView) (x : OrderedAction) → IsDestroy x → t.late x.resource ≡ false → stage t x ≡ 0
 stage-early t x (inl h) early = ap (λ k. stage_by k (t.late x.resource)) h ∙ rw early refl
 stage-early t x (inr h) early = ap (λ k. stage_by k (t.late x.resource)) h ∙ rw early refl
 
-module _ (t : TiesView) (s : AreSound t) where
+module _ (t : OrderInputView) (s : AreSound t) where
   first-onward : (a b c : ℕ) → goes_first t a b ≡ true → goes_first t b c ≡ true → goes_first t a c ≡ true
   first-onward a b c h k =
       let p = and_parts (t.needed a b) (not (t.needed b a)) h in
@@ -54,11 +54,11 @@ module _ (t : TiesView) (s : AreSound t) where
   tied-onward (suc zero) a b c h k = s.strict.transitive c b a k h
   tied-onward (suc (suc n)) a b c h k = first-onward a b c h k
 
-  pub below-itself : (x : Action) → Below t x x → ⊥
+  pub below-itself : (x : OrderedAction) → Below t x x → ⊥
   below-itself x (inl h) = absurd (omega (arith, h))
   below-itself x (inr h) = both_ways (tied t (stage t x) x.resource x.resource) (tied-itself (stage t x) x.resource) h.1
 
-  pub below-onward : (x y z : Action) → Below t x y → Below t y z → Below t x z
+  pub below-onward : (x y z : OrderedAction) → Below t x y → Below t y z → Below t x z
   below-onward x y z (inl h) (inl k) = inl (omega (arith, h, k))
   below-onward x y z (inl h) (inr k) = inl (omega (arith, h, k.0))
   below-onward x y z (inr h) (inl k) = inl (omega (arith, h.0, k))
@@ -66,7 +66,7 @@ module _ (t : TiesView) (s : AreSound t) where
       inr (h.0 ∙ k.0, tied-onward (stage t x) x.resource y.resource z.resource h.1 (subst (λ n. tied t n y.resource z.resource ≡ true) (sym h.0) k.1))
 
   -- two destroys, of which the first goes first
-  destroys-below : (x y : Action) → IsDestroy x → IsDestroy y → goes_first t x.resource y.resource ≡ true → Below t x y
+  destroys-below : (x y : OrderedAction) → IsDestroy x → IsDestroy y → goes_first t x.resource y.resource ≡ true → Below t x y
   destroys-below x y hx hy h =
       let p = and_parts (t.needed x.resource y.resource) (not (t.needed y.resource x.resource)) h in
       elim (cases_Bool (t.late x.resource)) [
@@ -84,7 +84,7 @@ module _ (t : TiesView) (s : AreSound t) where
             ]
       ]
 
-  pub below-before : (x y : Action) → Before t x y → Below t x y
+  pub below-before : (x y : OrderedAction) → Before t x y → Below t x y
   below-before _ _ (needed_first b a hb ha h) =
       let sb : stage t b ≡ 1 = stage-apply t b hb in
       let sa : stage t a ≡ 1 = stage-apply t a ha in
@@ -103,27 +103,27 @@ module _ (t : TiesView) (s : AreSound t) where
       let sb : stage t b ≡ 2 = stage-late t b hb late in
       inl (omega (arith, sa, sb))
 
-  below-chain : (x y : Action) → Path (Before t) x y → Below t x y
+  below-chain : (x y : OrderedAction) → Path (Before t) x y → Below t x y
   below-chain _ _ (direct x y h) = below-before x y h
   below-chain _ _ (onward x y z h p) = below-onward x y z (below-before x y h) (below-chain y z p)
 
-  pub chain-back : (x : Action) → Path (Before t) x x → ⊥
+  pub chain-back : (x : OrderedAction) → Path (Before t) x x → ⊥
   chain-back x p = below-itself x (below-chain x x p)
 
-  never_fall : (x y : Action) → Below t x y → stage t x ≤ stage t y
+  never_fall : (x y : OrderedAction) → Below t x y → stage t x ≤ stage t y
   never_fall x y (inl h) = omega (arith, h)
   never_fall x y (inr h) = omega (arith, h.0)
 
-  pub stage-rises : (x y : Action) → Before t x y → stage t x ≤ stage t y
+  pub stage-rises : (x y : OrderedAction) → Before t x y → stage t x ≤ stage t y
   stage-rises x y h = never_fall x y (below-before x y h)
 
   -- ---- within one stage
 
   -- two actions of one stage of which the first is before the second
-  abbrev Level : Action → Action → Type 0
+  abbrev Level : OrderedAction → OrderedAction → Type 0
   Level x y = (IsApply x × IsApply y × (t.needs y.resource x.resource ≡ true)) ⊎ (IsDestroy x × IsDestroy y × (goes_first t x.resource y.resource ≡ true))
 
-  before-level : (x y : Action) → stage t x ≡ stage t y → Before t x y → Level x y
+  before-level : (x y : OrderedAction) → stage t x ≡ stage t y → Before t x y → Level x y
   before-level _ _ e (needed_first b a hb ha h) = inl (hb, ha, h)
   before-level _ _ e (dependent_destroyed_first a b ha hb h back) = inr (ha, hb, and_from _ _ h (not_from_false _ back))
   before-level _ _ e (old_destroyed_first old new r early) =
@@ -139,7 +139,7 @@ module _ (t : TiesView) (s : AreSound t) where
       let sb : stage t b ≡ 2 = stage-late t b hb late in
       absurd (omega (arith, sa, sb, e))
 
-  not_apply : (x : Action) → IsApply x → IsDestroy x → ⊥
+  not_apply : (x : OrderedAction) → IsApply x → IsDestroy x → ⊥
   not_apply x h d =
       let one : stage t x ≡ 1 = stage-apply t x h in
       elim (cases_Bool (t.late x.resource)) [
@@ -147,7 +147,7 @@ module _ (t : TiesView) (s : AreSound t) where
         | inr early ↦ let none : stage t x ≡ 0 = stage-early t x d early in absurd (omega (arith, one, none))
       ]
 
-  level-onward : (x y z : Action) → Level x y → Level y z → Before t x z
+  level-onward : (x y z : OrderedAction) → Level x y → Level y z → Before t x z
   level-onward x y z (inl h) (inl k) = needed_first x z h.0 k.1 (s.strict.transitive z.resource y.resource x.resource k.2 h.2)
   level-onward x y z (inl h) (inr k) = absurd (not_apply y h.1 k.0)
   level-onward x y z (inr h) (inl k) = absurd (not_apply y k.0 h.1)
@@ -155,7 +155,7 @@ module _ (t : TiesView) (s : AreSound t) where
       let both = and_parts (t.needed x.resource z.resource) (not (t.needed z.resource x.resource)) (first-onward x.resource y.resource z.resource h.2 k.2) in
       dependent_destroyed_first x z h.0 k.1 both.0 (not-true _ both.1)
 
-  pub level-strict : (x y z : Action) → stage t x ≡ stage t y → stage t y ≡ stage t z → Before t x y → Before t y z → Before t x z
+  pub level-strict : (x y z : OrderedAction) → stage t x ≡ stage t y → stage t y ≡ stage t z → Before t x y → Before t y z → Before t x z
   level-strict x y z e f h k = level-onward x y z (before-level x y e h) (before-level y z f k)
 
 pub no_chain-back : NoChainLeadsBack
@@ -169,15 +169,15 @@ stage-strict t s = (λ x h. chain-back t s x (direct x x h), λ x y z e f h k. l
 
 -- ---- the same as a test
 
-abbrev pub is_below : TiesView → Action → Action → Bool
+abbrev pub is_below : OrderInputView → OrderedAction → OrderedAction → Bool
 is_below t x y = ltb (stage t x) (stage t y) || (eqb (stage t x) (stage t y) && tied t (stage t x) x.resource y.resource)
 
-pub below-from_test : (t : TiesView) (x y : Action) → is_below t x y ≡ true → Below t x y
+pub below-from_test : (t : OrderInputView) (x y : OrderedAction) → is_below t x y ≡ true → Below t x y
 below-from_test t x y h = elim (or_cases _ _ h) [
   | inl less ↦ inl (ltb-true (stage t x) (stage t y) less)
   | inr same ↦ let p = and_parts (eqb (stage t x) (stage t y)) (tied t (stage t x) x.resource y.resource) same in inr (eqb-true (stage t x) (stage t y) p.0, p.1)
 ]
 
-pub test-from_below : (t : TiesView) (x y : Action) → Below t x y → is_below t x y ≡ true
+pub test-from_below : (t : OrderInputView) (x y : OrderedAction) → Below t x y → is_below t x y ≡ true
 test-from_below t x y (inl h) = or_left _ _ (lt-ltb (stage t x) (stage t y) h)
 test-from_below t x y (inr h) = or_right _ _ (and_from _ _ (eq-eqb (stage t x) (stage t y) h.0) h.1)

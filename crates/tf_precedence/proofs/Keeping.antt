@@ -12,11 +12,11 @@ use Rattle.tf_precedence.proofs.Listed.{before-tested, halves-from, halves-parts
 use Rattle.tf_precedence.specs.Before.{IsApply, Before, needed_first, dependent_destroyed_first, old_destroyed_first, new_created_first, dependent_applied_first, are_halves, is_before}
 use Rattle.tf_precedence.specs.Near.{AreEarly, AreListed, HasGrown, HaveGrown, HoldsBefore, IsKept}
 use Rattle.tf_precedence.specs.Order.{action_at, pair}
-use Rattle.tf_precedence.specs.Ties.{TiesView, ties_of}
-use Rattle.tf_precedence.specs.declared.action.Action.{Action}
-use Rattle.tf_precedence.specs.declared.action.Kind.{Kind}
-use Rattle.tf_precedence.specs.declared.ties.Ties.{Ties}
-use Rattle.tf_precedence.specs.declared.action.Kind.TheVariants.{Apply, Destroy, DestroyDeposed}
+use Rattle.tf_precedence.specs.OrderInput.{OrderInputView, order_input_of}
+use Rattle.tf_precedence.specs.declared.action.OrderedAction.{OrderedAction}
+use Rattle.tf_precedence.specs.declared.action.ActionKind.{ActionKind}
+use Rattle.tf_precedence.specs.declared.order_input.OrderInput.{OrderInput}
+use Rattle.tf_precedence.specs.declared.action.ActionKind.TheVariants.{Apply, Destroy, DestroyDeposed}
 
 -- ---- growth
 
@@ -48,7 +48,7 @@ grown-set sets r new h one = record {
 
 -- ---- one action more
 
-pub listed-more : {A : Type 0} → (actions : List Action) (noted : ℕ) (own more : List (Vec ℕ A)) → noted < length actions → AreListed actions noted own → length more ≡ length own
+pub listed-more : {A : Type 0} → (actions : List OrderedAction) (noted : ℕ) (own more : List (Vec ℕ A)) → noted < length actions → AreListed actions noted own → length more ≡ length own
     → ((r k : ℕ) → Contains (row own r) k → Contains (row more r) k)
     → ((r k : ℕ) → Contains (row more r) k → Contains (row own r) k ⊎ (k ≡ noted))
     → ((action_at actions noted).resource < length own → Contains (row more (action_at actions noted).resource) noted)
@@ -61,7 +61,7 @@ listed-more actions noted own more inside a count kept led added = record {
   ];
 }
 
-pub early-more : (t : TiesView) (actions : List Action) (noted : ℕ) (early more : List (List Bool)) → AreEarly t actions noted early → HaveGrown early more
+pub early-more : (t : OrderInputView) (actions : List OrderedAction) (noted : ℕ) (early more : List (List Bool)) → AreEarly t actions noted early → HaveGrown early more
     → (IsApply (action_at actions noted) → (s : ℕ) → t.needs s (action_at actions noted).resource ≡ true → has (row_of more s) noted ≡ true)
     → AreEarly t actions (noted + 1) more
 early-more t actions noted early more a grown needed = record {
@@ -72,20 +72,20 @@ early-more t actions noted early more a grown needed = record {
   ];
 }
 
-pub kept-more : {A : Type 0} → (t : Ties) (actions : List Action) (noted : ℕ) (own more : List (Vec ℕ A)) (early later : List (List Bool)) → noted < length actions
+pub kept-more : {A : Type 0} → (t : OrderInput) (actions : List OrderedAction) (noted : ℕ) (own more : List (Vec ℕ A)) (early later : List (List Bool)) → noted < length actions
     → IsKept t actions noted own early → length more ≡ length own
     → ((r k : ℕ) → Contains (row own r) k → Contains (row more r) k)
     → ((r k : ℕ) → Contains (row more r) k → Contains (row own r) k ⊎ (k ≡ noted))
     → ((action_at actions noted).resource < length own → Contains (row more (action_at actions noted).resource) noted)
     → HaveGrown early later
-    → (IsApply (action_at actions noted) → (s : ℕ) → (ties_of t).needs s (action_at actions noted).resource ≡ true → has (row_of later s) noted ≡ true)
+    → (IsApply (action_at actions noted) → (s : ℕ) → (order_input_of t).needs s (action_at actions noted).resource ≡ true → has (row_of later s) noted ≡ true)
     → IsKept t actions (noted + 1) more later
 kept-more t actions noted own more early later inside is count kept led added grown needed = record {
   by_configuration = rw count is.by_configuration;
   by_state = rw count is.by_state;
   count = grown.count ∙ is.count ∙ sym count;
   lists = listed-more actions noted own more inside is.lists count kept led added;
-  sets = early-more (ties_of t) actions noted early later is.sets grown needed;
+  sets = early-more (order_input_of t) actions noted early later is.sets grown needed;
 }
 
 -- one place more in the list of a resource
@@ -115,26 +115,26 @@ module _ {A : Type 0} (lists : List (Vec ℕ A)) (at place : ℕ) (list added : 
 
 -- ---- what may be before what
 
-apart : (k : Kind) → k ≡ Apply → (k ≡ Destroy) ⊎ (k ≡ DestroyDeposed) → ⊥
+apart : (k : ActionKind) → k ≡ Apply → (k ≡ Destroy) ⊎ (k ≡ DestroyDeposed) → ⊥
 apart k h (inl d) = cc
 apart k h (inr d) = cc
 
-module _ (t : TiesView) where
-  near-apply : (x y : Action) → Before t x y → IsApply y → (are_halves x y ≡ true) ⊎ (IsApply x × (t.needs y.resource x.resource ≡ true))
+module _ (t : OrderInputView) where
+  near-apply : (x y : OrderedAction) → Before t x y → IsApply y → (are_halves x y ≡ true) ⊎ (IsApply x × (t.needs y.resource x.resource ≡ true))
   near-apply _ _ (needed_first x y hx hy needs) apply = inr (hx, needs)
   near-apply _ _ (dependent_destroyed_first x y hx hy h back) apply = absurd (apart y.kind apply hy)
   near-apply _ _ (old_destroyed_first x y r early) apply = inl (halves-from x y r.old_half r.new_half r.resource r.instance)
   near-apply _ _ (new_created_first y x r late) apply = absurd (apart y.kind apply (inl r.destroys))
   near-apply _ _ (dependent_applied_first x y hx hy late h) apply = absurd (apart y.kind apply hy)
 
-  near-destroy : (x y : Action) → Before t x y → (IsApply y → ⊥) → (are_halves x y ≡ true) ⊎ ((t.needs x.resource y.resource ≡ true) ⊎ (t.needed x.resource y.resource ≡ true))
+  near-destroy : (x y : OrderedAction) → Before t x y → (IsApply y → ⊥) → (are_halves x y ≡ true) ⊎ ((t.needs x.resource y.resource ≡ true) ⊎ (t.needed x.resource y.resource ≡ true))
   near-destroy _ _ (needed_first x y hx hy needs) not_apply = absurd (not_apply hy)
   near-destroy _ _ (dependent_destroyed_first x y hx hy h back) not_apply = inr (inr h)
   near-destroy _ _ (old_destroyed_first x y r early) not_apply = absurd (not_apply r.creates)
   near-destroy _ _ (new_created_first y x r late) not_apply = inl (halves-from x y r.new_half r.old_half (sym r.resource) (sym r.instance))
   near-destroy _ _ (dependent_applied_first x y hx hy late h) not_apply = inr h
 
-  module _ {A : Type 0} (actions : List Action) (second : ℕ) (own : List (Vec ℕ A)) (set : List Bool) (a : AreListed actions (length actions) own) (room : (action_at actions second).resource < length own)
+  module _ {A : Type 0} (actions : List OrderedAction) (second : ℕ) (own : List (Vec ℕ A)) (set : List Bool) (a : AreListed actions (length actions) own) (room : (action_at actions second).resource < length own)
       (halves : (k : ℕ) → Contains (row own (action_at actions second).resource) k → are_halves (action_at actions k) (action_at actions second) ≡ true → has set k ≡ true) where
     held-half : (first : ℕ) → first < length actions → are_halves (action_at actions first) (action_at actions second) ≡ true → has set first ≡ true
     held-half first inside h =
@@ -171,7 +171,7 @@ module _ (t : TiesView) where
           ]
         ]
 
-  module _ (actions : List Action) (second : ℕ) where
+  module _ (actions : List OrderedAction) (second : ℕ) where
     -- what is no member of a set of all that is before an action makes no pair with it
     pub no_pair : (near : List Bool) → HoldsBefore t actions second near → (first : ℕ) → first < length actions → has near first ≡ false → pair t actions second first ≡ []
     no_pair near holds first inside none =

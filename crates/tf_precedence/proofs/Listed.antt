@@ -13,24 +13,24 @@ use Rattle.tf_precedence.proofs.Chains.{is_below, below-itself, below-onward, be
 use Rattle.tf_precedence.specs.Before.{IsApply, IsDestroy, Before, needed_first, dependent_destroyed_first, old_destroyed_first, new_created_first, dependent_applied_first, are_halves, is_before, is_before_by, is_dependent, is_destroyed_first}
 use Rattle.tf_precedence.specs.Laws.{BeforeIsTested, PairsAreThose}
 use Rattle.tf_precedence.specs.Order.{IsOrder, action_at, pair, pairs, pairs_into}
-use Rattle.tf_precedence.specs.Ties.{TiesView, AreSound}
-use Rattle.tf_precedence.specs.declared.action.Action.{Action}
-use Rattle.tf_precedence.specs.declared.action.Kind.{Kind}
-use Rattle.tf_precedence.specs.declared.action.Kind.TheVariants.{Apply, Destroy, DestroyDeposed}
+use Rattle.tf_precedence.specs.OrderInput.{OrderInputView, AreSound}
+use Rattle.tf_precedence.specs.declared.action.OrderedAction.{OrderedAction}
+use Rattle.tf_precedence.specs.declared.action.ActionKind.{ActionKind}
+use Rattle.tf_precedence.specs.declared.action.ActionKind.TheVariants.{Apply, Destroy, DestroyDeposed}
 
 -- ---- the test of the five cases
 
-pub halves-parts : (x y : Action) → are_halves x y ≡ true → (x.replaces ≡ true) × (y.replaces ≡ true) × (x.resource ≡ y.resource) × (x.instance ≡ y.instance)
+pub halves-parts : (x y : OrderedAction) → are_halves x y ≡ true → (x.replaces ≡ true) × (y.replaces ≡ true) × (x.resource ≡ y.resource) × (x.instance ≡ y.instance)
 halves-parts x y h =
     let p = and_parts _ _ h in
     let q = and_parts _ _ p.0 in
     let r = and_parts _ _ q.0 in
     (r.0, r.1, eqb-true x.resource y.resource q.1, eqb-true x.instance y.instance p.1)
 
-pub halves-from : (x y : Action) → x.replaces ≡ true → y.replaces ≡ true → x.resource ≡ y.resource → x.instance ≡ y.instance → are_halves x y ≡ true
+pub halves-from : (x y : OrderedAction) → x.replaces ≡ true → y.replaces ≡ true → x.resource ≡ y.resource → x.instance ≡ y.instance → are_halves x y ≡ true
 halves-from x y h k e f = and_from _ _ (and_from _ _ (and_from _ _ h k) (eq-eqb x.resource y.resource e)) (eq-eqb x.instance y.instance f)
 
-module _ (t : TiesView) (x y : Action) where
+module _ (t : OrderInputView) (x y : OrderedAction) where
   replace-early : x.kind ≡ Destroy → y.kind ≡ Apply → (are_halves x y && not (t.late x.resource)) ≡ true → Before t x y
   replace-early hx hy h =
       let p = and_parts (are_halves x y) (not (t.late x.resource)) h in
@@ -55,7 +55,7 @@ module _ (t : TiesView) (x y : Action) where
       let p = and_parts (t.needed x.resource y.resource) (not (t.needed y.resource x.resource)) h in
       dependent_destroyed_first x y hx hy p.0 (not-true (t.needed y.resource x.resource) p.1)
 
-  from_test : (k m : Kind) → x.kind ≡ k → y.kind ≡ m → is_before_by t x y k m ≡ true → Before t x y
+  from_test : (k m : ActionKind) → x.kind ≡ k → y.kind ≡ m → is_before_by t x y k m ≡ true → Before t x y
   from_test Apply Apply hx hy h = needed_first x y hx hy h
   from_test Apply Destroy hx hy h = replace-late hx hy h
   from_test Apply DestroyDeposed hx hy h =
@@ -67,7 +67,7 @@ module _ (t : TiesView) (x y : Action) where
   from_test DestroyDeposed Destroy hx hy h = destroyed (inr hx) (inl hy) h
   from_test DestroyDeposed DestroyDeposed hx hy h = destroyed (inr hx) (inr hy) h
 
-  by_kinds : (k m : Kind) → x.kind ≡ k → y.kind ≡ m → is_before_by t x y k m ≡ true → is_before t x y ≡ true
+  by_kinds : (k m : ActionKind) → x.kind ≡ k → y.kind ≡ m → is_before_by t x y k m ≡ true → is_before t x y ≡ true
   by_kinds k m hx hy h = rw (hx, hy) h
 
   test_destroyed : IsDestroy x → IsDestroy y → is_destroyed_first t x y ≡ true → is_before t x y ≡ true
@@ -80,11 +80,11 @@ module _ (t : TiesView) (x y : Action) where
   test_dependent hx (inl hy) late h = by_kinds Apply Destroy hx hy (and_from _ _ late (or_right (are_halves x y) (is_dependent t x y) h))
   test_dependent hx (inr hy) late h = by_kinds Apply DestroyDeposed hx hy (and_from _ _ late h)
 
-dependent_from : (t : TiesView) (x y : Action) → (t.needs x.resource y.resource ≡ true) ⊎ (t.needed x.resource y.resource ≡ true) → is_dependent t x y ≡ true
+dependent_from : (t : OrderInputView) (x y : OrderedAction) → (t.needs x.resource y.resource ≡ true) ⊎ (t.needed x.resource y.resource ≡ true) → is_dependent t x y ≡ true
 dependent_from t x y (inl h) = or_left _ _ h
 dependent_from t x y (inr h) = or_right _ _ h
 
-to_test : (t : TiesView) (x y : Action) → Before t x y → is_before t x y ≡ true
+to_test : (t : OrderInputView) (x y : OrderedAction) → Before t x y → is_before t x y ≡ true
 to_test t _ _ (needed_first b a hb ha h) = by_kinds t b a Apply Apply hb ha h
 to_test t _ _ (dependent_destroyed_first a b ha hb h back) = test_destroyed t a b ha hb (and_from _ _ h (not_from_false _ back))
 to_test t _ _ (old_destroyed_first old new r early) =
@@ -189,7 +189,7 @@ apart-at (x ∷ xs) d h (suc i) (suc j) less inside same = apart-at xs d h.1 i j
 
 -- ---- the list of pairs
 
-module _ (t : TiesView) (actions : List Action) where
+module _ (t : OrderInputView) (actions : List OrderedAction) where
   abbrev Holds : ℕ → ℕ → Bool
   Holds a b = is_before t (action_at actions a) (action_at actions b)
 

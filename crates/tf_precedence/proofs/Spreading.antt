@@ -9,8 +9,8 @@ use Rattle.tf_graph.specs.Digraph.{Digraph}
 use Rattle.tf_graph.specs.NodeSet.{has}
 use Rattle.tf_graph.specs.Path.{Path, direct, onward, joined, HasEdge, Reaches}
 use Rattle.tf_precedence.specs.Late.{Leads, IsLate, AreLate}
-use Rattle.tf_precedence.specs.Laws.{AcyclicIsStrict, TiesAreSound, NoStateLeadsBack}
-use Rattle.tf_precedence.specs.Ties.{ties_of}
+use Rattle.tf_precedence.specs.Laws.{AcyclicIsStrict, OrderInputIsSound, NoStateLeadsBack}
+use Rattle.tf_precedence.specs.OrderInput.{order_input_of}
 use Rattle.tf_precedence.proofs.Chains.{no_chain-back}
 use Rattle.tf_precedence.proofs.SpreadState.{IsLooked, IsSpread}
 use Rattle.tf_precedence.specs.Spread.{IsFurther, unfound}
@@ -135,7 +135,7 @@ acyclic-strict g table acyclic closure = record {
   transitive = λ a b c h k. closure.found c a (joined c b a (closure.led c b k) (closure.led b a h));
 }
 
-pub ties-sound : TiesAreSound
+pub ties-sound : OrderInputIsSound
 ties-sound needs needed marked t strict closure late = record {
   strict = strict;
   onward = λ a b c h k. closure.found c a (joined c b a (closure.led c b k) (closure.led b a h));
@@ -143,4 +143,4 @@ ties-sound needs needed marked t strict closure late = record {
 }
 
 pub no_state-back : NoStateLeadsBack
-no_state-back needs needed marked t strict closure late x p = no_chain-back (ties_of t) (ties-sound needs needed marked t strict closure late) x p
+no_state-back needs needed marked t strict closure late x p = no_chain-back (order_input_of t) (ties-sound needs needed marked t strict closure late) x p

@@ -1,4 +1,4 @@
-pub mod Ties
+pub mod OrderInput
 pub mod Stored
 pub mod Before
 pub mod Order

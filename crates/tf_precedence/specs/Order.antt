@@ -5,28 +5,28 @@ use Rattle.tf_graph.specs.Digraph.{Digraph, predecessors_of}
 use Rattle.tf_graph.specs.Path.{IsAcyclic}
 use Rattle.tf_graph.specs.Solutions.{Ranked, StaysBelow}
 use Rattle.tf_precedence.specs.Before.{is_before}
-use Rattle.tf_precedence.specs.Ties.{TiesView}
-use Rattle.tf_precedence.specs.declared.action.Action.{Action}
-use Rattle.tf_precedence.specs.declared.action.Kind.TheVariants.{Apply}
+use Rattle.tf_precedence.specs.OrderInput.{OrderInputView}
+use Rattle.tf_precedence.specs.declared.action.OrderedAction.{OrderedAction}
+use Rattle.tf_precedence.specs.declared.action.ActionKind.TheVariants.{Apply}
 
 -- what stands past the end of a list of actions
-abbrev pub no_action : Action
+abbrev pub no_action : OrderedAction
 no_action = record { resource = 0; instance = 0; kind = Apply; replaces = false }
 
 -- the action at a place of a plan
-abbrev pub action_at : List Action → ℕ → Action
+abbrev pub action_at : List OrderedAction → ℕ → OrderedAction
 action_at actions n = slice_index_or actions n no_action
 
 -- the two as a pair, where the first is before the second
-abbrev pub pair : TiesView → List Action → ℕ → ℕ → List (ℕ × ℕ)
+abbrev pub pair : OrderInputView → List OrderedAction → ℕ → ℕ → List (ℕ × ℕ)
 pair t actions second first = if is_before t (action_at actions first) (action_at actions second) then (first, second) ∷ [] else []
 
 -- an action with each that is before it
-abbrev pub pairs_into : TiesView → List Action → ℕ → List (ℕ × ℕ)
+abbrev pub pairs_into : OrderInputView → List OrderedAction → ℕ → List (ℕ × ℕ)
 pairs_into t actions second = flat_map (pair t actions second) (range_with_len 0 (length actions))
 
 -- All pairs of actions of which the first is before the second. An action is named by its place in the plan.
-abbrev pub pairs : TiesView → List Action → List (ℕ × ℕ)
+abbrev pub pairs : OrderInputView → List OrderedAction → List (ℕ × ℕ)
 pairs t actions = flat_map (pairs_into t actions) (range_with_len 0 (length actions))
 
 -- No chain of pairs leads back: no action is before itself by whatever chain, and some rank rises along each pair.

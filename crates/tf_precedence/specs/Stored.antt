@@ -2,7 +2,7 @@
 use Rattle.std.specs.Prelude.{◌≡◌, ◌↔◌, ℕ, true, List, map, Contains}
 use Rattle.tf_graph.specs.Closure.{IsClosure, reaches}
 use Rattle.tf_graph.specs.Path.{Path}
-use Rattle.tf_precedence.specs.declared.stored.Stored.{Stored}
+use Rattle.tf_precedence.specs.declared.stored.StoredDependencies.{StoredDependencies}
 
 -- an object of a is stored to depend on b: the pairs are of a resource and what it depends on
 abbrev pub DependsOn : List (ℕ × ℕ) → ℕ → ℕ → Type 0
@@ -17,7 +17,7 @@ abbrev pub turned : List (ℕ × ℕ) → List (ℕ × ℕ)
 turned pairs = map (λ pair. (pair.1, pair.0)) pairs
 
 -- a graph of the dependencies turned round, and a table that says exactly what needed what
-pub record IsStored (resources : ℕ) (dependencies : List (ℕ × ℕ)) (stored : Stored) : Type 0 where
+pub record IsStored (resources : ℕ) (dependencies : List (ℕ × ℕ)) (stored : StoredDependencies) : Type 0 where
   pub nodes : stored.graph.nodes ≡ resources
   pub edges : stored.graph.edges ≡ turned dependencies
   pub closure : IsClosure stored.graph stored.table

@@ -2,7 +2,7 @@
 
 /// What an action does.
 #[derive(Clone, Copy, Debug, PartialEq, Eq)]
-pub enum Kind {
+pub enum ActionKind {
     /// It creates or updates the current object of an instance.
     Apply,
     /// It destroys the current object of an instance.
@@ -13,13 +13,13 @@ pub enum Kind {
 
 /// An action of a plan.
 #[derive(Clone, Copy, Debug, PartialEq, Eq)]
-pub struct Action {
+pub struct OrderedAction {
     /// The number of its resource.
     pub resource: usize,
     /// The number of its instance, among those of its resource.
     pub instance: usize,
     /// What it does.
-    pub kind: Kind,
+    pub kind: ActionKind,
     /// Whether it is half of a replace: a create, with the destroy of the object that it takes the place of.
     pub replaces: bool,
 }

@@ -29,7 +29,7 @@ pub fn lateness(
     ensures length { IfOk result (λ late. length late.items ≡ length marked.now) }
     ensures late { IfOk result (λ late. AreLate needs.now needed.now marked.now late.items) }
 {
-    let mut search = Search {
+    let mut search = LateSearch {
         late: Vec::from_slice(alloc, marked)?,
         pending: places_of(alloc, marked)?,
     };
@@ -55,7 +55,7 @@ fn places_of(alloc: Global, marked: &[bool]) -> Result<Vec<usize>, AllocError>
 
 /// A search for what is late.
 #[derive(Drop)]
-struct Search {
+struct LateSearch {
     /// For each resource whether it is known to be late.
     late: Vec<bool>,
     /// The late ones for which it is still to be looked what they need and needed.
@@ -63,7 +63,7 @@ struct Search {
 }
 
 /// Finds what a resource needs directly, by one of the graphs.
-fn visit(graph: &Graph, search: &mut Search, resource: usize) -> Result<(), AllocError>
+fn visit(graph: &Graph, search: &mut LateSearch, resource: usize) -> Result<(), AllocError>
     requires { graph.now.nodes ≤ length search.old.late.items }
     ensures further { OnOk result (IsFurther search.old.late.items search.new.late.items search.old.pending.items search.new.pending.items
         (λ n. HasEdge graph.now n resource)) }
@@ -81,7 +81,7 @@ fn visit(graph: &Graph, search: &mut Search, resource: usize) -> Result<(), Allo
 }
 
 /// Notes that a resource is late.
-fn find(search: &mut Search, resource: usize) -> Result<(), AllocError>
+fn find(search: &mut LateSearch, resource: usize) -> Result<(), AllocError>
     requires { resource < length search.old.late.items }
     ensures further { OnOk result (IsFurther search.old.late.items search.new.late.items search.old.pending.items search.new.pending.items
         (λ n. n ≡ resource)) }

@@ -1,6 +1,6 @@
 //! Laws on the order of actions: each is the contract of a function that does nothing.
 
-ghost use Rattle.tf_precedence.specs.Laws.{BeforeIsTested, NoChainLeadsBack, StagesNeverFall, StageIsStrict, PairsAreThose, AcyclicIsStrict, TiesAreSound, NoStateLeadsBack};
+ghost use Rattle.tf_precedence.specs.Laws.{BeforeIsTested, NoChainLeadsBack, StagesNeverFall, StageIsStrict, PairsAreThose, AcyclicIsStrict, OrderInputIsSound, NoStateLeadsBack};
 
 /// The test of what is before what is true exactly in the five cases.
 pub fn before_is_tested()
@@ -34,8 +34,8 @@ pub fn acyclic_is_strict()
 {}
 
 /// Ties are sound where by the configuration nothing needs itself, whatever the state has stored and whatever is marked.
-pub fn ties_are_sound()
-    ensures { TiesAreSound }
+pub fn order_input_is_sound()
+    ensures { OrderInputIsSound }
 {}
 
 /// So no chain of pairs leads back, whatever the state has stored and whatever is marked.

@@ -9,11 +9,11 @@ mod late;
 pub mod laws;
 mod near;
 mod order;
+mod order_input;
 mod stored;
-mod ties;
 
-pub use action::{Action, Kind};
+pub use action::{ActionKind, OrderedAction};
 pub use late::lateness;
 pub use order::{MAX_PAIRS, Order, OrderFault};
-pub use stored::Stored;
-pub use ties::Ties;
+pub use order_input::OrderInput;
+pub use stored::StoredDependencies;

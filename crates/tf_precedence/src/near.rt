@@ -8,11 +8,11 @@ ghost use Rattle.tf_graph.specs.Search.{row_of, AreLong};
 ghost use Rattle.tf_precedence.specs.Before.{are_halves, IsApply};
 ghost use Rattle.tf_precedence.specs.Near.{HasGrown, HaveGrown, HoldsBefore, IsKept};
 ghost use Rattle.tf_precedence.specs.Order.{action_at};
-ghost use Rattle.tf_precedence.specs.Ties.{ties_of};
+ghost use Rattle.tf_precedence.specs.OrderInput.{order_input_of};
 
-use crate::action::{Action, Kind};
+use crate::action::{ActionKind, OrderedAction};
 use crate::order::are_halves;
-use crate::ties::Ties;
+use crate::order_input::OrderInput;
 use std::alloc::{AllocError, Global};
 use tf_graph::{Closure, NodeSet};
 
@@ -32,7 +32,11 @@ impl Near {
     /// # Errors
     ///
     /// Only where memory runs out.
-    pub fn new(alloc: Global, ties: &Ties<'_>, actions: &[Action]) -> Result<Near, AllocError>
+    pub fn new(
+        alloc: Global,
+        ties: &OrderInput<'_>,
+        actions: &[OrderedAction],
+    ) -> Result<Near, AllocError>
         ensures { IfOk result (λ near. IsKept ties.now actions.now (length actions.now) near.own.items near.early.items) }
     {
         let count = resources(ties);
@@ -54,14 +58,14 @@ impl Near {
     pub fn before(
         &self,
         alloc: Global,
-        ties: &Ties<'_>,
-        actions: &[Action],
+        ties: &OrderInput<'_>,
+        actions: &[OrderedAction],
         second: usize,
     ) -> Result<NodeSet, AllocError>
         requires inside { second < length actions.now }
         requires kept { IsKept ties.now actions.now (length actions.now) self.now.own.items self.now.early.items }
         ensures length { IfOk result (λ set. length set ≡ length actions.now) }
-        ensures before { IfOk result (λ set. HoldsBefore (ties_of ties.now) actions.now second set) }
+        ensures before { IfOk result (λ set. HoldsBefore (order_input_of ties.now) actions.now second set) }
     {
         let mut set = NodeSet::new(alloc, actions.len())?;
         let action = &actions[second];
@@ -71,7 +75,7 @@ impl Near {
             return Ok(set);
         }
         add_halves(&mut set, actions, action, own[action.resource].as_slice());
-        if let Kind::Apply = action.kind {
+        if let ActionKind::Apply = action.kind {
             set.add_all(&self.early[action.resource]);
             return Ok(set);
         }
@@ -82,7 +86,7 @@ impl Near {
 }
 
 /// A number that no table has more nodes than.
-fn resources(ties: &Ties<'_>) -> usize
+fn resources(ties: &OrderInput<'_>) -> usize
     ensures by_configuration { ties.now.by_configuration.now.nodes ≤ result }
     ensures by_state { ties.now.by_state.now.nodes ≤ result }
 {
@@ -128,15 +132,15 @@ fn list(lists: &mut [Vec<usize>], resource: usize, place: usize) -> Result<(), A
 }
 
 /// Adds the place of what creates or updates to the sets of all that needs its resource.
-fn note(early: &mut [NodeSet], table: &Closure, action: &Action, place: usize)
+fn note(early: &mut [NodeSet], table: &Closure, action: &OrderedAction, place: usize)
     requires nodes { table.now.nodes ≤ length early.old }
     requires room { (k : ℕ) → k < length early.old → place < length (row_of early.old k) }
     ensures grown { HaveGrown early.old early.new }
     ensures needed { IsApply action.now → (s : ℕ) → reaches table.now action.now.resource s ≡ true → has (row_of early.new s) place ≡ true }
 {
     match action.kind {
-        Kind::Apply => spread(early, table, action.resource, place),
-        Kind::Destroy | Kind::DestroyDeposed => {}
+        ActionKind::Apply => spread(early, table, action.resource, place),
+        ActionKind::Destroy | ActionKind::DestroyDeposed => {}
     }
 }
 
@@ -177,7 +181,12 @@ fn fill(set: &mut NodeSet, count: usize)
 }
 
 /// Adds those of some actions that are the other half of a replace.
-fn add_halves(set: &mut NodeSet, actions: &[Action], action: &Action, places: &[usize])
+fn add_halves(
+    set: &mut NodeSet,
+    actions: &[OrderedAction],
+    action: &OrderedAction,
+    places: &[usize],
+)
     requires long { length set.old ≡ length actions.now }
     requires within { (k : ℕ) → Contains places.now k → k < length actions.now }
     ensures grown { HasGrown set.old set.new }
@@ -192,7 +201,7 @@ fn add_halves(set: &mut NodeSet, actions: &[Action], action: &Action, places: &[
 }
 
 /// Adds an action, if it is the other half of a replace.
-fn add_half(set: &mut NodeSet, actions: &[Action], action: &Action, place: usize)
+fn add_half(set: &mut NodeSet, actions: &[OrderedAction], action: &OrderedAction, place: usize)
     requires long { length set.old ≡ length actions.now }
     requires inside { place < length actions.now }
     ensures grown { HasGrown set.old set.new }

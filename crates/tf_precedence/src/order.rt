@@ -4,11 +4,11 @@ ghost use Rattle.std.specs.Prelude.{◌≡◌, ◌≤◌, ◌<◌, ◌+◌, ◌+
 ghost use Rattle.tf_precedence.specs.Before.{are_halves, is_before, is_dependent, is_destroyed_first};
 ghost use Rattle.tf_precedence.specs.Near.{HoldsBefore};
 ghost use Rattle.tf_precedence.specs.Order.{IsOrder, pairs, pairs_into};
-ghost use Rattle.tf_precedence.specs.Ties.{AreSound, ties_of};
+ghost use Rattle.tf_precedence.specs.OrderInput.{AreSound, order_input_of};
 
-use crate::action::{Action, Kind};
+use crate::action::{ActionKind, OrderedAction};
 use crate::near::Near;
-use crate::ties::Ties;
+use crate::order_input::OrderInput;
 use std::alloc::Global;
 use std::marker::Model;
 use tf_graph::{Graph, MAX_NODES, NodeSet};
@@ -50,13 +50,17 @@ impl Order {
     /// # Errors
     ///
     /// `TooMany` where there are more such pairs than `MAX_PAIRS`, and `OutOfMemory`.
-    pub fn new(alloc: Global, ties: &Ties<'_>, actions: &[Action]) -> Result<Order, OrderFault>
+    pub fn new(
+        alloc: Global,
+        ties: &OrderInput<'_>,
+        actions: &[OrderedAction],
+    ) -> Result<Order, OrderFault>
         requires few { length actions.now ≤ MAX_NODES }
-        requires sound { AreSound (ties_of ties.now) }
+        requires sound { AreSound (order_input_of ties.now) }
         ensures nodes { IfOk result (λ o. o.nodes ≡ length actions.now) }
-        ensures edges { IfOk result (λ o. o.edges ≡ pairs (ties_of ties.now) actions.now) }
+        ensures edges { IfOk result (λ o. o.edges ≡ pairs (order_input_of ties.now) actions.now) }
         ensures few { IfOk result (λ o. length o.edges ≤ MAX_PAIRS) }
-        ensures too_many { IsErrOf result OrderFault.TooMany → MAX_PAIRS < length (pairs (ties_of ties.now) actions.now) }
+        ensures too_many { IsErrOf result OrderFault.TooMany → MAX_PAIRS < length (pairs (order_input_of ties.now) actions.now) }
     {
         let pairs = all_pairs(alloc, ties, actions)?;
         match Graph::of(alloc, actions.len(), pairs.as_slice()) {
@@ -77,12 +81,12 @@ impl Order {
 /// All pairs of actions of which the first is before the second.
 fn all_pairs(
     alloc: Global,
-    ties: &Ties<'_>,
-    actions: &[Action],
+    ties: &OrderInput<'_>,
+    actions: &[OrderedAction],
 ) -> Result<Vec<(usize, usize)>, OrderFault>
-    ensures pairs { IfOk result (λ found. found.items ≡ pairs (ties_of ties.now) actions.now) }
+    ensures pairs { IfOk result (λ found. found.items ≡ pairs (order_input_of ties.now) actions.now) }
     ensures few { IfOk result (λ found. length found.items ≤ MAX_PAIRS) }
-    ensures too_many { IsErrOf result OrderFault.TooMany → MAX_PAIRS < length (pairs (ties_of ties.now) actions.now) }
+    ensures too_many { IsErrOf result OrderFault.TooMany → MAX_PAIRS < length (pairs (order_input_of ties.now) actions.now) }
 {
     let mut found = Vec::new(alloc);
     let Ok(near) = Near::new(alloc, ties, actions) else {
@@ -100,19 +104,19 @@ fn all_pairs(
 /// Adds an action's pairs with those that are before it, which are members of a set.
 fn add_before(
     found: &mut Vec<(usize, usize)>,
-    ties: &Ties<'_>,
-    actions: &[Action],
+    ties: &OrderInput<'_>,
+    actions: &[OrderedAction],
     second: usize,
     near: &NodeSet,
 ) -> Result<(), OrderFault>
     requires inside { second < length actions.now }
     requires long { length near.now ≡ length actions.now }
-    requires near { HoldsBefore (ties_of ties.now) actions.now second near.now }
+    requires near { HoldsBefore (order_input_of ties.now) actions.now second near.now }
     requires few { length found.old.items ≤ MAX_PAIRS }
-    ensures pairs { OnOk result (found.new.items ≡ found.old.items ++ pairs_into (ties_of ties.now) actions.now second) }
+    ensures pairs { OnOk result (found.new.items ≡ found.old.items ++ pairs_into (order_input_of ties.now) actions.now second) }
     ensures few { OnOk result (length found.new.items ≤ MAX_PAIRS) }
     ensures too_many { IsErrOf result OrderFault.TooMany
-        → MAX_PAIRS < length (found.old.items ++ pairs_into (ties_of ties.now) actions.now second) }
+        → MAX_PAIRS < length (found.old.items ++ pairs_into (order_input_of ties.now) actions.now second) }
 {
     let mut from = 0;
     while let Some(first) = near.first_from(from) {
@@ -145,30 +149,31 @@ fn add_if(
 }
 
 /// Whether an action is before another.
-fn is_before(ties: &Ties<'_>, first: &Action, second: &Action) -> bool
-    ensures { result ≡ is_before (ties_of ties.now) first.now second.now }
+fn is_before(ties: &OrderInput<'_>, first: &OrderedAction, second: &OrderedAction) -> bool
+    ensures { result ≡ is_before (order_input_of ties.now) first.now second.now }
 {
     match (first.kind, second.kind) {
-        (Kind::Apply, Kind::Apply) => ties.needs(second.resource, first.resource),
-        (Kind::Apply, Kind::Destroy) => {
+        (ActionKind::Apply, ActionKind::Apply) => ties.needs(second.resource, first.resource),
+        (ActionKind::Apply, ActionKind::Destroy) => {
             ties.is_late(second.resource)
                 && (are_halves(first, second) || is_dependent(ties, first, second))
         }
-        (Kind::Apply, Kind::DestroyDeposed) => {
+        (ActionKind::Apply, ActionKind::DestroyDeposed) => {
             ties.is_late(second.resource) && is_dependent(ties, first, second)
         }
-        (Kind::Destroy, Kind::Apply) => {
+        (ActionKind::Destroy, ActionKind::Apply) => {
             are_halves(first, second) && !ties.is_late(first.resource)
         }
-        (Kind::DestroyDeposed, Kind::Apply) => false,
-        (Kind::Destroy | Kind::DestroyDeposed, Kind::Destroy | Kind::DestroyDeposed) => {
-            is_destroyed_first(ties, first, second)
-        }
+        (ActionKind::DestroyDeposed, ActionKind::Apply) => false,
+        (
+            ActionKind::Destroy | ActionKind::DestroyDeposed,
+            ActionKind::Destroy | ActionKind::DestroyDeposed,
+        ) => { is_destroyed_first(ties, first, second) }
     }
 }
 
 /// Whether two actions, of which one creates and the other destroys an object, are the halves of one replace.
-pub(crate) fn are_halves(action: &Action, other: &Action) -> bool
+pub(crate) fn are_halves(action: &OrderedAction, other: &OrderedAction) -> bool
     ensures { result ≡ are_halves action.now other.now }
 {
     action.replaces
@@ -178,15 +183,15 @@ pub(crate) fn are_halves(action: &Action, other: &Action) -> bool
 }
 
 /// Whether what the first destroys needed what the second does, and not the other way round.
-fn is_destroyed_first(ties: &Ties<'_>, first: &Action, second: &Action) -> bool
-    ensures { result ≡ is_destroyed_first (ties_of ties.now) first.now second.now }
+fn is_destroyed_first(ties: &OrderInput<'_>, first: &OrderedAction, second: &OrderedAction) -> bool
+    ensures { result ≡ is_destroyed_first (order_input_of ties.now) first.now second.now }
 {
     ties.needed(first.resource, second.resource) && !ties.needed(second.resource, first.resource)
 }
 
 /// Whether the one's resource needs the other's, or needed it when it was made.
-fn is_dependent(ties: &Ties<'_>, action: &Action, other: &Action) -> bool
-    ensures { result ≡ is_dependent (ties_of ties.now) action.now other.now }
+fn is_dependent(ties: &OrderInput<'_>, action: &OrderedAction, other: &OrderedAction) -> bool
+    ensures { result ≡ is_dependent (order_input_of ties.now) action.now other.now }
 {
     ties.needs(action.resource, other.resource) || ties.needed(action.resource, other.resource)
 }

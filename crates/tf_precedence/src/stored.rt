@@ -10,12 +10,12 @@ use tf_graph::{Closure, Graph, MAX_NODES};
 
 /// What needed what when it was made, by the dependencies that a state has stored. Resources are numbers.
 #[derive(Drop)]
-pub struct Stored {
+pub struct StoredDependencies {
     graph: Graph,
     table: Closure,
 }
 
-impl Stored {
+impl StoredDependencies {
     /// Of so many resources, by pairs of a resource and one that its objects are stored to depend on. They may go in a
     /// ring, stand more than once, and be of a resource and itself.
     ///
@@ -26,7 +26,7 @@ impl Stored {
         alloc: Global,
         resources: usize,
         dependencies: &[(usize, usize)],
-    ) -> Result<Stored, AllocError>
+    ) -> Result<StoredDependencies, AllocError>
         requires few { resources ≤ MAX_NODES }
         requires within { IsWithin resources dependencies.now }
         ensures { IfOk result (λ stored. IsStored resources dependencies.now stored) }
@@ -34,7 +34,7 @@ impl Stored {
         let edges = turn(alloc, dependencies)?;
         let graph = Graph::of(alloc, resources, edges.as_slice())?;
         let table = graph.closure(alloc)?;
-        Ok(Stored { graph, table })
+        Ok(StoredDependencies { graph, table })
     }
 
     /// Whether a resource needed another when it was made.

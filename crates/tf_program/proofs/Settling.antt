@@ -5,15 +5,15 @@ use Rattle.std.specs.Option.{option_or}
 use Rattle.std.specs.declared.string.String.{String}
 use Rattle.tf_protocol.specs.Meaning.{Meaning}
 use Rattle.tf_program.specs.Settled.{GoesOnFrom, IsLookedAt, IsPut, state_given}
-use Rattle.tf_program.specs.declared.given.Given.{Given}
-use Rattle.tf_program.specs.declared.looking.Standing.TheVariants.{Before, After}
+use Rattle.tf_program.specs.declared.given.ProgramInput.{ProgramInput}
+use Rattle.tf_program.specs.declared.looking.LogStanding.TheVariants.{Before, After}
 use Rattle.tf_program.specs.declared.past.Past.{Past}
 
 module _ (ms : List Meaning) (past : Past) where
-  pub after_goes_on : (given : Given) → IsLookedAt ms past given After → GoesOnFrom ms past given given
+  pub after_goes_on : (given : ProgramInput) → IsLookedAt ms past given After → GoesOnFrom ms past given given
   after_goes_on given h = record { recovered = h.recovered; is_recovered = h.is_recovered; options = refl; config = refl; vars = refl; state = h.stands.1 }
 
-  pub before_goes_on : (old new : Given) (text : Option (String Global)) → IsLookedAt ms past old (Before text) → IsPut (option_map string_bytes text) old new → GoesOnFrom ms past old new
+  pub before_goes_on : (old new : ProgramInput) (text : Option (String Global)) → IsLookedAt ms past old (Before text) → IsPut (option_map string_bytes text) old new → GoesOnFrom ms past old new
   before_goes_on old new text h put = record {
     recovered = h.recovered;
     is_recovered = h.is_recovered;
@@ -24,7 +24,7 @@ module _ (ms : List Meaning) (past : Past) where
   }
 
   -- nothing is put where there is no text
-  pub unchanged_goes_on : (given : Given) → IsLookedAt ms past given (Before None) → GoesOnFrom ms past given given
+  pub unchanged_goes_on : (given : ProgramInput) → IsLookedAt ms past given (Before None) → GoesOnFrom ms past given given
   unchanged_goes_on given h = before_goes_on given given None h (record { options = refl; config = refl; vars = refl; state = refl })
 
 -- what holds anyway holds where something is right

@@ -14,13 +14,13 @@ use Rattle.tf_cli.specs.Refusals.{AreApplyRefusals, AreRefusals}
 use Rattle.tf_cli.specs.Shown.{status_of}
 use Rattle.tf_program.specs.Work.{EndsApply, EndsWith, IsAnswer, IsGraphAnswer, IsGraphText, IsPlanAnswer, IsShown, answer_of, texts_of}
 use Rattle.tf_cli.specs.declared.applied.Applied.{Applied}
-use Rattle.tf_program.specs.declared.given.Given.{Given}
+use Rattle.tf_program.specs.declared.given.ProgramInput.{ProgramInput}
 
 same_texts : (config config_given : List ℕ) (vars vars_given state state_given : Option (List ℕ)) → config ≡ config_given → vars ≡ vars_given → state ≡ state_given
     → the_texts config vars state ≡ the_texts config_given vars_given state_given
 same_texts config config_given vars vars_given state state_given e f g = rw (e, f, g) refl
 
-module _ (ms : List Meaning) (given : Given) (config : List ℕ) (vars state : Option (List ℕ))
+module _ (ms : List Meaning) (given : ProgramInput) (config : List ℕ) (vars state : Option (List ℕ))
     (same_config : config ≡ given.config.items)
     (same_vars : vars ≡ option_map (λ bytes. bytes.items) given.vars)
     (same_state : state ≡ option_map (λ bytes. bytes.items) given.state) where
@@ -60,7 +60,7 @@ module _ (ms : List Meaning) (given : Given) (config : List ℕ) (vars state : O
       subst (λ (t : Texts). Tells (AreApplyRefusals ms t (string_bytes given.options.lineage) given.options.parallelism) why) the_same
       (subst (λ (l : List ℕ). Tells (AreApplyRefusals ms (the_texts config vars state) l given.options.parallelism) why) named refused)
 
-pub is_graph_answer : (ms : List Meaning) (given : Given) (answer : Result (String Global) Refused) → IfOk answer (λ text. IsGraphText ms (texts_of given) (string_bytes text))
+pub is_graph_answer : (ms : List Meaning) (given : ProgramInput) (answer : Result (String Global) Refused) → IfOk answer (λ text. IsGraphText ms (texts_of given) (string_bytes text))
     → IfErr answer (Tells (AreRefusals ms (texts_of given))) → IsGraphAnswer ms given (answer_of answer)
 is_graph_answer ms given (Ok text) drawn refused = drawn
 is_graph_answer ms given (Err why) drawn refused = refused

@@ -18,10 +18,10 @@ use Rattle.tf_cli.specs.Refusals.{AreApplyRefusals, AreRefusals}
 use Rattle.tf_cli.specs.Saved.{AppendsStart}
 use Rattle.tf_cli.specs.Shown.{errors_of, output_of, refused_errors, status_of}
 use Rattle.tf_cli.specs.declared.applied.Applied.{Applied}
-use Rattle.tf_program.specs.declared.given.Given.{Given}
+use Rattle.tf_program.specs.declared.given.ProgramInput.{ProgramInput}
 
 -- the texts that a program was given
-abbrev pub texts_of : Given → Texts
+abbrev pub texts_of : ProgramInput → Texts
 texts_of given = the_texts given.config.items (option_map (λ bytes. bytes.items) given.vars) (option_map (λ bytes. bytes.items) given.state)
 
 -- an answer with its text without where it lies in memory
@@ -30,7 +30,7 @@ answer_of (Ok text) = Ok (string_bytes text)
 answer_of (Err refused) = Err refused
 
 -- the answer of a plan of what was given: its text, or what is refused
-abbrev pub IsPlanAnswer : List Meaning → Given → Result (List ℕ) Refused → Type 0
+abbrev pub IsPlanAnswer : List Meaning → ProgramInput → Result (List ℕ) Refused → Type 0
 IsPlanAnswer ms given (Ok text) = IsPlanText ms (texts_of given) text
 IsPlanAnswer ms given (Err refused) = Tells (AreRefusals ms (texts_of given)) refused
 
@@ -42,7 +42,7 @@ pub record IsGraphText (ms : List Meaning) (texts : Texts) (text : List ℕ) : T
   pub drawn : IsDrawn plan text
 
 -- the answer where the plan of what was given is to be drawn: the text that draws it, or what is refused
-abbrev pub IsGraphAnswer : List Meaning → Given → Result (List ℕ) Refused → Type 0
+abbrev pub IsGraphAnswer : List Meaning → ProgramInput → Result (List ℕ) Refused → Type 0
 IsGraphAnswer ms given (Ok text) = IsGraphText ms (texts_of given) text
 IsGraphAnswer ms given (Err refused) = Tells (AreRefusals ms (texts_of given)) refused
 
@@ -56,7 +56,7 @@ EndsPlan (Err refused) result out out_after err err_after =
     (result ≡ 1) × (out_after ≡ out) × AppendsStart err err_after (refused_errors refused)
 
 -- the answer of an apply of what was given
-abbrev pub IsAnswer : List Meaning → Given → Result Applied Refused → Type 0
+abbrev pub IsAnswer : List Meaning → ProgramInput → Result Applied Refused → Type 0
 IsAnswer ms given (Ok applied) =
     IsApplied ms (texts_of given) (string_bytes given.options.lineage) applied × (are_workers given.options.parallelism ≡ true)
 IsAnswer ms given (Err refused) =
@@ -78,7 +78,7 @@ EndsApply answer result out out_after err err_after = EndsWith (to_write answer)
 
 -- An apply with a log ends before any call, with status 1 and nothing on standard output; or it ends as the apply that it is,
 -- where more may be told on standard error.
-abbrev pub EndsLogged : List Meaning → Given → (result : ExitCode) (out out_after err : Option (List ℕ)) → Type 0
+abbrev pub EndsLogged : List Meaning → ProgramInput → (result : ExitCode) (out out_after err : Option (List ℕ)) → Type 0
 EndsLogged ms given result out out_after err =
     ((exit_status result ≡ 1) × (out_after ≡ out))
     ⊎ ((answer : Result Applied Refused) × (status : ℕ) × (err_shown : Option (List ℕ)) × IsAnswer ms given answer × EndsApply answer status out out_after err err_shown × (exit_status result ≡ status))

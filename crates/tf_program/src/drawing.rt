@@ -5,7 +5,7 @@ ghost use Rattle.tf_cli.specs.Refusals.{AreRefusals};
 ghost use Rattle.tf_plan.specs.Refused.{Tells};
 ghost use Rattle.tf_program.specs.Work.{IsGraphText, texts_of};
 
-use crate::given::Given;
+use crate::given::ProgramInput;
 use std::alloc::Global;
 use tf_cli::{InputTexts, Refused, plan_of_texts};
 use tf_plan_dot::dot_text;
@@ -14,7 +14,7 @@ use tf_provider::Provider;
 /// The text that draws the plan of what a program was given, where nothing is refused.
 pub fn graph_text(
     alloc: Global,
-    given: &Given,
+    given: &ProgramInput,
     providers: &[Box<dyn Provider + Sync>],
 ) -> Result<String, Refused>
     ensures drawn { IfOk result (λ text. IsGraphText (map meaning providers.now) (texts_of given.now) (string_bytes text)) }

@@ -6,7 +6,7 @@ use tf_options::Options;
 
 /// What a program was given.
 #[derive(Drop)]
-pub struct Given {
+pub struct ProgramInput {
     /// What its words say.
     pub options: Options,
     /// The bytes of the configuration.
@@ -17,7 +17,7 @@ pub struct Given {
     pub state: Option<Vec<u8>>,
 }
 
-impl Given {
+impl ProgramInput {
     /// The bytes of the variables file, where one is named.
     pub fn vars_bytes(&self) -> Option<&[u8]>
         ensures { option_map (λ bytes. bytes.now) result ≡ option_map (λ bytes. bytes.items) self.now.vars }

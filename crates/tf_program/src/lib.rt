@@ -16,7 +16,7 @@ mod seeing;
 mod telling;
 mod work;
 
-pub use given::Given;
+pub use given::ProgramInput;
 pub use keeping::keep;
 pub use log_file::{LogFile, LogSink};
 pub use logging::{carry_out_logged, foresee, settle};

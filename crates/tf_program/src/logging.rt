@@ -5,9 +5,9 @@ ghost use Rattle.tf_program.specs.Program.{IsFailure};
 ghost use Rattle.tf_program.specs.Work.{EndsLogged};
 ghost use Rattle.tf_program.specs.Settled.{GoesOnFrom, IsLookedInto, IsPut};
 
-use crate::given::Given;
+use crate::given::ProgramInput;
 use crate::log_file::{LogFile, empty};
-use crate::looking::{Standing, look_back};
+use crate::looking::{LogStanding, look_back};
 use crate::past::Past;
 use crate::place::Place;
 use crate::replacing::{keep_state, sync_folder};
@@ -37,7 +37,7 @@ pub fn settle<R: Files + AllocGlobal, T: Threads + Wait + Sync, O: Write, E: Wri
     threads: &T,
     place: &Place,
     file: &R::File,
-    given: &mut Given,
+    given: &mut ProgramInput,
     past: &Past,
     replayed: &[Box<dyn Provider + Sync>],
     out: &mut O,
@@ -49,8 +49,8 @@ where
     ensures into { IfOk result (λ _. IsLookedInto past.now given.old) }
 {
     match look_back(threads, rt.alloc(), place, given, past, replayed, err)? {
-        Standing::After => empty_or_tell(file, place, err),
-        Standing::Before(state) => {
+        LogStanding::After => empty_or_tell(file, place, err),
+        LogStanding::Before(state) => {
             put_in_place(rt, place, given, state, out, err)?;
             empty_or_tell(file, place, err)?;
             if past.in_flight.is_empty() {
@@ -67,7 +67,7 @@ pub fn foresee<T: Threads + Wait + Sync, E: Write>(
     threads: &T,
     alloc: Global,
     place: &Place,
-    given: &mut Given,
+    given: &mut ProgramInput,
     past: &Past,
     replayed: &[Box<dyn Provider + Sync>],
     err: &mut E,
@@ -76,8 +76,8 @@ pub fn foresee<T: Threads + Wait + Sync, E: Write>(
     ensures status { IfErr result IsFailure }
 {
     match look_back(threads, alloc, place, given, past, replayed, err)? {
-        Standing::After | Standing::Before(None) => {}
-        Standing::Before(Some(state)) => given.state = Some(state.into_bytes()),
+        LogStanding::After | LogStanding::Before(None) => {}
+        LogStanding::Before(Some(state)) => given.state = Some(state.into_bytes()),
     }
     Ok(())
 }
@@ -85,7 +85,7 @@ pub fn foresee<T: Threads + Wait + Sync, E: Write>(
 fn put_in_place<R: Files, O: Write, E: Write>(
     rt: &R,
     place: &Place,
-    given: &mut Given,
+    given: &mut ProgramInput,
     state: Option<String>,
     out: &mut O,
     err: &mut E,
@@ -127,7 +127,7 @@ pub fn carry_out_logged<
     place: &Place,
     file: &R::File,
     log: &OpenLog<S>,
-    given: &Given,
+    given: &ProgramInput,
     providers: &[Box<dyn Provider + Sync>],
     stop: &Stop,
     out: &mut O,
@@ -155,7 +155,7 @@ fn start<R: Files + AllocGlobal, S: Sink, E: Write>(
     rt: &R,
     place: &Place,
     log: &OpenLog<S>,
-    given: &Given,
+    given: &ProgramInput,
     err: &mut E,
 ) -> Result<(), ExitCode>
     ensures status { IfErr result IsFailure }
@@ -178,7 +178,7 @@ fn start<R: Files + AllocGlobal, S: Sink, E: Write>(
 }
 
 /// What was given, as texts; none where one of them isn't UTF-8.
-fn header_of(alloc: Global, given: &Given) -> Result<Option<Header>, AllocError> {
+fn header_of(alloc: Global, given: &ProgramInput) -> Result<Option<Header>, AllocError> {
     let lineage = String::from_str(alloc, given.options.lineage.as_str())?;
     let Some(config) = text_of(alloc, given.config.as_slice())? else {
         return Ok(None);

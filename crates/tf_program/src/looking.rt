@@ -4,7 +4,7 @@ ghost use Rattle.std.specs.Prelude.{◌≡◌, ◌↔◌, IfErr, IfOk, IsTrue, m
 ghost use Rattle.tf_program.specs.Program.{IsFailure};
 ghost use Rattle.tf_program.specs.Settled.{IsLookedAt, state_given};
 
-use crate::given::Given;
+use crate::given::ProgramInput;
 use crate::past::Past;
 use crate::place::Place;
 use crate::telling::{tell_misfit, tell_no_memory, tell_past, tell_unrecovered};
@@ -19,7 +19,7 @@ use tf_recovery::{Unrecovered, recover};
 
 /// How the state that is there stands to an apply that did not end.
 #[derive(Drop)]
-pub enum Standing {
+pub enum LogStanding {
     /// It is the one that the apply began with. This text is to take its place; none where the apply changed nothing.
     Before(Option<String>),
     /// It is the one that is recovered.
@@ -33,11 +33,11 @@ pub fn look_back<T: Threads + Wait + Sync, E: Write>(
     threads: &T,
     alloc: Global,
     place: &Place,
-    given: &Given,
+    given: &ProgramInput,
     past: &Past,
     replayed: &[Box<dyn Provider + Sync>],
     err: &mut E,
-) -> Result<Standing, ExitCode>
+) -> Result<LogStanding, ExitCode>
     ensures looked { IfOk result (IsLookedAt (map meaning replayed.now) past.now given.now) }
     ensures status { IfErr result IsFailure }
 {
@@ -47,16 +47,16 @@ pub fn look_back<T: Threads + Wait + Sync, E: Write>(
     };
     if is_state(given, &past.header.state) {
         tell_past(alloc, past, err);
-        return Ok(Standing::Before(state));
+        return Ok(LogStanding::Before(state));
     }
     if state.is_some() && is_state(given, &state) {
-        return Ok(Standing::After);
+        return Ok(LogStanding::After);
     }
     Err(tell_misfit(place, err))
 }
 
 /// Whether the state that is there has this text, or both are none.
-fn is_state(given: &Given, text: &Option<String>) -> bool
+fn is_state(given: &ProgramInput, text: &Option<String>) -> bool
     ensures { IsTrue result ↔ (state_given given.now ≡ option_map string_bytes text.now) }
 {
     match (given.state_bytes(), text) {

@@ -6,7 +6,7 @@ ghost use Rattle.std.specs.Prelude.{◌≡◌, IfErr, IfOk, None, Ok, option_map
 ghost use Rattle.tf_cli.specs.Saved.{AppendsStart};
 ghost use Rattle.tf_program.specs.Program.{AreReads, GoesOn, IsFailure, ReadsNamed, ReadsOptional, TellsUnread, unread_line};
 
-use crate::given::Given;
+use crate::given::ProgramInput;
 use std::io;
 use std::io::{ErrorKind, Write};
 use std::process::ExitCode;
@@ -19,7 +19,7 @@ pub fn read_files<F: Fn(&str) -> io::Result<Vec<u8>>, E: Write>(
     options: Options,
     read: &F,
     err: &mut E,
-) -> Result<Given, ExitCode>
+) -> Result<ProgramInput, ExitCode>
     requires { F.IsAlwaysCallable read.now }
     ensures status { IfErr result IsFailure }
     ensures options { IfOk result (λ given. given.options ≡ options) }
@@ -28,7 +28,7 @@ pub fn read_files<F: Fn(&str) -> io::Result<Vec<u8>>, E: Write>(
 {
     let config = read_file(options.config.as_str(), read, err)?;
     let vars = read_vars_file(&options.vars, read, err)?;
-    Ok(Given {
+    Ok(ProgramInput {
         options,
         config,
         vars,

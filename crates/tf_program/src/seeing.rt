@@ -3,7 +3,7 @@
 ghost use Rattle.std.specs.Prelude.{IfErr};
 ghost use Rattle.tf_program.specs.Program.{IsFailure};
 
-use crate::given::Given;
+use crate::given::ProgramInput;
 use crate::log_file::{LogFile, empty, open_log};
 use crate::past::{Past, read_past};
 use crate::place::Place;
@@ -21,7 +21,7 @@ use tf_options::Options;
 #[derive(Drop)]
 pub struct Seen {
     /// What it was given.
-    pub given: Given,
+    pub given: ProgramInput,
     /// Where its state stands.
     pub place: Place,
     /// The apply that did not end, if there is one, and the entries of its log.
@@ -65,7 +65,7 @@ where
 /// Where the state that options name stands. Where its name leads nowhere, that is told as of a file that can't be read.
 fn place_of<R: Files + AllocGlobal, E: Write>(
     rt: &R,
-    given: &Given,
+    given: &ProgramInput,
     err: &mut E,
 ) -> Result<Place, ExitCode>
     ensures { IfErr result IsFailure }
@@ -79,7 +79,7 @@ fn place_of<R: Files + AllocGlobal, E: Write>(
 /// Opens the log and locks it. Where that can't be, it is told.
 fn lock<R: Files, E: Write>(
     rt: &R,
-    given: &Given,
+    given: &ProgramInput,
     place: &Place,
     err: &mut E,
 ) -> Result<R::File, ExitCode>
@@ -105,7 +105,7 @@ fn take_torn_away<F: LogFile>(log: &F) -> io::Result<()> {
 /// Reads the state, where there is one, and the log.
 fn see_state<R: Files + AllocGlobal, E: Write>(
     rt: &R,
-    mut given: Given,
+    mut given: ProgramInput,
     place: Place,
     err: &mut E,
 ) -> Result<Seen, ExitCode>

@@ -6,7 +6,7 @@ ghost use Rattle.tf_cli.specs.Saved.{AppendsStart};
 ghost use Rattle.tf_program.specs.Work.{EndsApply, EndsPlan, IsAnswer, IsGraphAnswer, IsPlanAnswer, answer_of};
 
 use crate::drawing::graph_text;
-use crate::given::Given;
+use crate::given::ProgramInput;
 use crate::place::Place;
 use crate::replacing::keep_state;
 use std::alloc::Global;
@@ -21,7 +21,7 @@ use tf_provider::Provider;
 /// where standard output doesn't take the whole text.
 pub fn print_plan<O: Write, E: Write>(
     alloc: Global,
-    given: &Given,
+    given: &ProgramInput,
     providers: &[Box<dyn Provider + Sync>],
     out: &mut O,
     err: &mut E,
@@ -42,7 +42,7 @@ pub fn print_plan<O: Write, E: Write>(
 /// answer is the status: 1 where something is refused, and where standard output doesn't take the whole text.
 pub fn print_graph<O: Write, E: Write>(
     alloc: Global,
-    given: &Given,
+    given: &ProgramInput,
     providers: &[Box<dyn Provider + Sync>],
     out: &mut O,
     err: &mut E,
@@ -81,7 +81,7 @@ pub fn carry_out<R: Files + AllocGlobal, T: Threads + Wait + Sync, O: Write, E: 
     rt: &R,
     threads: &T,
     place: &Place,
-    given: &Given,
+    given: &ProgramInput,
     providers: &[Box<dyn Provider + Sync>],
     stop: &Stop,
     out: &mut O,

@@ -4,7 +4,7 @@ use Rattle.tf_expr.specs.Fault as faults
 use Rattle.tf_expr.specs.declared.fault.Cause.{Cause}
 use Rattle.tf_expr.specs.declared.fault.Cause.TheVariants as causes
 use Rattle.tf_refusal.specs.Code as code
-use Rattle.tf_refusal.specs.Refusal.{DetailView, bare, at, Told, no_memory, fault}
+use Rattle.tf_refusal.specs.Refusal.{DetailView, bare, at, RefusalView, no_memory, fault}
 
 -- a refusal's code, and what stands behind its name
 abbrev pub Way : Type 0
@@ -25,6 +25,6 @@ way_of (causes.At offset) = bad_template offset
 way_of causes.TooDeep = too_deep
 
 -- what is told of an expression, as it is refused
-abbrev pub refused_expression : faults.Told → Told
+abbrev pub refused_expression : faults.Told → RefusalView
 refused_expression faults.no_memory = no_memory
 refused_expression (faults.wrong place cause) = fault (way_of cause).0 place (way_of cause).1

@@ -16,10 +16,10 @@ pub data DetailView : Type 0 where
 
 -- what a refusal tells: that there was no memory, that the number of workers is wrong, or a fault with
 -- its code, its place and what stands behind its name
-pub data Told : Type 0 where
-  no_memory : Told
-  workers : Told
-  fault : ℕ → List ℕ → DetailView → Told
+pub data RefusalView : Type 0 where
+  no_memory : RefusalView
+  workers : RefusalView
+  fault : ℕ → List ℕ → DetailView → RefusalView
 
 abbrev pub detail_of : Detail → DetailView
 detail_of details.Bare = bare
@@ -27,7 +27,7 @@ detail_of (details.At offset) = at offset
 detail_of (details.Names texts) = names (map string_bytes texts.items)
 detail_of (details.Kind why) = kind why
 
-abbrev pub told : Refusal → Told
-told refusals.OutOfMemory = no_memory
-told refusals.Workers = workers
-told (refusals.Fault code place detail) = fault code (string_bytes place) (detail_of detail)
+abbrev pub refusal_of : Refusal → RefusalView
+refusal_of refusals.OutOfMemory = no_memory
+refusal_of refusals.Workers = workers
+refusal_of (refusals.Fault code place detail) = fault code (string_bytes place) (detail_of detail)

@@ -3,7 +3,7 @@ use Rattle.std.specs.Prelude.{ℕ, ◌==◌, if◌then◌else◌, List, [], ◌�
 use Rattle.std.specs.Fmt.{decimal}
 use Rattle.std.specs.List.{flat_map}
 use Rattle.tf_operators.specs.EvalFault.{eval_fault_name}
-use Rattle.tf_refusal.specs.Refusal.{DetailView, bare, at, names, kind, Told, no_memory, workers, fault}
+use Rattle.tf_refusal.specs.Refusal.{DetailView, bare, at, names, kind, RefusalView, no_memory, workers, fault}
 
 -- names with a comma and a space between them
 abbrev pub names_text : List (List ℕ) → List ℕ
@@ -31,7 +31,7 @@ abbrev pub cause_text : ℕ → DetailView → List ℕ
 cause_text code detail = refusal_name code ++ detail_text detail
 
 -- `error CODE at PLACE: NAME`
-abbrev pub refusal_text : Told → List ℕ
+abbrev pub refusal_text : RefusalView → List ℕ
 refusal_text no_memory = codes "error 15 at memory: OutOfMemory"
 refusal_text workers = codes "error 14 at workers: Limit"
 refusal_text (fault code place detail) = codes "error " ++ decimal code ++ codes " at " ++ place ++ codes ": " ++ cause_text code detail

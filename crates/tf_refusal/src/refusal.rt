@@ -62,10 +62,10 @@ impl<T: Drop> From<AllocFailed<T>> for Refusal {
 /// A fault of an expression, as it is refused.
 impl From<ExprFault> for Refusal {
     ghost use Rattle.tf_expr.specs.Fault.{told as told_of_expression};
-    ghost use Rattle.tf_refusal.specs.Refusal.{told};
+    ghost use Rattle.tf_refusal.specs.Refusal.{refusal_of};
     ghost use Rattle.tf_refusal.specs.OfExpression.{refused_expression};
 
-    ghost from_gives = { λ fault refusal. told refusal ≡ refused_expression (told_of_expression fault) };
+    ghost from_gives = { λ fault refusal. refusal_of refusal ≡ refused_expression (told_of_expression fault) };
 
     fn from(fault: ExprFault) -> Refusal {
         match fault {
@@ -95,10 +95,10 @@ fn way_of(cause: ExprCause) -> (u8, Detail)
 
 /// `error CODE at PLACE: NAME`, with no newline.
 impl fmt::Display for Refusal {
-    ghost use Rattle.tf_refusal.specs.Refusal.{told};
+    ghost use Rattle.tf_refusal.specs.Refusal.{refusal_of};
     ghost use Rattle.tf_refusal.specs.Text.{refusal_text};
 
-    ghost output = { λ refusal. Some (refusal_text (told refusal)) };
+    ghost output = { λ refusal. Some (refusal_text (refusal_of refusal)) };
 
     fn fmt<W: fmt::Write>(&self, f: &mut fmt::Formatter<W>) -> fmt::Result {
         match self {

@@ -12,12 +12,12 @@ use Rattle.tf_graph.proofs.Solving.{all_by_at}
 use Rattle.tf_graph.specs.Solutions.{Ranked}
 use Rattle.tf_value.specs.Tree.{Tree, Entries}
 use Rattle.tf_environment.proofs.Keeping.{earlier, stand_other, stand_same}
-use Rattle.tf_environment.specs.Shape.{ShapeView}
+use Rattle.tf_environment.specs.InstanceKeys.{InstanceKeysView}
 use Rattle.tf_environment.specs.Stages.{applying}
-use Rattle.tf_environment.specs.Standing.{environment, stands_at}
-use Rattle.tf_environment.specs.Views.{standing_of, standings_of}
-use Rattle.tf_environment.specs.declared.standing.Standing.{Standing}
-use Rattle.tf_request.specs.Requests.{AreStandingsSoFar, is_resource}
+use Rattle.tf_environment.specs.Resolved.{environment, stands_at}
+use Rattle.tf_environment.specs.Views.{resolved_of, resolved_names_of}
+use Rattle.tf_environment.specs.declared.resolved.Resolved.{Resolved}
+use Rattle.tf_request.specs.Requests.{AreResolvedSoFar, is_resource}
 use Rattle.tf_request.specs.Wanted.{is_local}
 use Rattle.tf_request.proofs.Answering.{meant_there, next_is, stands_there}
 
@@ -63,14 +63,14 @@ there_not : (b : Bool) → false ≡ not b → b ≡ true
 there_not true h = refl
 there_not false h = absurd (cc)
 
-module _ (variables : Entries) (names : List NameView) (shapes : ℕ → ShapeView) (objects : ℕ → InstanceKeyView → Tree) (resources : List ℕ) where
+module _ (variables : Entries) (names : List NameView) (shapes : ℕ → InstanceKeysView) (objects : ℕ → InstanceKeyView → Tree) (resources : List ℕ) where
   -- what stands once the first of some resources are added
-  pub record AreAdded (i : ℕ) (kept : List Standing) : Type 0 where
+  pub record AreAdded (i : ℕ) (kept : List Resolved) : Type 0 where
     pub room : AllByRecursion (λ n. n < length kept) resources
-    pub answered : AreStandingsSoFar variables names shapes objects (standings_of kept)
-    pub there : (n : ℕ) → Contains (take i resources) n → is_some (standings_of kept n) ≡ true
+    pub answered : AreResolvedSoFar variables names shapes objects (resolved_names_of kept)
+    pub there : (n : ℕ) → Contains (take i resources) n → is_some (resolved_names_of kept n) ≡ true
 
-  pub added_start : (kept : List Standing) → AllByRecursion (λ n. n < length kept) resources → AreStandingsSoFar variables names shapes objects (standings_of kept) → AreAdded 0 kept
+  pub added_start : (kept : List Resolved) → AllByRecursion (λ n. n < length kept) resources → AreResolvedSoFar variables names shapes objects (resolved_names_of kept) → AreAdded 0 kept
   added_start kept room answered = record {
     room = room;
     answered = answered;
@@ -78,29 +78,29 @@ module _ (variables : Entries) (names : List NameView) (shapes : ℕ → ShapeVi
   }
 
   -- one resource more
-  pub added_more : (i p : ℕ) (missing : Bool) (kept now : List Standing) → Ranked (directly_before names) → AllByRecursion (λ n. n < length names) resources
-      → list_all (λ n. is_resource (meant_at names n)) resources ≡ true → i < length resources → p ≡ slice_index resources i → missing ≡ not (is_some (standings_of kept p))
-      → MatchBool missing ((s : Standing) × (now ≡ set kept p s) × (standing_of s ≡ stands_at (applying shapes objects) p (meant_at names p) (environment variables names (standings_of kept)))) (now ≡ kept)
+  pub added_more : (i p : ℕ) (missing : Bool) (kept now : List Resolved) → Ranked (directly_before names) → AllByRecursion (λ n. n < length names) resources
+      → list_all (λ n. is_resource (meant_at names n)) resources ≡ true → i < length resources → p ≡ slice_index resources i → missing ≡ not (is_some (resolved_names_of kept p))
+      → MatchBool missing ((s : Resolved) × (now ≡ set kept p s) × (resolved_of s ≡ stands_at (applying shapes objects) p (meant_at names p) (environment variables names (resolved_names_of kept)))) (now ≡ kept)
       → AreAdded i kept → AreAdded (i + 1) now
   added_more i p true kept now ranked within all h is missing (s, changed, stood) k =
       let here : Contains resources p = element resources i p h is in
       let below : p < length names = all_by_at (λ n. n < length names) resources p within here in
       let inside : p < length kept = all_by_at (λ n. n < length kept) resources p k.room here in
       let a_resource : is_resource (meant_at names p) ≡ true = ap (λ n. is_resource (meant_at names n)) is ∙ all_at (λ n. is_resource (meant_at names n)) resources i h all in
-      let here_is : standings_of (set kept p s) p ≡ stands_at (applying shapes objects) p (meant_at names p) (environment variables names (standings_of kept)) = stand_same kept p s inside ∙ stood in
+      let here_is : resolved_names_of (set kept p s) p ≡ stands_at (applying shapes objects) p (meant_at names p) (environment variables names (resolved_names_of kept)) = stand_same kept p s inside ∙ stood in
       rw changed (record {
         room = subst (λ m. AllByRecursion (λ n. n < m) resources) (sym (length-set kept p s)) k.room;
-        answered = λ standings solves n there. elim (cases_eq n p) [
+        answered = λ resolved_names solves n there. elim (cases_eq n p) [
           | inl same ↦
-              ap (standings_of (set kept p s)) same ∙ here_is
-              ∙ next_is shapes objects variables names ranked (standings_of kept) standings solves p below (λ local. absurd (no_local (meant_at names p) a_resource local)) ∙ ap standings (sym same)
+              ap (resolved_names_of (set kept p s)) same ∙ here_is
+              ∙ next_is shapes objects variables names ranked (resolved_names_of kept) resolved_names solves p below (λ local. absurd (no_local (meant_at names p) a_resource local)) ∙ ap resolved_names (sym same)
           | inr other ↦
-              stand_other kept p n s other ∙ k.answered standings solves n (ap is_some (sym (stand_other kept p n s other)) ∙ there)
+              stand_other kept p n s other ∙ k.answered resolved_names solves n (ap is_some (sym (stand_other kept p n s other)) ∙ there)
         ];
         there = λ n held. elim (cases_eq n p) [
           | inl same ↦
-              ap (λ a. is_some (standings_of (set kept p s) a)) same ∙ ap is_some here_is
-              ∙ stands_there shapes objects p (meant_at names p) (environment variables names (standings_of kept)) (meant_there names p below)
+              ap (λ a. is_some (resolved_names_of (set kept p s) a)) same ∙ ap is_some here_is
+              ∙ stands_there shapes objects p (meant_at names p) (environment variables names (resolved_names_of kept)) (meant_there names p below)
           | inr other ↦
               ap is_some (stand_other kept p n s other) ∙ k.there n (earlier resources i p n h is other held)
         ];
@@ -109,12 +109,12 @@ module _ (variables : Entries) (names : List NameView) (shapes : ℕ → ShapeVi
     room = k.room;
     answered = k.answered;
     there = λ n held. elim (cases_eq n p) [
-      | inl here ↦ ap (λ a. is_some (standings_of kept a)) here ∙ there_not (is_some (standings_of kept p)) missing
+      | inl here ↦ ap (λ a. is_some (resolved_names_of kept a)) here ∙ there_not (is_some (resolved_names_of kept p)) missing
       | inr other ↦ k.there n (earlier resources i p n h is other held)
     ];
   })
 
   -- all resources are added
-  pub added_all : (i : ℕ) (kept : List Standing) → length resources ≤ i → AreAdded i kept → AllByRecursion (λ n. is_some (standings_of kept n) ≡ true) resources
+  pub added_all : (i : ℕ) (kept : List Resolved) → length resources ≤ i → AreAdded i kept → AllByRecursion (λ n. is_some (resolved_names_of kept n) ≡ true) resources
   added_all i kept whole k =
-      all_by_contained (λ n. is_some (standings_of kept n) ≡ true) resources (λ n c. k.there n (subst (λ xs. Contains xs n) (sym (take_all i resources whole)) c))
+      all_by_contained (λ n. is_some (resolved_names_of kept n) ≡ true) resources (λ n c. k.there n (subst (λ xs. Contains xs n) (sym (take_all i resources whole)) c))

@@ -21,11 +21,11 @@ use Rattle.tf_eval.specs.Locality.{AgreeOn}
 use Rattle.tf_eval.specs.Meaning.{and_then}
 use Rattle.tf_environment.proofs.Seen.{agree_on}
 use Rattle.tf_environment.specs.Instance.{bound, instance_constants}
-use Rattle.tf_environment.specs.Shape.{ShapeView}
+use Rattle.tf_environment.specs.InstanceKeys.{InstanceKeysView}
 use Rattle.tf_environment.specs.Stages.{applying}
-use Rattle.tf_environment.specs.Standing.{StandingView, AreStandings, environment}
-use Rattle.tf_environment.specs.Views.{standings_of}
-use Rattle.tf_environment.specs.declared.standing.Standing.{Standing}
+use Rattle.tf_environment.specs.Resolved.{ResolvedView, AreResolvedNames, environment}
+use Rattle.tf_environment.specs.Views.{resolved_names_of}
+use Rattle.tf_environment.specs.declared.resolved.Resolved.{Resolved}
 use Rattle.tf_change.proofs.Locals.{instances_local}
 use Rattle.tf_change.specs.Instance.{instance_object, instance_of, object_in}
 use Rattle.tf_change.specs.declared.instance.InstanceFault.{InstanceFault}
@@ -80,30 +80,30 @@ instance_same schema b key e f agree =
     sym (object_bare schema b key e) ∙ instances_local expressions_local schema (bare_block b) key e f all ∙ object_bare schema b key f
 
 -- what stands at some places, where these and what is kept have another name
-pub standing_same : (standings : ℕ → StandingView) (others named : List ℕ) (kept slice : List Standing) → others ≡ named → slice ≡ kept → AllByRecursion (λ n. standings_of kept n ≡ standings n) others
-    → AllByRecursion (λ n. standings_of slice n ≡ standings n) named
-standing_same standings others named kept slice e f h = rw (sym e, f) h
+pub standing_same : (resolved_names : ℕ → ResolvedView) (others named : List ℕ) (kept slice : List Resolved) → others ≡ named → slice ≡ kept → AllByRecursion (λ n. resolved_names_of kept n ≡ resolved_names n) others
+    → AllByRecursion (λ n. resolved_names_of slice n ≡ resolved_names n) named
+standing_same resolved_names others named kept slice e f h = rw (sym e, f) h
 
 -- the object of an instance where so much stands is what is asked for
-pub requested : (variables : Entries) (names : List NameView) (shapes : ℕ → ShapeView) (objects : ℕ → InstanceKeyView → Tree) (kept : ℕ → StandingView) (found : BlockView) (place : ℕ) → meant_at names place ≡ Some (a_block found)
-    → ((standings : ℕ → StandingView) → AreStandings (applying shapes objects) variables names standings → AllByRecursion (λ n. kept n ≡ standings n) (places names (instance_names found)))
+pub requested : (variables : Entries) (names : List NameView) (shapes : ℕ → InstanceKeysView) (objects : ℕ → InstanceKeyView → Tree) (kept : ℕ → ResolvedView) (found : BlockView) (place : ℕ) → meant_at names place ≡ Some (a_block found)
+    → ((resolved_names : ℕ → ResolvedView) → AreResolvedNames (applying shapes objects) variables names resolved_names → AllByRecursion (λ n. kept n ≡ resolved_names n) (places names (instance_names found)))
     → (key : InstanceKeyView) (schema : SchemaView) (result : Result (Result Value InstanceFault) AllocError)
     → IfOk result (λ request. instance_of request ≡ instance_object schema found key (environment variables names kept))
     → IfOk result (λ request. IsRequest variables names shapes objects place key schema (instance_of request))
-requested variables names shapes objects kept found place is same key schema (Ok request) planned = λ standings block solves meant.
-    let agree = agree_on variables names kept standings (instance_names found) (same standings solves) in
+requested variables names shapes objects kept found place is same key schema (Ok request) planned = λ resolved_names block solves meant.
+    let agree = agree_on variables names kept resolved_names (instance_names found) (same resolved_names solves) in
     let one : found ≡ block = (cc) in
-    planned ∙ instance_same schema found key (environment variables names kept) (environment variables names standings) agree
-    ∙ ap (λ b. instance_object schema b key (environment variables names standings)) one
+    planned ∙ instance_same schema found key (environment variables names kept) (environment variables names resolved_names) agree
+    ∙ ap (λ b. instance_object schema b key (environment variables names resolved_names)) one
 requested variables names shapes objects kept found place is same key schema (Err e) planned = planned
 
 -- what an expression means where so much stands is what the output is
-pub answered : (variables : Entries) (names : List NameView) (shapes : ℕ → ShapeView) (objects : ℕ → InstanceKeyView → Tree) (kept : ℕ → StandingView) (e : expr.Tree)
-    → ((standings : ℕ → StandingView) → AreStandings (applying shapes objects) variables names standings → AllByRecursion (λ n. kept n ≡ standings n) (places names (named_by e)))
+pub answered : (variables : Entries) (names : List NameView) (shapes : ℕ → InstanceKeysView) (objects : ℕ → InstanceKeyView → Tree) (kept : ℕ → ResolvedView) (e : expr.Tree)
+    → ((resolved_names : ℕ → ResolvedView) → AreResolvedNames (applying shapes objects) variables names resolved_names → AllByRecursion (λ n. kept n ≡ resolved_names n) (places names (named_by e)))
     → (result : Result (Result Value EvalFault) AllocError)
     → IfOk result (λ output. Answers (without_sets (meaning (environment variables names kept) e)) output)
     → IfOk result (λ output. IsOutput variables names shapes objects e output)
-answered variables names shapes objects kept e same (Ok output) given = λ standings solves.
-    let agree = agree_on variables names kept standings (named_by e) (same standings solves) in
-    rw (sym (expressions_local (environment variables names kept) (environment variables names standings) e agree)) given
+answered variables names shapes objects kept e same (Ok output) given = λ resolved_names solves.
+    let agree = agree_on variables names kept resolved_names (named_by e) (same resolved_names solves) in
+    rw (sym (expressions_local (environment variables names kept) (environment variables names resolved_names) e agree)) given
 answered variables names shapes objects kept e same (Err why) given = given

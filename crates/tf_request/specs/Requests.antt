@@ -11,9 +11,9 @@ use Rattle.tf_value.specs.Sets.{with_lists}
 use Rattle.tf_value.specs.Tree.{Tree, Entries}
 use Rattle.tf_value.specs.declared.value.Value.{Value}
 use Rattle.tf_eval.specs.ExprMeaning.{meaning}
-use Rattle.tf_environment.specs.Shape.{ShapeView}
+use Rattle.tf_environment.specs.InstanceKeys.{InstanceKeysView}
 use Rattle.tf_environment.specs.Stages.{applying}
-use Rattle.tf_environment.specs.Standing.{StandingView, AreStandings, environment}
+use Rattle.tf_environment.specs.Resolved.{ResolvedView, AreResolvedNames, environment}
 use Rattle.tf_change.specs.Instance.{InstanceFaultView, instance_object}
 
 -- whether what stands at a place is a resource
@@ -23,10 +23,10 @@ is_resource _ = false
 
 -- What is asked of a provider for the create of an instance, or what is wrong with it: the object that is planned for
 -- it where each name stands for what it does in the apply, resources for the objects that their providers answered.
-abbrev pub IsRequest : Entries → List NameView → (ℕ → ShapeView) → (ℕ → InstanceKeyView → Tree) → ℕ → InstanceKeyView → SchemaView → Result Tree InstanceFaultView → Type 0
+abbrev pub IsRequest : Entries → List NameView → (ℕ → InstanceKeysView) → (ℕ → InstanceKeyView → Tree) → ℕ → InstanceKeyView → SchemaView → Result Tree InstanceFaultView → Type 0
 IsRequest variables names shapes objects place key schema request =
-    (standings : ℕ → StandingView) (block : BlockView) → AreStandings (applying shapes objects) variables names standings → meant_at names place ≡ Some (a_block block)
-    → request ≡ instance_object schema block key (environment variables names standings)
+    (resolved_names : ℕ → ResolvedView) (block : BlockView) → AreResolvedNames (applying shapes objects) variables names resolved_names → meant_at names place ≡ Some (a_block block)
+    → request ≡ instance_object schema block key (environment variables names resolved_names)
 
 -- a value with lists in place of sets, or the fault in its place
 abbrev pub without_sets : Answer → Answer
@@ -35,12 +35,12 @@ without_sets (Err why) = Err why
 
 -- What an output is after an apply, or the fault of its expression: what the expression means where each name stands
 -- for what it does in the apply, with the list of its texts in place of each set.
-abbrev pub IsOutput : Entries → List NameView → (ℕ → ShapeView) → (ℕ → InstanceKeyView → Tree) → expr.Tree → Result Value EvalFault → Type 0
+abbrev pub IsOutput : Entries → List NameView → (ℕ → InstanceKeysView) → (ℕ → InstanceKeyView → Tree) → expr.Tree → Result Value EvalFault → Type 0
 IsOutput variables names shapes objects e output =
-    (standings : ℕ → StandingView) → AreStandings (applying shapes objects) variables names standings
-    → Answers (without_sets (meaning (environment variables names standings) e)) output
+    (resolved_names : ℕ → ResolvedView) → AreResolvedNames (applying shapes objects) variables names resolved_names
+    → Answers (without_sets (meaning (environment variables names resolved_names) e)) output
 
 -- What stands at a place so far is what the name there stands for in the apply. At other places nothing stands yet.
-abbrev pub AreStandingsSoFar : Entries → List NameView → (ℕ → ShapeView) → (ℕ → InstanceKeyView → Tree) → (ℕ → StandingView) → Type 0
-AreStandingsSoFar variables names shapes objects kept =
-    (standings : ℕ → StandingView) → AreStandings (applying shapes objects) variables names standings → (n : ℕ) → is_some (kept n) ≡ true → kept n ≡ standings n
+abbrev pub AreResolvedSoFar : Entries → List NameView → (ℕ → InstanceKeysView) → (ℕ → InstanceKeyView → Tree) → (ℕ → ResolvedView) → Type 0
+AreResolvedSoFar variables names shapes objects kept =
+    (resolved_names : ℕ → ResolvedView) → AreResolvedNames (applying shapes objects) variables names resolved_names → (n : ℕ) → is_some (kept n) ≡ true → kept n ≡ resolved_names n

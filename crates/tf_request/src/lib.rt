@@ -8,10 +8,10 @@
 mod named;
 mod outputs;
 mod requests;
+mod resolved;
 mod resources;
 mod results;
 mod sharing;
-mod standing;
 mod wanted;
 
 pub use outputs::output_value;

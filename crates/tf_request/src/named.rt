@@ -6,13 +6,13 @@ ghost use Rattle.tf_request.specs.Wanted.{instance_names, named_in_for_each};
 
 use std::alloc::{AllocError, Global};
 use tf_config_data::{Block, Repetition};
-use tf_names::Names;
+use tf_names::Declarations;
 
 /// The places of what `for_each` and the arguments of a block name, as often as they do. What isn't declared is left
 /// out, and so are `count` and `depends_on`: neither is evaluated for one instance.
 pub(crate) fn named_for_instance(
     alloc: Global,
-    names: &Names<'_>,
+    names: &Declarations<'_>,
     block: &Block,
 ) -> Result<Vec<usize>, AllocError>
     ensures { IfOk result (λ named. (label : LabelView) → named.items ≡ places (names_in names.now) (instance_names (block_at label block.now))) }
@@ -28,7 +28,7 @@ pub(crate) fn named_for_instance(
 /// The places of what `for_each` names.
 fn named_in_for_each(
     alloc: Global,
-    names: &Names<'_>,
+    names: &Declarations<'_>,
     repetition: &Repetition,
 ) -> Result<Vec<usize>, AllocError>
     ensures { IfOk result (λ named. named.items ≡ places (names_in names.now) (named_in_for_each (repetition_of repetition.now))) }

@@ -1,14 +1,14 @@
 //! What outputs are after an apply.
 
 ghost use Rattle.std.specs.Prelude.{IfOk};
-ghost use Rattle.tf_environment.specs.Words.{Answers, entries_view, IsAcyclic, IsDependence, meaning, names_in, shapes_of, standings_of};
+ghost use Rattle.tf_environment.specs.Words.{Answers, entries_view, IsAcyclic, IsDependence, meaning, names_in, shapes_of, resolved_names_of};
 ghost use Rattle.tf_syntax.specs.ExprTree.{tree_of};
-ghost use Rattle.tf_request.specs.Requests.{AreStandingsSoFar, IsOutput, without_sets};
+ghost use Rattle.tf_request.specs.Requests.{AreResolvedSoFar, IsOutput, without_sets};
 
 use crate::results::Results;
-use crate::sharing::add_standings;
+use crate::sharing::add_resolved_names;
 use std::alloc::{AllocError, Global};
-use tf_environment::{Declarations, NamesScope, Shape, Standing};
+use tf_environment::{InstanceKeys, Module, NamesScope, Resolved};
 use tf_eval::{EvalFault, Scope, eval_expr};
 use tf_syntax::Expr;
 use tf_value::{Value, with_lists};
@@ -26,27 +26,27 @@ use tf_value::{Value, with_lists};
 /// Only where memory runs out. What stands in `kept` is right then too, and may be more than before.
 pub fn output_value<R: Results>(
     alloc: Global,
-    declared: &Declarations,
-    shapes: &[Shape],
+    declared: &Module,
+    shapes: &[InstanceKeys],
     expr: &Expr,
     results: &R,
-    kept: &mut Vec<Standing>,
+    kept: &mut Vec<Resolved>,
 ) -> Result<Result<Value, EvalFault>, AllocError>
     requires dependence { IsDependence (names_in declared.now.names.now) declared.now.dependence.now }
     requires acyclic { IsAcyclic declared.now.dependence.now }
-    requires answered { AreStandingsSoFar (entries_view declared.now.variables.now.entries) (names_in declared.now.names.now)
-        (shapes_of shapes.now) (R.objects results.now) (standings_of kept.old.items) }
+    requires answered { AreResolvedSoFar (entries_view declared.now.variables.now.entries) (names_in declared.now.names.now)
+        (shapes_of shapes.now) (R.objects results.now) (resolved_names_of kept.old.items) }
     ensures output { IfOk result (λ output. IsOutput (entries_view declared.now.variables.now.entries) (names_in declared.now.names.now)
         (shapes_of shapes.now) (R.objects results.now) (tree_of expr.now) output) }
-    ensures answered { AreStandingsSoFar (entries_view declared.now.variables.now.entries) (names_in declared.now.names.now)
-        (shapes_of shapes.now) (R.objects results.now) (standings_of kept.new.items) }
+    ensures answered { AreResolvedSoFar (entries_view declared.now.variables.now.entries) (names_in declared.now.names.now)
+        (shapes_of shapes.now) (R.objects results.now) (resolved_names_of kept.new.items) }
 {
     let named = declared.names.named_in(alloc, expr)?;
-    add_standings(alloc, declared, shapes, named.as_slice(), results, kept)?;
+    add_resolved_names(alloc, declared, shapes, named.as_slice(), results, kept)?;
     let scope = NamesScope {
         variables: declared.variables,
         names: declared.names,
-        standings: kept.as_slice(),
+        resolved_names: kept.as_slice(),
     };
     listed_value(alloc, expr, &scope)
 }

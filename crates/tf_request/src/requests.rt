@@ -1,19 +1,19 @@
 //! What is asked of a provider for an instance.
 
 ghost use Rattle.std.specs.Prelude.{◌≡◌, true, IfOk};
-ghost use Rattle.tf_environment.specs.Words.{entries_view, instance_key_of, IsAcyclic, IsDependence, meant_at, names_in, shapes_of, standings_of, tree_of};
+ghost use Rattle.tf_environment.specs.Words.{entries_view, instance_key_of, IsAcyclic, IsDependence, meant_at, names_in, shapes_of, resolved_names_of, tree_of};
 ghost use Rattle.tf_change.specs.Bounded.{has_planned_attributes};
 ghost use Rattle.tf_change.specs.Instance.{instance_of};
-ghost use Rattle.tf_request.specs.Requests.{AreStandingsSoFar, IsRequest, is_resource};
+ghost use Rattle.tf_request.specs.Requests.{AreResolvedSoFar, IsRequest, is_resource};
 
 use crate::named::named_for_instance;
 use crate::results::Results;
-use crate::sharing::add_standings;
+use crate::sharing::add_resolved_names;
 use std::alloc::{AllocError, Global};
 use tf_address::InstanceKey;
 use tf_change::{InstanceFault, plan_instance};
-use tf_environment::{Declarations, NamesScope, Shape, Standing};
-use tf_names::Named;
+use tf_environment::{InstanceKeys, Module, NamesScope, Resolved};
+use tf_names::Declaration;
 use tf_protocol::Schema;
 use tf_value::Value;
 
@@ -23,41 +23,41 @@ use tf_value::Value;
 /// expressions don't name, directly or through locals.
 ///
 /// `kept` has what names stand for so far, by place, none at first, and then also what they stand for that the block names:
-/// requests that share it, by the same answers, have each local evaluated once and each resource's objects laid out once.
+/// requests that share it, by the same answers, have each local evaluated once and each resource's objects collected once.
 ///
 /// # Errors
 ///
 /// Only where memory runs out. What stands in `kept` is right then too, and may be more than before.
 pub fn request<R: Results>(
     alloc: Global,
-    declared: &Declarations,
-    shapes: &[Shape],
+    declared: &Module,
+    shapes: &[InstanceKeys],
     schema: &Schema,
     place: usize,
     key: &InstanceKey,
     results: &R,
-    kept: &mut Vec<Standing>,
+    kept: &mut Vec<Resolved>,
 ) -> Result<Result<Value, InstanceFault>, AllocError>
     requires dependence { IsDependence (names_in declared.now.names.now) declared.now.dependence.now }
     requires acyclic { IsAcyclic declared.now.dependence.now }
     requires resource { is_resource (meant_at (names_in declared.now.names.now) place) ≡ true }
-    requires answered { AreStandingsSoFar (entries_view declared.now.variables.now.entries) (names_in declared.now.names.now)
-        (shapes_of shapes.now) (R.objects results.now) (standings_of kept.old.items) }
+    requires answered { AreResolvedSoFar (entries_view declared.now.variables.now.entries) (names_in declared.now.names.now)
+        (shapes_of shapes.now) (R.objects results.now) (resolved_names_of kept.old.items) }
     ensures request { IfOk result (λ request. IsRequest (entries_view declared.now.variables.now.entries) (names_in declared.now.names.now)
         (shapes_of shapes.now) (R.objects results.now) place (instance_key_of key.now) schema.now (instance_of request)) }
     ensures within { IfOk result (λ request. IfOk request (λ v. has_planned_attributes (tree_of v) ≡ true)) }
-    ensures answered { AreStandingsSoFar (entries_view declared.now.variables.now.entries) (names_in declared.now.names.now)
-        (shapes_of shapes.now) (R.objects results.now) (standings_of kept.new.items) }
+    ensures answered { AreResolvedSoFar (entries_view declared.now.variables.now.entries) (names_in declared.now.names.now)
+        (shapes_of shapes.now) (R.objects results.now) (resolved_names_of kept.new.items) }
 {
-    let Named::Resource(_, block) = declared.names.at(place) else {
+    let Declaration::Resource(_, block) = declared.names.at(place) else {
         unreachable!()
     };
     let named = named_for_instance(alloc, declared.names, block)?;
-    add_standings(alloc, declared, shapes, named.as_slice(), results, kept)?;
+    add_resolved_names(alloc, declared, shapes, named.as_slice(), results, kept)?;
     let scope = NamesScope {
         variables: declared.variables,
         names: declared.names,
-        standings: kept.as_slice(),
+        resolved_names: kept.as_slice(),
     };
     plan_instance(alloc, schema, block, key, &scope)
 }

@@ -3,14 +3,14 @@
 ghost use Rattle.std.specs.List.{AllByRecursion, list_all};
 ghost use Rattle.std.specs.Prelude.{◌≡◌, ◌<◌, Some, length};
 ghost use Rattle.tf_config_data.specs.Names.{meant_at};
-ghost use Rattle.tf_names.specs.Table.{named_view, names_in};
+ghost use Rattle.tf_names.specs.Table.{declaration_of, names_in};
 ghost use Rattle.tf_request.specs.Requests.{is_resource};
 
-use tf_environment::Declarations;
-use tf_names::Named;
+use tf_environment::Module;
+use tf_names::Declaration;
 
 /// Whether a resource is at each of some places.
-pub(crate) fn are_resources(declared: &Declarations, places: &[usize]) -> bool
+pub(crate) fn are_resources(declared: &Module, places: &[usize]) -> bool
     requires { AllByRecursion (λ n. n < length (names_in declared.now.names.now)) places.now }
     ensures { result ≡ list_all (λ n. is_resource (meant_at (names_in declared.now.names.now) n)) places.now }
 {
@@ -23,12 +23,12 @@ pub(crate) fn are_resources(declared: &Declarations, places: &[usize]) -> bool
 }
 
 /// Whether a name is a resource.
-fn is_resource(named: Named<'_>) -> bool
-    ensures { result ≡ is_resource (Some (named_view named.entry).meant) }
+fn is_resource(named: Declaration<'_>) -> bool
+    ensures { result ≡ is_resource (Some (declaration_of named.entry).meant) }
 {
     match named {
-        Named::Local(_, _) => false,
-        Named::Resource(_, _) => true,
+        Declaration::Local(_, _) => false,
+        Declaration::Resource(_, _) => true,
     }
 }
 

@@ -6,7 +6,7 @@ ghost use Rattle.tf_value.specs.Tree.{Tree, tree_of};
 
 use std::alloc::{AllocError, Global};
 use tf_address::InstanceKey;
-use tf_environment::{Objects, Resource};
+use tf_environment::{Objects, ResourceInScope};
 use tf_eval::Scope;
 use tf_value::Value;
 
@@ -26,17 +26,17 @@ pub trait Results {
 
 /// Answered objects as those of the apply's stage.
 #[derive(Drop)]
-pub(crate) struct Answered<'a, R> {
+pub(crate) struct InstanceAnswers<'a, R> {
     pub results: &'a R,
 }
 
-impl<R: Results> Objects for Answered<'_, R> {
+impl<R: Results> Objects for InstanceAnswers<'_, R> {
     ghost planned = { λ a n block env key. Some (R.objects a.results.now n key) };
 
     fn object<S: Scope>(
         &self,
         alloc: Global,
-        resource: &Resource<'_, S>,
+        resource: &ResourceInScope<'_, S>,
         key: &InstanceKey,
     ) -> Result<Option<Value>, AllocError> {
         Ok(Some(self.results.object(alloc, resource.place, key)?))

@@ -2,39 +2,39 @@
 
 ghost use Rattle.std.specs.List.{AllByRecursion};
 ghost use Rattle.std.specs.Prelude.{◌≡◌, ◌<◌, ◌≤◌, ◌&&◌, ℕ, OnOk, true, is_some, length, not};
-ghost use Rattle.tf_environment.specs.Words.{entries_view, has, IsAcyclic, IsDependence, names_in, shapes_of, standings_of};
-ghost use Rattle.tf_request.specs.Requests.{AreStandingsSoFar};
+ghost use Rattle.tf_environment.specs.Words.{entries_view, has, IsAcyclic, IsDependence, names_in, shapes_of, resolved_names_of};
+ghost use Rattle.tf_request.specs.Requests.{AreResolvedSoFar};
 
+use crate::resolved::RequestObjects;
 use crate::resources::{are_resources, past_last};
 use crate::results::Results;
-use crate::standing::Applied;
 use crate::wanted::wanted_by;
 use std::alloc::{AllocError, Global};
-use tf_environment::{Declarations, Shape, Standing, all_stand};
+use tf_environment::{InstanceKeys, Module, Resolved, all_stand};
 
 /// Adds what the names at some places stand for, and all that is wanted for them, to what names stand for so far. What
 /// stands already isn't worked out again. Where memory runs out, what was worked out by then stays.
-pub(crate) fn add_standings<R: Results>(
+pub(crate) fn add_resolved_names<R: Results>(
     alloc: Global,
-    declared: &Declarations,
-    shapes: &[Shape],
+    declared: &Module,
+    shapes: &[InstanceKeys],
     others: &[usize],
     results: &R,
-    kept: &mut Vec<Standing>,
+    kept: &mut Vec<Resolved>,
 ) -> Result<(), AllocError>
     requires dependence { IsDependence (names_in declared.now.names.now) declared.now.dependence.now }
     requires acyclic { IsAcyclic declared.now.dependence.now }
     requires within { AllByRecursion (λ n. n < length (names_in declared.now.names.now)) others.now }
-    requires answered { AreStandingsSoFar (entries_view declared.now.variables.now.entries) (names_in declared.now.names.now)
-        (shapes_of shapes.now) (R.objects results.now) (standings_of kept.old.items) }
-    ensures answered { AreStandingsSoFar (entries_view declared.now.variables.now.entries) (names_in declared.now.names.now)
-        (shapes_of shapes.now) (R.objects results.now) (standings_of kept.new.items) }
-    ensures there { OnOk result (AllByRecursion (λ n. is_some (standings_of kept.new.items n) ≡ true) others.now) }
+    requires answered { AreResolvedSoFar (entries_view declared.now.variables.now.entries) (names_in declared.now.names.now)
+        (shapes_of shapes.now) (R.objects results.now) (resolved_names_of kept.old.items) }
+    ensures answered { AreResolvedSoFar (entries_view declared.now.variables.now.entries) (names_in declared.now.names.now)
+        (shapes_of shapes.now) (R.objects results.now) (resolved_names_of kept.new.items) }
+    ensures there { OnOk result (AllByRecursion (λ n. is_some (resolved_names_of kept.new.items n) ≡ true) others.now) }
 {
     if all_stand(kept.as_slice(), others) {
         return Ok(());
     }
-    let applied = Applied {
+    let applied = RequestObjects {
         alloc,
         declared,
         shapes,
@@ -50,19 +50,19 @@ pub(crate) fn add_standings<R: Results>(
 }
 
 /// Makes room for so many names; nothing stands at the places that are added.
-fn fill(kept: &mut Vec<Standing>, count: usize) -> Result<(), AllocError>
+fn fill(kept: &mut Vec<Resolved>, count: usize) -> Result<(), AllocError>
     ensures room { OnOk result (count ≤ length kept.new.items) }
-    ensures same { (n : ℕ) → standings_of kept.new.items n ≡ standings_of kept.old.items n }
+    ensures same { (n : ℕ) → resolved_names_of kept.new.items n ≡ resolved_names_of kept.old.items n }
 {
     for _ in kept.len()..count {
-        kept.push(Standing::Nothing)?;
+        kept.push(Resolved::Nothing)?;
     }
     Ok(())
 }
 
 /// Whether a place is wanted and nothing stands there.
-pub(crate) fn is_missing(kept: &[Standing], wanted: &[bool], place: usize) -> bool
-    ensures { result ≡ has wanted.now place && not (is_some (standings_of kept.now place)) }
+pub(crate) fn is_missing(kept: &[Resolved], wanted: &[bool], place: usize) -> bool
+    ensures { result ≡ has wanted.now place && not (is_some (resolved_names_of kept.now place)) }
 {
     contains(wanted, place) && !stands(kept, place)
 }
@@ -75,11 +75,11 @@ fn contains(wanted: &[bool], place: usize) -> bool
 }
 
 /// Whether something stands at a place.
-pub(crate) fn stands(kept: &[Standing], place: usize) -> bool
-    ensures { result ≡ is_some (standings_of kept.now place) }
+pub(crate) fn stands(kept: &[Resolved], place: usize) -> bool
+    ensures { result ≡ is_some (resolved_names_of kept.now place) }
 {
     match kept.get(place) {
-        Some(standing) => standing.is_there(),
+        Some(resolved) => resolved.is_there(),
         None => false,
     }
 }

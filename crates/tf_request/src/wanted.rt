@@ -6,14 +6,14 @@ ghost use Rattle.tf_environment.specs.Words.{directly_before, has, IsAcyclic, Is
 ghost use Rattle.tf_request.specs.Wanted.{IsWanted, is_local};
 
 use std::alloc::{AllocError, Global};
-use tf_environment::{Declarations, mark, none_marked};
-use tf_names::Named;
+use tf_environment::{Module, mark, none_marked};
+use tf_names::Declaration;
 
 /// For each place, whether the name there is wanted: it is at one of these places, or the expression of a wanted local
 /// names it.
 pub(crate) fn wanted_by(
     alloc: Global,
-    declared: &Declarations,
+    declared: &Module,
     others: &[usize],
 ) -> Result<Vec<bool>, AllocError>
     requires dependence { IsDependence (names_in declared.now.names.now) declared.now.dependence.now }
@@ -32,7 +32,7 @@ pub(crate) fn wanted_by(
 }
 
 /// Marks what the expression at a place names, where a marked local stands there.
-fn mark_named(declared: &Declarations, wanted: &mut [bool], place: usize)
+fn mark_named(declared: &Module, wanted: &mut [bool], place: usize)
     requires dependence { IsDependence (names_in declared.now.names.now) declared.now.dependence.now }
     requires length { length wanted.old ≡ length (names_in declared.now.names.now) }
     requires place { place < length (names_in declared.now.names.now) }
@@ -44,7 +44,7 @@ fn mark_named(declared: &Declarations, wanted: &mut [bool], place: usize)
         return;
     }
     match declared.names.at(place) {
-        Named::Local(_, _) => mark(wanted, declared.dependence.before(place)),
-        Named::Resource(_, _) => {}
+        Declaration::Local(_, _) => mark(wanted, declared.dependence.before(place)),
+        Declaration::Resource(_, _) => {}
     }
 }

@@ -1,12 +1,12 @@
 -- What ends of all actions that fit together give a report.
 use Rattle.std.proofs.Common.{◌≡◌, ◌<◌, ℕ, zero, suc, false, List, [], ◌∷◌, ◌++◌, length, map, arith}
-use Rattle.tf_additions.specs.Addition.{AreJudged}
+use Rattle.tf_additions.specs.ActionReport.{AreJudged}
 use Rattle.tf_walk_workers.proofs.Outcomes.{true_outcomes, excused_faultless}
 use Rattle.tf_walk_workers.specs.Laws.{FitTogether}
 use Rattle.tf_graph.specs.Digraph.{predecessors_of}
 use Rattle.tf_graph.specs.Solutions.{Ranked, seen_by}
 use Rattle.tf_outcome.specs.Excuse.{Moment, during_call}
-use Rattle.tf_outcome.specs.Outcome.{Done, excused, Requests, AreRequests, call_at, done_at, is_faulted, op_of}
+use Rattle.tf_outcome.specs.Outcome.{ActionResultView, excused, Requests, AreRequests, call_at, done_at, is_faulted, op_of}
 use Rattle.tf_plan_data.specs.Plan.{PlanView}
 use Rattle.tf_protocol.specs.Meaning.{Meaning}
 use Rattle.tf_walk_report.proofs.Excused.{excuses-with_outputs}
@@ -15,12 +15,12 @@ use Rattle.tf_walk_report.specs.Outcomes.{excuses_from}
 use Rattle.tf_walk_report.specs.OutputsTold.{output_excuses}
 
 -- an action that was excused has a place in the list
-excused-below : (done : List Done) (n : ℕ) (m : Moment) → done_at done n ≡ excused m → n < length done
+excused-below : (done : List ActionResultView) (n : ℕ) (m : Moment) → done_at done n ≡ excused m → n < length done
 excused-below [] n m e = absurd (cc)
 excused-below (d ∷ done) zero m e = omega arith
 excused-below (d ∷ done) (suc n) m e = let r = excused-below done n m e in omega arith
 
-module _ (ms : List Meaning) (plan : PlanView) (done : List Done) (ranked : Ranked (predecessors_of plan.order)) (fit : FitTogether ms plan done) (requests : Requests) (are : AreRequests plan requests) where
+module _ (ms : List Meaning) (plan : PlanView) (done : List ActionResultView) (ranked : Ranked (predecessors_of plan.order)) (fit : FitTogether ms plan done) (requests : Requests) (are : AreRequests plan requests) where
   -- of an action that was excused during its call the request has no fault
   pub fit-asked : (n : ℕ) → done_at done n ≡ excused during_call → is_faulted (call_at ms requests plan n (seen_by (done_at done) (predecessors_of plan.order n))) ≡ false
   fit-asked n is =

@@ -3,10 +3,10 @@ use Rattle.std.proofs.Common.{◌≡◌, ◌&&◌, ℕ, Bool, true, false, not, 
 use mathlib.Core.Bool.{beq}
 use Rattle.std.specs.List.{list_all}
 use Rattle.tf_graph.specs.Solutions.{seen_by}
-use Rattle.tf_outcome.specs.Outcome.{Done, is_good, all_good}
+use Rattle.tf_outcome.specs.Outcome.{ActionResultView, is_good, all_good}
 
 -- all that is seen is good where each action is
-pub all_good_seen : (results : ℕ → Done) (nodes : List ℕ) → all_good (seen_by results nodes) ≡ list_all (λ n. is_good (results n)) nodes
+pub all_good_seen : (results : ℕ → ActionResultView) (nodes : List ℕ) → all_good (seen_by results nodes) ≡ list_all (λ n. is_good (results n)) nodes
 all_good_seen results [] = refl
 all_good_seen results (n ∷ nodes) = ap (λ b. is_good (results n) && b) (all_good_seen results nodes)
 

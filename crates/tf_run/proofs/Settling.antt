@@ -5,7 +5,7 @@ use Rattle.tf_plan_data.specs.Action.{ActionView}
 use Rattle.tf_graph.specs.Digraph.{Digraph}
 use Rattle.tf_outcome.specs.Excuse.{Moment, before_call, during_call, by_stop}
 use Rattle.tf_outcome.specs.Journal.{IsJournal, entered_verdict}
-use Rattle.tf_outcome.specs.Outcome.{Done, skipped, excused, faulted, called, done_at, excuse_in}
+use Rattle.tf_outcome.specs.Outcome.{ActionResultView, skipped, excused, faulted, called, done_at, excuse_in}
 use Rattle.tf_outputs.specs.Outputs.{end_of}
 use Rattle.tf_plan_data.specs.Plan.{PlanView}
 use Rattle.tf_protocol.specs.Meaning.{Meaning}
@@ -19,7 +19,7 @@ use Rattle.tf_walk_report.specs.Told.{is_during, verdict_of, verdict_told}
 use Rattle.tf_walk_report.proofs.Excused.{excuses-with_outputs}
 use Rattle.tf_run.specs.Run.{IsRun}
 
-told-one : (d : Done) (o : Option Moment) → o ≡ excuse_in d → verdict_of (Some (outcome_of d)) (is_during o) ≡ entered_verdict d
+told-one : (d : ActionResultView) (o : Option Moment) → o ≡ excuse_in d → verdict_of (Some (outcome_of d)) (is_during o) ≡ entered_verdict d
 told-one skipped o e = refl
 told-one (excused before_call) o e = rw e refl
 told-one (excused during_call) o e = rw e refl
@@ -28,7 +28,7 @@ told-one (faulted why) o e = refl
 told-one (called q a v) o e = refl
 
 -- the verdict that is told of an action is that of what came of it
-told-each : (done : List Done) (n : ℕ) (o : Option Moment) → o ≡ excuse_in (done_at done n) → verdict_of (slice_get (map outcome_of done) n) (is_during o) ≡ entered_verdict (done_at done n)
+told-each : (done : List ActionResultView) (n : ℕ) (o : Option Moment) → o ≡ excuse_in (done_at done n) → verdict_of (slice_get (map outcome_of done) n) (is_during o) ≡ entered_verdict (done_at done n)
 told-each [] n o e = refl
 told-each (d ∷ done) zero o e = told-one d o e
 told-each (d ∷ done) (suc n) o e = told-each done n o e

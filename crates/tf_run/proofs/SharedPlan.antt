@@ -13,16 +13,16 @@ use Rattle.tf_plan_data.specs.contracts.step.Step as step
 use Rattle.tf_address.specs.contracts.label.Label as label
 use Rattle.tf_address.specs.contracts.object_id.InstanceKey as key
 use Rattle.tf_walk_workers.proofs.SharedCells.{cells_sync}
-use Rattle.tf_walk_workers.specs.declared.naming.Naming.{Ghosts}
+use Rattle.tf_walk_workers.specs.declared.walk_brand.WalkBrand.{Ghosts}
 use Rattle.tf_config_data.specs.contracts.config.Block as block
 use Rattle.tf_config_data.specs.contracts.config.Config as config
 use Rattle.tf_config_data.specs.contracts.variable.Variable as variable
 use Rattle.tf_names.specs.contracts.dependence.Dependence as dependence
-use Rattle.tf_names.specs.contracts.named.Named as named
-use Rattle.tf_names.specs.contracts.table.Names as names
+use Rattle.tf_names.specs.contracts.declaration.Declaration as named
+use Rattle.tf_names.specs.contracts.table.Declarations as names
 use Rattle.tf_plan_data.specs.contracts.plan.Plan as plan
 use Rattle.tf_precedence.specs.contracts.order.Order as order
-use Rattle.tf_run.specs.contracts.walk.Grounds as grounds
+use Rattle.tf_run.specs.contracts.walk.BorrowedInput as walk_inputs
 use Rattle.tf_state_data.specs.contracts.state.State as state
 use Rattle.tf_syntax.proofs.expr.Expr.TheLaws.TheKnot as expr
 use Rattle.tf_syntax.proofs.tree.Term.TheLaws.TheKnot as term
@@ -74,6 +74,6 @@ named_sync κ = search (label_sync, block_sync, expression_sync, maps.String-syn
 names_sync : (κ : NamedLft) → IsSync (names.the_row κ)
 names_sync κ = search (named_sync, maps.crosses, crosses, sendable) depth 60 fits 20000
 
-pub grounds_sync : (κ : NamedLft) (T : RattleType) (g : Ghosts T.Denot) → IsSend T → IsSync T → IsSync (grounds.the_row κ T g)
+pub grounds_sync : (κ : NamedLft) (T : RattleType) (g : Ghosts T.Denot) → IsSend T → IsSync T → IsSync (walk_inputs.the_row κ T g)
 grounds_sync κ T g s y =
-    recorded_sync _ _ _ (grounds.the_type κ T g).to_one (struct_sync (shape (grounds.the_type κ T g)) (search (plan_sync, sendable), (search (names_sync, sendable), (search (cells_sync, sendable), tt))))
+    recorded_sync _ _ _ (walk_inputs.the_type κ T g).to_one (struct_sync (shape (walk_inputs.the_type κ T g)) (search (plan_sync, sendable), (search (names_sync, sendable), (search (cells_sync, sendable), tt))))

@@ -10,5 +10,5 @@ use Rattle.tf_walk_workers.specs.Memo.{IsTrueMemo}
 
 -- A worker sits at the claims of its walk, and what it saw for the last action that it asked for is true.
 pub record IsPost {N : Type 0} (ms : List Meaning) (walk : PlanView) (plan : Plan) (names : List NameView) (claims : Shared) (post : Post N) : Type 0 where
-  pub seat : post.desk.seat.table ≡ claims.table
+  pub seat : post.worker_state.seat.table ≡ claims.table
   pub memo : IfSome post.memo (IsTrueMemo ms walk plan names)

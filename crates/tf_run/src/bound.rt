@@ -1,11 +1,11 @@
 //! Which hints the workers of a walk may have.
 
 use std::marker::PhantomData;
-use tf_walk_workers::{Bound, Naming};
+use tf_walk_workers::{HintBound, WalkBrand};
 
 /// Each hint is an action of the walk's plan.
-pub(crate) struct InPlan<N>(PhantomData<N>);
+pub(crate) struct PlanBound<N>(PhantomData<N>);
 
-impl<N: Naming> Bound for InPlan<N> {
+impl<N: WalkBrand> HintBound for PlanBound<N> {
     ghost bound = { N.plan.order.nodes };
 }

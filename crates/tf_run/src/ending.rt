@@ -2,39 +2,39 @@
 
 ghost use Rattle.std.specs.Prelude.{◌≡◌, List, None, map, replicate};
 ghost use Rattle.tf_outcome.specs.Words.{FitsTogether, names_in, plan_names, plan_of};
-ghost use Rattle.tf_walk_report.specs.Furnished.{IsFurnished};
+ghost use Rattle.tf_walk_report.specs.Reserved.{AreReserved};
 ghost use Rattle.tf_walk_report.specs.Report.{report_of};
 ghost use Rattle.tf_run.specs.Run.{IsRun};
 
 use crate::fitting::demand_fit;
 use std::alloc::Global;
 use std::sync::Wait;
-use tf_environment::Declarations;
-use tf_names::Names;
-use tf_outcome::Ended;
+use tf_environment::Module;
+use tf_names::Declarations;
+use tf_outcome::ActionResult;
 use tf_plan_data::Plan;
 use tf_provider::{Journal, Provider};
-use tf_walk_report::{Furnished, Walked, report_of, settle};
-use tf_walk_workers::{Cells, Naming};
+use tf_walk_report::{ReportBuffers, Walked, report_of, settle};
+use tf_walk_workers::{Cells, WalkBrand};
 
 /// The report on a plan whose actions have all ended, by their cells: whole exactly where the journal is that of the calls,
 /// and else torn. It has no answer that says that there was no memory.
-pub(crate) fn conclude<N: Naming, R: Wait>(
+pub(crate) fn report_walk<N: WalkBrand, R: Wait>(
     rt: &R,
     alloc: Global,
     plan: &Plan,
-    names: &Names<'_>,
+    names: &Declarations<'_>,
     providers: &[Box<dyn Provider + Sync>],
-    furnished: Furnished<'_>,
+    buffers: ReportBuffers<'_>,
     cells: Cells<N>,
-    mut results: Vec<Option<Ended>>,
+    mut results: Vec<Option<ActionResult>>,
     journal: Journal,
 ) -> Walked
     requires fits { FitsTogether plan.now }
     requires meanings { N.meanings ≡ map meaning providers.now }
     requires plan { N.plan ≡ plan_of plan.now }
     requires names { names_in names.now ≡ plan_names (plan_of plan.now) }
-    requires furnished { IsFurnished plan.now furnished }
+    requires buffers { AreReserved plan.now buffers }
     requires cells { cells ≡ plan.now.order.nodes }
     requires results { results.items ≡ replicate plan.now.order.nodes None }
     requires journal { journal.graph ≡ plan.now.order }
@@ -43,13 +43,11 @@ pub(crate) fn conclude<N: Naming, R: Wait>(
 {
     cells.take_out(&mut results);
     demand_fit(rt, plan.order.graph(), &results);
-    let declared = Declarations {
+    let declared = Module {
         variables: &plan.variables,
         names,
         dependence: &plan.dependence,
     };
-    let report = report_of(
-        alloc, plan, &declared, providers, furnished, results, journal,
-    );
+    let report = report_of(alloc, plan, &declared, providers, buffers, results, journal);
     settle(plan, report)
 }

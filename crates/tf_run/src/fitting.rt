@@ -3,20 +3,20 @@
 ghost use Rattle.std.specs.List.{list_all};
 ghost use Rattle.std.specs.Prelude.{◌≡◌, ◌<◌, ℕ, All, IsTrue, length};
 ghost use Rattle.tf_walk_workers.specs.Laws.{is_skipped};
-ghost use Rattle.tf_outcome.specs.Ended.{done_or_skipped, dones_of};
+ghost use Rattle.tf_outcome.specs.ResultViews.{result_or_skipped, action_results_of};
 ghost use Rattle.tf_outcome.specs.Outcome.{done_at, is_good};
 ghost use Rattle.tf_run.specs.Fitting.{IsSkippedRightly, AreSkippedRightly};
 
 use std::sync::Wait;
 use std::sync::atomic::AtomicU64;
 use tf_graph::Graph;
-use tf_outcome::Ended;
+use tf_outcome::ActionResult;
 
 /// Returns where each action is skipped exactly where one directly before it isn't good. Of ends that don't fit together
 /// nothing can be reported, so it sleeps for ever there.
-pub(crate) fn demand_fit<R: Wait>(rt: &R, order: &Graph, results: &[Option<Ended>])
+pub(crate) fn demand_fit<R: Wait>(rt: &R, order: &Graph, results: &[Option<ActionResult>])
     requires { length results.now ≡ order.now.nodes }
-    ensures { AreSkippedRightly order.now (dones_of results.now) }
+    ensures { AreSkippedRightly order.now (action_results_of results.now) }
 {
     if all_fit(order, results) {
         return;
@@ -29,9 +29,9 @@ pub(crate) fn demand_fit<R: Wait>(rt: &R, order: &Graph, results: &[Option<Ended
 }
 
 /// Whether each action is skipped exactly where one directly before it isn't good.
-fn all_fit(order: &Graph, results: &[Option<Ended>]) -> bool
+fn all_fit(order: &Graph, results: &[Option<ActionResult>]) -> bool
     requires { length results.now ≡ order.now.nodes }
-    ensures { IsTrue result → AreSkippedRightly order.now (dones_of results.now) }
+    ensures { IsTrue result → AreSkippedRightly order.now (action_results_of results.now) }
 {
     for action in 0..order.nodes() {
         let fits = fits(order, results, action);
@@ -43,26 +43,26 @@ fn all_fit(order: &Graph, results: &[Option<Ended>]) -> bool
 }
 
 /// Whether an action is skipped exactly where one directly before it isn't good.
-fn fits(order: &Graph, results: &[Option<Ended>], action: usize) -> bool
+fn fits(order: &Graph, results: &[Option<ActionResult>], action: usize) -> bool
     requires sized { length results.now ≡ order.now.nodes }
     requires within { action < order.now.nodes }
-    ensures { IsTrue result → IsSkippedRightly order.now (dones_of results.now) action }
+    ensures { IsTrue result → IsSkippedRightly order.now (action_results_of results.now) action }
 {
     is_skipped_at(results, action) != are_good(results, order.predecessors(action))
 }
 
 /// Whether an action was skipped.
-fn is_skipped_at(results: &[Option<Ended>], action: usize) -> bool
+fn is_skipped_at(results: &[Option<ActionResult>], action: usize) -> bool
     requires { action < length results.now }
-    ensures { result ≡ is_skipped (done_at (dones_of results.now) action) }
+    ensures { result ≡ is_skipped (done_at (action_results_of results.now) action) }
 {
     is_skipped(&results[action])
 }
 
 /// Whether each of some actions is good.
-fn are_good(results: &[Option<Ended>], actions: &[usize]) -> bool
+fn are_good(results: &[Option<ActionResult>], actions: &[usize]) -> bool
     requires { All (λ n. n < length results.now) actions.now }
-    ensures { result ≡ list_all (λ n. is_good (done_at (dones_of results.now) n)) actions.now }
+    ensures { result ≡ list_all (λ n. is_good (done_at (action_results_of results.now) n)) actions.now }
 {
     for action in actions {
         if !is_good(&results[*action]) {
@@ -73,8 +73,8 @@ fn are_good(results: &[Option<Ended>], actions: &[usize]) -> bool
 }
 
 /// Whether an action is good; one of which nothing came isn't.
-fn is_good(ended: &Option<Ended>) -> bool
-    ensures { result ≡ is_good (done_or_skipped ended.now) }
+fn is_good(ended: &Option<ActionResult>) -> bool
+    ensures { result ≡ is_good (result_or_skipped ended.now) }
 {
     match ended {
         Some(ended) => ended.is_good(),
@@ -83,8 +83,8 @@ fn is_good(ended: &Option<Ended>) -> bool
 }
 
 /// Whether an action was skipped; one of which nothing came was.
-fn is_skipped(ended: &Option<Ended>) -> bool
-    ensures { result ≡ is_skipped (done_or_skipped ended.now) }
+fn is_skipped(ended: &Option<ActionResult>) -> bool
+    ensures { result ≡ is_skipped (result_or_skipped ended.now) }
 {
-    matches!(ended, None | Some(Ended::Skipped(_, _)))
+    matches!(ended, None | Some(ActionResult::Skipped(_, _)))
 }

@@ -2,22 +2,22 @@
 
 ghost use Rattle.std.specs.Prelude.{◌≡◌};
 
-use crate::bound::InPlan;
+use crate::bound::PlanBound;
 use tf_claim::Listener;
-use tf_walk_workers::{Hints, Naming};
+use tf_walk_workers::{Hints, WalkBrand};
 
 /// A worker's hints. As it ends an action, it gives one at each action that it let go of the last edge into: so whoever follows
 /// the hint finds that action free.
 #[derive(Drop)]
-pub(crate) struct Hinting<N: Naming> {
-    pub hints: Hints<InPlan<N>>,
+pub(crate) struct Hinting<N: WalkBrand> {
+    pub hints: Hints<PlanBound<N>>,
     /// How many actions it heard of since it last began.
     pub free: u64,
     /// Whether a hint at one of them was lost, for want of room.
     pub is_lost: bool,
 }
 
-impl<N: Naming> Hinting<N> {
+impl<N: WalkBrand> Hinting<N> {
     /// Begins anew, as the next action ends.
     pub fn begin(&mut self)
         ensures { self.new.free ≡ 0 }
@@ -27,7 +27,7 @@ impl<N: Naming> Hinting<N> {
     }
 }
 
-impl<N: Naming> Listener for Hinting<N> {
+impl<N: WalkBrand> Listener for Hinting<N> {
     ghost bound = { N.plan.order.nodes };
 
     ghost heard = { λ h. h.free };

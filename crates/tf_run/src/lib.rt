@@ -2,7 +2,6 @@
 //! once they are joined.
 #![tactic(auto)]
 
-mod board;
 mod bound;
 mod ending;
 mod fitting;
@@ -10,6 +9,7 @@ mod hinting;
 mod many;
 mod prepared;
 mod progress;
+mod result_cells;
 mod sharing;
 mod walk;
 mod worker;

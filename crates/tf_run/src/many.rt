@@ -2,17 +2,17 @@
 
 ghost use Rattle.std.specs.Prelude.{◌≡◌, List, map, true, IfOk, MatchBool, MatchResult};
 ghost use Rattle.tf_outcome.specs.Words.{action_of, AreServed, FitsTogether, plan_of};
-ghost use Rattle.tf_refusal.specs.Refusal.{no_memory, told, workers as wrong_workers};
+ghost use Rattle.tf_refusal.specs.Refusal.{no_memory, refusal_of, workers as wrong_workers};
 ghost use Rattle.tf_walk_report.specs.Report.{report_of};
 ghost use Rattle.tf_run.specs.Prepared.{IsPrepared};
 ghost use Rattle.tf_run.specs.Run.{IsRun, are_workers};
 
-use crate::board::Board;
-use crate::ending::conclude;
-use crate::prepared::{Prepared, Team, prepare};
+use crate::ending::report_walk;
+use crate::prepared::{PreparedWalk, Team, prepare};
 use crate::progress::Progress;
+use crate::result_cells::ResultCells;
 use crate::sharing::share_out;
-use crate::walk::{Grounds, Walk};
+use crate::walk::{BorrowedInput, SharedWalk};
 use std::alloc::{AllocError, Global};
 use std::marker::Brand;
 use std::sync::{Mutex, Wait};
@@ -22,7 +22,7 @@ use tf_plan_data::{Plan, Planned};
 use tf_provider::Provider;
 use tf_refusal::Refusal;
 use tf_walk_report::Walked;
-use tf_walk_workers::{Log, Naming};
+use tf_walk_workers::{Log, WalkBrand};
 
 /// The most workers that a walk may have.
 pub const MOST_WORKERS: usize = 64;
@@ -48,7 +48,7 @@ pub fn run<R: Threads + Wait + Sync>(
     ensures journal { IfOk result (λ walked. (report_of walked).journal.graph ≡ plan.now.order) }
     ensures refused { MatchResult result
         (λ _. are_workers workers ≡ true)
-        (λ r. MatchBool (are_workers workers) (told r ≡ no_memory) (told r ≡ wrong_workers)) }
+        (λ r. MatchBool (are_workers workers) (refusal_of r ≡ no_memory) (refusal_of r ≡ wrong_workers)) }
 {
     match run_and_close(rt, alloc, plan, providers, workers, stop) {
         Ok((walked, _)) => Ok(walked),
@@ -75,7 +75,7 @@ pub fn run_and_close<R: Threads + Wait + Sync>(
     ensures journal { IfOk result (λ ended. (report_of ended.0).journal.graph ≡ plan.now.order) }
     ensures refused { MatchResult result
         (λ _. are_workers workers ≡ true)
-        (λ r. MatchBool (are_workers workers) (told r ≡ no_memory) (told r ≡ wrong_workers)) }
+        (λ r. MatchBool (are_workers workers) (refusal_of r ≡ no_memory) (refusal_of r ≡ wrong_workers)) }
 {
     if !are_workers(workers) {
         return Err(Refusal::Workers);
@@ -94,7 +94,7 @@ fn are_workers(workers: usize) -> bool
 }
 
 /// Carries out a plan, under a name of the walk.
-fn run_as<N: Naming + Send + Sync, R: Threads + Wait + Sync>(
+fn run_as<N: WalkBrand + Send + Sync, R: Threads + Wait + Sync>(
     rt: &R,
     alloc: Global,
     plan: &Plan,
@@ -115,13 +115,13 @@ fn run_as<N: Naming + Send + Sync, R: Threads + Wait + Sync>(
 
 /// The report on a plan that is carried out, and whether its claims could be closed. It has no answer that says that there
 /// was no memory.
-fn carry_out<N: Naming + Send + Sync, R: Threads + Wait + Sync>(
+fn carry_out<N: WalkBrand + Send + Sync, R: Threads + Wait + Sync>(
     rt: &R,
     alloc: Global,
     plan: &Plan,
     providers: &[Box<dyn Provider + Sync>],
     stop: &Stop,
-    prepared: Prepared<'_, N>,
+    prepared: PreparedWalk<'_, N>,
 ) -> (Walked, bool)
     requires fits { FitsTogether plan.now }
     requires meanings { N.meanings ≡ map meaning providers.now }
@@ -131,38 +131,38 @@ fn carry_out<N: Naming + Send + Sync, R: Threads + Wait + Sync>(
     ensures walked { IsRun (map meaning providers.now) (plan_of plan.now) result.0 }
     ensures journal { (report_of result.0).journal.graph ≡ plan.now.order }
 {
-    let Prepared {
+    let PreparedWalk {
         names,
         claims,
         team: Team {
-            desk,
+            worker_state,
             others,
-            thieves,
+            stealers,
         },
         journal,
-        board: Board { cells, results },
-        furnished,
+        result_cells: ResultCells { cells, results },
+        buffers,
     } = prepared;
     let journal = Mutex::new(Log::new(journal));
     let progress = Progress::new();
-    let ground = Grounds {
+    let walk_input = BorrowedInput {
         plan,
         names: &names,
         cells: &cells,
     };
-    let walk = Walk {
+    let walk = SharedWalk {
         alloc,
         stop,
         claims: &claims,
         journal: &journal,
-        thieves: thieves.as_slice(),
+        stealers: stealers.as_slice(),
         progress: &progress,
     };
-    let seat = share_out(rt, &walk, &ground, providers, desk, others);
+    let seat = share_out(rt, &walk, &walk_input, providers, worker_state, others);
     let is_closed = claims.close(seat);
     let journal = journal.into_inner().into_journal();
-    let walked = conclude(
-        rt, alloc, plan, &names, providers, furnished, cells, results, journal,
+    let walked = report_walk(
+        rt, alloc, plan, &names, providers, buffers, cells, results, journal,
     );
     (walked, is_closed)
 }

@@ -5,35 +5,35 @@ ghost use Rattle.tf_plan_data.specs.Fits.{FitsTogether};
 ghost use Rattle.tf_plan_data.specs.Plan.{plan_of};
 ghost use Rattle.tf_run.specs.Prepared.{IsPrepared};
 
-use crate::board::Board;
-use crate::bound::InPlan;
+use crate::bound::PlanBound;
 use crate::hinting::Hinting;
-use crate::walk::Desk;
+use crate::result_cells::ResultCells;
+use crate::walk::WorkerState;
 use std::alloc::{AllocError, Global};
 use tf_claim::{Claims, Seat};
-use tf_names::Names;
+use tf_names::Declarations;
 use tf_plan_data::Plan;
 use tf_provider::Journal;
-use tf_walk_report::{Furnished, furnish};
-use tf_walk_workers::{Hints, Naming, Thief};
+use tf_walk_report::{ReportBuffers, reserve_report};
+use tf_walk_workers::{HintStealer, Hints, WalkBrand};
 
-/// All that a walk needs memory for: the names of the plan's configuration, the claims on its actions, a desk for each worker, the
-/// journal, the board, and all that the report needs.
-pub(crate) struct Prepared<'p, N: Naming> {
-    pub names: Names<'p>,
+/// All that a walk needs memory for: the names of the plan's configuration, the claims on its actions, a state for each worker, the
+/// journal, the cells of results, and all that the report needs.
+pub(crate) struct PreparedWalk<'p, N: WalkBrand> {
+    pub names: Declarations<'p>,
     pub claims: Claims,
     pub team: Team<N>,
     pub journal: Journal,
-    pub board: Board<N>,
-    pub furnished: Furnished<'p>,
+    pub result_cells: ResultCells<N>,
+    pub buffers: ReportBuffers<'p>,
 }
 
-/// The desks of all workers, that of the calling thread first, and with what each steals the hints of the others.
+/// The states of all workers, that of the calling thread first, and with what each steals the hints of the others.
 #[derive(Drop)]
-pub(crate) struct Team<N: Naming> {
-    pub desk: Desk<N>,
-    pub others: Vec<Desk<N>>,
-    pub thieves: Vec<Thief<InPlan<N>>>,
+pub(crate) struct Team<N: WalkBrand> {
+    pub worker_state: WorkerState<N>,
+    pub others: Vec<WorkerState<N>>,
+    pub stealers: Vec<HintStealer<PlanBound<N>>>,
 }
 
 /// Takes the memory for a walk by so many workers, but by no more than there are actions. No provider is handed in, so none is
@@ -42,82 +42,82 @@ pub(crate) struct Team<N: Naming> {
 /// # Errors
 ///
 /// Only where memory runs out.
-pub(crate) fn prepare<'p, N: Naming>(
+pub(crate) fn prepare<'p, N: WalkBrand>(
     alloc: Global,
     plan: &'p Plan,
     workers: usize,
-) -> Result<Prepared<'p, N>, AllocError>
+) -> Result<PreparedWalk<'p, N>, AllocError>
     requires fits { FitsTogether plan.now }
     requires plan { N.plan ≡ plan_of plan.now }
     ensures { IfOk result (IsPrepared plan.now) }
 {
     let order = plan.order.graph();
-    let names = Names::new(alloc, &plan.config)?;
+    let names = Declarations::new(alloc, &plan.config)?;
     let (claims, seat) = Claims::new(alloc, order)?;
     let team = team_of(alloc, &claims, seat, workers.min(order.nodes()))?;
     let journal = Journal::with_room(alloc, order)?;
-    let board = Board::new(alloc, order.nodes())?;
-    match furnish(alloc, plan, &names) {
-        Ok(furnished) => Ok(Prepared {
+    let result_cells = ResultCells::new(alloc, order.nodes())?;
+    match reserve_report(alloc, plan, &names) {
+        Ok(buffers) => Ok(PreparedWalk {
             names,
             claims,
             team,
             journal,
-            board,
-            furnished,
+            result_cells,
+            buffers,
         }),
         Err(AllocError) => {
-            board.discard();
+            result_cells.discard();
             Err(AllocError)
         }
     }
 }
 
-/// The desks of so many workers, one at least, the first with this seat.
-fn team_of<N: Naming>(
+/// The states of so many workers, one at least, the first with this seat.
+fn team_of<N: WalkBrand>(
     alloc: Global,
     claims: &Claims,
     mut seat: Seat,
     workers: usize,
 ) -> Result<Team<N>, AllocError>
     requires { seat.table ≡ claims.now.table }
-    ensures desk { IfOk result (λ team. team.desk.seat.table ≡ claims.now.table) }
-    ensures others { IfOk result (λ team. All (λ desk. desk.seat.table ≡ claims.now.table) team.others.items) }
+    ensures worker_state { IfOk result (λ team. team.worker_state.seat.table ≡ claims.now.table) }
+    ensures others { IfOk result (λ team. All (λ worker_state. worker_state.seat.table ≡ claims.now.table) team.others.items) }
 {
-    let mut thieves = Vec::with_capacity(alloc, workers)?;
+    let mut stealers = Vec::with_capacity(alloc, workers)?;
     let mut others = Vec::with_capacity(alloc, workers)?;
     for _ in 1..workers {
         let other = claims.split_seat(&mut seat)?;
-        others.push(desk_of(alloc, other, &mut thieves)?)?;
+        others.push(worker_state_of(alloc, other, &mut stealers)?)?;
     }
-    let desk = desk_of(alloc, seat, &mut thieves)?;
+    let worker_state = worker_state_of(alloc, seat, &mut stealers)?;
     Ok(Team {
-        desk,
+        worker_state,
         others,
-        thieves,
+        stealers,
     })
 }
 
 /// How many hints a worker has room for at first.
 const HINTS: usize = 64;
 
-/// The desk of a worker with this seat. Another thief is for its hints.
-fn desk_of<N: Naming>(
+/// The state of a worker with this seat. Another stealer is for its hints.
+fn worker_state_of<N: WalkBrand>(
     alloc: Global,
     seat: Seat,
-    thieves: &mut Vec<Thief<InPlan<N>>>,
-) -> Result<Desk<N>, AllocError>
-    ensures { IfOk result (λ desk. desk.seat ≡ seat) }
+    stealers: &mut Vec<HintStealer<PlanBound<N>>>,
+) -> Result<WorkerState<N>, AllocError>
+    ensures { IfOk result (λ worker_state. worker_state.seat ≡ seat) }
 {
     let hints = Hints::new(alloc, HINTS)?;
-    let place = thieves.len();
-    thieves.push(hints.thief()?)?;
+    let place = stealers.len();
+    stealers.push(hints.stealer()?)?;
     let hinting = Hinting {
         hints,
         free: 0,
         is_lost: false,
     };
-    Ok(Desk {
+    Ok(WorkerState {
         seat,
         hinting,
         place,

@@ -2,20 +2,20 @@
 
 ghost use Rattle.std.specs.Prelude.{◌≡◌, ℕ, List};
 
-use crate::bound::InPlan;
+use crate::bound::PlanBound;
 use crate::hinting::Hinting;
 use crate::progress::Progress;
 use std::alloc::Global;
 use std::sync::Mutex;
 use tf_claim::{Claims, Seat};
-use tf_names::Names;
+use tf_names::Declarations;
 use tf_outcome::Stop;
 use tf_plan_data::Plan;
-use tf_walk_workers::{Cells, Log, Naming, Thief};
+use tf_walk_workers::{Cells, HintStealer, Log, WalkBrand};
 
-/// What one worker has of its own: its seat at the claims, its hints, and the place of its own thief in the list of all.
+/// What one worker has of its own: its seat at the claims, its hints, and the place of its own stealer in the list of all.
 #[derive(Drop)]
-pub(crate) struct Desk<N: Naming> {
+pub(crate) struct WorkerState<N: WalkBrand> {
     pub seat: Seat,
     pub hinting: Hinting<N>,
     pub place: usize,
@@ -23,18 +23,18 @@ pub(crate) struct Desk<N: Naming> {
 
 /// What all workers of a walk share, beside the providers and what they read.
 #[derive(Drop)]
-pub(crate) struct Walk<'a, N: Naming> {
+pub(crate) struct SharedWalk<'a, N: WalkBrand> {
     pub alloc: Global,
     pub stop: &'a Stop,
     pub claims: &'a Claims,
     pub journal: &'a Mutex<Log<N>>,
-    pub thieves: &'a [Thief<InPlan<N>>],
+    pub stealers: &'a [HintStealer<PlanBound<N>>],
     pub progress: &'a Progress,
 }
 
 /// What workers read: the plan, the names of its configuration, and the cells. They reach it through this trait, so that it
 /// may be shared is shown once, where the threads start.
-pub(crate) trait Ground<N: Naming> {
+pub(crate) trait WalkInput<N: WalkBrand> {
     ghost use Rattle.tf_config_data.specs.Names.{NameView};
     ghost use Rattle.tf_names.specs.Table.{names_in};
     ghost use Rattle.tf_plan_data.specs.declared.plan.Plan.{Plan};
@@ -53,7 +53,7 @@ pub(crate) trait Ground<N: Naming> {
         ensures { result.now ≡ planned self.now };
 
     /// The names of its configuration.
-    fn names(&self) -> &Names<'_>
+    fn names(&self) -> &Declarations<'_>
         ensures { names_in result.now ≡ named self.now };
 
     /// The cells.
@@ -63,13 +63,13 @@ pub(crate) trait Ground<N: Naming> {
 
 /// A plan, the names of its configuration, and cells.
 #[derive(Drop)]
-pub(crate) struct Grounds<'a, N: Naming> {
+pub(crate) struct BorrowedInput<'a, N: WalkBrand> {
     pub plan: &'a Plan,
-    pub names: &'a Names<'a>,
+    pub names: &'a Declarations<'a>,
     pub cells: &'a Cells<N>,
 }
 
-impl<N: Naming> Ground<N> for Grounds<'_, N> {
+impl<N: WalkBrand> WalkInput<N> for BorrowedInput<'_, N> {
     ghost use Rattle.tf_names.specs.Table.{names_in};
 
     ghost planned = { λ g. g.plan.now };
@@ -82,7 +82,7 @@ impl<N: Naming> Ground<N> for Grounds<'_, N> {
         self.plan
     }
 
-    fn names(&self) -> &Names<'_> {
+    fn names(&self) -> &Declarations<'_> {
         self.names
     }
 

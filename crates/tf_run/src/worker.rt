@@ -4,27 +4,34 @@ ghost use Rattle.std.specs.Prelude.{◌≡◌, ◌<◌, List, map};
 ghost use Rattle.tf_run.specs.Post.{IsPost};
 ghost use Rattle.tf_run.specs.Walk.{IsOneWalk};
 
-use crate::bound::InPlan;
-use crate::walk::{Desk, Ground, Walk};
+use crate::bound::PlanBound;
+use crate::walk::{SharedWalk, WalkInput, WorkerState};
 use std::sync::Wait;
 use tf_claim::Seat;
 use tf_provider::Provider;
-use tf_walk_workers::{Memo, Naming, Thief, Workshop};
+use tf_walk_workers::{HintStealer, Memo, WalkBrand, WorkerContext};
 
 /// Ends actions, one after another, until all actions have ended. Where there is nothing to do it waits for news.
-pub(crate) fn work<N: Naming, B: Ground<N>, R: Wait>(
+pub(crate) fn work<N: WalkBrand, B: WalkInput<N>, R: Wait>(
     rt: &R,
-    walk: &Walk<'_, N>,
-    ground: &B,
+    walk: &SharedWalk<'_, N>,
+    walk_input: &B,
     providers: &[Box<dyn Provider + Sync>],
-    desk: Desk<N>,
+    worker_state: WorkerState<N>,
 ) -> Seat
-    requires walk { IsOneWalk N.plan N.meanings (B.planned ground.now) (B.named ground.now) (B.count ground.now) walk.now.claims.now.graph (map meaning providers.now) }
-    requires seat { desk.seat.table ≡ walk.now.claims.now.table }
+    requires walk { IsOneWalk N.plan N.meanings (B.planned walk_input.now) (B.named walk_input.now) (B.count walk_input.now) walk.now.claims.now.graph (map meaning providers.now) }
+    requires seat { worker_state.seat.table ≡ walk.now.claims.now.table }
     ensures { result.table ≡ walk.now.claims.now.table }
 {
-    let worker = Worker { rt, walk, ground };
-    let mut post = Post { desk, memo: None };
+    let worker = Worker {
+        rt,
+        walk,
+        walk_input,
+    };
+    let mut post = Post {
+        worker_state,
+        memo: None,
+    };
     let all = walk.claims.graph().nodes() as u64;
     // What may be claimed is found, though no contract says so. No worker waits before every action was given to one to look
     // at, which claims it if nothing stands before it. At any other action a worker has a hint that let go of the last edge into
@@ -41,52 +48,55 @@ pub(crate) fn work<N: Naming, B: Ground<N>, R: Wait>(
             walk.progress.wait_for_news(rt, news);
         }
     }
-    walk.progress.tell_news(walk.thieves.len() as u64);
-    let Post { desk, memo: _ } = post;
-    let Desk {
+    walk.progress.tell_news(walk.stealers.len() as u64);
+    let Post {
+        worker_state,
+        memo: _,
+    } = post;
+    let WorkerState {
         seat,
         hinting: _,
         place: _,
-    } = desk;
+    } = worker_state;
     seat
 }
 
-/// What one worker has of its own: its desk, and what it saw for the last action that it asked for.
+/// What one worker has of its own: its state, and what it saw for the last action that it asked for.
 #[derive(Drop)]
-struct Post<'a, N: Naming> {
-    desk: Desk<N>,
+struct Post<'a, N: WalkBrand> {
+    worker_state: WorkerState<N>,
     memo: Option<Memo<'a, N>>,
 }
 
 /// What a worker works with, beside the providers and its post.
 #[derive(Drop)]
-struct Worker<'a, 'w, N: Naming, B, R> {
+struct Worker<'a, 'w, N: WalkBrand, B, R> {
     rt: &'a R,
-    walk: &'a Walk<'w, N>,
-    ground: &'a B,
+    walk: &'a SharedWalk<'w, N>,
+    walk_input: &'a B,
 }
 
-impl<'a, N: Naming, B: Ground<N>, R: Wait> Worker<'a, '_, N, B, R> {
+impl<'a, N: WalkBrand, B: WalkInput<N>, R: Wait> Worker<'a, '_, N, B, R> {
     /// Ends an action that may be claimed, if there is one: by a hint of its own, or else the first in the list that no
     /// worker has looked at, or else by a hint of another worker.
     fn go_on(&self, providers: &[Box<dyn Provider + Sync>], post: &mut Post<'a, N>) -> bool
-        requires walk { IsOneWalk N.plan N.meanings (B.planned self.now.ground.now) (B.named self.now.ground.now) (B.count self.now.ground.now) self.now.walk.now.claims.now.graph (map meaning providers.now) }
-        requires post { IsPost N.meanings N.plan (B.planned self.now.ground.now) (B.named self.now.ground.now) self.now.walk.now.claims.now post.old }
-        ensures { IsPost N.meanings N.plan (B.planned self.now.ground.now) (B.named self.now.ground.now) self.now.walk.now.claims.now post.new }
+        requires walk { IsOneWalk N.plan N.meanings (B.planned self.now.walk_input.now) (B.named self.now.walk_input.now) (B.count self.now.walk_input.now) self.now.walk.now.claims.now.graph (map meaning providers.now) }
+        requires post { IsPost N.meanings N.plan (B.planned self.now.walk_input.now) (B.named self.now.walk_input.now) self.now.walk.now.claims.now post.old }
+        ensures { IsPost N.meanings N.plan (B.planned self.now.walk_input.now) (B.named self.now.walk_input.now) self.now.walk.now.claims.now post.new }
     {
-        self.follow_own(providers, post)
+        self.take_own_hint(providers, post)
             || self.look_on(providers, post)
-            || self.follow_others(providers, post)
+            || self.steal_hint(providers, post)
     }
 
     /// Ends an action by a hint of the worker's own. Hints at actions that can't be claimed are forgotten.
-    fn follow_own(&self, providers: &[Box<dyn Provider + Sync>], post: &mut Post<'a, N>) -> bool
-        requires walk { IsOneWalk N.plan N.meanings (B.planned self.now.ground.now) (B.named self.now.ground.now) (B.count self.now.ground.now) self.now.walk.now.claims.now.graph (map meaning providers.now) }
-        requires post { IsPost N.meanings N.plan (B.planned self.now.ground.now) (B.named self.now.ground.now) self.now.walk.now.claims.now post.old }
-        ensures { IsPost N.meanings N.plan (B.planned self.now.ground.now) (B.named self.now.ground.now) self.now.walk.now.claims.now post.new }
+    fn take_own_hint(&self, providers: &[Box<dyn Provider + Sync>], post: &mut Post<'a, N>) -> bool
+        requires walk { IsOneWalk N.plan N.meanings (B.planned self.now.walk_input.now) (B.named self.now.walk_input.now) (B.count self.now.walk_input.now) self.now.walk.now.claims.now.graph (map meaning providers.now) }
+        requires post { IsPost N.meanings N.plan (B.planned self.now.walk_input.now) (B.named self.now.walk_input.now) self.now.walk.now.claims.now post.old }
+        ensures { IsPost N.meanings N.plan (B.planned self.now.walk_input.now) (B.named self.now.walk_input.now) self.now.walk.now.claims.now post.new }
     {
         for _ in self.rt.forever() {
-            let Some(hint) = post.desk.hinting.hints.pop() else {
+            let Some(hint) = post.worker_state.hinting.hints.pop() else {
                 return false;
             };
             if self.end_if_free(providers, post, hint) {
@@ -97,29 +107,29 @@ impl<'a, N: Naming, B: Ground<N>, R: Wait> Worker<'a, '_, N, B, R> {
     }
 
     /// Ends an action by a hint that it steals, of the worker behind it first.
-    fn follow_others(&self, providers: &[Box<dyn Provider + Sync>], post: &mut Post<'a, N>) -> bool
-        requires walk { IsOneWalk N.plan N.meanings (B.planned self.now.ground.now) (B.named self.now.ground.now) (B.count self.now.ground.now) self.now.walk.now.claims.now.graph (map meaning providers.now) }
-        requires post { IsPost N.meanings N.plan (B.planned self.now.ground.now) (B.named self.now.ground.now) self.now.walk.now.claims.now post.old }
-        ensures { IsPost N.meanings N.plan (B.planned self.now.ground.now) (B.named self.now.ground.now) self.now.walk.now.claims.now post.new }
+    fn steal_hint(&self, providers: &[Box<dyn Provider + Sync>], post: &mut Post<'a, N>) -> bool
+        requires walk { IsOneWalk N.plan N.meanings (B.planned self.now.walk_input.now) (B.named self.now.walk_input.now) (B.count self.now.walk_input.now) self.now.walk.now.claims.now.graph (map meaning providers.now) }
+        requires post { IsPost N.meanings N.plan (B.planned self.now.walk_input.now) (B.named self.now.walk_input.now) self.now.walk.now.claims.now post.old }
+        ensures { IsPost N.meanings N.plan (B.planned self.now.walk_input.now) (B.named self.now.walk_input.now) self.now.walk.now.claims.now post.new }
     {
-        let own = post.desk.place.min(self.walk.thieves.len());
-        let (before, behind) = self.walk.thieves.split_at(own);
-        self.follow_some(providers, post, behind) || self.follow_some(providers, post, before)
+        let own = post.worker_state.place.min(self.walk.stealers.len());
+        let (before, behind) = self.walk.stealers.split_at(own);
+        self.steal_from_any(providers, post, behind) || self.steal_from_any(providers, post, before)
     }
 
     /// Ends an action by a hint that it steals of some workers, of the first that has one.
-    fn follow_some(
+    fn steal_from_any(
         &self,
         providers: &[Box<dyn Provider + Sync>],
         post: &mut Post<'a, N>,
-        thieves: &[Thief<InPlan<N>>],
+        stealers: &[HintStealer<PlanBound<N>>],
     ) -> bool
-        requires walk { IsOneWalk N.plan N.meanings (B.planned self.now.ground.now) (B.named self.now.ground.now) (B.count self.now.ground.now) self.now.walk.now.claims.now.graph (map meaning providers.now) }
-        requires post { IsPost N.meanings N.plan (B.planned self.now.ground.now) (B.named self.now.ground.now) self.now.walk.now.claims.now post.old }
-        ensures { IsPost N.meanings N.plan (B.planned self.now.ground.now) (B.named self.now.ground.now) self.now.walk.now.claims.now post.new }
+        requires walk { IsOneWalk N.plan N.meanings (B.planned self.now.walk_input.now) (B.named self.now.walk_input.now) (B.count self.now.walk_input.now) self.now.walk.now.claims.now.graph (map meaning providers.now) }
+        requires post { IsPost N.meanings N.plan (B.planned self.now.walk_input.now) (B.named self.now.walk_input.now) self.now.walk.now.claims.now post.old }
+        ensures { IsPost N.meanings N.plan (B.planned self.now.walk_input.now) (B.named self.now.walk_input.now) self.now.walk.now.claims.now post.new }
     {
-        for thief in thieves {
-            if self.follow_one(providers, post, thief) {
+        for stealer in stealers {
+            if self.steal_from(providers, post, stealer) {
                 return true;
             }
         }
@@ -128,18 +138,18 @@ impl<'a, N: Naming, B: Ground<N>, R: Wait> Worker<'a, '_, N, B, R> {
 
     /// Ends an action by a hint that it steals of one worker. Hints at actions that can't be claimed are forgotten, until that
     /// worker has none: behind one of them may lie the only hint at an action that can be claimed.
-    fn follow_one(
+    fn steal_from(
         &self,
         providers: &[Box<dyn Provider + Sync>],
         post: &mut Post<'a, N>,
-        thief: &Thief<InPlan<N>>,
+        stealer: &HintStealer<PlanBound<N>>,
     ) -> bool
-        requires walk { IsOneWalk N.plan N.meanings (B.planned self.now.ground.now) (B.named self.now.ground.now) (B.count self.now.ground.now) self.now.walk.now.claims.now.graph (map meaning providers.now) }
-        requires post { IsPost N.meanings N.plan (B.planned self.now.ground.now) (B.named self.now.ground.now) self.now.walk.now.claims.now post.old }
-        ensures { IsPost N.meanings N.plan (B.planned self.now.ground.now) (B.named self.now.ground.now) self.now.walk.now.claims.now post.new }
+        requires walk { IsOneWalk N.plan N.meanings (B.planned self.now.walk_input.now) (B.named self.now.walk_input.now) (B.count self.now.walk_input.now) self.now.walk.now.claims.now.graph (map meaning providers.now) }
+        requires post { IsPost N.meanings N.plan (B.planned self.now.walk_input.now) (B.named self.now.walk_input.now) self.now.walk.now.claims.now post.old }
+        ensures { IsPost N.meanings N.plan (B.planned self.now.walk_input.now) (B.named self.now.walk_input.now) self.now.walk.now.claims.now post.new }
     {
         for _ in self.rt.forever() {
-            let Some(hint) = thief.steal(self.rt) else {
+            let Some(hint) = stealer.steal(self.rt) else {
                 return false;
             };
             if self.end_if_free(providers, post, hint) {
@@ -153,9 +163,9 @@ impl<'a, N: Naming, B: Ground<N>, R: Wait> Worker<'a, '_, N, B, R> {
     /// lost. So a worker that looks at one whose turn hasn't come passes it by: whoever ends the last action before it gives
     /// a hint at it.
     fn look_on(&self, providers: &[Box<dyn Provider + Sync>], post: &mut Post<'a, N>) -> bool
-        requires walk { IsOneWalk N.plan N.meanings (B.planned self.now.ground.now) (B.named self.now.ground.now) (B.count self.now.ground.now) self.now.walk.now.claims.now.graph (map meaning providers.now) }
-        requires post { IsPost N.meanings N.plan (B.planned self.now.ground.now) (B.named self.now.ground.now) self.now.walk.now.claims.now post.old }
-        ensures { IsPost N.meanings N.plan (B.planned self.now.ground.now) (B.named self.now.ground.now) self.now.walk.now.claims.now post.new }
+        requires walk { IsOneWalk N.plan N.meanings (B.planned self.now.walk_input.now) (B.named self.now.walk_input.now) (B.count self.now.walk_input.now) self.now.walk.now.claims.now.graph (map meaning providers.now) }
+        requires post { IsPost N.meanings N.plan (B.planned self.now.walk_input.now) (B.named self.now.walk_input.now) self.now.walk.now.claims.now post.old }
+        ensures { IsPost N.meanings N.plan (B.planned self.now.walk_input.now) (B.named self.now.walk_input.now) self.now.walk.now.claims.now post.new }
     {
         let all = self.walk.claims.graph().nodes();
         for _ in self.rt.forever() {
@@ -178,34 +188,34 @@ impl<'a, N: Naming, B: Ground<N>, R: Wait> Worker<'a, '_, N, B, R> {
         post: &mut Post<'a, N>,
         action: usize,
     ) -> bool
-        requires walk { IsOneWalk N.plan N.meanings (B.planned self.now.ground.now) (B.named self.now.ground.now) (B.count self.now.ground.now) self.now.walk.now.claims.now.graph (map meaning providers.now) }
-        requires post { IsPost N.meanings N.plan (B.planned self.now.ground.now) (B.named self.now.ground.now) self.now.walk.now.claims.now post.old }
+        requires walk { IsOneWalk N.plan N.meanings (B.planned self.now.walk_input.now) (B.named self.now.walk_input.now) (B.count self.now.walk_input.now) self.now.walk.now.claims.now.graph (map meaning providers.now) }
+        requires post { IsPost N.meanings N.plan (B.planned self.now.walk_input.now) (B.named self.now.walk_input.now) self.now.walk.now.claims.now post.old }
         requires action { action < N.plan.order.nodes }
-        ensures { IsPost N.meanings N.plan (B.planned self.now.ground.now) (B.named self.now.ground.now) self.now.walk.now.claims.now post.new }
+        ensures { IsPost N.meanings N.plan (B.planned self.now.walk_input.now) (B.named self.now.walk_input.now) self.now.walk.now.claims.now post.new }
     {
         let walk = self.walk;
-        let Some(permit) = walk.claims.claim(&mut post.desk.seat, action) else {
+        let Some(permit) = walk.claims.claim(&mut post.worker_state.seat, action) else {
             return false;
         };
-        let workshop = Workshop {
+        let context = WorkerContext {
             rt: self.rt,
             alloc: walk.alloc,
-            plan: self.ground.plan(),
-            names: self.ground.names(),
-            cells: self.ground.cells(),
+            plan: self.walk_input.plan(),
+            names: self.walk_input.names(),
+            cells: self.walk_input.cells(),
             journal: walk.journal,
             stop: walk.stop,
         };
-        let finished = workshop.end_action(providers, permit, &mut post.memo);
-        let desk = &mut post.desk;
-        desk.hinting.begin();
-        walk.claims.finish(&mut desk.seat, finished);
+        let finished = context.end_action(providers, permit, &mut post.memo);
+        let worker_state = &mut post.worker_state;
+        worker_state.hinting.begin();
+        walk.claims.finish(&mut worker_state.seat, finished);
         walk.claims
-            .let_go_from(&mut desk.seat, action, &mut desk.hinting);
-        if desk.hinting.is_lost {
+            .let_go_from(&mut worker_state.seat, action, &mut worker_state.hinting);
+        if worker_state.hinting.is_lost {
             walk.progress.look_anew();
         }
-        walk.progress.tell_end(desk.hinting.free);
+        walk.progress.tell_end(worker_state.hinting.free);
         true
     }
 }

@@ -7,7 +7,7 @@ use Rattle.tf_address.proofs.Totals.{label_total}
 use Rattle.tf_address.specs.Label.{LabelView, label_cmp, label_of}
 use Rattle.tf_address.specs.Same.{same_label, label_Decides}
 use Rattle.tf_state_next.proofs.Changing.{labels_apart}
-use Rattle.tf_state_next.specs.Homes.{AreAdded, HaveRoom, empty_home}
+use Rattle.tf_state_next.specs.StateDraft.{AreAdded, HaveRoom, empty_home}
 use Rattle.tf_state_data.proofs.OneChanged.{put_changes_one}
 use Rattle.tf_state_data.proofs.OrderKept.{with-sorted}
 use Rattle.tf_state_data.specs.Addresses.{AreByAddress}

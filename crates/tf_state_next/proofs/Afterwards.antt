@@ -5,7 +5,7 @@ use Rattle.std.specs.Option.{option_eq, option_or}
 use Rattle.std.specs.Prelude.{bytes_eq}
 use Rattle.tf_address.specs.ObjectId.{InstanceKeyView, ObjectIdView}
 use Rattle.tf_state_next.specs.After.{IsAfter, after_destroy, as_deposed, current_after, deposed_anew, destroy_under, instance_after, left_of_record, object_at, places_in, record_of_saved, renewed}
-use Rattle.tf_state_next.specs.Ends.{SavedView, LeftView, gone, changed, unchanged, AppliedView, unwanted, unplanned, nothing, saved, GivenView, destroy_of}
+use Rattle.tf_state_next.specs.Ends.{SavedView, LeftView, gone, changed, unchanged, ApplyResultView, unwanted, unplanned, nothing, saved, RecordInputView, destroy_of}
 use Rattle.tf_state_next.specs.Room.{deposed_by, with_any}
 use Rattle.tf_state_next.proofs.Places.{IsSet, HasId, found_id, put_sets, set_again, left_sets, taken_sets}
 use Rattle.tf_state_data.specs.Record.{RecordView}
@@ -36,17 +36,17 @@ other_apart : (key : InstanceKeyView) (deposed : Option (List ℕ)) (id : Object
 other_apart key deposed id not e = not (ap (λ p. p.key) e)
 
 -- what becomes of the current object, where none becomes deposed
-abbrev pub IsStill : AppliedView → Type 0
+abbrev pub IsStill : ApplyResultView → Type 0
 IsStill (saved s) = ⊥
 IsStill _ = Unit {0}
 
-none_deposed : (g : GivenView) (a : AppliedView) (left : Option RecordView) (t : List ℕ) → IsStill a → deposed_anew g a left t ≡ None
+none_deposed : (g : RecordInputView) (a : ApplyResultView) (left : Option RecordView) (t : List ℕ) → IsStill a → deposed_anew g a left t ≡ None
 none_deposed g (saved s) left t still = absurd still
 none_deposed g unplanned left t still = refl
 none_deposed g nothing left t still = refl
 none_deposed g unwanted left t still = refl
 
-pub current_set : (g : GivenView) (a : AppliedView) (destroyed : Option LeftView) (r s : ResourceView) → IsStill a
+pub current_set : (g : RecordInputView) (a : ApplyResultView) (destroyed : Option LeftView) (r s : ResourceView) → IsStill a
     → IsSet (object_at g.key None) (current_after g a (after_destroy destroyed (record_at (object_at g.key None) r.records))) r s
     → IsAfter g (record { applied = a; destroyed = destroyed; deposed = [] }) r s
 current_set g a destroyed r s still is = record { own = own; others = λ id not. is.others id (other_apart g.key None id not); label = is.label; provider = is.provider }
@@ -64,7 +64,7 @@ under_at : (key t : List ℕ) (left : LeftView) (b : Bool) → bytes_eq key t �
 under_at key t left true e = rw e refl
 under_at key t left false e = rw e refl
 
-deposed_own : (g : GivenView) (key : List ℕ) (left : LeftView) (r s : ResourceView) → IsSet (object_at g.key (Some key)) (after_destroy (Some left) (record_at (object_at g.key (Some key)) r.records)) r s
+deposed_own : (g : RecordInputView) (key : List ℕ) (left : LeftView) (r s : ResourceView) → IsSet (object_at g.key (Some key)) (after_destroy (Some left) (record_at (object_at g.key (Some key)) r.records)) r s
     → (t : List ℕ) (b : Bool) → bytes_eq key t ≡ b → record_at (object_at g.key (Some t)) s.records ≡ after_destroy (destroy_under t ((key, left) ∷ [])) (record_at (object_at g.key (Some t)) r.records)
 deposed_own g key left r s is t true e =
     let same : key ≡ t = (bytes_eq-Decides key t).0 e in
@@ -75,7 +75,7 @@ deposed_own g key left r s is t false e =
     λ f. let d : Some t ≡ Some key = ap (λ p. p.deposed) f in let one : key ≡ t = (cc) in let yes = (bytes_eq-Decides key t).1 one in absurd (cc) in
     is.others (object_at g.key (Some t)) not ∙ sym (ap (λ d. after_destroy d (record_at (object_at g.key (Some t)) r.records)) (under_at key t left false e))
 
-destroyed_at : (g : GivenView) (deposed : Option (List ℕ)) (left : LeftView) (r s : ResourceView)
+destroyed_at : (g : RecordInputView) (deposed : Option (List ℕ)) (left : LeftView) (r s : ResourceView)
     → IsSet (object_at g.key deposed) (after_destroy (Some left) (record_at (object_at g.key deposed) r.records)) r s → IsAfter g (destroy_of deposed left) r s
 destroyed_at g None left r s is = current_set g unwanted (Some left) r s tt is
 destroyed_at g (Some key) left r s is = record { own = own; others = λ id not. is.others id (other_apart g.key (Some key) id not); label = is.label; provider = is.provider }
@@ -86,7 +86,7 @@ destroyed_at g (Some key) left r s is = record { own = own; others = λ id not. 
 
 -- what a destroy left is put back
 pub destroyed_set : (id : ObjectIdView) (left : LeftView) (r s : ResourceView) → s ≡ with_any (after_destroy (Some left) (record_at id r.records)) (without_record id r)
-    → (g : GivenView) → g.key ≡ id.key → IsAfter g (destroy_of id.deposed left) r s
+    → (g : RecordInputView) → g.key ≡ id.key → IsAfter g (destroy_of id.deposed left) r s
 destroyed_set id left r s is g same =
     let one : object_at g.key id.deposed ≡ id = ap (λ k. object_at k id.deposed) same in
     let set : IsSet id (after_destroy (Some left) (record_at id r.records)) r s =
@@ -96,15 +96,15 @@ destroyed_set id left r s is g same =
 -- ---- where nothing was saved
 
 -- what was left of the current object is put back, as it is or with what it is given anew
-pub left_set : (g : GivenView) (a b : AppliedView) (destroyed : Option LeftView) (kept : Option RecordView) (r s : ResourceView) → b ≡ a → IsStill a
+pub left_set : (g : RecordInputView) (a b : ApplyResultView) (destroyed : Option LeftView) (kept : Option RecordView) (r s : ResourceView) → b ≡ a → IsStill a
     → kept ≡ current_after g a (after_destroy destroyed (record_at (object_at g.key None) r.records)) → HasId (object_at g.key None) kept
     → s ≡ with_any kept (without_record (object_at g.key None) r) → IsAfter g (record { applied = b; destroyed = destroyed; deposed = [] }) r s
 left_set g a b destroyed kept r s same still what named is =
     let set = subst (λ q. IsSet (object_at g.key None) kept r q) (sym is) (left_sets (object_at g.key None) kept r named) in
-    subst (λ (c : AppliedView). IsAfter g (record { applied = c; destroyed = destroyed; deposed = [] }) r s) (sym same)
+    subst (λ (c : ApplyResultView). IsAfter g (record { applied = c; destroyed = destroyed; deposed = [] }) r s) (sym same)
     (current_set g a destroyed r s still (subst (λ k. IsSet (object_at g.key None) k r s) what set))
 
-pub renewed_named : (g : GivenView) (destroyed : Option LeftView) (r : ResourceView) → HasId (object_at g.key None) (option_map (renewed g.dependencies g.create_before_destroy) (after_destroy destroyed (record_at (object_at g.key None) r.records)))
+pub renewed_named : (g : RecordInputView) (destroyed : Option LeftView) (r : ResourceView) → HasId (object_at g.key None) (option_map (renewed g.dependencies g.create_before_destroy) (after_destroy destroyed (record_at (object_at g.key None) r.records)))
 renewed_named g destroyed r =
     renewed_id (object_at g.key None) g.dependencies g.create_before_destroy (after_destroy destroyed (record_at (object_at g.key None) r.records)) (destroyed_id (object_at g.key None) destroyed r.records)
 
@@ -157,7 +157,7 @@ old_deposed key (Some to) (Some x) r named =
     }
 
 -- the object that was saved is put in, and the old one becomes deposed
-saved_set : (g : GivenView) (x : SavedView) (destroyed : Option LeftView) (new : RecordView) (r s : ResourceView) → new ≡ record_of_saved g x
+saved_set : (g : RecordInputView) (x : SavedView) (destroyed : Option LeftView) (new : RecordView) (r s : ResourceView) → new ≡ record_of_saved g x
     → s ≡ with_any (deposed_by g.deposed_key (after_destroy destroyed (record_at (object_at g.key None) r.records))) (with_record new (without_record (object_at g.key None) r))
     → IsAfter g (record { applied = saved x; destroyed = destroyed; deposed = [] }) r s
 saved_set g x destroyed new r s what is =
@@ -183,8 +183,8 @@ saved_set g x destroyed new r s what is =
     own put old current (Some t) =
         old.own t ∙ ap (λ o. option_or (anew g.deposed_key (after_destroy destroyed (record_at (object_at g.key None) r.records)) t) o) (put.others (object_at g.key (Some t)) (current_apart g.key t))
 
-pub saved_after : (g : GivenView) (x : SavedView) (b : AppliedView) (destroyed : Option LeftView) (new : RecordView) (r s : ResourceView) → b ≡ saved x → new ≡ record_of_saved g x
+pub saved_after : (g : RecordInputView) (x : SavedView) (b : ApplyResultView) (destroyed : Option LeftView) (new : RecordView) (r s : ResourceView) → b ≡ saved x → new ≡ record_of_saved g x
     → s ≡ with_any (deposed_by g.deposed_key (after_destroy destroyed (record_at (object_at g.key None) r.records))) (with_record new (without_record (object_at g.key None) r))
     → IsAfter g (record { applied = b; destroyed = destroyed; deposed = [] }) r s
 saved_after g x b destroyed new r s same what is =
-    subst (λ (c : AppliedView). IsAfter g (record { applied = c; destroyed = destroyed; deposed = [] }) r s) (sym same) (saved_set g x destroyed new r s what is)
+    subst (λ (c : ApplyResultView). IsAfter g (record { applied = c; destroyed = destroyed; deposed = [] }) r s) (sym same) (saved_set g x destroyed new r s what is)

@@ -13,9 +13,9 @@ use Rattle.tf_address.specs.Label.{LabelView, label_cmp, label_of}
 use Rattle.tf_address.specs.Same.{same_label, label_Decides}
 use Rattle.tf_state_next.proofs.Finding.{found_passes}
 use Rattle.tf_state_next.proofs.OneByOne.{IsChanged, label_itself}
-use Rattle.tf_state_next.specs.Homes.{HaveRoom, count_of}
+use Rattle.tf_state_next.specs.StateDraft.{HaveRoom, count_of}
 use Rattle.tf_state_next.specs.Recorded.{AreThere, heads_of}
-use Rattle.tf_state_next.specs.Ends.{AppliedView, unwanted, unplanned, nothing, saved}
+use Rattle.tf_state_next.specs.Ends.{ApplyResultView, unwanted, unplanned, nothing, saved}
 use Rattle.tf_state_next.specs.Room.{records_more}
 use Rattle.tf_state_data.proofs.Edits.{by_address, element_found, put_over}
 use Rattle.tf_state_data.proofs.OneChanged.{put_changes_one}
@@ -114,21 +114,21 @@ count_joined labels more l = sum_by-append (λ x. cond (same_label x l) 1 0) lab
 one_counted : (l : LabelView) → count_of (l ∷ []) l ≡ 1
 one_counted l = let e = label_itself l in rw e refl
 
-pub one_more : (a : AppliedView) → records_more a ≤ 1
+pub one_more : (a : ApplyResultView) → records_more a ≤ 1
 one_more (saved s) = omega arith
 one_more nothing = omega arith
 one_more unplanned = omega arith
 one_more unwanted = omega arith
 
 -- there is room for what comes of one apply
-pub room_here : (l : LabelView) (rs : List Resource) (index : ℕ) (old : Resource) (a : AppliedView) → slice_get rs index ≡ Some old → l ≡ (resource_of old).label → HaveRoom (count_of (l ∷ [])) rs → HasRoomForRecords (records_more a) old
+pub room_here : (l : LabelView) (rs : List Resource) (index : ℕ) (old : Resource) (a : ApplyResultView) → slice_get rs index ≡ Some old → l ≡ (resource_of old).label → HaveRoom (count_of (l ∷ [])) rs → HasRoomForRecords (records_more a) old
 room_here l rs index old a is labels room =
     let here : IfSome (Some old) (λ (r : Resource). HasRoomForRecords (count_of (l ∷ []) (label_of r.label)) r) = subst (λ (o : Option Resource). IfSome o (λ (r : Resource). HasRoomForRecords (count_of (l ∷ []) (label_of r.label)) r)) is (room index) in
     let counted : count_of (l ∷ []) (label_of old.label) ≡ 1 = ap (count_of (l ∷ [])) (sym labels) ∙ one_counted l in
     room_weaker old 1 (records_more a) (one_more a) (subst (λ (n : ℕ). HasRoomForRecords n old) counted here)
 
 -- what comes of an apply takes the room that was for it
-pub room_taken : (labels : List LabelView) (l : LabelView) (rs : List Resource) (index : ℕ) (old new : Resource) (a : AppliedView) → slice_get rs index ≡ Some old → l ≡ (resource_of old).label → (resource_of new).label ≡ (resource_of old).label
+pub room_taken : (labels : List LabelView) (l : LabelView) (rs : List Resource) (index : ℕ) (old new : Resource) (a : ApplyResultView) → slice_get rs index ≡ Some old → l ≡ (resource_of old).label → (resource_of new).label ≡ (resource_of old).label
     → ((n : ℕ) → HasRoomForRecords (n + records_more a) old → HasRoomForRecords n new) → HaveRoom (count_of (labels ++ l ∷ [])) rs → HaveRoom (count_of labels) (set rs index new)
 room_taken labels l rs index old new a is label labels_same takes room =
     each_replaced (λ (r : Resource). HasRoomForRecords (count_of (labels ++ l ∷ []) (label_of r.label)) r) (λ (r : Resource). HasRoomForRecords (count_of labels (label_of r.label)) r) rs index old new is

@@ -1,4 +1,4 @@
--- Destroys, and then renewals and applies, are what comes of all of them.
+-- Destroys, and then metadata updates and applies, are what comes of all of them.
 use Rattle.std.proofs.Common.{◌≡◌, ℕ, ◌&&◌, ◌||◌, Bool, true, false, cond, List, [], ◌∷◌, map, filter, Option, Some, None, option_map, refl, sym, ap, ap₂, ◌∙◌, subst}
 use Rattle.std.specs.List.{AllByRecursion, cons_option, filter_map, find, list_any}
 use Rattle.std.specs.Option.{option_eq, option_map_or, option_or}
@@ -11,12 +11,12 @@ use Rattle.tf_state_next.proofs.Finding.{filtered_ordered, found_filtered, found
 use Rattle.tf_state_next.proofs.Changing.{heads_ordered, heads_providers}
 use Rattle.tf_state_next.proofs.OneByOne.{applied_joined, destroys_it, label_itself}
 use Rattle.tf_state_next.specs.Events.{DestroyView, EventsView, AreEachAboutOne, as_apply, wanted, applied_by, given_in, ends_in, left_of_object, left_of_deposed}
-use Rattle.tf_state_next.specs.Homes.{home_at, empty_home}
+use Rattle.tf_state_next.specs.StateDraft.{home_at, empty_home}
 use Rattle.tf_state_next.specs.Recorded.{AreApplied, AreDestroyed, AreThere, IsRecorded, heads_of, record_among, places_among}
 use Rattle.tf_state_next.specs.StateAfter.{IsStateAfter, has_records, next_serial}
 use Rattle.tf_state.specs.Arrangement.{is_some_record}
 use Rattle.tf_state_next.specs.After.{Places, after_destroy, current_after, deposed_anew, destroy_under, instance_after, object_at}
-use Rattle.tf_state_next.specs.Ends.{LeftView, AppliedView, EndsView, GivenView}
+use Rattle.tf_state_next.specs.Ends.{LeftView, ApplyResultView, InstanceResultView, RecordInputView}
 use Rattle.tf_state_data.proofs.Sorted.{all_mono}
 use Rattle.tf_state_data.specs.Ids.{AreById}
 use Rattle.tf_state_data.specs.declared.resource.Resource.{Resource}
@@ -57,7 +57,7 @@ module _ (label : LabelView) (key : InstanceKeyView) (k : List ℕ) where
       ∙ ap left_by (sym (found_first (destroys_it label (object_at key (Some k))) d ds (destroys_it label (object_at key (Some k)) d) refl))
 
 -- the destroys come first, and then what is wanted
-combined : (g : GivenView) (a : AppliedView) (label : LabelView) (key : InstanceKeyView) (ds : List DestroyView) (before mid : Places) (deposed : Option (List ℕ))
+combined : (g : RecordInputView) (a : ApplyResultView) (label : LabelView) (key : InstanceKeyView) (ds : List DestroyView) (before mid : Places) (deposed : Option (List ℕ))
     → ((d : Option (List ℕ)) → mid d ≡ after_destroy (left_of_object label (object_at key d) ds) (before d))
     → instance_after g (record { applied = a; destroyed = None; deposed = [] }) mid deposed
     ≡ instance_after g (record { applied = a; destroyed = left_of_object label (object_at key None) ds; deposed = filter_map (left_of_deposed label key) ds }) before deposed
@@ -73,11 +73,11 @@ home_known None true label id = refl
 home_known None false label id = refl
 
 -- what is known of each object after all
-pub known_after : (prior : List ResourceView) (labels : List LabelView) (e : EventsView) (homes mid late after : List ResourceView) → ((label : LabelView) → resource_at label homes ≡ home_at prior labels label) → AreEachAboutOne e
-    → AreDestroyed e.destroys homes mid → AreApplied (map as_apply e.renewals) mid late → AreApplied e.applies late after
+pub known_after : (prior : List ResourceView) (labels : List LabelView) (e : EventsView) (draft mid late after : List ResourceView) → ((label : LabelView) → resource_at label draft ≡ home_at prior labels label) → AreEachAboutOne e
+    → AreDestroyed e.destroys draft mid → AreApplied (map as_apply e.metadata_updates) mid late → AreApplied e.applies late after
     → (label : LabelView) (id : ObjectIdView) → record_among label id after ≡ instance_after (given_in e label id.key) (ends_in e label id.key) (λ d. record_among label (object_at id.key d) prior) id.deposed
-known_after prior labels e homes mid late after are apart destroyed renewed applied label id =
-    let all = applied_joined e.applies (map as_apply e.renewals) mid late after apart.wanted renewed applied in
+known_after prior labels e draft mid late after are apart destroyed renewed applied label id =
+    let all = applied_joined e.applies (map as_apply e.metadata_updates) mid late after apart.wanted renewed applied in
     all.known label id.key id.deposed
     ∙ combined (given_in e label id.key) (applied_by (wanted e) label id.key) label id.key e.destroys (λ d. record_among label (object_at id.key d) prior) (places_among label id.key mid) id.deposed
     (λ d. destroyed.known label (object_at id.key d)
@@ -120,13 +120,13 @@ pub state_is : (n : ℕ) (l v : List ℕ) (o p : Entries) (qs rs : List Resource
     → ◌≡◌ {A = StateView} (record { serial = n; lineage = l; terraform_version = v; outputs = o; resources = qs }) (record { serial = m; lineage = k; terraform_version = w; outputs = p; resources = rs })
 state_is n l v o p qs rs m k w e f g h i = cc
 
-module _ (prior : StateView) (given : LabelView → InstanceKeyView → GivenView) (ends : LabelView → InstanceKeyView → EndsView) (outputs : Entries) (labels : List LabelView) (homes rs : List ResourceView) where
+module _ (prior : StateView) (given : LabelView → InstanceKeyView → RecordInputView) (ends : LabelView → InstanceKeyView → InstanceResultView) (outputs : Entries) (labels : List LabelView) (draft rs : List ResourceView) where
   -- a state of these resources, as far as objects are known of them
   abbrev kept_state : StateView
   kept_state = record { serial = prior.serial; lineage = prior.lineage; terraform_version = prior.terraform_version; outputs = outputs; resources = filter has_records rs }
 
-  pub is_after : AreByAddress rs → ((label : LabelView) → resource_at label homes ≡ home_at prior.resources labels label)
-      → ((label : LabelView) → option_map (λ r. r.provider) (resource_at label rs) ≡ option_map (λ r. r.provider) (resource_at label homes))
+  pub is_after : AreByAddress rs → ((label : LabelView) → resource_at label draft ≡ home_at prior.resources labels label)
+      → ((label : LabelView) → option_map (λ r. r.provider) (resource_at label rs) ≡ option_map (λ r. r.provider) (resource_at label draft))
       → ((label : LabelView) (id : ObjectIdView) → record_among label id rs ≡ instance_after (given label id.key) (ends label id.key) (λ d. record_among label (object_at id.key d) prior.resources) id.deposed)
       → IsStateAfter prior given ends outputs (record kept_state { serial = next_serial prior kept_state })
   is_after ordered are providers known =
@@ -162,17 +162,17 @@ pub recorded_ordered : (e : EventsView) (before after : List ResourceView) → I
 recorded_ordered e before after h ordered =
     filtered_ordered (λ (r : ResourceView). r.label) label_cmp label_total has_records after (heads_ordered before after (recorded_heads e before after h) ordered)
 
--- the state that the code makes of homes and of what was recorded in them
-pub whole_is : (prior : StateView) (e : EventsView) (outputs : Entries) (labels : List LabelView) (homes rs : List ResourceView) (n : ℕ) (l v : List ℕ) (qs : List ResourceView) (s t : StateView)
-    → AreByAddress homes → ((label : LabelView) → resource_at label homes ≡ home_at prior.resources labels label) → AreEachAboutOne e → IsRecorded e homes rs
+-- the state that the code makes of a draft and of what was recorded in it
+pub whole_is : (prior : StateView) (e : EventsView) (outputs : Entries) (labels : List LabelView) (draft rs : List ResourceView) (n : ℕ) (l v : List ℕ) (qs : List ResourceView) (s t : StateView)
+    → AreByAddress draft → ((label : LabelView) → resource_at label draft ≡ home_at prior.resources labels label) → AreEachAboutOne e → IsRecorded e draft rs
     → n ≡ prior.serial → l ≡ prior.lineage → v ≡ prior.terraform_version → qs ≡ filter has_records rs
     → s ≡ record { serial = n; lineage = l; terraform_version = v; outputs = outputs; resources = qs } → t ≡ record s { serial = next_serial prior s }
     → IsStateAfter prior (given_in e) (ends_in e) outputs t
-whole_is prior e outputs labels homes rs n l v qs s t ordered are apart h serial lineage version resources is raised =
-    let heads = recorded_heads e homes rs h in
-    is_after_of prior (given_in e) (ends_in e) outputs labels homes rs n l v qs s t serial lineage version resources is raised
-    (is_after prior (given_in e) (ends_in e) outputs labels homes rs (heads_ordered homes rs heads ordered) are (λ label. heads_providers label homes rs heads)
-    (known_after prior.resources labels e homes h.mid h.late rs are apart h.destroyed h.renewed h.applied))
+whole_is prior e outputs labels draft rs n l v qs s t ordered are apart h serial lineage version resources is raised =
+    let heads = recorded_heads e draft rs h in
+    is_after_of prior (given_in e) (ends_in e) outputs labels draft rs n l v qs s t serial lineage version resources is raised
+    (is_after prior (given_in e) (ends_in e) outputs labels draft rs (heads_ordered draft rs heads ordered) are (λ label. heads_providers label draft rs heads)
+    (known_after prior.resources labels e draft h.mid h.late rs are apart h.destroyed h.renewed h.applied))
 
 any_at : (x l : LabelView) (b : Bool) → b ≡ true → (same_label x l || b) ≡ true
 any_at x l true e = or_true (same_label x l)
@@ -200,9 +200,9 @@ home_there None true l e h = absurd (cc)
 home_there None false l e h = absurd (cc)
 
 -- there is a home at each of the addresses
-pub homes_there : (prior : List ResourceView) (labels : List LabelView) (homes : List ResourceView) → ((label : LabelView) → resource_at label homes ≡ home_at prior labels label) → AreThere labels homes
-homes_there prior labels homes are =
-    all_mono (λ l. list_any (λ k. same_label k l) labels ≡ true) (λ l. ¬ (resource_at l homes ≡ None)) labels
+pub homes_there : (prior : List ResourceView) (labels : List LabelView) (draft : List ResourceView) → ((label : LabelView) → resource_at label draft ≡ home_at prior labels label) → AreThere labels draft
+homes_there prior labels draft are =
+    all_mono (λ l. list_any (λ k. same_label k l) labels ≡ true) (λ l. ¬ (resource_at l draft ≡ None)) labels
     (λ l one none. home_there (resource_at l prior) (list_any (λ k. same_label k l) labels) l one (sym (are l) ∙ none)) (each_is labels)
 
 -- the records of each resource are in order

@@ -8,7 +8,7 @@ use Rattle.tf_address.specs.Label.{LabelView, label_cmp}
 use Rattle.tf_address.specs.Same.{same_label}
 use Rattle.tf_state_next.proofs.Changing.{found_label, labels_apart, labels_tied}
 use Rattle.tf_state_next.proofs.OneByOne.{label_itself}
-use Rattle.tf_state_next.specs.Homes.{count_of, counts_at, empty_home}
+use Rattle.tf_state_next.specs.StateDraft.{count_of, counts_at, empty_home}
 use Rattle.tf_state_data.specs.Order.{IsAt, IsGapFor}
 use Rattle.tf_state_data.specs.Resource.{ResourceView}
 

@@ -4,7 +4,7 @@ use Rattle.std.proofs.lemmas.Slice.Eq.{bytes_eq-Decides}
 use Rattle.std.specs.Option.{option_eq, option_or}
 use Rattle.std.specs.Prelude.{bytes_eq}
 use Rattle.tf_state_next.specs.After.{Places, after_destroy, as_deposed, current_after, deposed_anew, destroy_under, record_of_saved, renewed}
-use Rattle.tf_state_next.specs.Ends.{SavedView, LeftView, gone, changed, unchanged, AppliedView, unwanted, unplanned, nothing, saved, EndsView, GivenView}
+use Rattle.tf_state_next.specs.Ends.{SavedView, LeftView, gone, changed, unchanged, ApplyResultView, unwanted, unplanned, nothing, saved, InstanceResultView, RecordInputView}
 use Rattle.tf_state_next.specs.ObjectLaws.{DeposedStay, IsKept, IsOrderly, NothingIsForgotten, Tells, destroy_at}
 use Rattle.tf_state_data.specs.Record.{RecordView}
 
@@ -21,7 +21,7 @@ none_at : (key : List ℕ) (left : Option RecordView) (to : Option (List ℕ)) (
 none_at key left to true e not = absurd (not (given_same to key e))
 none_at key left to false e not = refl
 
-none_anew : (g : GivenView) (a : AppliedView) (left : Option RecordView) (key : List ℕ) → ¬ (g.deposed_key ≡ Some key) → deposed_anew g a left key ≡ None
+none_anew : (g : RecordInputView) (a : ApplyResultView) (left : Option RecordView) (key : List ℕ) → ¬ (g.deposed_key ≡ Some key) → deposed_anew g a left key ≡ None
 none_anew g (saved s) left key not = none_at key left g.deposed_key (option_eq bytes_eq g.deposed_key (Some key)) refl not
 none_anew g unplanned left key not = refl
 none_anew g nothing left key not = refl
@@ -46,17 +46,17 @@ left (Some (changed t)) old not = record { new = record old { attributes = t }; 
 left (Some unchanged) old not = record { new = old; is = refl; tells = inl refl }
 
 -- a record that is left and is changed otherwise tells the same
-told : (ends : EndsView) (place : Option (List ℕ)) (old new : RecordView) → (new.attributes ≡ old.attributes) ⊎ (destroy_at ends place ≡ Some (changed new.attributes)) → Tells ends place old new
+told : (ends : InstanceResultView) (place : Option (List ℕ)) (old new : RecordView) → (new.attributes ≡ old.attributes) ⊎ (destroy_at ends place ≡ Some (changed new.attributes)) → Tells ends place old new
 told ends place old new (inl e) = inl e
 told ends place old new (inr e) = inr (inl e)
 
-kept_deposed : (g : GivenView) (ends : EndsView) (before : Places) (key : List ℕ) (old : RecordView) → IsOrderly g ends before → before (Some key) ≡ Some old → ¬ (destroy_under key ends.deposed ≡ Some gone) → IsKept g ends before (Some key) old
+kept_deposed : (g : RecordInputView) (ends : InstanceResultView) (before : Places) (key : List ℕ) (old : RecordView) → IsOrderly g ends before → before (Some key) ≡ Some old → ¬ (destroy_under key ends.deposed ≡ Some gone) → IsKept g ends before (Some key) old
 kept_deposed g ends before key old orderly is not =
     let l = left (destroy_under key ends.deposed) old not in
     record { where_now = Some key; new = l.new; there = deposed_stay g ends before key old orderly is ∙ l.is; in_place = inl refl; tells = told ends (Some key) old l.new l.tells }
 
 -- the current object, where it is what its destroy left
-stays_current : (g : GivenView) (ends : EndsView) (before : Places) (old : RecordView) (change : RecordView → RecordView) → ((r : RecordView) → (change r).attributes ≡ r.attributes) → before None ≡ Some old
+stays_current : (g : RecordInputView) (ends : InstanceResultView) (before : Places) (old : RecordView) (change : RecordView → RecordView) → ((r : RecordView) → (change r).attributes ≡ r.attributes) → before None ≡ Some old
     → ((o : Option RecordView) → current_after g ends.applied o ≡ option_map change o) → ¬ (ends.destroyed ≡ Some gone) → IsKept g ends before None old
 stays_current g ends before old change same is what not =
     let l = left ends.destroyed old not in
@@ -73,7 +73,7 @@ as_it_was None = refl
 as_it_was (Some r) = refl
 
 -- the old object, where another was saved in its place
-becomes_deposed : (g : GivenView) (ends : EndsView) (before : Places) (old : RecordView) (s : SavedView) (key : List ℕ) → before None ≡ Some old → ends.applied ≡ saved s → g.deposed_key ≡ Some key
+becomes_deposed : (g : RecordInputView) (ends : InstanceResultView) (before : Places) (old : RecordView) (s : SavedView) (key : List ℕ) → before None ≡ Some old → ends.applied ≡ saved s → g.deposed_key ≡ Some key
     → ¬ (ends.destroyed ≡ Some gone) → IsKept g ends before None old
 becomes_deposed g ends before old s key is applied given not =
     let l = left ends.destroyed old not in
@@ -91,7 +91,7 @@ becomes_deposed g ends before old s key is applied given not =
     }
 
 -- an object that was updated
-updated : (g : GivenView) (ends : EndsView) (before : Places) (old : RecordView) (s : SavedView) → ends.applied ≡ saved s → ends.destroyed ≡ None → IsKept g ends before None old
+updated : (g : RecordInputView) (ends : InstanceResultView) (before : Places) (old : RecordView) (s : SavedView) → ends.applied ≡ saved s → ends.destroyed ≡ None → IsKept g ends before None old
 updated g ends before old s applied destroyed =
     record {
       where_now = None;
@@ -101,12 +101,12 @@ updated g ends before old s applied destroyed =
       tells = inr (inr (destroyed, applied));
     }
 
-replaced : (g : GivenView) (ends : EndsView) (before : Places) (old : RecordView) (s : SavedView) (l : LeftView) (to : Option (List ℕ)) → IsOrderly g ends before → before None ≡ Some old → ends.applied ≡ saved s
+replaced : (g : RecordInputView) (ends : InstanceResultView) (before : Places) (old : RecordView) (s : SavedView) (l : LeftView) (to : Option (List ℕ)) → IsOrderly g ends before → before None ≡ Some old → ends.applied ≡ saved s
     → ends.destroyed ≡ Some l → g.deposed_key ≡ to → ¬ (ends.destroyed ≡ Some gone) → IsKept g ends before None old
 replaced g ends before old s l None orderly is applied destroyed given not = absurd (not (destroyed ∙ ap Some (orderly.first s l given applied destroyed)))
 replaced g ends before old s l (Some key) orderly is applied destroyed given not = becomes_deposed g ends before old s key is applied given not
 
-kept_current : (g : GivenView) (ends : EndsView) (before : Places) (old : RecordView) (a : AppliedView) (d : Option LeftView) → ends.applied ≡ a → ends.destroyed ≡ d → IsOrderly g ends before → before None ≡ Some old
+kept_current : (g : RecordInputView) (ends : InstanceResultView) (before : Places) (old : RecordView) (a : ApplyResultView) (d : Option LeftView) → ends.applied ≡ a → ends.destroyed ≡ d → IsOrderly g ends before → before None ≡ Some old
     → ¬ (ends.destroyed ≡ Some gone) → IsKept g ends before None old
 kept_current g ends before old (saved s) None applied destroyed orderly is not = updated g ends before old s applied destroyed
 kept_current g ends before old (saved s) (Some l) applied destroyed orderly is not = replaced g ends before old s l g.deposed_key orderly is applied destroyed refl not

@@ -4,7 +4,7 @@ use Rattle.tf_address.specs.Label.{LabelView}
 use Rattle.tf_state_next.proofs.Changing.{heads_ordered}
 use Rattle.tf_state_next.proofs.Finding.{apart_front}
 use Rattle.tf_state_next.specs.Events.{AreApart}
-use Rattle.tf_state_next.specs.Homes.{HaveRoom}
+use Rattle.tf_state_next.specs.StateDraft.{HaveRoom}
 use Rattle.tf_state_next.specs.Recorded.{heads_of}
 use Rattle.tf_state_data.specs.Addresses.{AreByAddress}
 use Rattle.tf_state_data.specs.Resource.{ResourceView, resource_of}

@@ -1,11 +1,11 @@
 -- No more records are saved than there are creates and updates.
 use Rattle.std.proofs.Common.{◌≤◌, cond, [], ◌∷◌, arith}
 use Rattle.std.proofs.lemmas.List.Sums.{sum_by-cons}
-use Rattle.tf_state_next.specs.Ends.{AppliedView, unwanted, unplanned, nothing, saved}
+use Rattle.tf_state_next.specs.Ends.{ApplyResultView, unwanted, unplanned, nothing, saved}
 use Rattle.tf_state_next.specs.ObjectLaws.{RoomsSuffice, is_planned}
 use Rattle.tf_state_next.specs.Room.{records_more}
 
-one_at_most : (a : AppliedView) → records_more a ≤ cond (is_planned a) 1 0
+one_at_most : (a : ApplyResultView) → records_more a ≤ cond (is_planned a) 1 0
 one_at_most (saved s) = omega arith
 one_at_most nothing = omega arith
 one_at_most unplanned = omega arith

@@ -19,7 +19,7 @@ use Rattle.tf_state_next.specs.Sound.{AreSound, IsSoundApply, IsSoundBy, IsSound
 use Rattle.tf_state_next.specs.StateAfter.{has_records, is_same, places_at}
 use Rattle.tf_state.specs.Valid.{AreAddresses, IsDeposed, IsPresent, IsRecord, IsValid}
 use Rattle.tf_state_next.specs.After.{Places, after_destroy, as_deposed, current_after, deposed_anew, destroy_under, instance_after, object_at, record_of_saved, renewed}
-use Rattle.tf_state_next.specs.Ends.{LeftView, gone, changed, unchanged, AppliedView, unwanted, unplanned, nothing, SavedView, saved}
+use Rattle.tf_state_next.specs.Ends.{LeftView, gone, changed, unchanged, ApplyResultView, unwanted, unplanned, nothing, SavedView, saved}
 use Rattle.tf_state_data.specs.Ids.{AreById}
 use Rattle.tf_state_data.specs.Record.{RecordView}
 use Rattle.tf_state_data.specs.Resource.{ResourceView, record_at}
@@ -79,7 +79,7 @@ renewed_sound label ds late (Some y) addresses h =
     some_sound label (renewed ds late y)
     (record { type_name = was.type_name; name = was.name; sound = record { key = is.key; deposed = is.deposed; attributes = is.attributes; version = is.version; dependencies = addresses } })
 
-applied_sound : (label : LabelView) (a : ApplyView) (x : AppliedView) (left : Option RecordView) → IsSoundBy a x → a.label ≡ label → MaySound label left → MaySound label (current_after a.given x left)
+applied_sound : (label : LabelView) (a : ApplyView) (x : ApplyResultView) (left : Option RecordView) → IsSoundBy a x → a.label ≡ label → MaySound label left → MaySound label (current_after a.given x left)
 applied_sound label a (saved s) left sound same h = some_sound label (record_of_saved a.given s) (saved_sound label a s sound same)
 applied_sound label a unplanned left sound same h = renewed_sound label a.given.dependencies a.given.create_before_destroy left sound h
 applied_sound label a nothing left sound same h = h
@@ -106,7 +106,7 @@ moved_at : (label : LabelView) (to : Option (List ℕ)) (k : List ℕ) (left : O
 moved_at label to k left true e deposed h = moved_sound label k left (subst IsDeposed (given_same to k e) deposed) h
 moved_at label to k left false e deposed h = none_sound label
 
-deposed_by : (label : LabelView) (a : ApplyView) (x : AppliedView) (left : Option RecordView) (k : List ℕ) → IsSoundBy a x → MaySound label left → MaySound label (deposed_anew a.given x left k)
+deposed_by : (label : LabelView) (a : ApplyView) (x : ApplyResultView) (left : Option RecordView) (k : List ℕ) → IsSoundBy a x → MaySound label left → MaySound label (deposed_anew a.given x left k)
 deposed_by label a (saved s) left k sound h = moved_at label a.given.deposed_key k left (option_eq bytes_eq a.given.deposed_key (Some k)) refl sound.deposed_key h
 deposed_by label a unplanned left k sound h = none_sound label
 deposed_by label a nothing left k sound h = none_sound label

@@ -3,7 +3,7 @@ use Rattle.std.specs.Option.{option_eq, option_or}
 use Rattle.std.specs.Prelude.{◌≡◌, ℕ, Bool, List, Option, Some, None, find, option_map, option_and_then, if◌then◌else◌}
 use Rattle.std.specs.Str.{bytes_eq}
 use Rattle.tf_address.specs.ObjectId.{InstanceKeyView, ObjectIdView}
-use Rattle.tf_state_next.specs.Ends.{SavedView, LeftView, gone, changed, unchanged, AppliedView, unwanted, unplanned, nothing, saved, EndsView, GivenView}
+use Rattle.tf_state_next.specs.Ends.{SavedView, LeftView, gone, changed, unchanged, ApplyResultView, unwanted, unplanned, nothing, saved, InstanceResultView, RecordInputView}
 use Rattle.tf_state_data.specs.Record.{RecordView}
 use Rattle.tf_state_data.specs.Resource.{ResourceView, record_at}
 
@@ -20,7 +20,7 @@ abbrev pub places_in : InstanceKeyView → List RecordView → Places
 places_in key records deposed = record_at (object_at key deposed) records
 
 -- The record of an object that a create or an update saved: it is the current one, with what the record is given.
-abbrev pub record_of_saved : GivenView → SavedView → RecordView
+abbrev pub record_of_saved : RecordInputView → SavedView → RecordView
 record_of_saved g s =
     record {
       id = object_at g.key None;
@@ -52,7 +52,7 @@ after_destroy (Some left) before = option_and_then (left_of_record left) before
 
 -- The current object is the one that was saved. Where none was, it is what the destroy left of the one that was there; and
 -- where nothing was planned, that one with what it is given anew.
-abbrev pub current_after : GivenView → AppliedView → Option RecordView → Option RecordView
+abbrev pub current_after : RecordInputView → ApplyResultView → Option RecordView → Option RecordView
 current_after g (saved s) left = Some (record_of_saved g s)
 current_after g unplanned left = option_map (renewed g.dependencies g.create_before_destroy) left
 current_after g nothing left = left
@@ -60,7 +60,7 @@ current_after g unwanted left = left
 
 -- The object that was current becomes deposed under a key where that is the one given for it and an object was saved in its
 -- place, unless its destroy left nothing of it.
-abbrev pub deposed_anew : GivenView → AppliedView → Option RecordView → List ℕ → Option RecordView
+abbrev pub deposed_anew : RecordInputView → ApplyResultView → Option RecordView → List ℕ → Option RecordView
 deposed_anew g (saved s) left key = if option_eq bytes_eq g.deposed_key (Some key) then option_map (as_deposed key) left else None
 deposed_anew g _ left key = None
 
@@ -70,14 +70,14 @@ destroy_under key destroyed = option_map (λ d. d.1) (find (λ d. bytes_eq d.0 k
 
 -- What is known of an instance's objects after its actions: of the current object, as above; under the key of a deposed one
 -- the object that became deposed, or else what its destroy left of the one that was there.
-abbrev pub instance_after : GivenView → EndsView → Places → Places
+abbrev pub instance_after : RecordInputView → InstanceResultView → Places → Places
 instance_after g ends before None = current_after g ends.applied (after_destroy ends.destroyed (before None))
 instance_after g ends before (Some key) =
     option_or (deposed_anew g ends.applied (after_destroy ends.destroyed (before None)) key) (after_destroy (destroy_under key ends.deposed) (before (Some key)))
 
 -- A resource after the actions of one of its instances: what is known of that one's objects is as above, of those of other
 -- instances what was known before, and its address and its provider stay.
-pub record IsAfter (g : GivenView) (ends : EndsView) (before after : ResourceView) : Type 0 where
+pub record IsAfter (g : RecordInputView) (ends : InstanceResultView) (before after : ResourceView) : Type 0 where
   pub own : (deposed : Option (List ℕ)) → places_in g.key after.records deposed ≡ instance_after g ends (places_in g.key before.records) deposed
   pub others : (id : ObjectIdView) → ¬ (id.key ≡ g.key) → record_at id after.records ≡ record_at id before.records
   pub label : after.label ≡ before.label

@@ -1,10 +1,10 @@
 -- What came of the actions of an instance, as plain data.
 use Rattle.std.specs.Prelude.{ℕ, Bool, List, [], ◌∷◌, Option, Some, None, option_map, map, string_bytes}
 use Rattle.tf_address.specs.ObjectId.{InstanceKeyView, instance_key_of}
-use Rattle.tf_state_next.specs.declared.ends.Applied.{Applied}
-use Rattle.tf_state_next.specs.declared.ends.Applied.TheVariants as applies
-use Rattle.tf_state_next.specs.declared.ends.Ends.{Ends}
-use Rattle.tf_state_next.specs.declared.ends.Given.{Given}
+use Rattle.tf_state_next.specs.declared.ends.ApplyResult.{ApplyResult}
+use Rattle.tf_state_next.specs.declared.ends.ApplyResult.TheVariants as applies
+use Rattle.tf_state_next.specs.declared.ends.InstanceResult.{InstanceResult}
+use Rattle.tf_state_next.specs.declared.ends.RecordInput.{RecordInput}
 use Rattle.tf_state_next.specs.declared.ends.Left.{Left}
 use Rattle.tf_state_next.specs.declared.ends.Left.TheVariants as lefts
 use Rattle.tf_state_next.specs.declared.ends.Saved.{Saved}
@@ -22,23 +22,23 @@ pub data LeftView : Type 0 where
 
 -- What came of the create or the update of an instance: no object was wanted; one was, and nothing was planned for it; it
 -- saved nothing; or it saved an object.
-pub data AppliedView : Type 0 where
-  unwanted : AppliedView
-  unplanned : AppliedView
-  nothing : AppliedView
-  saved : SavedView → AppliedView
+pub data ApplyResultView : Type 0 where
+  unwanted : ApplyResultView
+  unplanned : ApplyResultView
+  nothing : ApplyResultView
+  saved : SavedView → ApplyResultView
 
 -- What came of all actions of an instance: of the create or the update; of the destroy of the object that was current,
 -- where one was planned; and of the destroys of deposed objects, by their keys.
-pub record EndsView : Type 0 where
-  pub applied : AppliedView
+pub record InstanceResultView : Type 0 where
+  pub applied : ApplyResultView
   pub destroyed : Option LeftView
   pub deposed : List (List ℕ × LeftView)
 
 -- What the record of an object is given: its instance, the version of its schema, the addresses of the resources that its
 -- resource needs, and whether that is late; and the key that the old object has if it becomes deposed, none but in a
 -- replace that creates first.
-pub record GivenView : Type 0 where
+pub record RecordInputView : Type 0 where
   pub key : InstanceKeyView
   pub schema_version : ℕ
   pub dependencies : List (List ℕ)
@@ -55,18 +55,18 @@ left_of lefts.Gone = gone
 left_of (lefts.Changed o) = changed (tree_of o.value)
 left_of lefts.Unchanged = unchanged
 
-abbrev pub applied_of : Applied → AppliedView
-applied_of applies.Unwanted = unwanted
-applied_of applies.Unplanned = unplanned
-applied_of applies.Nothing = nothing
-applied_of (applies.Saved s) = saved (saved_of s)
+abbrev pub apply_result_of : ApplyResult → ApplyResultView
+apply_result_of applies.Unwanted = unwanted
+apply_result_of applies.Unplanned = unplanned
+apply_result_of applies.Nothing = nothing
+apply_result_of (applies.Saved s) = saved (saved_of s)
 
 -- nothing is said of deposed objects
-abbrev pub ends_of : Ends → EndsView
-ends_of e = record { applied = applied_of e.applied; destroyed = option_map left_of e.destroyed; deposed = [] }
+abbrev pub instance_result_of : InstanceResult → InstanceResultView
+instance_result_of e = record { applied = apply_result_of e.applied; destroyed = option_map left_of e.destroyed; deposed = [] }
 
-abbrev pub given_of : Given → GivenView
-given_of g =
+abbrev pub record_input_of : RecordInput → RecordInputView
+record_input_of g =
     record {
       key = instance_key_of g.key;
       schema_version = g.schema_version;
@@ -76,6 +76,6 @@ given_of g =
     }
 
 -- a destroy alone, of the current object or of a deposed one
-abbrev pub destroy_of : Option (List ℕ) → LeftView → EndsView
+abbrev pub destroy_of : Option (List ℕ) → LeftView → InstanceResultView
 destroy_of None left = record { applied = unwanted; destroyed = Some left; deposed = [] }
 destroy_of (Some key) left = record { applied = unwanted; destroyed = None; deposed = (key, left) ∷ [] }

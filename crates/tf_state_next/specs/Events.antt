@@ -8,15 +8,15 @@ use Rattle.tf_address.specs.Same.{same_instance_key, same_label, same_object_id}
 use Rattle.tf_state_next.specs.declared.events.Apply.{Apply}
 use Rattle.tf_state_next.specs.declared.events.Destroy.{Destroy}
 use Rattle.tf_state_next.specs.declared.events.Events.{Events}
-use Rattle.tf_state_next.specs.declared.events.Renewal.{Renewal}
+use Rattle.tf_state_next.specs.declared.events.MetadataUpdate.{MetadataUpdate}
 use Rattle.tf_state_next.specs.After.{object_at}
-use Rattle.tf_state_next.specs.Ends.{LeftView, left_of, AppliedView, unwanted, unplanned, applied_of, EndsView, GivenView, given_of}
+use Rattle.tf_state_next.specs.Ends.{LeftView, left_of, ApplyResultView, unwanted, unplanned, apply_result_of, InstanceResultView, RecordInputView, record_input_of}
 
 -- what came of the create or the update of an instance
 pub record ApplyView : Type 0 where
   pub label : LabelView
-  pub given : GivenView
-  pub applied : AppliedView
+  pub given : RecordInputView
+  pub applied : ApplyResultView
 
 -- what came of the destroy of an object
 pub record DestroyView : Type 0 where
@@ -25,24 +25,24 @@ pub record DestroyView : Type 0 where
   pub left : LeftView
 
 -- an instance that is wanted and for which no create or update was planned
-pub record RenewalView : Type 0 where
+pub record MetadataUpdateView : Type 0 where
   pub label : LabelView
-  pub given : GivenView
+  pub given : RecordInputView
 
 pub record EventsView : Type 0 where
   pub destroys : List DestroyView
   pub applies : List ApplyView
-  pub renewals : List RenewalView
+  pub metadata_updates : List MetadataUpdateView
 
 -- ---- what is about what
 
--- A renewal is as an apply for which nothing was planned.
-abbrev pub as_apply : RenewalView → ApplyView
+-- A metadata update is as an apply for which nothing was planned.
+abbrev pub as_apply : MetadataUpdateView → ApplyView
 as_apply r = record { label = r.label; given = r.given; applied = unplanned }
 
 -- what came of the instances that are wanted
 abbrev pub wanted : EventsView → List ApplyView
-wanted e = e.applies ++ map as_apply e.renewals
+wanted e = e.applies ++ map as_apply e.metadata_updates
 
 -- the instance that an apply is about
 abbrev pub instance_of : ApplyView → LabelView × InstanceKeyView
@@ -80,23 +80,23 @@ abbrev pub left_of_deposed : LabelView → InstanceKeyView → DestroyView → O
 left_of_deposed label key d = if is_instance label key d.label d.id.key then option_map (λ k. (k, d.left)) d.id.deposed else None
 
 -- What the record of an object is given where nothing came of its instance: nothing is told of it.
-abbrev pub nothing_given : InstanceKeyView → GivenView
+abbrev pub nothing_given : InstanceKeyView → RecordInputView
 nothing_given key = record { key = key; schema_version = 0; dependencies = []; create_before_destroy = false; deposed_key = None }
 
 -- what the record of an object of an instance is given
-abbrev pub given_by : List ApplyView → LabelView → InstanceKeyView → GivenView
+abbrev pub given_by : List ApplyView → LabelView → InstanceKeyView → RecordInputView
 given_by applies label key = option_map_or (λ a. a.given) (apply_of_instance label key applies) (nothing_given key)
 
 -- what came of the create or the update of an instance
-abbrev pub applied_by : List ApplyView → LabelView → InstanceKeyView → AppliedView
+abbrev pub applied_by : List ApplyView → LabelView → InstanceKeyView → ApplyResultView
 applied_by applies label key = option_map_or (λ a. a.applied) (apply_of_instance label key applies) unwanted
 
-abbrev pub given_in : EventsView → LabelView → InstanceKeyView → GivenView
+abbrev pub given_in : EventsView → LabelView → InstanceKeyView → RecordInputView
 given_in e = given_by (wanted e)
 
 -- What came of all actions of an instance: of the create or the update, of the destroy of the object that was current, and
 -- of the destroys of deposed ones.
-abbrev pub ends_in : EventsView → LabelView → InstanceKeyView → EndsView
+abbrev pub ends_in : EventsView → LabelView → InstanceKeyView → InstanceResultView
 ends_in e label key =
     record {
       applied = applied_by (wanted e) label key;
@@ -107,13 +107,13 @@ ends_in e label key =
 -- ---- what the code's types stand for
 
 abbrev pub apply_of : Apply → ApplyView
-apply_of a = record { label = label_of a.label.now; given = given_of a.given; applied = applied_of a.applied }
+apply_of a = record { label = label_of a.label.now; given = record_input_of a.given; applied = apply_result_of a.applied }
 
 abbrev pub destroy_of : Destroy → DestroyView
 destroy_of d = record { label = label_of d.label.now; id = object_id_of d.id; left = left_of d.left }
 
-abbrev pub renewal_of : Renewal → RenewalView
-renewal_of r = record { label = label_of r.label.now; given = given_of r.given }
+abbrev pub metadata_update_of : MetadataUpdate → MetadataUpdateView
+metadata_update_of r = record { label = label_of r.label.now; given = record_input_of r.given }
 
 abbrev pub events_of : Events → EventsView
-events_of e = record { destroys = map destroy_of e.destroys.items; applies = map apply_of e.applies.items; renewals = map renewal_of e.renewals.items }
+events_of e = record { destroys = map destroy_of e.destroys.items; applies = map apply_of e.applies.items; metadata_updates = map metadata_update_of e.metadata_updates.items }

@@ -7,7 +7,7 @@ use Rattle.tf_state_next.specs.Events.{EventsView, ends_in, given_in}
 use Rattle.tf_state_next.specs.Sound.{AreSound}
 use Rattle.tf_state_next.specs.StateAfter.{IsStateAfter}
 use Rattle.tf_state.specs.Valid.{IsValid}
-use Rattle.tf_state_next.specs.Ends.{EndsView, GivenView}
+use Rattle.tf_state_next.specs.Ends.{InstanceResultView, RecordInputView}
 use Rattle.tf_state_data.specs.Addresses.{AreByAddress}
 use Rattle.tf_state_data.specs.Ids.{AreById}
 use Rattle.tf_state_data.specs.State.{StateView}
@@ -22,7 +22,7 @@ pub record IsInOrder (s : StateView) : Type 0 where
 -- At most one state comes of what each instance is given and of what came of its actions.
 abbrev pub StateAfterIsOne : Type 0
 StateAfterIsOne =
-    (prior : StateView) (given : LabelView → InstanceKeyView → GivenView) (ends : LabelView → InstanceKeyView → EndsView) (outputs : Entries) (s t : StateView)
+    (prior : StateView) (given : LabelView → InstanceKeyView → RecordInputView) (ends : LabelView → InstanceKeyView → InstanceResultView) (outputs : Entries) (s t : StateView)
     → IsInOrder s → IsInOrder t → IsStateAfter prior given ends outputs s → IsStateAfter prior given ends outputs t → s ≡ t
 
 -- What comes of a valid state is valid, where what was recorded is sound and the outputs may be stored.

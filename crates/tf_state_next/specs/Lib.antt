@@ -5,7 +5,7 @@ pub mod ObjectLaws
 pub mod Room
 pub mod Saved
 pub mod Events
-pub mod Homes
+pub mod StateDraft
 pub mod Laws
 pub mod Recorded
 pub mod Sound

@@ -3,7 +3,7 @@ use Rattle.std.specs.Prelude.{◌≡◌, ◌<◌, ◌≤◌, ◌^◌, ◌⊎◌,
 use Rattle.tf_address.specs.ObjectId.{InstanceKeyView}
 use Rattle.tf_state_next.specs.After.{Places, IsAfter, after_destroy, as_deposed, destroy_under, instance_after, places_in, record_of_saved}
 use Rattle.tf_state_next.specs.DeposedKey.{IsDeposedKey, is_key}
-use Rattle.tf_state_next.specs.Ends.{SavedView, LeftView, gone, changed, AppliedView, unwanted, unplanned, nothing, saved, EndsView, GivenView, destroy_of}
+use Rattle.tf_state_next.specs.Ends.{SavedView, LeftView, gone, changed, ApplyResultView, unwanted, unplanned, nothing, saved, InstanceResultView, RecordInputView, destroy_of}
 use Rattle.tf_state_next.specs.Room.{records_more}
 use Rattle.tf_state_data.specs.Ids.{AreById}
 use Rattle.tf_state_data.specs.Record.{RecordView}
@@ -14,14 +14,14 @@ use Rattle.tf_state_data.specs.Resource.{ResourceView}
 -- At most one resource comes of an instance's actions, its records being in order.
 abbrev pub AfterIsOne : Type 0
 AfterIsOne =
-    (g : GivenView) (ends : EndsView) (before r s : ResourceView) → AreById r.records → AreById s.records
+    (g : RecordInputView) (ends : InstanceResultView) (before r s : ResourceView) → AreById r.records → AreById s.records
     → IsAfter g ends before r → IsAfter g ends before s → r ≡ s
 
 -- The destroy of a deposed object may come before what else came of the instance, or after it: together they are what came
 -- of all, where there is no other destroy of the object and the key isn't the one given for the old object.
 abbrev pub DestroysCombine : Type 0
 DestroysCombine =
-    (g : GivenView) (ends : EndsView) (key : List ℕ) (left : LeftView) (r s t : ResourceView)
+    (g : RecordInputView) (ends : InstanceResultView) (key : List ℕ) (left : LeftView) (r s t : ResourceView)
     → destroy_under key ends.deposed ≡ None → ¬ (g.deposed_key ≡ Some key)
     → (IsAfter g (destroy_of (Some key) left) r s × IsAfter g ends s t) ⊎ (IsAfter g ends r s × IsAfter g (destroy_of (Some key) left) s t)
     → IsAfter g (record ends { deposed = (key, left) ∷ ends.deposed }) r t
@@ -29,24 +29,24 @@ DestroysCombine =
 -- ---- nothing is forgotten
 
 -- the destroy of the object at a place, where there was one
-abbrev pub destroy_at : EndsView → Option (List ℕ) → Option LeftView
+abbrev pub destroy_at : InstanceResultView → Option (List ℕ) → Option LeftView
 destroy_at ends None = ends.destroyed
 destroy_at ends (Some key) = destroy_under key ends.deposed
 
 -- What is so of each apply: no object is deposed under the key that is given for the old one, and where none is given, as in
 -- a replace that destroys first, an object is saved only once the old one is gone.
-pub record IsOrderly (g : GivenView) (ends : EndsView) (before : Places) : Type 0 where
+pub record IsOrderly (g : RecordInputView) (ends : InstanceResultView) (before : Places) : Type 0 where
   pub free : (key : List ℕ) → g.deposed_key ≡ Some key → before (Some key) ≡ None
   pub first : (s : SavedView) (left : LeftView) → g.deposed_key ≡ None → ends.applied ≡ saved s → ends.destroyed ≡ Some left → left ≡ gone
 
 -- A record tells of an object that had a record at a place: what was known, or what was replied when its destroy failed, or
 -- what its update saved.
-abbrev pub Tells : EndsView → Option (List ℕ) → RecordView → RecordView → Type 0
+abbrev pub Tells : InstanceResultView → Option (List ℕ) → RecordView → RecordView → Type 0
 Tells ends place old new =
     (new.attributes ≡ old.attributes) ⊎ ((destroy_at ends place ≡ Some (changed new.attributes)) ⊎ ((destroy_at ends place ≡ None) × (ends.applied ≡ saved (new.attributes, new.tainted))))
 
 -- An object that had a record has one, in its place or under the key given for the old object.
-pub record IsKept (g : GivenView) (ends : EndsView) (before : Places) (place : Option (List ℕ)) (old : RecordView) : Type 0 where
+pub record IsKept (g : RecordInputView) (ends : InstanceResultView) (before : Places) (place : Option (List ℕ)) (old : RecordView) : Type 0 where
   pub where_now : Option (List ℕ)
   pub new : RecordView
   pub there : instance_after g ends before where_now ≡ Some new
@@ -56,31 +56,31 @@ pub record IsKept (g : GivenView) (ends : EndsView) (before : Places) (place : O
 -- Each object that had a record has one, unless a good destroy took it.
 abbrev pub NothingIsForgotten : Type 0
 NothingIsForgotten =
-    (g : GivenView) (ends : EndsView) (before : Places) (place : Option (List ℕ)) (old : RecordView)
+    (g : RecordInputView) (ends : InstanceResultView) (before : Places) (place : Option (List ℕ)) (old : RecordView)
     → IsOrderly g ends before → before place ≡ Some old → ¬ (destroy_at ends place ≡ Some gone) → IsKept g ends before place old
 
 -- An object that was saved is the current one, with what its record is given.
 abbrev pub SavedIsCurrent : Type 0
-SavedIsCurrent = (g : GivenView) (ends : EndsView) (before : Places) (s : SavedView) → ends.applied ≡ saved s → instance_after g ends before None ≡ Some (record_of_saved g s)
+SavedIsCurrent = (g : RecordInputView) (ends : InstanceResultView) (before : Places) (s : SavedView) → ends.applied ≡ saved s → instance_after g ends before None ≡ Some (record_of_saved g s)
 
 -- A deposed object is never overwritten: under its key stands what its destroy left of it.
 abbrev pub DeposedStay : Type 0
 DeposedStay =
-    (g : GivenView) (ends : EndsView) (before : Places) (key : List ℕ) (old : RecordView)
+    (g : RecordInputView) (ends : InstanceResultView) (before : Places) (key : List ℕ) (old : RecordView)
     → IsOrderly g ends before → before (Some key) ≡ Some old → instance_after g ends before (Some key) ≡ after_destroy (destroy_under key ends.deposed) (Some old)
 
 -- Where an object was saved and its destroy left the old one, that one is deposed under the key given for it: all else of its
 -- record stays.
 abbrev pub OldIsDeposed : Type 0
 OldIsDeposed =
-    (g : GivenView) (ends : EndsView) (before : Places) (s : SavedView) (key : List ℕ) (old : RecordView)
+    (g : RecordInputView) (ends : InstanceResultView) (before : Places) (s : SavedView) (key : List ℕ) (old : RecordView)
     → ends.applied ≡ saved s → g.deposed_key ≡ Some key → after_destroy ends.destroyed (before None) ≡ Some old
     → instance_after g ends before (Some key) ≡ Some (as_deposed key old)
 
 -- Where a create or an update saved nothing, the old object stays current as its destroy left it, and none becomes deposed.
 abbrev pub OldStays : Type 0
 OldStays =
-    (g : GivenView) (ends : EndsView) (before : Places) → ends.applied ≡ nothing
+    (g : RecordInputView) (ends : InstanceResultView) (before : Places) → ends.applied ≡ nothing
     → (instance_after g ends before None ≡ after_destroy ends.destroyed (before None))
     × ((key : List ℕ) → instance_after g ends before (Some key) ≡ after_destroy (destroy_under key ends.deposed) (before (Some key)))
 
@@ -109,7 +109,7 @@ KeyIsFree =
 -- ---- room
 
 -- a create or an update was planned
-abbrev pub is_planned : AppliedView → Bool
+abbrev pub is_planned : ApplyResultView → Bool
 is_planned (saved s) = true
 is_planned nothing = true
 is_planned unplanned = false
@@ -117,4 +117,4 @@ is_planned unwanted = false
 
 -- Room for one record of each create or update of a resource is enough for what comes of all its instances.
 abbrev pub RoomsSuffice : Type 0
-RoomsSuffice = (applied : List AppliedView) → sum_by records_more applied ≤ count_by is_planned applied
+RoomsSuffice = (applied : List ApplyResultView) → sum_by records_more applied ≤ count_by is_planned applied

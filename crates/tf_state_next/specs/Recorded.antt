@@ -5,7 +5,7 @@ use Rattle.tf_address.specs.Label.{LabelView}
 use Rattle.tf_address.specs.ObjectId.{InstanceKeyView, ObjectIdView}
 use Rattle.tf_state_next.specs.Events.{ApplyView, DestroyView, EventsView, as_apply, applied_by, given_by, left_of_object}
 use Rattle.tf_state_next.specs.After.{Places, after_destroy, instance_after, object_at}
-use Rattle.tf_state_next.specs.Ends.{EndsView}
+use Rattle.tf_state_next.specs.Ends.{InstanceResultView}
 use Rattle.tf_state_data.specs.Record.{RecordView}
 use Rattle.tf_state_data.specs.Resource.{ResourceView, record_at}
 use Rattle.tf_state_data.specs.State.{resource_at}
@@ -28,7 +28,7 @@ pub record AreDestroyed (destroys : List DestroyView) (before after : List Resou
   pub heads : heads_of after ≡ heads_of before
 
 -- what came of the create or the update of an instance alone
-abbrev pub ends_by : List ApplyView → LabelView → InstanceKeyView → EndsView
+abbrev pub ends_by : List ApplyView → LabelView → InstanceKeyView → InstanceResultView
 ends_by applies label key = record { applied = applied_by applies label key; destroyed = None; deposed = [] }
 
 -- Resources after some creates and updates: of each object is known what comes of those of its instance.
@@ -46,5 +46,5 @@ pub record IsRecorded (e : EventsView) (before after : List ResourceView) : Type
   pub mid : List ResourceView
   pub late : List ResourceView
   pub destroyed : AreDestroyed e.destroys before mid
-  pub renewed : AreApplied (map as_apply e.renewals) mid late
+  pub renewed : AreApplied (map as_apply e.metadata_updates) mid late
   pub applied : AreApplied e.applies late after

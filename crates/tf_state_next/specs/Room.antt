@@ -1,12 +1,12 @@
 -- Room for what is saved, had before the first call, and what is put into it.
 use Rattle.std.specs.Prelude.{ℕ, List, Option, Some, None, option_map}
 use Rattle.tf_state_next.specs.After.{as_deposed}
-use Rattle.tf_state_next.specs.Ends.{AppliedView, unwanted, unplanned, nothing, saved}
+use Rattle.tf_state_next.specs.Ends.{ApplyResultView, unwanted, unplanned, nothing, saved}
 use Rattle.tf_state_data.specs.Record.{RecordView}
 use Rattle.tf_state_data.specs.Resource.{ResourceView, with_record}
 
 -- How many records more there may be after the actions of an instance: one where an object was saved, else none.
-abbrev pub records_more : AppliedView → ℕ
+abbrev pub records_more : ApplyResultView → ℕ
 records_more (saved s) = 1
 records_more nothing = 0
 records_more unplanned = 0

@@ -4,7 +4,7 @@ use Rattle.std.specs.List.{AllByRecursion}
 use Rattle.tf_address.specs.Name.{is_name}
 use Rattle.tf_state_next.specs.Events.{ApplyView, DestroyView, EventsView, wanted}
 use Rattle.tf_state.specs.Valid.{AreAddresses, IsAttributes, IsDeposed, IsKey}
-use Rattle.tf_state_next.specs.Ends.{LeftView, gone, changed, unchanged, SavedView, AppliedView, unwanted, unplanned, nothing, saved}
+use Rattle.tf_state_next.specs.Ends.{LeftView, gone, changed, unchanged, SavedView, ApplyResultView, unwanted, unplanned, nothing, saved}
 
 -- An object that was saved: its address is of names, its instance and what it is given are such as a valid state has, and its
 -- attributes may be stored.
@@ -18,7 +18,7 @@ pub record IsSoundObject (a : ApplyView) (s : SavedView) : Type 0 where
   pub attributes : IsAttributes s.0
 
 -- What came of a create or an update: an object is as above, and what a record is given anew are addresses.
-abbrev pub IsSoundBy : ApplyView → AppliedView → Type 0
+abbrev pub IsSoundBy : ApplyView → ApplyResultView → Type 0
 IsSoundBy a (saved s) = IsSoundObject a s
 IsSoundBy a unplanned = AreAddresses a.given.dependencies
 IsSoundBy a nothing = ⊤

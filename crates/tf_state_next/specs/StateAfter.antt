@@ -6,7 +6,7 @@ use Rattle.tf_address.specs.Label.{LabelView}
 use Rattle.tf_address.specs.ObjectId.{InstanceKeyView, ObjectIdView}
 use Rattle.tf_state.specs.Arrangement.{is_some_record}
 use Rattle.tf_state_next.specs.After.{Places, instance_after, object_at}
-use Rattle.tf_state_next.specs.Ends.{EndsView, GivenView}
+use Rattle.tf_state_next.specs.Ends.{InstanceResultView, RecordInputView}
 use Rattle.tf_state_data.specs.Equality.{same_state}
 use Rattle.tf_state_data.specs.Provider.{provider_text}
 use Rattle.tf_state_data.specs.Resource.{ResourceView}
@@ -37,7 +37,7 @@ next_serial prior after = if is_same prior after then prior.serial else prior.se
 -- of each object is what comes of its instance's actions; a resource is there exactly where an object of it is known, with
 -- its provider; outputs are these; lineage and version stay; and the serial is one more exactly where the rest
 -- isn't the same.
-pub record IsStateAfter (prior : StateView) (given : LabelView → InstanceKeyView → GivenView) (ends : LabelView → InstanceKeyView → EndsView) (outputs : Entries) (after : StateView) : Type 0 where
+pub record IsStateAfter (prior : StateView) (given : LabelView → InstanceKeyView → RecordInputView) (ends : LabelView → InstanceKeyView → InstanceResultView) (outputs : Entries) (after : StateView) : Type 0 where
   pub records : (label : LabelView) (id : ObjectIdView) → record_in label id after ≡ instance_after (given label id.key) (ends label id.key) (places_at label id.key prior) id.deposed
   pub present : AllByRecursion (λ r. has_records r ≡ true) after.resources
   pub providers : (label : LabelView) (r : ResourceView) → resource_at label after.resources ≡ Some r → r.provider ≡ provider_after prior label

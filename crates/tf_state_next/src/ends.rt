@@ -24,7 +24,7 @@ pub enum Left {
 
 /// What came of the create or the update of an instance. As it may hold what a provider made, it can be neither copied
 /// nor let go.
-pub enum Applied {
+pub enum ApplyResult {
     /// No object was wanted.
     Unwanted,
     /// An object was wanted, and nothing was planned for it.
@@ -36,16 +36,16 @@ pub enum Applied {
 }
 
 /// What came of the actions on the current object of an instance. It can be neither copied nor let go.
-pub struct Ends {
+pub struct InstanceResult {
     /// What came of the create or the update.
-    pub applied: Applied,
+    pub applied: ApplyResult,
     /// What the destroy of the object that was there left of it, where one was planned.
     pub destroyed: Option<Left>,
 }
 
 /// What the record of an instance's object is given, all of which is had before the first call.
 #[derive(Drop)]
-pub struct Given {
+pub struct RecordInput {
     /// The instance.
     pub key: InstanceKey,
     /// The version of the schema that a new object follows.

@@ -1,6 +1,6 @@
 //! What came of the actions of an apply.
 
-use crate::ends::{Applied, Given, Left};
+use crate::ends::{ApplyResult, Left, RecordInput};
 use tf_address::{Label, ObjectId};
 
 /// What came of a create or an update. As it may hold what a provider made, it can be neither copied nor let go.
@@ -8,9 +8,9 @@ pub struct Apply<'a> {
     /// The resource.
     pub label: &'a Label,
     /// The instance, and what the record of its object is given.
-    pub given: Given,
+    pub given: RecordInput,
     /// What came of it.
-    pub applied: Applied,
+    pub applied: ApplyResult,
 }
 
 /// What came of the destroy of an object. As it may hold what a provider replied, it can be neither copied nor let go.
@@ -26,11 +26,11 @@ pub struct Destroy<'a> {
 /// An instance that is wanted and for which no create or update was planned: what its object depends on and whether its
 /// resource is late are given anew.
 #[derive(Drop)]
-pub struct Renewal<'a> {
+pub struct MetadataUpdate<'a> {
     /// The resource.
     pub label: &'a Label,
     /// The instance, and what the record of its object is given.
-    pub given: Given,
+    pub given: RecordInput,
 }
 
 /// What came of all actions of an apply, and what is given anew. It can be neither copied nor let go.
@@ -40,5 +40,5 @@ pub struct Events<'a> {
     /// What came of the creates and updates.
     pub applies: Vec<Apply<'a>>,
     /// The instances for which none was planned.
-    pub renewals: Vec<Renewal<'a>>,
+    pub metadata_updates: Vec<MetadataUpdate<'a>>,
 }

@@ -5,12 +5,12 @@
 //! of what came of the instance's actions (`specs/After.antt`); a resource is part of the state after where an object of it is
 //! known (`specs/StateAfter.antt`). By then providers were called, so nothing here may fail: a resource is changed in place,
 //! without memory. The key of an object that may become deposed (`specs/DeposedKey.antt`), what a record is given and room for
-//! all (`homes_for`) are had before the first call, and nothing is taken for the state after (`state_after`).
+//! all (`draft_state`) are had before the first call, and nothing is taken for the state after (`state_after`).
 #![tactic(auto)]
 
+mod draft;
 mod ends;
 mod events;
-mod homes;
 mod key;
 pub mod laws;
 pub mod object_laws;
@@ -21,9 +21,9 @@ mod saved;
 mod tests;
 mod whole;
 
-pub use ends::{Applied, Ends, Given, Left, Saved};
-pub use events::{Apply, Destroy, Events, Renewal};
-pub use homes::{Homes, homes_for};
+pub use draft::{StateDraft, draft_state};
+pub use ends::{ApplyResult, InstanceResult, Left, RecordInput, Saved};
+pub use events::{Apply, Destroy, Events, MetadataUpdate};
 pub use key::deposed_key;
 pub use record_ends::{record_current, record_destroy};
 pub use saved::{left_by_destroy, saved_by_create, saved_by_update};

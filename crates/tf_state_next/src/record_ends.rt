@@ -3,40 +3,40 @@
 ghost use Rattle.std.specs.Prelude.{◌≡◌, ◌+◌, ℕ, IfNone, IfSome, IsSome, map, option_and_then, option_map, string_bytes};
 ghost use Rattle.tf_address.specs.ObjectId.{object_id_of};
 ghost use Rattle.tf_state_next.specs.After.{IsAfter, after_destroy, left_of_record, renewed};
-ghost use Rattle.tf_state_next.specs.Ends.{GivenView, applied_of, destroy_of, ends_of, given_of, left_of};
+ghost use Rattle.tf_state_next.specs.Ends.{RecordInputView, apply_result_of, destroy_of, instance_result_of, record_input_of, left_of};
 ghost use Rattle.tf_state_next.specs.Room.{deposed_by, records_more, with_any};
 ghost use Rattle.tf_state_data.specs.Record.{record_of};
 ghost use Rattle.tf_state_data.specs.Resource.{HasRoomForRecords, record_at, resource_of, without_record};
 
-use crate::ends::{Applied, Ends, Given, Left, Saved};
+use crate::ends::{ApplyResult, InstanceResult, Left, RecordInput, Saved};
 use std::collections::BTreeSet;
 use tf_address::ObjectId;
 use tf_state_data::{Record, Resource};
 
 /// Records what came of the actions on the current object of an instance. It takes no memory: where an object was saved
 /// there has to be room for one record more.
-pub fn record_current(resource: &mut Resource, given: Given, ends: Ends)
-    requires { HasRoomForRecords (records_more (applied_of ends.applied)) resource.old }
-    ensures after { IsAfter (given_of given) (ends_of ends) (resource_of resource.old) (resource_of resource.new) }
-    ensures room { (n : ℕ) → HasRoomForRecords (n + records_more (applied_of ends.applied)) resource.old → HasRoomForRecords n resource.new }
+pub fn record_current(resource: &mut Resource, given: RecordInput, ends: InstanceResult)
+    requires { HasRoomForRecords (records_more (apply_result_of ends.applied)) resource.old }
+    ensures after { IsAfter (record_input_of given) (instance_result_of ends) (resource_of resource.old) (resource_of resource.new) }
+    ensures room { (n : ℕ) → HasRoomForRecords (n + records_more (apply_result_of ends.applied)) resource.old → HasRoomForRecords n resource.new }
 {
-    let Given {
+    let RecordInput {
         key,
         schema_version,
         dependencies,
         create_before_destroy,
         deposed_key,
     } = given;
-    let Ends { applied, destroyed } = ends;
+    let InstanceResult { applied, destroyed } = ends;
     let id = ObjectId { key, deposed: None };
     let left = take_left(resource, &id, destroyed);
     match applied {
-        Applied::Unwanted | Applied::Nothing => put_any(resource, left),
-        Applied::Unplanned => {
+        ApplyResult::Unwanted | ApplyResult::Nothing => put_any(resource, left),
+        ApplyResult::Unplanned => {
             let left = renew(left, dependencies, create_before_destroy);
             put_any(resource, left);
         }
-        Applied::Saved(
+        ApplyResult::Saved(
             Saved {
                 attributes,
                 tainted,
@@ -59,7 +59,7 @@ pub fn record_current(resource: &mut Resource, given: Given, ends: Ends)
 /// Records what the destroy of an object left of it, of the current object of an instance or of a deposed one. It takes no
 /// memory.
 pub fn record_destroy(resource: &mut Resource, id: &ObjectId, left: Left)
-    ensures after { (g : GivenView) → g.key ≡ (object_id_of id.now).key
+    ensures after { (g : RecordInputView) → g.key ≡ (object_id_of id.now).key
         → IsAfter g (destroy_of (object_id_of id.now).deposed (left_of left)) (resource_of resource.old) (resource_of resource.new) }
     ensures room { (n : ℕ) → HasRoomForRecords n resource.old → HasRoomForRecords n resource.new }
 {

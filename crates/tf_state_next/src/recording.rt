@@ -2,15 +2,15 @@
 
 ghost use Rattle.std.specs.Prelude.{◌≡◌, ℕ, List, [], ◌∷◌, ◌++◌, IfErr, IfOk, map};
 ghost use Rattle.tf_address.specs.Label.{LabelView, label_cmp, label_of};
-ghost use Rattle.tf_state_next.specs.Events.{AreApart, apply_of, as_apply, destroy_of, instance_of, object_of, renewal_of};
-ghost use Rattle.tf_state_next.specs.Homes.{HaveRoom, count_of};
+ghost use Rattle.tf_state_next.specs.Events.{AreApart, apply_of, as_apply, destroy_of, instance_of, object_of, metadata_update_of};
+ghost use Rattle.tf_state_next.specs.StateDraft.{HaveRoom, count_of};
 ghost use Rattle.tf_state_next.specs.Recorded.{AreApplied, AreDestroyed, AreThere};
 ghost use Rattle.tf_state_data.specs.Addresses.{AreByAddress};
 ghost use Rattle.tf_state_data.specs.Order.{IsAt, IsGapFor};
 ghost use Rattle.tf_state_data.specs.Resource.{resource_of};
 
-use crate::ends::{Applied, Ends, Left};
-use crate::events::{Apply, Destroy, Renewal};
+use crate::ends::{ApplyResult, InstanceResult, Left};
+use crate::events::{Apply, Destroy, MetadataUpdate};
 use crate::record_ends::{record_current, record_destroy};
 use tf_address::Label;
 use tf_state_data::Resource;
@@ -59,27 +59,27 @@ fn leave_nothing(left: Left) {
 }
 
 /// Gives each object for which nothing was planned anew what it is given.
-pub(crate) fn renew_all(resources: &mut [Resource], mut renewals: Vec<Renewal<'_>>)
+pub(crate) fn renew_all(resources: &mut [Resource], mut metadata_updates: Vec<MetadataUpdate<'_>>)
     requires ordered { AreByAddress (map resource_of resources.old) }
-    requires apart { AreApart instance_of (map as_apply (map renewal_of renewals.items)) }
-    ensures recorded { AreApplied (map as_apply (map renewal_of renewals.entry.items)) (map resource_of resources.old) (map resource_of resources.new) }
+    requires apart { AreApart instance_of (map as_apply (map metadata_update_of metadata_updates.items)) }
+    ensures recorded { AreApplied (map as_apply (map metadata_update_of metadata_updates.entry.items)) (map resource_of resources.old) (map resource_of resources.new) }
     ensures room { (count : LabelView → ℕ) → HaveRoom count resources.old → HaveRoom count resources.new }
 {
-    while let Some(event) = renewals.pop() {
+    while let Some(event) = metadata_updates.pop() {
         renew(resources, event);
     }
 }
 
 /// Gives an object for which nothing was planned anew what it is given.
-fn renew(resources: &mut [Resource], event: Renewal<'_>)
+fn renew(resources: &mut [Resource], event: MetadataUpdate<'_>)
     requires ordered { AreByAddress (map resource_of resources.old) }
-    ensures recorded { AreApplied (as_apply (renewal_of event.entry) ∷ []) (map resource_of resources.old) (map resource_of resources.new) }
+    ensures recorded { AreApplied (as_apply (metadata_update_of event.entry) ∷ []) (map resource_of resources.old) (map resource_of resources.new) }
     ensures room { (count : LabelView → ℕ) → HaveRoom count resources.old → HaveRoom count resources.new }
 {
-    let Renewal { label, given } = event;
+    let MetadataUpdate { label, given } = event;
     if let Ok(index) = search(resources, label) {
-        let ends = Ends {
-            applied: Applied::Unplanned,
+        let ends = InstanceResult {
+            applied: ApplyResult::Unplanned,
             destroyed: None,
         };
         record_current(&mut resources[index], given, ends);
@@ -116,7 +116,7 @@ fn apply(resources: &mut [Resource], event: Apply<'_>)
     let Ok(index) = search(resources, label) else {
         unreachable!()
     };
-    let ends = Ends {
+    let ends = InstanceResult {
         applied,
         destroyed: None,
     };

@@ -1,4 +1,7 @@
-use crate::{Applied, Ends, Given, Left, Saved, deposed_key, record_current, record_destroy};
+use crate::{
+    ApplyResult, InstanceResult, Left, RecordInput, Saved, deposed_key, record_current,
+    record_destroy,
+};
 use std::alloc::Global;
 use std::collections::BTreeSet;
 use std::test::Fail;
@@ -81,7 +84,7 @@ fn deposes_what_was_replaced(rt: HostRuntime) -> Result<(), Fail> {
     )?;
     let current = id(alloc, InstanceKey::Number(1), "")?;
     let deposed = id(alloc, InstanceKey::Number(1), "00000002")?;
-    let given = Given {
+    let given = RecordInput {
         key: InstanceKey::Number(1),
         schema_version: 4,
         dependencies: BTreeSet::new(alloc),
@@ -89,8 +92,8 @@ fn deposes_what_was_replaced(rt: HostRuntime) -> Result<(), Fail> {
         deposed_key: Some(String::from_str(alloc, "00000002")?),
     };
     resource.reserve(1)?;
-    let ends = Ends {
-        applied: Applied::Saved(Saved {
+    let ends = InstanceResult {
+        applied: ApplyResult::Saved(Saved {
             attributes: Object {
                 value: Value::Bool(true),
             },

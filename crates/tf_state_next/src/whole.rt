@@ -2,7 +2,7 @@
 
 ghost use Rattle.std.specs.Prelude.{◌≡◌, ◌+◌, ◌<◌, ◌^◌, filter, map};
 ghost use Rattle.tf_state_next.specs.Events.{AreEachAboutOne, ends_in, events_of, given_in};
-ghost use Rattle.tf_state_next.specs.Homes.{AreHomes, HaveRoom, count_of};
+ghost use Rattle.tf_state_next.specs.StateDraft.{IsStateDraft, HaveRoom, count_of};
 ghost use Rattle.tf_state_next.specs.Recorded.{AreThere, IsRecorded};
 ghost use Rattle.tf_state_next.specs.Sound.{AreSound};
 ghost use Rattle.tf_state_next.specs.StateAfter.{IsStateAfter, has_records, next_serial};
@@ -12,27 +12,31 @@ ghost use Rattle.tf_state_data.specs.Resource.{resource_of};
 ghost use Rattle.tf_state_data.specs.State.{outputs_of, state_of};
 ghost use Rattle.tf_value.specs.Stored.{IsTable};
 
+use crate::draft::StateDraft;
 use crate::events::Events;
-use crate::homes::Homes;
 use crate::recording::{apply_all, destroy_all, renew_all};
 use std::collections::BTreeMap;
 use tf_state_data::{Object, Resource, State};
 
 /// The state after an apply, by what came of its actions and by the outputs. It takes no memory and has no error: for each
-/// create and update there has to be room (`homes_for`).
-pub fn state_after(homes: Homes<'_>, events: Events<'_>, outputs: BTreeMap<String, Object>) -> State
-    requires homes { AreHomes (state_of homes.prior.now) (map (λ a. a.label) (events_of events).applies) homes }
-    requires serial { (state_of homes.prior.now).serial + 1 < 2 ^ 32 }
+/// create and update there has to be room (`draft_state`).
+pub fn state_after(
+    draft: StateDraft<'_>,
+    events: Events<'_>,
+    outputs: BTreeMap<String, Object>,
+) -> State
+    requires draft { IsStateDraft (state_of draft.prior.now) (map (λ a. a.label) (events_of events).applies) draft }
+    requires serial { (state_of draft.prior.now).serial + 1 < 2 ^ 32 }
     requires apart { AreEachAboutOne (events_of events) }
-    ensures after { IsStateAfter (state_of homes.entry.prior.now) (given_in (events_of events.entry)) (ends_in (events_of events.entry)) (outputs_of outputs.entries) (state_of result) }
-    ensures valid { IsValid (state_of homes.entry.prior.now) → AreSound (events_of events.entry) → IsTable (outputs_of outputs.entries) → IsValid (state_of result) }
+    ensures after { IsStateAfter (state_of draft.entry.prior.now) (given_in (events_of events.entry)) (ends_in (events_of events.entry)) (outputs_of outputs.entries) (state_of result) }
+    ensures valid { IsValid (state_of draft.entry.prior.now) → AreSound (events_of events.entry) → IsTable (outputs_of outputs.entries) → IsValid (state_of result) }
 {
-    let Homes {
+    let StateDraft {
         prior,
         lineage,
         terraform_version,
         resources,
-    } = homes;
+    } = draft;
     let resources = present(recorded(resources, events));
     let state = State::new(
         prior.serial(),
@@ -67,10 +71,10 @@ fn record_all(resources: &mut [Resource], events: Events<'_>)
     let Events {
         destroys,
         applies,
-        renewals,
+        metadata_updates,
     } = events;
     destroy_all(resources, destroys);
-    renew_all(resources, renewals);
+    renew_all(resources, metadata_updates);
     apply_all(resources, applies);
 }
 

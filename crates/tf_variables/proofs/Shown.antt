@@ -14,7 +14,7 @@ use Rattle.tf_value.specs.Tree.{Tree, Entries, no_entries, entry, put, entries_v
 use Rattle.tf_value.specs.declared.value.Value.{Value}
 use Rattle.tf_config.proofs.Walks.{IsLeft, left_more, left_refused}
 use Rattle.tf_config.specs.Demand.{AreMet, IsMet, Fails, Refuses}
-use Rattle.tf_refusal.specs.Refusal.{Told, told}
+use Rattle.tf_refusal.specs.Refusal.{RefusalView, refusal_of}
 use Rattle.tf_refusal.specs.declared.refusal.Refusal.{Refusal}
 use Rattle.tf_variables.specs.Values.{given, value_for, AreValues, literal_at, file_checks, value_check, value_checks, HasNone, RefusesValues}
 
@@ -52,7 +52,7 @@ abbrev pub IsAnswer : Option Data → (all left : List Entry) → Result (BTreeM
 IsAnswer file all left answer =
     MatchResult answer
     (λ values. IsLeft IsTrue (value_checks file (variables_of all)) (value_checks file (variables_of left)) × AreShown file all left (entries_view values.entries))
-    (λ refusal. RefusesValues (value_checks file (variables_of all)) (told refusal))
+    (λ refusal. RefusesValues (value_checks file (variables_of all)) (refusal_of refusal))
 
 -- the literals so far are read, and there are values, or a first variable without one
 abbrev pub AreRead : Option Data → (all left : List Entry) → Result (BTreeMap (String Global) Value) Refusal → Type 0
@@ -64,7 +64,7 @@ IsNext file e answer now =
     MatchResult answer
     (λ values.
     MatchResult now (λ after. (t : Tree) × (value_for file (variable_of e) ≡ Some t) × (entries_view after.entries ≡ put (string_bytes e.0) t (entries_view values.entries)))
-    (λ refusal. RefusesValues (value_check file (variable_of e)) (told refusal)))
+    (λ refusal. RefusesValues (value_check file (variable_of e)) (refusal_of refusal)))
     (λ before. now ≡ Err before)
 
 answer_next : (file : Option Data) (all left : List Entry) (e : Entry) (more : List Entry) (answer now : Result (BTreeMap (String Global) Value) Refusal) → IsStrictlySortedBy string_cmp (keys_of all)
@@ -75,7 +75,7 @@ answer_next file all left e more (Ok values) (Ok after) sorted steps next so_far
       shown_next file all left e more next.0 (entries_view values.entries) (entries_view after.entries) sorted steps next.1 next.2 so_far.1,
     )
 answer_next file all left e more (Ok values) (Err refusal) sorted steps next so_far =
-    left_refused IsTrue HasNone (value_checks file (variables_of all)) (value_check file (variable_of e)) (value_checks file (variables_of more)) (told refusal) (rw steps at so_far.0) next
+    left_refused IsTrue HasNone (value_checks file (variables_of all)) (value_check file (variable_of e)) (value_checks file (variables_of more)) (refusal_of refusal) (rw steps at so_far.0) next
 answer_next file all left e more (Err before) now sorted steps next so_far = subst (λ answer. IsAnswer file all more answer) (sym next) so_far
 
 pub read_next : (file : Option Data) (all left : List Entry) (e : Entry) (more : List Entry) (answer now : Result (BTreeMap (String Global) Value) Refusal) → IsStrictlySortedBy string_cmp (keys_of all)
@@ -86,7 +86,7 @@ read_next file all left e more answer now sorted steps literal next (checks, so_
 )
 
 -- the first fault in what the file gives the next variable
-pub refused_next : (file : Option Data) (all left : List Entry) (e : Entry) (more : List Entry) (answer : Result (BTreeMap (String Global) Value) Refusal) (t : Told) → left ≡ e ∷ more
+pub refused_next : (file : Option Data) (all left : List Entry) (e : Entry) (more : List Entry) (answer : Result (BTreeMap (String Global) Value) Refusal) (t : RefusalView) → left ≡ e ∷ more
     → AreRead file all left answer → Refuses (literal_at (string_bytes e.0) (given file (string_bytes e.0))) t → Refuses (file_checks file (variables_of all)) t
 refused_next file all left e more answer t steps (checks, so_far) first =
     left_refused IsMet Fails (file_checks file (variables_of all)) (literal_at (string_bytes e.0) (given file (string_bytes e.0))) (file_checks file (variables_of more)) t (rw steps at checks) first

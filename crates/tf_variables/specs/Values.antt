@@ -8,7 +8,7 @@ use Rattle.tf_config_data.specs.Config.{VariableView}
 use Rattle.tf_json_path.specs.Check.{Check, demanded}
 use Rattle.tf_refusal.specs.Code.{bad_argument}
 use Rattle.tf_refusal.specs.OfExpression.{Way}
-use Rattle.tf_refusal.specs.Refusal.{Told, bare}
+use Rattle.tf_refusal.specs.Refusal.{RefusalView, bare}
 use Rattle.tf_value.specs.Json.{value_from}
 use Rattle.tf_value.specs.Tree.{Tree, Entries, no_entries, entry}
 use Rattle.tf_variables.specs.Types.{fitted}
@@ -62,5 +62,5 @@ abbrev pub HasNone : Bool → Way → Type 0
 HasNone has way = (has ≡ false) × (way ≡ (bad_argument, bare))
 
 -- The first variable without a value is told, or there was no memory.
-abbrev pub RefusesValues : List (Check Bool) → Told → Type 0
+abbrev pub RefusesValues : List (Check Bool) → RefusalView → Type 0
 RefusesValues = RefusesBy IsTrue HasNone

@@ -5,7 +5,7 @@ ghost use Rattle.serde_json.specs.View.{view};
 ghost use Rattle.std.specs.Prelude.{IfErr, IfOk, Option, option_map};
 ghost use Rattle.tf_config.specs.Demand.{AreMet};
 ghost use Rattle.tf_config_data.specs.Config.{variables_of};
-ghost use Rattle.tf_refusal.specs.Refusal.{told};
+ghost use Rattle.tf_refusal.specs.Refusal.{refusal_of};
 ghost use Rattle.tf_value.specs.Tree.{entries_view};
 ghost use Rattle.tf_variables.specs.Reading.{IsFile, IsFileOf, IsRefused, TellsNoFile};
 ghost use Rattle.tf_variables.specs.Values.{file_checks, AreValues};
@@ -52,7 +52,7 @@ pub fn read_vars(
 
     // What is told is the first fault, or that there was no memory.
     ensures fault { IfErr result (λ refusal.
-        IsRefused (option_map (λ bytes. bytes.now) text.entry) (variables_of config.now.variables.entries) (told refusal)) }
+        IsRefused (option_map (λ bytes. bytes.now) text.entry) (variables_of config.now.variables.entries) (refusal_of refusal)) }
 {
     match text {
         None => read_values(alloc, None, &config.variables),
@@ -65,7 +65,7 @@ pub fn read_vars(
 
 fn read_file(alloc: Global, bytes: &[u8]) -> Result<Json, Refusal>
     ensures ok { IfOk result (λ tree. IsFile bytes.now (view tree)) }
-    ensures fault { IfErr result (λ refusal. TellsNoFile bytes.now (told refusal)) }
+    ensures fault { IfErr result (λ refusal. TellsNoFile bytes.now (refusal_of refusal)) }
 {
     if bytes.len() > MAX_BYTES {
         return Err(file_fault(alloc, FILE, LIMIT));

@@ -6,7 +6,7 @@ ghost use Rattle.tf_config.specs.Demand.{AreMet, Refuses};
 ghost use Rattle.tf_config.specs.Parts.{literal_checks};
 ghost use Rattle.tf_config_data.specs.Words.{put, Tree, value_from, variables_of};
 ghost use Rattle.tf_json_path.specs.Check.{demanded};
-ghost use Rattle.tf_refusal.specs.Refusal.{no_memory, told};
+ghost use Rattle.tf_refusal.specs.Refusal.{no_memory, refusal_of};
 ghost use Rattle.tf_value.specs.Tree.{entries_view, tree_of};
 ghost use Rattle.tf_variables.specs.Reading.{TellsFaulty};
 ghost use Rattle.tf_variables.specs.Types.{fitted};
@@ -31,12 +31,12 @@ pub(crate) fn read_values(
         AreMet (file_checks (option_map (λ tree. view tree.now) file.entry) (variables_of variables.now.entries))
         × AreValues (option_map (λ tree. view tree.now) file.entry) (variables_of variables.now.entries) (entries_view values.entries)) }
     ensures fault { IfErr result (λ refusal.
-        TellsFaulty (option_map (λ tree. view tree.now) file.entry) (variables_of variables.now.entries) (told refusal)) }
+        TellsFaulty (option_map (λ tree. view tree.now) file.entry) (variables_of variables.now.entries) (refusal_of refusal)) }
 {
     let mut answer = Ok(BTreeMap::new(alloc));
     for (name, variable) in variables.iter() {
         let taken = read_taken(alloc, file, name.as_str(), variable)?;
-        answer = and_value(alloc, answer, name, variable.value_type, taken);
+        answer = put_value_for(alloc, answer, name, variable.value_type, taken);
     }
     answer
 }
@@ -53,7 +53,7 @@ fn read_taken(
     ensures ok { IfOk result (λ taken. option_map tree_of taken
         ≡ taken_of (given (option_map (λ tree. view tree.now) file.entry) name.now) (option_map tree_of variable.now.default)) }
     ensures fault { IfErr result (λ refusal.
-        Refuses (literal_at name.now (given (option_map (λ tree. view tree.now) file.entry) name.now)) (told refusal)) }
+        Refuses (literal_at name.now (given (option_map (λ tree. view tree.now) file.entry) name.now)) (refusal_of refusal)) }
 {
     match given(file, name) {
         Some(json) => Ok(Some(read_given(alloc, name, json)?)),
@@ -66,7 +66,7 @@ fn read_given(alloc: Global, name: &str, json: &Json) -> Result<Value, Refusal>
     ensures literal { IfOk result (λ _. AreMet (literal_checks (name.now ∷ []) (view json.now))) }
     ensures ok { IfOk result (λ value. value_from (view json.now) ≡ Some (tree_of value)) }
     ensures fault { IfErr result (λ refusal.
-        Refuses (literal_checks (name.now ∷ []) (view json.now)) (told refusal)) }
+        Refuses (literal_checks (name.now ∷ []) (view json.now)) (refusal_of refusal)) }
 {
     let value = read_literal(alloc, &Path::Member(&Path::Root, name), json)?;
     Ok(value)
@@ -82,7 +82,7 @@ fn given<'a>(file: Option<&'a Json>, name: &str) -> Option<&'a Json>
 }
 
 /// The answer so far, with the value of one more variable where no variable before has none.
-fn and_value(
+fn put_value_for(
     alloc: Global,
     answer: Result<BTreeMap<String, Value>, Refusal>,
     name: &String,
@@ -95,7 +95,7 @@ fn and_value(
         × (option_and_then (fitted value_type) (option_map tree_of taken) ≡ Some t)
         × (entries_view more.entries ≡ put (string_bytes name.now) t (entries_view values.entries)))
         (λ refusal. RefusesValues (demanded (variable_place (string_bytes name.now))
-        (is_some (option_and_then (fitted value_type) (option_map tree_of taken)))) (told refusal)))
+        (is_some (option_and_then (fitted value_type) (option_map tree_of taken)))) (refusal_of refusal)))
         (λ before. result ≡ Err before) }
 {
     match answer {
@@ -117,7 +117,7 @@ fn with_value(
         × (entries_view more.entries ≡ put (string_bytes name.now) t (entries_view values.entries))) }
     ensures fault { IfErr result (λ refusal.
         RefusesValues (demanded (variable_place (string_bytes name.now))
-        (is_some (option_and_then (fitted value_type) (option_map tree_of taken)))) (told refusal)) }
+        (is_some (option_and_then (fitted value_type) (option_map tree_of taken)))) (refusal_of refusal)) }
 {
     match fitted_if_taken(alloc, value_type, taken)? {
         Some(value) => {
@@ -139,7 +139,7 @@ fn fitted_if_taken(
 ) -> Result<Option<Value>, Refusal>
     ensures ok { IfOk result (λ found.
         option_map tree_of found ≡ option_and_then (fitted value_type) (option_map tree_of taken)) }
-    ensures fault { IfErr result (λ refusal. told refusal ≡ no_memory) }
+    ensures fault { IfErr result (λ refusal. refusal_of refusal ≡ no_memory) }
 {
     match taken {
         Some(value) => Ok(fitted(alloc, value_type, value)?),

@@ -2,8 +2,8 @@
 use Rattle.std.proofs.Common.{◌≡◌, ◌∙◌, ℕ, List, [], ◌∷◌, ◌++◌, Option, None, option_map, replicate, length, map, take, drop, refl, sym, ap, subst}
 use Rattle.std.proofs.lemmas.List.{length-map, length-replicate}
 use Rattle.tf_plan_data.specs.Action.{ActionView}
-use Rattle.tf_outcome.specs.Ended.{done_of}
-use Rattle.tf_outcome.specs.declared.ended.Ended.{Ended}
+use Rattle.tf_outcome.specs.ResultViews.{action_result_of}
+use Rattle.tf_outcome.specs.declared.action_result.ActionResult.{ActionResult}
 
 first_part : {A : Type 0} (xs ys : List A) → take (length xs) (xs ++ ys) ≡ xs
 first_part [] ys = refl
@@ -14,9 +14,9 @@ written-back : {A : Type 0} (new ys : List A) (n : ℕ) → length new ≡ n →
 written-back new ys n e = subst (λ (k : ℕ). take k (new ++ ys) ≡ new) e (first_part new ys)
 
 -- results that were lent to a walk are then those that it wrote, one for each action
-pub left_by_walk : (new items : List (Option Ended)) (len nodes : ℕ) (actions : List ActionView) → length (map (option_map done_of) new) ≡ length actions → length actions ≡ nodes → items ≡ replicate nodes None → length items ≡ len
+pub left_by_walk : (new items : List (Option ActionResult)) (len nodes : ℕ) (actions : List ActionView) → length (map (option_map action_result_of) new) ≡ length actions → length actions ≡ nodes → items ≡ replicate nodes None → length items ≡ len
     → (take len (new ++ drop (length new) items) ≡ new) × (length new ≡ nodes)
 left_by_walk new items len nodes actions sized counted start long =
-    let written : length new ≡ nodes = sym (length-map new (option_map done_of)) ∙ (sized ∙ counted) in
+    let written : length new ≡ nodes = sym (length-map new (option_map action_result_of)) ∙ (sized ∙ counted) in
     let there : length items ≡ nodes = ap length start ∙ length-replicate nodes None in
     (written-back new (drop (length new) items) len (written ∙ (sym there ∙ long)), written)

@@ -6,7 +6,7 @@ use Rattle.tf_graph.specs.Digraph.{predecessors_of}
 use Rattle.tf_provider.specs.declared.journal.Entry.{Entry}
 use Rattle.tf_provider.specs.Entries.{Log, is_entered, fault_of}
 use Rattle.tf_walk.specs.Ends.{end_at, done_in}
-use Rattle.tf_outcome.specs.Outcome.{Done, skipped, excused, faulted, called, is_good}
+use Rattle.tf_outcome.specs.Outcome.{ActionResultView, skipped, excused, faulted, called, is_good}
 use Rattle.tf_outcome.specs.Journal.{verdict_in, entered_verdict}
 use Rattle.tf_walk.proofs.Seen.{list_all-weaker}
 use Rattle.std.proofs.lemmas.Bool.Decides.{nat_tests}
@@ -57,7 +57,7 @@ verdict_in-push (x ∷ es) e n h =
     pushed_at (eqb x.action n) (eqb e.action n) x e (find (λ (y : Entry). eqb y.action n) es) (find (λ (y : Entry). eqb y.action n) (es ++ e ∷ [])) (λ k. both_tests x.action e.action n other k) (verdict_in-push es e n later)
 
 -- an action that is good was called
-good_entered : (o : Option Done) → is_good (unwrap_or o skipped) ≡ true → is_some (option_and_then entered_verdict o) ≡ true
+good_entered : (o : Option ActionResultView) → is_good (unwrap_or o skipped) ≡ true → is_some (option_and_then entered_verdict o) ≡ true
 good_entered None h = absurd (cc)
 good_entered (Some skipped) h = absurd (cc)
 good_entered (Some (excused m)) h = absurd (cc)
@@ -65,10 +65,10 @@ good_entered (Some (faulted why)) h = absurd (cc)
 good_entered (Some (called r a v)) h = refl
 
 -- where all actions directly before an action are good, and it hasn't ended, its call may be recorded
-pub may_record : (log : Log) (ends : List (Option Done)) (n : ℕ) → ((m : ℕ) → verdict_in log.entries m ≡ option_and_then entered_verdict (end_at ends m)) → end_at ends n ≡ None
+pub may_record : (log : Log) (ends : List (Option ActionResultView)) (n : ℕ) → ((m : ℕ) → verdict_in log.entries m ≡ option_and_then entered_verdict (end_at ends m)) → end_at ends n ≡ None
     → list_all (λ m. is_good (done_in ends m)) (predecessors_of log.graph n) ≡ true → fault_of log n ≡ None
 may_record log ends n entered free good =
     let before : list_all (is_entered log.entries) (predecessors_of log.graph n) ≡ true =
     list_all-weaker (λ m. is_good (done_in ends m)) (is_entered log.entries) (predecessors_of log.graph n) (λ m h. is_entered-verdict log.entries m ∙ (ap is_some (entered m) ∙ good_entered (end_at ends m) h)) good in
-    let here : is_entered log.entries n ≡ false = is_entered-verdict log.entries n ∙ (ap is_some (entered n) ∙ ap (λ (o : Option Done). is_some (option_and_then entered_verdict o)) free) in
+    let here : is_entered log.entries n ≡ false = is_entered-verdict log.entries n ∙ (ap is_some (entered n) ∙ ap (λ (o : Option ActionResultView). is_some (option_and_then entered_verdict o)) free) in
     rw (before, here) refl

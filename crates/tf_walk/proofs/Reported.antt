@@ -11,23 +11,23 @@ use Rattle.tf_provider.specs.declared.journal.Entry.{Entry}
 use Rattle.tf_plan_data.specs.Plan.{PlanView}
 use Rattle.tf_protocol.specs.Meaning.{Meaning}
 use Rattle.tf_protocol.specs.declared.request.Op.{Op}
-use Rattle.tf_outcome.specs.Ended.{done_of}
+use Rattle.tf_outcome.specs.ResultViews.{action_result_of}
 use Rattle.tf_outcome.specs.Excuse.{Moment, before_call, during_call, by_stop, excuse_of}
 use Rattle.tf_outcome.specs.Journal.{op_at, verdict_in, entered_verdict}
-use Rattle.tf_outcome.specs.Outcome.{Done, skipped, excused, faulted, called, Requests, AreRequests, all_good, call_at, excuse_in, is_faulted, op_of, or_excused, rule, done_at, AreOutcomes}
+use Rattle.tf_outcome.specs.Outcome.{ActionResultView, skipped, excused, faulted, called, Requests, AreRequests, all_good, call_at, excuse_in, is_faulted, op_of, or_excused, rule, done_at, AreOutcomes}
 use Rattle.tf_outcome.specs.declared.excuse.Excuse.{Excuse}
-use Rattle.tf_additions.specs.Addition.{AreJudged, IsJudged}
+use Rattle.tf_additions.specs.ActionReport.{AreJudged, IsJudged}
 use Rattle.tf_outcome.specs.Run.{IsRun}
 use Rattle.tf_walk.specs.Ends.{IsSoFar, IsStaged, AllHaveEnded, end_at, done_in, stage_of}
 use Rattle.tf_walk_report.proofs.Judged.{all-judged, ops-read}
 use Rattle.tf_walk.proofs.Judged.{ended-judged}
 use Rattle.tf_walk.proofs.Seen.{all_of}
 
-is_there : (o : Option Done) → is_some o ≡ true → (d : Done) × (o ≡ Some d)
+is_there : (o : Option ActionResultView) → is_some o ≡ true → (d : ActionResultView) × (o ≡ Some d)
 is_there None e = absurd (cc)
 is_there (Some d) e = (d, refl)
 
-by_end : (b : Bool) (call d : Done) (o : Option Moment) → o ≡ excuse_in d → MatchBool b (IsRun call d) (d ≡ skipped) → d ≡ (if b then or_excused o call else skipped)
+by_end : (b : Bool) (call d : ActionResultView) (o : Option Moment) → o ≡ excuse_in d → MatchBool b (IsRun call d) (d ≡ skipped) → d ≡ (if b then or_excused o call else skipped)
 by_end false call d o e h = h
 by_end true call skipped o e h = rw e h
 by_end true call (excused before_call) o e h = rw e refl
@@ -37,7 +37,7 @@ by_end true call (faulted why) o e h = rw e h
 by_end true call (called r a v) o e h = rw e h
 
 -- the ends are the outcomes by the rule, for excuses that excuse exactly what ended so
-pub so_far-solves : (ms : List Meaning) (requests : Requests) (plan : PlanView) (ends : List (Option Done)) (entries : List Entry) (done : List Done) (excuses : List Excuse)
+pub so_far-solves : (ms : List Meaning) (requests : Requests) (plan : PlanView) (ends : List (Option ActionResultView)) (entries : List Entry) (done : List ActionResultView) (excuses : List Excuse)
     → IsSoFar ms plan ends entries → AreRequests plan requests → AllHaveEnded plan ends → length done ≡ length ends → ((n : ℕ) → done_at done n ≡ done_in ends n)
     → ((n : ℕ) → excuse_of excuses n ≡ excuse_in (done_at done n))
     → AreOutcomes ms requests plan excuses done
@@ -48,7 +48,7 @@ so_far-solves ms requests plan ends entries done excuses s are all sized same ex
           let nodes = predecessors_of plan.order n in
           let there = is_there (end_at ends n) (all n h) in
           let d = there.0 in
-          let here : done_at done n ≡ d = same n ∙ ap (λ (o : Option Done). unwrap_or o skipped) there.1 in
+          let here : done_at done n ≡ d = same n ∙ ap (λ (o : Option ActionResultView). unwrap_or o skipped) there.1 in
           let seen : seen_by (done_at done) nodes ≡ seen_by (done_in ends) nodes = seen_by-same (done_at done) (done_in ends) nodes (all_of (λ m. done_at done m ≡ done_in ends m) nodes same) in
           let end = s.ended requests are n d there.1 in
           let excuse = excused_so n ∙ ap excuse_in here in
@@ -56,64 +56,64 @@ so_far-solves ms requests plan ends entries done excuses s are all sized same ex
           ∙ ap (rule ms requests plan excuses n) (sym seen));
     }
 
-ended_during : (o : Option Done) → unwrap_or o skipped ≡ excused during_call → o ≡ Some (excused during_call)
+ended_during : (o : Option ActionResultView) → unwrap_or o skipped ≡ excused during_call → o ≡ Some (excused during_call)
 ended_during None e = absurd (cc)
-ended_during (Some d) e = ap (λ (x : Done). Some x) e
+ended_during (Some d) e = ap (λ (x : ActionResultView). Some x) e
 
-run_during : (b : Bool) (call : Done) → MatchBool b (IsRun call (excused during_call)) (excused during_call ≡ skipped) → is_faulted call ≡ false
+run_during : (b : Bool) (call : ActionResultView) → MatchBool b (IsRun call (excused during_call)) (excused during_call ≡ skipped) → is_faulted call ≡ false
 run_during true call h = h
 run_during false call h = absurd (cc)
 
 -- of an action that was excused during its call the request has no fault
-pub so_far-asked : (ms : List Meaning) (requests : Requests) (plan : PlanView) (ends : List (Option Done)) (entries : List Entry) (done : List Done)
+pub so_far-asked : (ms : List Meaning) (requests : Requests) (plan : PlanView) (ends : List (Option ActionResultView)) (entries : List Entry) (done : List ActionResultView)
     → IsSoFar ms plan ends entries → AreRequests plan requests → ((n : ℕ) → done_at done n ≡ done_in ends n)
     → (n : ℕ) → done_at done n ≡ excused during_call → is_faulted (call_at ms requests plan n (seen_by (done_at done) (predecessors_of plan.order n))) ≡ false
 so_far-asked ms requests plan ends entries done s are same n e =
     let nodes = predecessors_of plan.order n in
     let seen : seen_by (done_at done) nodes ≡ seen_by (done_in ends) nodes = seen_by-same (done_at done) (done_in ends) nodes (all_of (λ m. done_at done m ≡ done_in ends m) nodes same) in
     let end = s.ended requests are n (excused during_call) (ended_during (end_at ends n) (sym (same n) ∙ e)) in
-    ap (λ (ds : List (ℕ × Done)). is_faulted (call_at ms requests plan n ds)) seen
+    ap (λ (ds : List (ℕ × ActionResultView)). is_faulted (call_at ms requests plan n ds)) seen
     ∙ run_during (all_good (seen_by (done_in ends) nodes)) (call_at ms requests plan n (seen_by (done_in ends) nodes)) end
 
-entered_one : (o : Option Done) → option_and_then entered_verdict o ≡ entered_verdict (unwrap_or o skipped)
+entered_one : (o : Option ActionResultView) → option_and_then entered_verdict o ≡ entered_verdict (unwrap_or o skipped)
 entered_one None = refl
 entered_one (Some d) = refl
 
-pub so_far-entered : (ms : List Meaning) (plan : PlanView) (ends : List (Option Done)) (entries : List Entry) (done : List Done)
+pub so_far-entered : (ms : List Meaning) (plan : PlanView) (ends : List (Option ActionResultView)) (entries : List Entry) (done : List ActionResultView)
     → IsSoFar ms plan ends entries → ((n : ℕ) → done_at done n ≡ done_in ends n) → (n : ℕ) → verdict_in entries n ≡ entered_verdict (done_at done n)
 so_far-entered ms plan ends entries done s same n = s.entered n ∙ (entered_one (end_at ends n) ∙ ap entered_verdict (sym (same n)))
 
 -- each call was judged by the schema of the provider that has the type
-pub so_far-judged : (ms : List Meaning) (requests : Requests) (plan : PlanView) (ends : List (Option Done)) (entries : List Entry) (done : List Done)
+pub so_far-judged : (ms : List Meaning) (requests : Requests) (plan : PlanView) (ends : List (Option ActionResultView)) (entries : List Entry) (done : List ActionResultView)
     → IsSoFar ms plan ends entries → AreRequests plan requests → ((n : ℕ) → done_at done n ≡ done_in ends n) → AreJudged ms (map (λ a. op_of a.step) plan.actions) done
 so_far-judged ms requests plan ends entries done s are same =
     all-judged ms (map (λ a. op_of a.step) plan.actions) done
     (λ n op e. subst (IsJudged ms op) (sym (same n)) (one n op (sym (ops-read plan.actions n) ∙ e) (end_at ends n) refl))
   where
-    one : (n : ℕ) (op : Op) → op_at plan.actions n ≡ Some op → (o : Option Done) → end_at ends n ≡ o → IsJudged ms op (unwrap_or o skipped)
+    one : (n : ℕ) (op : Op) → op_at plan.actions n ≡ Some op → (o : Option ActionResultView) → end_at ends n ≡ o → IsJudged ms op (unwrap_or o skipped)
     one n op kind None e = tt
     one n op kind (Some d) e = ended-judged ms requests plan n (seen_by (done_in ends) (predecessors_of plan.order n)) op d kind (s.ended requests are n d e)
 
 -- ---- before the first call
 
-none_yet : (count n : ℕ) → end_at (map (option_map done_of) (replicate count None)) n ≡ None
+none_yet : (count n : ℕ) → end_at (map (option_map action_result_of) (replicate count None)) n ≡ None
 none_yet zero n = refl
 none_yet (suc count) zero = refl
 none_yet (suc count) (suc n) = none_yet count n
 
 -- nothing has ended
-pub so_far-none : (ms : List Meaning) (plan : PlanView) (count : ℕ) → count ≡ length plan.actions → IsSoFar ms plan (map (option_map done_of) (replicate count None)) []
+pub so_far-none : (ms : List Meaning) (plan : PlanView) (count : ℕ) → count ≡ length plan.actions → IsSoFar ms plan (map (option_map action_result_of) (replicate count None)) []
 so_far-none ms plan count sized =
     record {
-      sized = length-map (replicate count None) (option_map done_of) ∙ (length-replicate count None ∙ sized);
+      sized = length-map (replicate count None) (option_map action_result_of) ∙ (length-replicate count None ∙ sized);
       closed = λ n some. absurd (nothing n some);
       ended = λ requests are n d is. absurd (nothing n (ap is_some is));
       entered = λ n. sym (ap (option_and_then entered_verdict) (none_yet count n));
       ops = tt;
     }
   where
-    nothing : (n : ℕ) → is_some (end_at (map (option_map done_of) (replicate count None)) n) ≡ true → ⊥
-    nothing n some = let none : is_some (end_at (map (option_map done_of) (replicate count None)) n) ≡ false = ap is_some (none_yet count n) in cc
+    nothing : (n : ℕ) → is_some (end_at (map (option_map action_result_of) (replicate count None)) n) ≡ true → ⊥
+    nothing n some = let none : is_some (end_at (map (option_map action_result_of) (replicate count None)) n) ≡ false = ap is_some (none_yet count n) in cc
 
 free_yet : (nodes n : ℕ) → stage_in (replicate nodes stage.Free) n ≡ stage.Free
 free_yet zero n = refl
@@ -121,5 +121,5 @@ free_yet (suc nodes) zero = refl
 free_yet (suc nodes) (suc n) = free_yet nodes n
 
 -- and each action is free
-pub staged-none : (nodes count : ℕ) → IsStaged (replicate nodes stage.Free) (map (option_map done_of) (replicate count None))
+pub staged-none : (nodes count : ℕ) → IsStaged (replicate nodes stage.Free) (map (option_map action_result_of) (replicate count None))
 staged-none nodes count = λ n. free_yet nodes n ∙ sym (ap stage_of (none_yet count n))

@@ -5,13 +5,13 @@ use Rattle.std.specs.List.{list_all, AllByRecursion}
 use Rattle.tf_graph.proofs.Solving.{seen_by-same}
 use Rattle.tf_graph.specs.Solutions.{seen_by}
 use Rattle.tf_value.proofs.Conjunction.{and-first, and-second, and-both}
-use Rattle.tf_outcome.specs.Ended.{done_of, done_or_skipped, dones_of}
-use Rattle.tf_outcome.specs.Outcome.{Done, skipped, is_good, all_good, done_at}
-use Rattle.tf_outcome.specs.declared.ended.Ended.{Ended}
+use Rattle.tf_outcome.specs.ResultViews.{action_result_of, result_or_skipped, action_results_of}
+use Rattle.tf_outcome.specs.Outcome.{ActionResultView, skipped, is_good, all_good, done_at}
+use Rattle.tf_outcome.specs.declared.action_result.ActionResult.{ActionResult}
 use Rattle.tf_walk.specs.Ends.{done_in}
 
 -- all that is seen is good where each node's result is
-pub all_good-seen : (results : ℕ → Done) (nodes : List ℕ) → all_good (seen_by results nodes) ≡ list_all (λ k. is_good (results k)) nodes
+pub all_good-seen : (results : ℕ → ActionResultView) (nodes : List ℕ) → all_good (seen_by results nodes) ≡ list_all (λ k. is_good (results k)) nodes
 all_good-seen results [] = refl
 all_good-seen results (n ∷ nodes) = ap (λ b. is_good (results n) && b) (all_good-seen results nodes)
 
@@ -31,12 +31,12 @@ pub all_by_test : (p : ℕ → Bool) (P : ℕ → Type 0) (nodes : List ℕ) →
 all_by_test p P [] f h = tt
 all_by_test p P (n ∷ nodes) f h = (f n (and-first (p n) (list_all p nodes) h), all_by_test p P nodes f (and-second (p n) (list_all p nodes) h))
 
-one_done : (o : Option Ended) → done_or_skipped o ≡ unwrap_or (option_map done_of o) skipped
+one_done : (o : Option ActionResult) → result_or_skipped o ≡ unwrap_or (option_map action_result_of o) skipped
 one_done None = refl
 one_done (Some e) = refl
 
 -- what the walk keeps is what it told of
-pub dones-are : (results : List (Option Ended)) (n : ℕ) → done_at (dones_of results) n ≡ done_in (map (option_map done_of) results) n
+pub dones-are : (results : List (Option ActionResult)) (n : ℕ) → done_at (action_results_of results) n ≡ done_in (map (option_map action_result_of) results) n
 dones-are [] n = refl
 dones-are (o ∷ results) zero = one_done o
 dones-are (o ∷ results) (suc n) = dones-are results n
@@ -47,7 +47,7 @@ all_of P [] f = tt
 all_of P (x ∷ xs) f = (f x, all_of P xs f)
 
 -- so a request sees of some actions what came of them
-pub seen-are : (results : List (Option Ended)) (nodes : List ℕ) → seen_by (done_at (dones_of results)) nodes ≡ seen_by (done_in (map (option_map done_of) results)) nodes
+pub seen-are : (results : List (Option ActionResult)) (nodes : List ℕ) → seen_by (done_at (action_results_of results)) nodes ≡ seen_by (done_in (map (option_map action_result_of) results)) nodes
 seen-are results nodes =
-    seen_by-same (done_at (dones_of results)) (done_in (map (option_map done_of) results)) nodes
-    (all_of (λ m. done_at (dones_of results) m ≡ done_in (map (option_map done_of) results) m) nodes (dones-are results))
+    seen_by-same (done_at (action_results_of results)) (done_in (map (option_map action_result_of) results)) nodes
+    (all_of (λ m. done_at (action_results_of results) m ≡ done_in (map (option_map action_result_of) results) m) nodes (dones-are results))

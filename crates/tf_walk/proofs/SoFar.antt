@@ -19,16 +19,16 @@ use Rattle.tf_protocol.specs.declared.request.Op.{Op}
 use Rattle.tf_protocol.specs.declared.verdict.Verdict.{Verdict}
 use Rattle.tf_value.proofs.Conjunction.{and-first, and-second}
 use Rattle.tf_walk.specs.Ends.{IsEnd, IsSoFar, IsStaged, Enters, AllHaveEnded, end_at, done_in, stage_of}
-use Rattle.tf_outcome.specs.Outcome.{Done, skipped, Requests, AreRequests}
+use Rattle.tf_outcome.specs.Outcome.{ActionResultView, skipped, Requests, AreRequests}
 use Rattle.tf_outcome.specs.Journal.{IsOfAction, op_at, verdict_in, entered_verdict}
 use Rattle.tf_walk.proofs.Entered.{verdict_in-push}
 use Rattle.tf_walk.proofs.Seen.{list_all-same, list_all-weaker, all_by_test}
 
 -- what came of an action, once one more has ended
-pub end_at-set : (ends : List (Option Done)) (n : ℕ) (d : Done) (m : ℕ) → n < length ends → end_at (set ends n (Some d)) m ≡ cond (eqb n m) (Some d) (end_at ends m)
+pub end_at-set : (ends : List (Option ActionResultView)) (n : ℕ) (d : ActionResultView) (m : ℕ) → n < length ends → end_at (set ends n (Some d)) m ≡ cond (eqb n m) (Some d) (end_at ends m)
 end_at-set ends n d m h = get_or-set_test ends n (Some d) None m h
 
-other_than : (ends : List (Option Done)) (n m : ℕ) → end_at ends n ≡ None → is_some (end_at ends m) ≡ true → eqb n m ≡ false
+other_than : (ends : List (Option ActionResultView)) (n m : ℕ) → end_at ends n ≡ None → is_some (end_at ends m) ≡ true → eqb n m ≡ false
 other_than ends n m free some = at (eqb n m) refl
   where
     at : (b : Bool) → eqb n m ≡ b → b ≡ false
@@ -39,17 +39,17 @@ other_than ends n m free some = at (eqb n m) refl
     at false e = refl
 
 -- what had ended stays
-pub stays : (ends : List (Option Done)) (n : ℕ) (d : Done) (m : ℕ) → n < length ends → end_at ends n ≡ None → is_some (end_at ends m) ≡ true → end_at (set ends n (Some d)) m ≡ end_at ends m
+pub stays : (ends : List (Option ActionResultView)) (n : ℕ) (d : ActionResultView) (m : ℕ) → n < length ends → end_at ends n ≡ None → is_some (end_at ends m) ≡ true → end_at (set ends n (Some d)) m ≡ end_at ends m
 stays ends n d m h free some = end_at-set ends n d m h ∙ ap (λ (b : Bool). cond b (Some d) (end_at ends m)) (other_than ends n m free some)
 
-done_stays : (ends : List (Option Done)) (n : ℕ) (d : Done) (m : ℕ) → n < length ends → end_at ends n ≡ None → is_some (end_at ends m) ≡ true → done_in (set ends n (Some d)) m ≡ done_in ends m
-done_stays ends n d m h free some = ap (λ (o : Option Done). unwrap_or o skipped) (stays ends n d m h free some)
+done_stays : (ends : List (Option ActionResultView)) (n : ℕ) (d : ActionResultView) (m : ℕ) → n < length ends → end_at ends n ≡ None → is_some (end_at ends m) ≡ true → done_in (set ends n (Some d)) m ≡ done_in ends m
+done_stays ends n d m h free some = ap (λ (o : Option ActionResultView). unwrap_or o skipped) (stays ends n d m h free some)
 
-some_stays : (ends : List (Option Done)) (n : ℕ) (d : Done) (m : ℕ) → n < length ends → end_at ends n ≡ None → is_some (end_at ends m) ≡ true → is_some (end_at (set ends n (Some d)) m) ≡ true
+some_stays : (ends : List (Option ActionResultView)) (n : ℕ) (d : ActionResultView) (m : ℕ) → n < length ends → end_at ends n ≡ None → is_some (end_at ends m) ≡ true → is_some (end_at (set ends n (Some d)) m) ≡ true
 some_stays ends n d m h free some = ap is_some (stays ends n d m h free some) ∙ some
 
 -- where all that stands before an action has ended, one more end changes nothing that it sees
-seen_stays : (ends : List (Option Done)) (n : ℕ) (d : Done) (nodes : List ℕ) → n < length ends → end_at ends n ≡ None → list_all (λ m. is_some (end_at ends m)) nodes ≡ true
+seen_stays : (ends : List (Option ActionResultView)) (n : ℕ) (d : ActionResultView) (nodes : List ℕ) → n < length ends → end_at ends n ≡ None → list_all (λ m. is_some (end_at ends m)) nodes ≡ true
     → seen_by (done_in (set ends n (Some d))) nodes ≡ seen_by (done_in ends) nodes
 seen_stays ends n d nodes h free before =
     seen_by-same (done_in (set ends n (Some d))) (done_in ends) nodes (all_by_test (λ m. is_some (end_at ends m)) (λ m. done_in (set ends n (Some d)) m ≡ done_in ends m) nodes (λ m some. done_stays ends n d m h free some) before)
@@ -58,7 +58,7 @@ seen_stays ends n d nodes h free before =
 abbrev Adds : ℕ → Option Op → List Entry → List Entry → Option Verdict → Type 0
 Adds n op es es' v = MatchOption v (es' ≡ es) (λ w. (e : Entry) × (e.action ≡ n) × (Some e.op ≡ op) × (e.verdict ≡ w) × (es' ≡ es ++ e ∷ []))
 
-entered_at : (es es' : List Entry) (n : ℕ) (op : Option Op) (d : Done) (v : Option Verdict) → entered_verdict d ≡ v → Adds n op es es' v → verdict_in es n ≡ None
+entered_at : (es es' : List Entry) (n : ℕ) (op : Option Op) (d : ActionResultView) (v : Option Verdict) → entered_verdict d ≡ v → Adds n op es es' v → verdict_in es n ≡ None
     → (m : ℕ) → verdict_in es' m ≡ cond (eqb n m) v (verdict_in es m)
 entered_at es es' n op d None is same none m = ap (λ (x : List Entry). verdict_in x m) same ∙ at (eqb n m) refl
   where
@@ -81,12 +81,12 @@ ops_at actions es es' n (Some w) added h =
     let e = added.0 in
     subst (AllByRecursion (IsOfAction actions)) (sym added.4) (all_by-push (IsOfAction actions) es e h (ap (op_at actions) added.1 ∙ sym added.2))
 
-ended_at : (b : Bool) (n m : ℕ) (d : Done) (o : Option Done) → option_and_then entered_verdict (cond b (Some d) o) ≡ cond b (entered_verdict d) (option_and_then entered_verdict o)
+ended_at : (b : Bool) (n m : ℕ) (d : ActionResultView) (o : Option ActionResultView) → option_and_then entered_verdict (cond b (Some d) o) ≡ cond b (entered_verdict d) (option_and_then entered_verdict o)
 ended_at true n m d o = refl
 ended_at false n m d o = refl
 
 -- one more action has ended
-pub so_far-more : (ms : List Meaning) (plan : PlanView) (ends : List (Option Done)) (es es' : List Entry) (n : ℕ) (d : Done)
+pub so_far-more : (ms : List Meaning) (plan : PlanView) (ends : List (Option ActionResultView)) (es es' : List Entry) (n : ℕ) (d : ActionResultView)
     → IsSoFar ms plan ends es → n < length ends → end_at ends n ≡ None
     → list_all (λ m. is_some (end_at ends m)) (predecessors_of plan.order n) ≡ true
     → ((requests : Requests) → AreRequests plan requests → IsEnd ms requests plan n (seen_by (done_in ends) (predecessors_of plan.order n)) d)
@@ -109,7 +109,7 @@ so_far-more ms plan ends es es' n d s h free before end enters =
         | inl e ↦
             let same : n ≡ m = grind (arith, nat_tests) in
             let same_end : d ≡ d' = some_is (sym here ∙ (ap (end_at new) same ∙ is)) in
-            let P : Done → Type 0 = λ x. IsEnd ms requests plan m (seen_by (done_in new) (predecessors_of plan.order m)) x in
+            let P : ActionResultView → Type 0 = λ x. IsEnd ms requests plan m (seen_by (done_in new) (predecessors_of plan.order m)) x in
             subst P same_end (rw (← same, seen_stays ends n d (predecessors_of plan.order n) h free before) (end requests are))
         | inr e ↦
             let old : end_at ends m ≡ Some d' = sym (end_at-set ends n d m h ∙ rw e refl) ∙ is in
@@ -126,15 +126,15 @@ so_far-more ms plan ends es es' n d s h free before end enters =
     cases true = inl refl
     cases false = inr refl
 
-    some_is : {x y : Done} → Some x ≡ Some y → x ≡ y
+    some_is : {x y : ActionResultView} → Some x ≡ Some y → x ≡ y
     some_is e = cc
 
-stage_at : (b : Bool) (x y : Stage) (d : Done) (o : Option Done) → y ≡ stage_of o → cond b stage.Done y ≡ stage_of (cond b (Some d) o)
+stage_at : (b : Bool) (x y : Stage) (d : ActionResultView) (o : Option ActionResultView) → y ≡ stage_of o → cond b stage.Done y ≡ stage_of (cond b (Some d) o)
 stage_at true x y d o e = refl
 stage_at false x y d o e = e
 
 -- and then it is done in the book
-pub staged-more : (stages : List Stage) (ends : List (Option Done)) (n : ℕ) (d : Done) → n < length ends → n < length stages → IsStaged stages ends
+pub staged-more : (stages : List Stage) (ends : List (Option ActionResultView)) (n : ℕ) (d : ActionResultView) → n < length ends → n < length stages → IsStaged stages ends
     → IsStaged (slice_set (slice_set stages n stage.Taken) n stage.Done) (set ends n (Some d))
 staged-more stages ends n d h k staged = λ m.
     let long : n < length (slice_set stages n stage.Taken) = rw (length-set stages n stage.Taken) k in
@@ -147,28 +147,28 @@ staged-more stages ends n d h k staged = λ m.
     twice true x = refl
     twice false x = refl
 
-is_done-stage : (o : Option Done) → is_done (stage_of o) ≡ is_some o
+is_done-stage : (o : Option ActionResultView) → is_done (stage_of o) ≡ is_some o
 is_done-stage None = refl
 is_done-stage (Some d) = refl
 
-free_is : (o : Option Done) → is_free (stage_of o) ≡ true → o ≡ None
+free_is : (o : Option ActionResultView) → is_free (stage_of o) ≡ true → o ≡ None
 free_is None e = refl
 free_is (Some d) e = absurd (cc)
 
 -- what may be claimed hasn't ended, and all before it has
-pub claimable_is : (l : Ledger) (ends : List (Option Done)) (n : ℕ) → IsStaged l.stages ends → is_claimable l n ≡ true
+pub claimable_is : (l : Ledger) (ends : List (Option ActionResultView)) (n : ℕ) → IsStaged l.stages ends → is_claimable l n ≡ true
     → (end_at ends n ≡ None) × (list_all (λ m. is_some (end_at ends m)) (predecessors_of l.graph n) ≡ true)
 claimable_is l ends n staged e =
     let same : is_ready l n ≡ list_all (λ m. is_some (end_at ends m)) (predecessors_of l.graph n) =
     list_all-same (λ m. is_done (stage_in l.stages m)) (λ m. is_some (end_at ends m)) (predecessors_of l.graph n) (λ m. ap is_done (staged m) ∙ is_done-stage (end_at ends m)) in
     (free_is (end_at ends n) (sym (ap is_free (staged n)) ∙ and-first (is_free (stage_in l.stages n)) (is_ready l n) e), sym same ∙ and-second (is_free (stage_in l.stages n)) (is_ready l n) e)
 
-not_ready_is : (o : Option Done) (b : Bool) → (is_free (stage_of o) && b) ≡ false → (not (is_some o) && b) ≡ false
+not_ready_is : (o : Option ActionResultView) (b : Bool) → (is_free (stage_of o) && b) ≡ false → (not (is_some o) && b) ≡ false
 not_ready_is None b e = e
 not_ready_is (Some d) b e = refl
 
 -- where nothing may be claimed, every action has ended
-pub all_ended : (l : Ledger) (plan : PlanView) (ends : List (Option Done)) → Ranked (predecessors_of plan.order) → StaysBelow plan.order.nodes (predecessors_of plan.order) → plan.order.nodes ≡ length plan.actions
+pub all_ended : (l : Ledger) (plan : PlanView) (ends : List (Option ActionResultView)) → Ranked (predecessors_of plan.order) → StaysBelow plan.order.nodes (predecessors_of plan.order) → plan.order.nodes ≡ length plan.actions
     → l.graph ≡ plan.order → IsStaged l.stages ends → ((n : ℕ) → n < l.graph.nodes → is_claimable l n ≡ false) → AllHaveEnded plan ends
 all_ended l plan ends ranked below count same staged none = λ n h.
     all_done plan.order.nodes (predecessors_of plan.order) (λ m. is_some (end_at ends m)) ranked below

@@ -4,7 +4,7 @@ use Rattle.tf_claim.specs.declared.book.Stage.TheVariants as stage
 use Rattle.tf_names.specs.Table.{names_in}
 use Rattle.tf_plan_data.specs.Plan.{plan_names, plan_of}
 use Rattle.tf_plan_data.specs.declared.plan.Plan.{Plan}
-use Rattle.tf_walk_report.specs.Furnished.{IsFurnished}
+use Rattle.tf_walk_report.specs.Reserved.{AreReserved}
 use Rattle.tf_walk.specs.declared.prepared.Prepared.{Prepared}
 
 -- the names are the configuration's, nothing has ended, nothing was called, and there is room for the report
@@ -15,4 +15,4 @@ pub record IsPrepared (plan : Plan) (p : Prepared) : Type 0 where
   pub calls : p.journal.graph ≡ plan.order
   pub none : p.journal.entries ≡ []
   pub results : p.results.items ≡ replicate plan.order.nodes None
-  pub furnished : IsFurnished plan p.furnished
+  pub buffers : AreReserved plan p.buffers

@@ -7,8 +7,8 @@ ghost use Rattle.tf_outcome.specs.Words.{action_of, AreRequests, asked, asks_ful
 
 use std::alloc::{AllocError, Global};
 use tf_asks::ask_provider;
-use tf_names::Names;
-use tf_outcome::{Asking, Faulted};
+use tf_names::Declarations;
+use tf_outcome::{Faulted, PreparedCall};
 use tf_plan_data::{Action, Plan};
 use tf_provider::Provider;
 use tf_request::Results;
@@ -22,11 +22,11 @@ use tf_request::Results;
 pub(crate) fn ask<R: Results>(
     alloc: Global,
     plan: &Plan,
-    names: &Names<'_>,
+    names: &Declarations<'_>,
     providers: &[Box<dyn Provider + Sync>],
     action: &Action,
     results: &R,
-) -> Result<Result<Asking, Faulted>, AllocError>
+) -> Result<Result<PreparedCall, Faulted>, AllocError>
     requires fits { FitsTogether plan.now }
     requires names { names_in names.now ≡ names_of (config_of plan.now.config) }
     requires declared { IsDeclared (names_of (config_of plan.now.config)) (action_of action.now) }

@@ -6,20 +6,20 @@ ghost use Rattle.tf_walk.specs.Prepared.{IsPrepared};
 
 use std::alloc::{AllocError, Global};
 use tf_claim::Book;
-use tf_names::Names;
-use tf_outcome::{Ended, not_ended};
+use tf_names::Declarations;
+use tf_outcome::{ActionResult, not_ended};
 use tf_plan_data::Plan;
 use tf_provider::Journal;
-use tf_walk_report::{Furnished, furnish};
+use tf_walk_report::{ReportBuffers, reserve_report};
 
 /// All that the report on a plan needs memory for, the names of its configuration, and the claims on its actions. The
 /// results are for what may not be let go, so neither may this.
 pub struct Prepared<'p> {
-    pub names: Names<'p>,
+    pub names: Declarations<'p>,
     pub book: Book,
     pub journal: Journal,
-    pub furnished: Furnished<'p>,
-    pub results: Vec<Option<Ended>>,
+    pub buffers: ReportBuffers<'p>,
+    pub results: Vec<Option<ActionResult>>,
 }
 
 /// Takes the memory for the report on a plan. No provider is handed in, so none is called.
@@ -32,11 +32,11 @@ pub fn prepare(alloc: Global, plan: &Plan) -> Result<Prepared<'_>, AllocError>
     ensures { IfOk result (IsPrepared plan.now) }
 {
     let order = plan.order.graph();
-    let names = Names::new(alloc, &plan.config)?;
+    let names = Declarations::new(alloc, &plan.config)?;
     let book = Book::new(alloc, order)?;
     let journal = Journal::with_room(alloc, order)?;
     let results = Vec::with_capacity(alloc, order.nodes())?;
-    let Ok(furnished) = furnish(alloc, plan, &names) else {
+    let Ok(buffers) = reserve_report(alloc, plan, &names) else {
         results.destroy_empty();
         return Err(AllocError);
     };
@@ -44,7 +44,7 @@ pub fn prepare(alloc: Global, plan: &Plan) -> Result<Prepared<'_>, AllocError>
         names,
         book,
         journal,
-        furnished,
+        buffers,
         results: not_ended(results, order.nodes()),
     })
 }

@@ -2,14 +2,14 @@
 
 ghost use Rattle.std.specs.Prelude.{◌≡◌, map, IfOk, IfErr};
 ghost use Rattle.tf_outcome.specs.Words.{action_of, AreServed, FitsTogether, plan_of};
-ghost use Rattle.tf_refusal.specs.Refusal.{no_memory, told};
+ghost use Rattle.tf_refusal.specs.Refusal.{no_memory, refusal_of};
 ghost use Rattle.tf_walk_report.specs.Report.{IsWalked, IsWhole};
 ghost use Rattle.tf_walk.specs.Prepared.{IsPrepared};
 
 use crate::prepared::{Prepared, prepare};
 use crate::walk::walk;
 use std::alloc::{AllocError, Global};
-use tf_environment::Declarations;
+use tf_environment::Module;
 use tf_outcome::Stop;
 use tf_plan_data::{Plan, Planned};
 use tf_provider::Provider;
@@ -32,7 +32,7 @@ pub fn run_one(
 ) -> Result<Walked, Refusal>
     requires served { AreServed (map meaning providers.now) (map action_of plan.now.actions.items) }
     ensures walked { IfOk result (IsWalked (map meaning providers.now) (plan_of plan.now)) }
-    ensures refused { IfErr result (λ r. told r ≡ no_memory) }
+    ensures refused { IfErr result (λ r. refusal_of r ≡ no_memory) }
 {
     let plan = &plan.plan;
     match prepare(alloc, plan) {
@@ -58,7 +58,7 @@ fn carry_out(
         names,
         mut book,
         mut journal,
-        furnished,
+        buffers,
         mut results,
     } = prepared;
     walk(
@@ -72,12 +72,10 @@ fn carry_out(
         stop,
     );
     let _entries = journal.entries();
-    let declared = Declarations {
+    let declared = Module {
         variables: &plan.variables,
         names: &names,
         dependence: &plan.dependence,
     };
-    report_of(
-        alloc, plan, &declared, providers, furnished, results, journal,
-    )
+    report_of(alloc, plan, &declared, providers, buffers, results, journal)
 }

@@ -2,7 +2,7 @@
 
 ghost use Rattle.std.specs.List.{list_all};
 ghost use Rattle.std.specs.Prelude.{◌≡◌, ◌<◌, None, Some, is_some, length, map, option_map, slice_get, false, true, IsSomeAnd, IsTrue, MatchOption};
-ghost use Rattle.tf_outcome.specs.Words.{action_of, AreServed, asked, asks_fully, call_of, config_of, done_of, ended_action, fault_of, FitsTogether, is_good, IsRun, names_in, names_of, op_at, plan_of, predecessors_of, schema_in, seen_by};
+ghost use Rattle.tf_outcome.specs.Words.{action_of, AreServed, asked, asks_fully, call_of, config_of, action_result_of, ended_action, fault_of, FitsTogether, is_good, IsRun, names_in, names_of, op_at, plan_of, predecessors_of, schema_in, seen_by};
 ghost use Rattle.tf_outcome.specs.Outcome.{Requests, AreRequests};
 ghost use Rattle.tf_walk.specs.Ends.{Enters, IsEnd, IsSoFar, done_in, end_at};
 
@@ -10,8 +10,8 @@ use crate::asking::ask;
 use crate::calls::{first_not_good, make_call};
 use std::alloc::{AllocError, Global};
 use tf_claim::{Finished, Permit};
-use tf_names::Names;
-use tf_outcome::{Answered, Asking, Ended, NotGood, Stop};
+use tf_names::Declarations;
+use tf_outcome::{ActionResult, Answered, NotGood, PreparedCall, Stop};
 use tf_plan_data::Plan;
 use tf_provider::{Journal, Provider, first_provider};
 
@@ -21,34 +21,34 @@ use tf_provider::{Journal, Provider, first_provider};
 pub fn end_action(
     alloc: Global,
     plan: &Plan,
-    names: &Names<'_>,
+    names: &Declarations<'_>,
     providers: &[Box<dyn Provider + Sync>],
-    results: &[Option<Ended>],
+    results: &[Option<ActionResult>],
     journal: &mut Journal,
     stop: &Stop,
     permit: Permit,
-) -> (Ended, Finished)
+) -> (ActionResult, Finished)
     requires fits { FitsTogether plan.now }
     requires names { names_in names.now ≡ names_of (config_of plan.now.config) }
     requires served { AreServed (map meaning providers.now) (map action_of plan.now.actions.items) }
-    requires so_far { IsSoFar (map meaning providers.now) (plan_of plan.now) (map (option_map done_of) results.now) journal.old.entries }
-    requires free { end_at (map (option_map done_of) results.now) permit ≡ None }
-    requires before { list_all (λ n. is_some (end_at (map (option_map done_of) results.now) n)) (predecessors_of plan.now.order permit) ≡ true }
+    requires so_far { IsSoFar (map meaning providers.now) (plan_of plan.now) (map (option_map action_result_of) results.now) journal.old.entries }
+    requires free { end_at (map (option_map action_result_of) results.now) permit ≡ None }
+    requires before { list_all (λ n. is_some (end_at (map (option_map action_result_of) results.now) n)) (predecessors_of plan.now.order permit) ≡ true }
     requires within { permit < length plan.now.actions.items }
     requires graph { journal.old.graph ≡ plan.now.order }
     ensures finished { result.1 ≡ permit }
     ensures action { ended_action result.0 ≡ permit }
     ensures ended { (requests : Requests) → AreRequests (plan_of plan.now) requests → IsEnd (map meaning providers.now) requests (plan_of plan.now) permit
-        (seen_by (done_in (map (option_map done_of) results.now)) (predecessors_of plan.now.order permit)) (done_of result.0) }
-    ensures entered { Enters permit (op_at (map action_of plan.now.actions.items) permit) (done_of result.0) journal.old.entries journal.new.entries }
+        (seen_by (done_in (map (option_map action_result_of) results.now)) (predecessors_of plan.now.order permit)) (action_result_of result.0) }
+    ensures entered { Enters permit (op_at (map action_of plan.now.actions.items) permit) (action_result_of result.0) journal.old.entries journal.new.entries }
     ensures same_graph { journal.new.graph ≡ journal.old.graph }
 {
     let action = permit.action();
     if let Some(bad) = not_good_before(plan, results, action) {
-        return Ended::skipped(permit, bad);
+        return ActionResult::skipped(permit, bad);
     }
     if let Some(stopped) = stop.look() {
-        return Ended::left(permit, stopped);
+        return ActionResult::left(permit, stopped);
     }
     let actions = plan.actions.as_slice();
     let seen = Answered {
@@ -59,20 +59,20 @@ pub fn end_action(
         results,
     };
     match ask(alloc, plan, names, providers, &actions[action], &seen) {
-        Err(AllocError) => Ended::not_asked(permit),
-        Ok(Err(faulted)) => Ended::faulted(permit, faulted),
+        Err(AllocError) => ActionResult::not_asked(permit),
+        Ok(Err(faulted)) => ActionResult::faulted(permit, faulted),
         Ok(Ok(asking)) => serve(providers, journal, permit, asking),
     }
 }
 
 /// The evidence that an action directly before one isn't good, where one isn't. All of them have ended.
-fn not_good_before(plan: &Plan, results: &[Option<Ended>], action: usize) -> Option<NotGood>
+fn not_good_before(plan: &Plan, results: &[Option<ActionResult>], action: usize) -> Option<NotGood>
     requires within { action < plan.now.order.nodes }
     requires sized { length results.now ≡ plan.now.order.nodes }
-    requires ended { list_all (λ n. is_some (end_at (map (option_map done_of) results.now) n)) (predecessors_of plan.now.order action) ≡ true }
+    requires ended { list_all (λ n. is_some (end_at (map (option_map action_result_of) results.now) n)) (predecessors_of plan.now.order action) ≡ true }
     ensures { MatchOption result
-        (list_all (λ n. is_good (done_in (map (option_map done_of) results.now) n)) (predecessors_of plan.now.order action) ≡ true)
-        (λ _. list_all (λ n. is_good (done_in (map (option_map done_of) results.now) n)) (predecessors_of plan.now.order action) ≡ false) }
+        (list_all (λ n. is_good (done_in (map (option_map action_result_of) results.now) n)) (predecessors_of plan.now.order action) ≡ true)
+        (λ _. list_all (λ n. is_good (done_in (map (option_map action_result_of) results.now) n)) (predecessors_of plan.now.order action) ≡ false) }
 {
     first_not_good(results, plan.order.graph().predecessors(action))
 }
@@ -82,15 +82,15 @@ fn serve(
     providers: &[Box<dyn Provider + Sync>],
     journal: &mut Journal,
     permit: Permit,
-    asking: Asking,
-) -> (Ended, Finished)
+    asking: PreparedCall,
+) -> (ActionResult, Finished)
     requires served { IsSomeAnd (schema_in (asked asking.request).type_name (map meaning providers.now)) (λ s. IsTrue (asks_fully (asked asking.request) s)) }
     requires within { permit < journal.old.graph.nodes }
     requires fits { fault_of journal.old permit ≡ None }
     ensures finished { result.1 ≡ permit }
     ensures action { ended_action result.0 ≡ permit }
-    ensures ended { IsRun (call_of (map meaning providers.now) (asked asking.request)) (done_of result.0) }
-    ensures entered { Enters permit (Some (asked asking.request).op) (done_of result.0) journal.old.entries journal.new.entries }
+    ensures ended { IsRun (call_of (map meaning providers.now) (asked asking.request)) (action_result_of result.0) }
+    ensures entered { Enters permit (Some (asked asking.request).op) (action_result_of result.0) journal.old.entries journal.new.entries }
     ensures same_graph { journal.new.graph ≡ journal.old.graph }
 {
     match first_provider(providers, asking.request.type_name.as_str()) {

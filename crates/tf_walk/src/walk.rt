@@ -1,7 +1,7 @@
 //! The walk of one thread.
 
 ghost use Rattle.std.specs.Prelude.{◌≡◌, ◌<◌, None, Some, map, option_map, length, slice_set};
-ghost use Rattle.tf_outcome.specs.Words.{action_of, AreServed, config_of, done_of, ended_action, FitsTogether, names_in, names_of, plan_of};
+ghost use Rattle.tf_outcome.specs.Words.{action_of, AreServed, config_of, action_result_of, ended_action, FitsTogether, names_in, names_of, plan_of};
 ghost use Rattle.tf_walk.specs.Ends.{AllHaveEnded, IsSoFar, IsStaged, end_at};
 
 use crate::claims::{close, next_permit};
@@ -9,8 +9,8 @@ use crate::steps::end_action;
 use std::alloc::Global;
 use std::mem;
 use tf_claim::Book;
-use tf_names::Names;
-use tf_outcome::{Ended, Stop};
+use tf_names::Declarations;
+use tf_outcome::{ActionResult, Stop};
 use tf_plan_data::Plan;
 use tf_provider::{Journal, Provider};
 
@@ -18,22 +18,22 @@ use tf_provider::{Journal, Provider};
 pub fn walk(
     alloc: Global,
     plan: &Plan,
-    names: &Names<'_>,
+    names: &Declarations<'_>,
     providers: &[Box<dyn Provider + Sync>],
     book: &mut Book,
     journal: &mut Journal,
-    results: &mut [Option<Ended>],
+    results: &mut [Option<ActionResult>],
     stop: &Stop,
 )
     requires fits { FitsTogether plan.now }
     requires names { names_in names.now ≡ names_of (config_of plan.now.config) }
     requires served { AreServed (map meaning providers.now) (map action_of plan.now.actions.items) }
-    requires so_far { IsSoFar (map meaning providers.now) (plan_of plan.now) (map (option_map done_of) results.old) journal.old.entries }
-    requires staged { IsStaged book.old.stages (map (option_map done_of) results.old) }
+    requires so_far { IsSoFar (map meaning providers.now) (plan_of plan.now) (map (option_map action_result_of) results.old) journal.old.entries }
+    requires staged { IsStaged book.old.stages (map (option_map action_result_of) results.old) }
     requires book { book.old.graph ≡ plan.now.order }
     requires graph { journal.old.graph ≡ plan.now.order }
-    ensures so_far { IsSoFar (map meaning providers.now) (plan_of plan.now) (map (option_map done_of) results.new) journal.new.entries }
-    ensures all { AllHaveEnded (plan_of plan.now) (map (option_map done_of) results.new) }
+    ensures so_far { IsSoFar (map meaning providers.now) (plan_of plan.now) (map (option_map action_result_of) results.new) journal.new.entries }
+    ensures all { AllHaveEnded (plan_of plan.now) (map (option_map action_result_of) results.new) }
     ensures graph { journal.new.graph ≡ plan.now.order }
 {
     let _order = plan.order.graph();
@@ -48,9 +48,9 @@ pub fn walk(
 }
 
 /// Keeps what came of an action, of which nothing is kept yet.
-fn keep(results: &mut [Option<Ended>], action: usize, ended: Ended)
+fn keep(results: &mut [Option<ActionResult>], action: usize, ended: ActionResult)
     requires within { action < length results.old }
-    requires free { end_at (map (option_map done_of) results.old) action ≡ None }
+    requires free { end_at (map (option_map action_result_of) results.old) action ≡ None }
     requires own { ended_action ended ≡ action }
     ensures { results.new ≡ slice_set results.old action (Some ended) }
 {

@@ -14,19 +14,19 @@ use Rattle.tf_address.proofs.Totals.{label_total, object_id_total}
 use Rattle.tf_address.specs.Label.{LabelView, label_cmp}
 use Rattle.tf_address.specs.ObjectId.{InstanceKeyView, single, number, name, ObjectIdView, object_id_cmp}
 use Rattle.tf_address.specs.Same.{same_instance_key}
-use Rattle.tf_state_next.specs.Events.{AreApart as AreAllApart, AreEachAboutOne, RenewalView, as_apply, instance_of, object_of}
-use Rattle.tf_outcome.specs.Outcome.{Done}
+use Rattle.tf_state_next.specs.Events.{AreApart as AreAllApart, AreEachAboutOne, MetadataUpdateView, as_apply, instance_of, object_of}
+use Rattle.tf_outcome.specs.Outcome.{ActionResultView}
 use Rattle.tf_plan_data.specs.Fits.{AreApart, IsPlaced, about, is_apply, deposed_key}
 use Rattle.tf_plan_data.specs.Plan.{PlanView, plan_names}
 use Rattle.tf_protocol.specs.Meaning.{Meaning}
-use Rattle.tf_plan_resources.specs.Numbering.{NumberedView, numbered, place_in}
+use Rattle.tf_plan_resources.specs.ResourceIndex.{ResourceRefView, numbered, place_in}
 use Rattle.tf_state_next.specs.After.{object_at}
-use Rattle.tf_state_next.specs.Ends.{AppliedView, LeftView, GivenView}
+use Rattle.tf_state_next.specs.Ends.{ApplyResultView, LeftView, RecordInputView}
 use Rattle.tf_state_data.specs.Addresses.{AreByAddress}
 use Rattle.tf_state_data.specs.Ids.{AreById}
 use Rattle.tf_state_data.specs.Record.{RecordView}
 use Rattle.tf_state_data.specs.Resource.{ResourceView}
-use Rattle.tf_walk_report.specs.Events.{events, is_about, is_none, renewal_of_record, renewals, renewals_at, renewals_of, stays}
+use Rattle.tf_walk_report.specs.Events.{events, is_about, is_none, metadata_update_of_record, metadata_updates, metadata_updates_at, metadata_updates_of, stays}
 
 -- an object, and an instance, at an address
 abbrev the_object : LabelView → ObjectIdView → LabelView × ObjectIdView
@@ -54,7 +54,7 @@ apart-listed (a ∷ actions) h = (
 
 -- ---- destroys
 
-one_destroy : (P : LabelView × ObjectIdView → Type 0) (label own : LabelView) (t : Target) (applied : AppliedView) (left : LeftView) (rest : List ChangeView) (b : Bool) (given : GivenView) (id : ObjectIdView)
+one_destroy : (P : LabelView × ObjectIdView → Type 0) (label own : LabelView) (t : Target) (applied : ApplyResultView) (left : LeftView) (rest : List ChangeView) (b : Bool) (given : RecordInputView) (id : ObjectIdView)
     → t ≡ (if b then an_instance given else an_object id) → label ≡ own → (b ≡ false → P (own, id)) → AllByRecursion (λ y. P (object_of y)) (destroys_in rest)
     → AllByRecursion (λ y. P (object_of y)) (destroys_in (change_by label t applied left ∷ rest))
 one_destroy P label own t applied left rest true given id e l h m = subst (λ x. AllByRecursion (λ y. P (object_of y)) (destroys_in (change_by label x applied left ∷ rest))) (sym e) m
@@ -62,7 +62,7 @@ one_destroy P label own t applied left rest false given id e l h m =
     subst (λ x. AllByRecursion (λ y. P (object_of y)) (destroys_in (change_by label x applied left ∷ rest))) (sym e) (subst (λ (x : LabelView). P (x, id)) (sym l) (h refl), m)
 
 -- what holds of the object of each action that destroys one holds of all that destroys are about
-destroys_all : (ms : List Meaning) (plan : PlanView) (P : LabelView × ObjectIdView → Type 0) (actions : List ActionView) (heads : List Head) (done : List Done) → AreHeads plan actions heads
+destroys_all : (ms : List Meaning) (plan : PlanView) (P : LabelView × ObjectIdView → Type 0) (actions : List ActionView) (heads : List Head) (done : List ActionResultView) → AreHeads plan actions heads
     → AllByRecursion (λ b. is_apply b.step ≡ false → P (b.label, object_at b.key (deposed_key b.step))) actions → AllByRecursion (λ y. P (object_of y)) (destroys_in (changes_in ms heads done))
 destroys_all ms plan P [] [] done are h = tt
 destroys_all ms plan P [] (k ∷ heads) done are h = absurd are
@@ -83,14 +83,14 @@ objects_differ a (b ∷ actions) destroys h = (
   objects_differ a actions destroys h.1,
 )
 
-destroy_apart : (label own : LabelView) (t : Target) (applied : AppliedView) (left : LeftView) (rest : List ChangeView) (b : Bool) (given : GivenView) (id : ObjectIdView)
+destroy_apart : (label own : LabelView) (t : Target) (applied : ApplyResultView) (left : LeftView) (rest : List ChangeView) (b : Bool) (given : RecordInputView) (id : ObjectIdView)
     → t ≡ (if b then an_instance given else an_object id) → label ≡ own → (b ≡ false → AllByRecursion (λ y. ¬ (the_object own id ≡ object_of y)) (destroys_in rest)) → AreAllApart object_of (destroys_in rest)
     → AreAllApart object_of (destroys_in (change_by label t applied left ∷ rest))
 destroy_apart label own t applied left rest true given id e l h m = subst (λ x. AreAllApart object_of (destroys_in (change_by label x applied left ∷ rest))) (sym e) m
 destroy_apart label own t applied left rest false given id e l h m =
     subst (λ x. AreAllApart object_of (destroys_in (change_by label x applied left ∷ rest))) (sym e) (subst (λ (x : LabelView). AllByRecursion (λ y. ¬ (the_object x id ≡ object_of y)) (destroys_in rest)) (sym l) (h refl), m)
 
-pub destroys-apart : (ms : List Meaning) (plan : PlanView) (actions : List ActionView) (heads : List Head) (done : List Done) → AreHeads plan actions heads → AreAllApart about actions → AreAllApart object_of (destroys_in (changes_in ms heads done))
+pub destroys-apart : (ms : List Meaning) (plan : PlanView) (actions : List ActionView) (heads : List Head) (done : List ActionResultView) → AreHeads plan actions heads → AreAllApart about actions → AreAllApart object_of (destroys_in (changes_in ms heads done))
 destroys-apart ms plan [] [] done are h = tt
 destroys-apart ms plan [] (k ∷ heads) done are h = absurd are
 destroys-apart ms plan (a ∷ actions) [] done are h = absurd are
@@ -102,7 +102,7 @@ destroys-apart ms plan (a ∷ actions) (k ∷ heads) (d ∷ done) are h =
 
 -- ---- creates and updates
 
-one_apply : (P : LabelView × InstanceKeyView → Type 0) (label own : LabelView) (t : Target) (applied : AppliedView) (left : LeftView) (rest : List ChangeView) (b : Bool) (given : GivenView) (id : ObjectIdView)
+one_apply : (P : LabelView × InstanceKeyView → Type 0) (label own : LabelView) (t : Target) (applied : ApplyResultView) (left : LeftView) (rest : List ChangeView) (b : Bool) (given : RecordInputView) (id : ObjectIdView)
     → t ≡ (if b then an_instance given else an_object id) → label ≡ own → (b ≡ true → P (own, given.key)) → AllByRecursion (λ y. P (instance_of y)) (applies_in rest)
     → AllByRecursion (λ y. P (instance_of y)) (applies_in (change_by label t applied left ∷ rest))
 one_apply P label own t applied left rest true given id e l h m =
@@ -110,7 +110,7 @@ one_apply P label own t applied left rest true given id e l h m =
 one_apply P label own t applied left rest false given id e l h m = subst (λ x. AllByRecursion (λ y. P (instance_of y)) (applies_in (change_by label x applied left ∷ rest))) (sym e) m
 
 -- what holds of the instance of each action that creates or updates holds of all that applies are about
-applies_all : (ms : List Meaning) (plan : PlanView) (P : LabelView × InstanceKeyView → Type 0) (actions : List ActionView) (heads : List Head) (done : List Done) → AreHeads plan actions heads
+applies_all : (ms : List Meaning) (plan : PlanView) (P : LabelView × InstanceKeyView → Type 0) (actions : List ActionView) (heads : List Head) (done : List ActionResultView) → AreHeads plan actions heads
     → AllByRecursion (λ b. is_apply b.step ≡ true → P (b.label, b.key)) actions → AllByRecursion (λ y. P (instance_of y)) (applies_in (changes_in ms heads done))
 applies_all ms plan P [] [] done are h = tt
 applies_all ms plan P [] (k ∷ heads) done are h = absurd are
@@ -136,14 +136,14 @@ instances_differ a (b ∷ actions) applies h = (
   instances_differ a actions applies h.1,
 )
 
-apply_apart : (label own : LabelView) (t : Target) (applied : AppliedView) (left : LeftView) (rest : List ChangeView) (b : Bool) (given : GivenView) (id : ObjectIdView)
+apply_apart : (label own : LabelView) (t : Target) (applied : ApplyResultView) (left : LeftView) (rest : List ChangeView) (b : Bool) (given : RecordInputView) (id : ObjectIdView)
     → t ≡ (if b then an_instance given else an_object id) → label ≡ own → (b ≡ true → AllByRecursion (λ y. ¬ (the_instance own given.key ≡ instance_of y)) (applies_in rest)) → AreAllApart instance_of (applies_in rest)
     → AreAllApart instance_of (applies_in (change_by label t applied left ∷ rest))
 apply_apart label own t applied left rest true given id e l h m =
     subst (λ x. AreAllApart instance_of (applies_in (change_by label x applied left ∷ rest))) (sym e) (subst (λ (x : LabelView). AllByRecursion (λ y. ¬ (the_instance x given.key ≡ instance_of y)) (applies_in rest)) (sym l) (h refl), m)
 apply_apart label own t applied left rest false given id e l h m = subst (λ x. AreAllApart instance_of (applies_in (change_by label x applied left ∷ rest))) (sym e) m
 
-applies_apart : (ms : List Meaning) (plan : PlanView) (actions : List ActionView) (heads : List Head) (done : List Done) → AreHeads plan actions heads → AreAllApart about actions → AreAllApart instance_of (applies_in (changes_in ms heads done))
+applies_apart : (ms : List Meaning) (plan : PlanView) (actions : List ActionView) (heads : List Head) (done : List ActionResultView) → AreHeads plan actions heads → AreAllApart about actions → AreAllApart instance_of (applies_in (changes_in ms heads done))
 applies_apart ms plan [] [] done are h = tt
 applies_apart ms plan [] (k ∷ heads) done are h = absurd are
 applies_apart ms plan (a ∷ actions) [] done are h = absurd are
@@ -183,10 +183,10 @@ all_swapped : {A B : Type 0} (R : A → B → Type 0) (xs : List A) (ys : List B
 all_swapped R [] ys h = tt
 all_swapped R (x ∷ xs) ys h = (all_first R x xs ys h, all_swapped R xs ys (all_later R x xs ys h))
 
--- ---- renewals
+-- ---- metadata updates
 
--- the instance that a renewal is about
-abbrev renewed_instance : RenewalView → LabelView × InstanceKeyView
+-- the instance that a metadata update is about
+abbrev renewed_instance : MetadataUpdateView → LabelView × InstanceKeyView
 renewed_instance y = instance_of (as_apply y)
 
 kept_all : {A : Type 0} (Q : A → Type 0) (f : RecordView → A) (b : Bool) (test : RecordView → Bool) (x : RecordView) (rs : List RecordView) → (b ≡ true → Q (f x)) → AllByRecursion Q (map f (filter test rs))
@@ -202,20 +202,20 @@ within_all : {A : Type 0} (Q : A → Type 0) (b : Bool) (xs : List A) → AllByR
 within_all Q true xs h = h
 within_all Q false xs h = tt
 
-at_all : (Q : RenewalView → Type 0) (plan : PlanView) (r : ResourceView) (o : Option ℕ) → ((n : ℕ) (x : RecordView) → o ≡ Some n → stays plan n x ≡ true → Q (renewal_of_record plan r.label n x)) → AllByRecursion Q (renewals_at plan r o)
+at_all : (Q : MetadataUpdateView → Type 0) (plan : PlanView) (r : ResourceView) (o : Option ℕ) → ((n : ℕ) (x : RecordView) → o ≡ Some n → stays plan n x ≡ true → Q (metadata_update_of_record plan r.label n x)) → AllByRecursion Q (metadata_updates_at plan r o)
 at_all Q plan r None h = tt
 at_all Q plan r (Some n) h =
-    within_all Q (nat_lt n (length (plan_names plan))) (map (renewal_of_record plan r.label n) (filter (stays plan n) r.records))
-    (filtered_all Q (renewal_of_record plan r.label n) (stays plan n) r.records (λ x stay. h n x refl stay))
+    within_all Q (nat_lt n (length (plan_names plan))) (map (metadata_update_of_record plan r.label n) (filter (stays plan n) r.records))
+    (filtered_all Q (metadata_update_of_record plan r.label n) (stays plan n) r.records (λ x stay. h n x refl stay))
 
 -- what holds of each record that stays
-abbrev pub IsOfEach : PlanView → (RenewalView → Type 0) → ResourceView → Type 0
-IsOfEach plan Q r = (n : ℕ) (x : RecordView) → place_in (numbered (plan_names plan) plan.prior.resources) r.label ≡ Some n → stays plan n x ≡ true → Q (renewal_of_record plan r.label n x)
+abbrev pub IsOfEach : PlanView → (MetadataUpdateView → Type 0) → ResourceView → Type 0
+IsOfEach plan Q r = (n : ℕ) (x : RecordView) → place_in (numbered (plan_names plan) plan.prior.resources) r.label ≡ Some n → stays plan n x ≡ true → Q (metadata_update_of_record plan r.label n x)
 
-pub renewals-all : (Q : RenewalView → Type 0) (plan : PlanView) (rs : List ResourceView) → AllByRecursion (IsOfEach plan Q) rs → AllByRecursion Q (flat_map (renewals_of plan) rs)
-renewals-all Q plan [] h = tt
-renewals-all Q plan (r ∷ rs) h =
-    all_append Q (renewals_of plan r) (flat_map (renewals_of plan) rs) (at_all Q plan r (place_in (numbered (plan_names plan) plan.prior.resources) r.label) h.0) (renewals-all Q plan rs h.1)
+pub metadata_updates-all : (Q : MetadataUpdateView → Type 0) (plan : PlanView) (rs : List ResourceView) → AllByRecursion (IsOfEach plan Q) rs → AllByRecursion Q (flat_map (metadata_updates_of plan) rs)
+metadata_updates-all Q plan [] h = tt
+metadata_updates-all Q plan (r ∷ rs) h =
+    all_append Q (metadata_updates_of plan r) (flat_map (metadata_updates_of plan) rs) (at_all Q plan r (place_in (numbered (plan_names plan) plan.prior.resources) r.label) h.0) (metadata_updates-all Q plan rs h.1)
 
 less_differ : {A : Type 0} {c : A → A → Ordering} (o : IsTotalOrder c) (x y : A) → c x y ≡ Less → x ≡ y → ⊥
 less_differ {A} {c} o x y less same =
@@ -240,20 +240,20 @@ ids_same i j k d e = let same : i.deposed ≡ j.deposed = d ∙ sym e in λ t. r
 
 module _ (plan : PlanView) (label : LabelView) (n : ℕ) where
   keys_differ : (x : RecordView) (rs : List RecordView) → x.id.deposed ≡ None → AllByRecursion (λ i. object_id_cmp x.id i ≡ Less) (map (λ r. r.id) rs)
-      → AllByRecursion (λ y. ¬ (renewed_instance (renewal_of_record plan label n x) ≡ renewed_instance y)) (map (renewal_of_record plan label n) (filter (stays plan n) rs))
+      → AllByRecursion (λ y. ¬ (renewed_instance (metadata_update_of_record plan label n x) ≡ renewed_instance y)) (map (metadata_update_of_record plan label n) (filter (stays plan n) rs))
   keys_differ x [] none h = tt
   keys_differ x (y ∷ rs) none h =
-      kept_all (λ z. ¬ (renewed_instance (renewal_of_record plan label n x) ≡ renewed_instance z)) (renewal_of_record plan label n) (stays plan n y) (stays plan n) y rs
+      kept_all (λ z. ¬ (renewed_instance (metadata_update_of_record plan label n x) ≡ renewed_instance z)) (metadata_update_of_record plan label n) (stays plan n y) (stays plan n) y rs
       (λ stay same. less_differ object_id_total x.id y.id h.0 (ids_same x.id y.id (ap (λ p. p.1) same) none (stays_current plan n y stay))) (keys_differ x rs none h.1)
 
   kept_apart : (b : Bool) (x : RecordView) (rs : List RecordView) → stays plan n x ≡ b
-      → (x.id.deposed ≡ None → AllByRecursion (λ y. ¬ (renewed_instance (renewal_of_record plan label n x) ≡ renewed_instance y)) (map (renewal_of_record plan label n) (filter (stays plan n) rs)))
-      → AreAllApart renewed_instance (map (renewal_of_record plan label n) (filter (stays plan n) rs))
-      → AreAllApart renewed_instance (map (renewal_of_record plan label n) (cond b (x ∷ filter (stays plan n) rs) (filter (stays plan n) rs)))
+      → (x.id.deposed ≡ None → AllByRecursion (λ y. ¬ (renewed_instance (metadata_update_of_record plan label n x) ≡ renewed_instance y)) (map (metadata_update_of_record plan label n) (filter (stays plan n) rs)))
+      → AreAllApart renewed_instance (map (metadata_update_of_record plan label n) (filter (stays plan n) rs))
+      → AreAllApart renewed_instance (map (metadata_update_of_record plan label n) (cond b (x ∷ filter (stays plan n) rs) (filter (stays plan n) rs)))
   kept_apart true x rs stay h k = (h (stays_current plan n x stay), k)
   kept_apart false x rs stay h k = k
 
-  records_apart : (rs : List RecordView) → AreById rs → AreAllApart renewed_instance (map (renewal_of_record plan label n) (filter (stays plan n) rs))
+  records_apart : (rs : List RecordView) → AreById rs → AreAllApart renewed_instance (map (metadata_update_of_record plan label n) (filter (stays plan n) rs))
   unfolding IsStrictlySortedBy
   records_apart [] s = tt
   records_apart (x ∷ rs) s = kept_apart (stays plan n x) x rs refl (λ none. keys_differ x rs none s.0) (records_apart rs s.1)
@@ -262,30 +262,30 @@ within_apart : {A B : Type 0} (f : A → B) (b : Bool) (xs : List A) → AreAllA
 within_apart f true xs h = h
 within_apart f false xs h = tt
 
-at_apart : (plan : PlanView) (r : ResourceView) (o : Option ℕ) → AreById r.records → AreAllApart renewed_instance (renewals_at plan r o)
+at_apart : (plan : PlanView) (r : ResourceView) (o : Option ℕ) → AreById r.records → AreAllApart renewed_instance (metadata_updates_at plan r o)
 at_apart plan r None s = tt
-at_apart plan r (Some n) s = within_apart renewed_instance (nat_lt n (length (plan_names plan))) (map (renewal_of_record plan r.label n) (filter (stays plan n) r.records)) (records_apart plan r.label n r.records s)
+at_apart plan r (Some n) s = within_apart renewed_instance (nat_lt n (length (plan_names plan))) (map (metadata_update_of_record plan r.label n) (filter (stays plan n) r.records)) (records_apart plan r.label n r.records s)
 
 below_each : (plan : PlanView) (label : LabelView) (rs : List ResourceView) → AllByRecursion (λ l. label_cmp label l ≡ Less) (map (λ r. r.label) rs) → AllByRecursion (IsOfEach plan (λ y. ¬ (label ≡ y.label))) rs
 below_each plan label [] h = tt
 below_each plan label (r ∷ rs) h = (λ n x place stay same. less_differ label_total label r.label h.0 same, below_each plan label rs h.1)
 
-across : (label : LabelView) (ys : List RenewalView) (xs : List RenewalView) → AllByRecursion (λ y. ¬ (label ≡ y.label)) ys → AllByRecursion (λ x. x.label ≡ label) xs
+across : (label : LabelView) (ys : List MetadataUpdateView) (xs : List MetadataUpdateView) → AllByRecursion (λ y. ¬ (label ≡ y.label)) ys → AllByRecursion (λ x. x.label ≡ label) xs
     → AllByRecursion (λ x. AllByRecursion (λ y. ¬ (renewed_instance x ≡ renewed_instance y)) ys) xs
 across label ys [] h own = tt
 across label ys (x ∷ xs) h own = (one ys h, across label ys xs h own.1)
   where
-    one : (zs : List RenewalView) → AllByRecursion (λ y. ¬ (label ≡ y.label)) zs → AllByRecursion (λ y. ¬ (renewed_instance x ≡ renewed_instance y)) zs
+    one : (zs : List MetadataUpdateView) → AllByRecursion (λ y. ¬ (label ≡ y.label)) zs → AllByRecursion (λ y. ¬ (renewed_instance x ≡ renewed_instance y)) zs
     one [] k = tt
     one (z ∷ zs) k = (λ same. k.0 (sym own.0 ∙ ap (λ p. p.0) same), one zs k.1)
 
-renewals_apart : (plan : PlanView) (rs : List ResourceView) → AreByAddress rs → AllByRecursion (λ r. AreById r.records) rs → AreAllApart renewed_instance (flat_map (renewals_of plan) rs)
+renewals_apart : (plan : PlanView) (rs : List ResourceView) → AreByAddress rs → AllByRecursion (λ r. AreById r.records) rs → AreAllApart renewed_instance (flat_map (metadata_updates_of plan) rs)
 unfolding IsStrictlySortedBy
 renewals_apart plan [] s t = tt
 renewals_apart plan (r ∷ rs) s t =
     let o = place_in (numbered (plan_names plan) plan.prior.resources) r.label in
-    apart_append renewed_instance (renewals_of plan r) (flat_map (renewals_of plan) rs) (at_apart plan r o t.0) (renewals_apart plan rs s.1 t.1)
-    (across r.label (flat_map (renewals_of plan) rs) (renewals_of plan r) (renewals-all (λ y. ¬ (r.label ≡ y.label)) plan rs (below_each plan r.label rs s.0)) (at_all (λ x. x.label ≡ r.label) plan r o (λ n x place stay. refl)))
+    apart_append renewed_instance (metadata_updates_of plan r) (flat_map (metadata_updates_of plan) rs) (at_apart plan r o t.0) (renewals_apart plan rs s.1 t.1)
+    (across r.label (flat_map (metadata_updates_of plan) rs) (metadata_updates_of plan r) (metadata_updates-all (λ y. ¬ (r.label ≡ y.label)) plan rs (below_each plan r.label rs s.0)) (at_all (λ x. x.label ≡ r.label) plan r o (λ n x place stay. refl)))
 
 -- ---- both
 
@@ -312,7 +312,7 @@ about_one : (n : ℕ) (key : InstanceKeyView) (b : ActionView) → b.resource �
 about_one n key b at applies k =
     three (b.resource == n) (is_none (deposed_key b.step)) (same_instance_key b.key key) (eq-eqb b.resource n at) (ap is_none (apply_is_current b.step applies)) (subst (λ x. same_instance_key b.key x ≡ true) k (key_is b.key))
 
-none_about : (all : List NumberedView) (label : LabelView) (n : ℕ) (key : InstanceKeyView) (actions : List ActionView) → list_any (is_about n key) actions ≡ false → AllByRecursion (IsPlaced all) actions → place_in all label ≡ Some n
+none_about : (all : List ResourceRefView) (label : LabelView) (n : ℕ) (key : InstanceKeyView) (actions : List ActionView) → list_any (is_about n key) actions ≡ false → AllByRecursion (IsPlaced all) actions → place_in all label ≡ Some n
     → AllByRecursion (λ b. is_apply b.step ≡ true → ¬ (the_instance b.label b.key ≡ the_instance label key)) actions
 none_about all label n key [] none placed place = tt
 none_about all label n key (b ∷ actions) none placed place = (
@@ -339,14 +339,14 @@ unplanned_each plan (r ∷ rs) placed = (
   unplanned_each plan rs placed,
 )
 
-applies_differ : (ms : List Meaning) (plan : PlanView) (heads : List Head) (done : List Done) (ys : List RenewalView) → AreHeads plan plan.actions heads
+applies_differ : (ms : List Meaning) (plan : PlanView) (heads : List Head) (done : List ActionResultView) (ys : List MetadataUpdateView) → AreHeads plan plan.actions heads
     → AllByRecursion (λ y. AllByRecursion (λ b. is_apply b.step ≡ true → ¬ (the_instance b.label b.key ≡ renewed_instance y)) plan.actions) ys
     → AllByRecursion (λ y. AllByRecursion (λ x. ¬ (instance_of x ≡ instance_of y)) (applies_in (changes_in ms heads done))) (map as_apply ys)
 applies_differ ms plan heads done [] are h = tt
 applies_differ ms plan heads done (y ∷ ys) are h = (applies_all ms plan (λ o. ¬ (o ≡ renewed_instance y)) plan.actions heads done are h.0, applies_differ ms plan heads done ys are h.1)
 
 -- no two destroys are of one object, and no two of what is wanted are of one instance
-pub each-about_one : (ms : List Meaning) (plan : PlanView) (heads : List Head) (done : List Done) → AreHeads plan plan.actions heads → AreApart plan.actions
+pub each-about_one : (ms : List Meaning) (plan : PlanView) (heads : List Head) (done : List ActionResultView) → AreHeads plan plan.actions heads → AreApart plan.actions
     → AllByRecursion (IsPlaced (numbered (plan_names plan) plan.prior.resources)) plan.actions → AreByAddress plan.prior.resources → AllByRecursion (λ r. AreById r.records) plan.prior.resources → AreEachAboutOne (events ms plan heads done)
 each-about_one ms plan heads done are apart placed s t =
     let listed = apart-listed plan.actions apart in
@@ -354,8 +354,8 @@ each-about_one ms plan heads done are apart placed s t =
     record {
       destroys = destroys-apart ms plan plan.actions heads done are listed;
       wanted =
-          apart_append instance_of applies (map as_apply (renewals plan)) (applies_apart ms plan plan.actions heads done are listed)
-          (apart_map instance_of as_apply (renewals plan) (renewals_apart plan plan.prior.resources s t))
-          (all_swapped (λ x y. ¬ (instance_of x ≡ instance_of y)) applies (map as_apply (renewals plan))
-          (applies_differ ms plan heads done (renewals plan) are (renewals-all (λ y. AllByRecursion (λ b. is_apply b.step ≡ true → ¬ (the_instance b.label b.key ≡ renewed_instance y)) plan.actions) plan plan.prior.resources (unplanned_each plan plan.prior.resources placed))));
+          apart_append instance_of applies (map as_apply (metadata_updates plan)) (applies_apart ms plan plan.actions heads done are listed)
+          (apart_map instance_of as_apply (metadata_updates plan) (renewals_apart plan plan.prior.resources s t))
+          (all_swapped (λ x y. ¬ (instance_of x ≡ instance_of y)) applies (map as_apply (metadata_updates plan))
+          (applies_differ ms plan heads done (metadata_updates plan) are (metadata_updates-all (λ y. AllByRecursion (λ b. is_apply b.step ≡ true → ¬ (the_instance b.label b.key ≡ renewed_instance y)) plan.actions) plan plan.prior.resources (unplanned_each plan plan.prior.resources placed))));
     }

@@ -1,18 +1,18 @@
 -- What comes of the actions of a plan, as the code has it.
 use Rattle.std.proofs.Common.{◌≡◌, List, [], ◌∷◌, map, sym, subst}
 use Rattle.std.specs.List.{AllByRecursion}
-use Rattle.tf_state_next.specs.Events.{ApplyView, DestroyView, EventsView, RenewalView}
+use Rattle.tf_state_next.specs.Events.{ApplyView, DestroyView, EventsView, MetadataUpdateView}
 use Rattle.tf_state_data.specs.Ids.{AreById}
 use Rattle.tf_state_data.specs.Resource.{resource_of}
 use Rattle.tf_state_data.specs.declared.resource.Resource.{Resource}
 
 -- what holds of events holds of the same ones
-pub events_as : (P : EventsView → Type 0) (ds fs : List DestroyView) (xs ys : List ApplyView) (rs qs : List RenewalView) → ds ≡ fs → xs ≡ ys → rs ≡ qs
-    → P (record { destroys = fs; applies = ys; renewals = qs }) → P (record { destroys = ds; applies = xs; renewals = rs })
+pub events_as : (P : EventsView → Type 0) (ds fs : List DestroyView) (xs ys : List ApplyView) (rs qs : List MetadataUpdateView) → ds ≡ fs → xs ≡ ys → rs ≡ qs
+    → P (record { destroys = fs; applies = ys; metadata_updates = qs }) → P (record { destroys = ds; applies = xs; metadata_updates = rs })
 events_as P ds fs xs ys rs qs d x r h =
-    subst (λ (zs : List DestroyView). P (record { destroys = zs; applies = xs; renewals = rs })) (sym d)
-    (subst (λ (zs : List ApplyView). P (record { destroys = fs; applies = zs; renewals = rs })) (sym x)
-    (subst (λ (zs : List RenewalView). P (record { destroys = fs; applies = ys; renewals = zs })) (sym r) h))
+    subst (λ (zs : List DestroyView). P (record { destroys = zs; applies = xs; metadata_updates = rs })) (sym d)
+    (subst (λ (zs : List ApplyView). P (record { destroys = fs; applies = zs; metadata_updates = rs })) (sym x)
+    (subst (λ (zs : List MetadataUpdateView). P (record { destroys = fs; applies = ys; metadata_updates = zs })) (sym r) h))
 
 -- the records of each resource are in order
 pub each_ordered : (rs : List Resource) → AllByRecursion (λ r. AreById r.records) (map resource_of rs)

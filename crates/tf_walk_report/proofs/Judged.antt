@@ -3,7 +3,7 @@ use Rattle.std.proofs.Common.{◌≡◌, ◌<◌, ◌∙◌, ℕ, zero, suc, Boo
 use Rattle.std.specs.Prelude.{slice_get}
 use Rattle.std.specs.Option.{option_map_or}
 use Rattle.tf_plan_data.specs.Action.{ActionView, StepView, create, update, replacement, replaced, destroyed, deposed_destroyed}
-use Rattle.tf_additions.specs.Addition.{AreJudged, IsJudged}
+use Rattle.tf_additions.specs.ActionReport.{AreJudged, IsJudged}
 use Rattle.tf_address.specs.ObjectId.{InstanceKeyView}
 use Rattle.tf_change.specs.Instance.{InstanceFaultView}
 use Rattle.tf_config_data.specs.Names.{meant_at}
@@ -20,7 +20,7 @@ use Rattle.tf_value.specs.Tree.{Tree}
 use Rattle.tf_outcome.specs.Asked.{asked_by_step, asked_for, create_of, ignored_by, unless_faulty, update_of}
 use Rattle.tf_outcome.specs.Journal.{op_at}
 use Rattle.tf_outcome.specs.Excuse.{Moment, excuse_of}
-use Rattle.tf_outcome.specs.Outcome.{Done, skipped, excused, faulted, called, Requests, AreOutcomes, all_good, call_at, call_of, call_of_provider, call_with, comes_of, done_at, objects_by, op_of, or_excused}
+use Rattle.tf_outcome.specs.Outcome.{ActionResultView, skipped, excused, faulted, called, Requests, AreOutcomes, all_good, call_at, call_of, call_of_provider, call_with, comes_of, done_at, objects_by, op_of, or_excused}
 use Rattle.tf_outcome.specs.declared.excuse.Excuse.{Excuse}
 
 -- a call that was judged so, to a request of this kind
@@ -73,7 +73,7 @@ judged_at ms requests plan objects op (Some b) q a v kind e =
     let made = judged_with ms plan b (requests objects b) (schema_in b.label.type_name ms) q a v e in (made.0, made.1 ∙ same)
 
 -- what comes of an action was judged by that provider's schema, as what it was asked to do
-pub call-judged : (ms : List Meaning) (requests : Requests) (plan : PlanView) (n : ℕ) (seen : List (ℕ × Done)) (op : Op) (d : Done) → op_at plan.actions n ≡ Some op → d ≡ call_at ms requests plan n seen → IsJudged ms op d
+pub call-judged : (ms : List Meaning) (requests : Requests) (plan : PlanView) (n : ℕ) (seen : List (ℕ × ActionResultView)) (op : Op) (d : ActionResultView) → op_at plan.actions n ≡ Some op → d ≡ call_at ms requests plan n seen → IsJudged ms op d
 call-judged ms requests plan n seen op skipped kind e = tt
 call-judged ms requests plan n seen op (excused m) kind e = tt
 call-judged ms requests plan n seen op (faulted why) kind e = tt
@@ -82,7 +82,7 @@ call-judged ms requests plan n seen op (called q a v) kind e = judged_at ms requ
 -- ---- all actions of a plan
 
 -- what holds of each action by its place holds of all
-pub all-judged : (ms : List Meaning) (ops : List Op) (done : List Done) → ((n : ℕ) (op : Op) → slice_get ops n ≡ Some op → IsJudged ms op (done_at done n)) → AreJudged ms ops done
+pub all-judged : (ms : List Meaning) (ops : List Op) (done : List ActionResultView) → ((n : ℕ) (op : Op) → slice_get ops n ≡ Some op → IsJudged ms op (done_at done n)) → AreJudged ms ops done
 all-judged ms [] done f = tt
 all-judged ms (op ∷ ops) [] f = tt
 all-judged ms (op ∷ ops) (d ∷ done) f = (f 0 op refl, all-judged ms ops done (λ n x e. f (suc n) x e))
@@ -98,13 +98,13 @@ op_below [] n op e = absurd (cc)
 op_below (a ∷ actions) zero op e = omega arith
 op_below (a ∷ actions) (suc n) op e = let below : n < length actions = op_below actions n op e in omega arith
 
-by_rule : (ms : List Meaning) (op : Op) (b : Bool) (o : Option Moment) (call : Done) → IsJudged ms op call → IsJudged ms op (if b then or_excused o call else skipped)
+by_rule : (ms : List Meaning) (op : Op) (b : Bool) (o : Option Moment) (call : ActionResultView) → IsJudged ms op call → IsJudged ms op (if b then or_excused o call else skipped)
 by_rule ms op true None call h = h
 by_rule ms op true (Some m) call h = tt
 by_rule ms op false o call h = tt
 
 -- outcomes were judged by the schemas of the providers that have the types, as what was asked
-pub outcomes-judged : (ms : List Meaning) (requests : Requests) (plan : PlanView) (excuses : List Excuse) (done : List Done) → AreOutcomes ms requests plan excuses done → AreJudged ms (map (λ a. op_of a.step) plan.actions) done
+pub outcomes-judged : (ms : List Meaning) (requests : Requests) (plan : PlanView) (excuses : List Excuse) (done : List ActionResultView) → AreOutcomes ms requests plan excuses done → AreJudged ms (map (λ a. op_of a.step) plan.actions) done
 outcomes-judged ms requests plan excuses done are =
     all-judged ms (map (λ a. op_of a.step) plan.actions) done (λ n op e. one n op (sym (ops-read plan.actions n) ∙ e))
   where

@@ -7,18 +7,18 @@ use Rattle.tf_additions.specs.Head.{AreHeads, Head, Target, an_instance, an_obje
 use Rattle.tf_address.specs.Label.{LabelView}
 use Rattle.tf_address.specs.ObjectId.{ObjectIdView}
 use Rattle.tf_state_next.specs.Events.{ApplyView}
-use Rattle.tf_outcome.specs.Outcome.{Done}
+use Rattle.tf_outcome.specs.Outcome.{ActionResultView}
 use Rattle.tf_plan_data.specs.Fits.{is_apply, deposed_key}
 use Rattle.tf_plan_data.specs.Plan.{PlanView}
 use Rattle.tf_protocol.specs.Meaning.{Meaning}
 use Rattle.tf_state_next.specs.After.{object_at}
-use Rattle.tf_state_next.specs.Ends.{AppliedView, LeftView, GivenView}
-use Rattle.tf_walk_report.specs.Furnished.{applied_labels}
+use Rattle.tf_state_next.specs.Ends.{ApplyResultView, LeftView, RecordInputView}
+use Rattle.tf_walk_report.specs.Reserved.{applied_labels}
 
 abbrev pub labels_in : List ApplyView → List LabelView
 labels_in applies = map (λ a. a.label) applies
 
-one_label : (label own : LabelView) (t : Target) (applied : AppliedView) (left : LeftView) (rest : List ChangeView) (b : Bool) (given : GivenView) (id : ObjectIdView) (more : List LabelView)
+one_label : (label own : LabelView) (t : Target) (applied : ApplyResultView) (left : LeftView) (rest : List ChangeView) (b : Bool) (given : RecordInputView) (id : ObjectIdView) (more : List LabelView)
     → t ≡ (if b then an_instance given else an_object id) → label ≡ own → labels_in (applies_in rest) ≡ more → labels_in (applies_in (change_by label t applied left ∷ rest)) ≡ cond b (own ∷ more) more
 one_label label own t applied left rest true given id more e l m = subst (λ x. labels_in (applies_in (change_by label x applied left ∷ rest)) ≡ own ∷ more) (sym e) (ap₂ (λ x xs. x ∷ xs) l m)
 one_label label own t applied left rest false given id more e l m = subst (λ x. labels_in (applies_in (change_by label x applied left ∷ rest)) ≡ more) (sym e) m
@@ -28,7 +28,7 @@ kept_label true a actions = refl
 kept_label false a actions = refl
 
 -- they are those of the actions
-pub labels-applied : (ms : List Meaning) (plan : PlanView) (actions : List ActionView) (heads : List Head) (done : List Done) → AreHeads plan actions heads → length actions ≡ length done
+pub labels-applied : (ms : List Meaning) (plan : PlanView) (actions : List ActionView) (heads : List Head) (done : List ActionResultView) → AreHeads plan actions heads → length actions ≡ length done
     → labels_in (applies_in (changes_in ms heads done)) ≡ applied_labels actions
 labels-applied ms plan [] [] done are sized = refl
 labels-applied ms plan [] (h ∷ heads) done are sized = absurd are

@@ -4,7 +4,7 @@ use Rattle.std.specs.Prelude.{Vec}
 use Rattle.tf_additions.specs.Needed.{AreListedAsked}
 use Rattle.tf_graph.specs.NodeSet.{has}
 use Rattle.tf_plan_data.specs.Plan.{PlanView, plan_names}
-use Rattle.tf_walk_report.specs.Standing.{IsNumberAsked, IsNumberListed}
+use Rattle.tf_walk_report.specs.Asked.{IsNumberAsked, IsNumberListed}
 
 -- a number that is asked for stays so, where others are added
 pub still_asked : (old new : List Bool) (number : Option ℕ) → length new ≡ length old → ((k : ℕ) → has old k ≡ true → has new k ≡ true) → IsNumberAsked old number → IsNumberAsked new number

@@ -8,20 +8,20 @@ use Rattle.tf_additions.specs.Head.{AreHeads, Head, IsKeyFor, Target, an_instanc
 use Rattle.tf_address.specs.Label.{LabelView}
 use Rattle.tf_address.specs.Name.{is_name}
 use Rattle.tf_address.specs.ObjectId.{ObjectIdView}
-use Rattle.tf_state_next.specs.Events.{RenewalView, as_apply}
+use Rattle.tf_state_next.specs.Events.{MetadataUpdateView, as_apply}
 use Rattle.tf_state_next.specs.Sound.{AreSound, IsSoundApply, IsSoundDestroy, IsSoundLeft}
-use Rattle.tf_outcome.specs.Outcome.{Done}
+use Rattle.tf_outcome.specs.Outcome.{ActionResultView}
 use Rattle.tf_plan_data.specs.Fits.{IsDeclared, is_apply, deposed_key}
 use Rattle.tf_plan_data.specs.Plan.{PlanView, plan_names}
 use Rattle.tf_protocol.specs.Meaning.{Meaning}
 use Rattle.tf_state.specs.Valid.{AreAddresses, IsDeposed, IsKey}
 use Rattle.tf_state_next.proofs.Keys.{key_hex}
 use Rattle.tf_state_next.specs.After.{object_at}
-use Rattle.tf_state_next.specs.Ends.{LeftView, gone, changed, unchanged, AppliedView, unwanted, unplanned, nothing, saved, GivenView}
+use Rattle.tf_state_next.specs.Ends.{LeftView, gone, changed, unchanged, ApplyResultView, unwanted, unplanned, nothing, saved, RecordInputView}
 use Rattle.tf_state_data.specs.Resource.{ResourceView}
 use Rattle.tf_walk_report.proofs.Addresses.{NameFits, block_named, dependencies-addresses, names_fit, numbered-key}
-use Rattle.tf_walk_report.proofs.Apart.{IsOfEach, renewals-all}
-use Rattle.tf_walk_report.specs.Events.{events, renewals}
+use Rattle.tf_walk_report.proofs.Apart.{IsOfEach, metadata_updates-all}
+use Rattle.tf_walk_report.specs.Events.{events, metadata_updates}
 use Rattle.tf_walk_report.specs.Savable.{HasNames, IsNamed}
 
 -- ---- destroys
@@ -39,20 +39,20 @@ destroys_sound (a_destroy d ∷ changes) h = (left_sound d.left h.0, destroys_so
 -- ---- creates and updates
 
 -- what the record of an object is given may be part of a valid state
-record IsGivenSoundly (label : LabelView) (given : GivenView) : Type 0 where
+record IsGivenSoundly (label : LabelView) (given : RecordInputView) : Type 0 where
   type_name : is_name label.type_name ≡ true
   name : is_name label.name ≡ true
   key : IsKey given.key
   dependencies : AreAddresses given.dependencies
   deposed : IsDeposed given.deposed_key
 
-apply_sound : (label : LabelView) (given : GivenView) (applied : AppliedView) (left : LeftView) → IsGivenSoundly label given → MayBeStored (change_by label (an_instance given) applied left) → IsSoundApply (record { label = label; given = given; applied = applied })
+apply_sound : (label : LabelView) (given : RecordInputView) (applied : ApplyResultView) (left : LeftView) → IsGivenSoundly label given → MayBeStored (change_by label (an_instance given) applied left) → IsSoundApply (record { label = label; given = given; applied = applied })
 apply_sound label given (saved s) left g h = record { type_name = g.type_name; name = g.name; key = g.key; version = h.1; dependencies = g.dependencies; deposed_key = g.deposed; attributes = h.0 }
 apply_sound label given nothing left g h = tt
 apply_sound label given unplanned left g h = g.dependencies
 apply_sound label given unwanted left g h = tt
 
-one_sound : (label : LabelView) (t : Target) (applied : AppliedView) (left : LeftView) (rest : List ChangeView) (b : Bool) (given : GivenView) (id : ObjectIdView) → t ≡ (if b then an_instance given else an_object id)
+one_sound : (label : LabelView) (t : Target) (applied : ApplyResultView) (left : LeftView) (rest : List ChangeView) (b : Bool) (given : RecordInputView) (id : ObjectIdView) → t ≡ (if b then an_instance given else an_object id)
     → (b ≡ true → IsGivenSoundly label given) → MayBeStored (change_by label t applied left) → AllByRecursion IsSoundApply (applies_in rest) → AllByRecursion IsSoundApply (applies_in (change_by label t applied left ∷ rest))
 one_sound label t applied left rest true given id e g h m =
     subst (λ x. AllByRecursion IsSoundApply (applies_in (change_by label x applied left ∷ rest))) (sym e)
@@ -77,7 +77,7 @@ given_sound plan a label key named declared same is_key applies =
       deposed = key_deposed plan a key is_key;
     }
 
-applies_sound : (ms : List Meaning) (plan : PlanView) (actions : List ActionView) (heads : List Head) (done : List Done) → HasNames plan → AreHeads plan actions heads → AllByRecursion (IsDeclared (plan_names plan)) actions
+applies_sound : (ms : List Meaning) (plan : PlanView) (actions : List ActionView) (heads : List Head) (done : List ActionResultView) → HasNames plan → AreHeads plan actions heads → AllByRecursion (IsDeclared (plan_names plan)) actions
     → AllByRecursion MayBeStored (changes_in ms heads done) → AllByRecursion IsSoundApply (applies_in (changes_in ms heads done))
 applies_sound ms plan [] [] done named are declared h = tt
 applies_sound ms plan [] (k ∷ heads) done named are declared h = absurd are
@@ -87,13 +87,13 @@ applies_sound ms plan (a ∷ actions) (k ∷ heads) (d ∷ done) named are decla
     one_sound k.label k.target (applied_of_done ms k.op d) (left_of_done ms d) (changes_in ms heads done) (is_apply a.step) (given_with plan a (key_in k.target)) (object_at a.key (deposed_key a.step)) are.0.target.same
     (given_sound plan a k.label (key_in k.target) named declared.0 are.0.label are.0.target.key) h.0 (applies_sound ms plan actions heads done named are.1 declared.1 h.1)
 
--- ---- renewals
+-- ---- metadata updates
 
 renewed_each : (plan : PlanView) (rs : List ResourceView) → AllByRecursion NameFits (plan_names plan) → AllByRecursion (IsOfEach plan (λ y. AreAddresses y.given.dependencies)) rs
 renewed_each plan [] fit = tt
 renewed_each plan (r ∷ rs) fit = (λ n x place stay. dependencies-addresses plan.needs (plan_names plan) n fit, renewed_each plan rs fit)
 
-renewals_sound : (ys : List RenewalView) → AllByRecursion (λ y. AreAddresses y.given.dependencies) ys → AllByRecursion IsSoundApply (map as_apply ys)
+renewals_sound : (ys : List MetadataUpdateView) → AllByRecursion (λ y. AreAddresses y.given.dependencies) ys → AllByRecursion IsSoundApply (map as_apply ys)
 renewals_sound [] h = tt
 renewals_sound (y ∷ ys) h = (h.0, renewals_sound ys h.1)
 
@@ -102,12 +102,12 @@ all_append P [] ys h k = k
 all_append P (x ∷ xs) ys h k = (h.0, all_append P xs ys h.1 k)
 
 -- where blocks are of names, all of it
-pub events-sound : (ms : List Meaning) (plan : PlanView) (heads : List Head) (done : List Done) → HasNames plan → AreHeads plan plan.actions heads → AllByRecursion (IsDeclared (plan_names plan)) plan.actions
+pub events-sound : (ms : List Meaning) (plan : PlanView) (heads : List Head) (done : List ActionResultView) → HasNames plan → AreHeads plan plan.actions heads → AllByRecursion (IsDeclared (plan_names plan)) plan.actions
     → AllByRecursion MayBeStored (changes_in ms heads done) → AreSound (events ms plan heads done)
 events-sound ms plan heads done named are declared h =
     record {
       destroys = destroys_sound (changes_in ms heads done) h;
       wanted =
-          all_append IsSoundApply (applies_in (changes_in ms heads done)) (map as_apply (renewals plan)) (applies_sound ms plan plan.actions heads done named are declared h)
-          (renewals_sound (renewals plan) (renewals-all (λ y. AreAddresses y.given.dependencies) plan plan.prior.resources (renewed_each plan plan.prior.resources (names_fit plan named))));
+          all_append IsSoundApply (applies_in (changes_in ms heads done)) (map as_apply (metadata_updates plan)) (applies_sound ms plan plan.actions heads done named are declared h)
+          (renewals_sound (metadata_updates plan) (metadata_updates-all (λ y. AreAddresses y.given.dependencies) plan plan.prior.resources (renewed_each plan plan.prior.resources (names_fit plan named))));
     }

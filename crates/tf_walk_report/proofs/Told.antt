@@ -1,8 +1,8 @@
 -- What is told of outputs, one after another.
 use Rattle.std.proofs.Common.{◌≡◌, ℕ, List, [], ◌∷◌, ◌++◌, string_bytes, refl, ap}
-use Rattle.tf_outputs.specs.declared.ends.OutputEnd.{OutputEnd}
+use Rattle.tf_outputs.specs.declared.ends.OutputResult.{OutputResult}
 use Rattle.tf_syntax.specs.ExprTree.{Entries, no_entries, entry}
-use Rattle.tf_walk_report.specs.OutputsRoom.{places_in, places_of, told_of_texts}
+use Rattle.tf_walk_report.specs.OutputsBuffers.{places_in, places_of, told_of_texts}
 use Rattle.tf_walk_report.specs.OutputsTold.{diagnostics_of_output, output_diagnostics, output_place}
 use Rattle.tf_walk_report.specs.declared.texts.OutputTexts.{OutputTexts}
 
@@ -16,7 +16,7 @@ places-none [] = refl
 places-none (t ∷ texts) = ap (λ ps. string_bytes t.place ∷ ps) (places-none texts)
 
 -- what is told of the outputs of a configuration
-pub told-places : (es : Entries) (ends : List OutputEnd) → told_of_texts (places_of es) ends ≡ output_diagnostics es ends
+pub told-places : (es : Entries) (ends : List OutputResult) → told_of_texts (places_of es) ends ≡ output_diagnostics es ends
 told-places no_entries ends = refl
 told-places (entry key e es) [] = refl
 told-places (entry key e es) (end ∷ ends) = ap (λ ts. diagnostics_of_output (output_place key) end ++ ts) (told-places es ends)

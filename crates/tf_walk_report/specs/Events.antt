@@ -8,12 +8,12 @@ use Rattle.tf_additions.specs.Head.{Head}
 use Rattle.tf_address.specs.Label.{LabelView}
 use Rattle.tf_address.specs.ObjectId.{InstanceKeyView}
 use Rattle.tf_address.specs.Same.{same_instance_key}
-use Rattle.tf_state_next.specs.Events.{EventsView, RenewalView}
-use Rattle.tf_outcome.specs.Outcome.{Done}
+use Rattle.tf_state_next.specs.Events.{EventsView, MetadataUpdateView}
+use Rattle.tf_outcome.specs.Outcome.{ActionResultView}
 use Rattle.tf_plan_data.specs.Fits.{deposed_key}
 use Rattle.tf_plan_data.specs.Plan.{PlanView, plan_names}
 use Rattle.tf_protocol.specs.Meaning.{Meaning}
-use Rattle.tf_plan_resources.specs.Numbering.{numbered, place_in}
+use Rattle.tf_plan_resources.specs.ResourceIndex.{numbered, place_in}
 use Rattle.tf_state_data.specs.Record.{RecordView}
 use Rattle.tf_state_data.specs.Resource.{ResourceView}
 
@@ -30,8 +30,8 @@ abbrev pub stays : PlanView → ℕ → RecordView → Bool
 stays plan n r = is_none r.id.deposed && not (list_any (is_about n r.id.key) plan.actions)
 
 -- The record of such an object is given anew what its resource needs by the configuration, and whether that is late.
-abbrev pub renewal_of_record : PlanView → LabelView → ℕ → RecordView → RenewalView
-renewal_of_record plan label n r =
+abbrev pub metadata_update_of_record : PlanView → LabelView → ℕ → RecordView → MetadataUpdateView
+metadata_update_of_record plan label n r =
     record {
       label = label;
       given =
@@ -45,17 +45,17 @@ renewal_of_record plan label n r =
     }
 
 -- Of a resource whose block stands, each record that stays; its number is below those of resources without a block.
-abbrev pub renewals_at : PlanView → ResourceView → Option ℕ → List RenewalView
-renewals_at plan r None = []
-renewals_at plan r (Some n) = if nat_lt n (length (plan_names plan)) then map (renewal_of_record plan r.label n) (filter (stays plan n) r.records) else []
+abbrev pub metadata_updates_at : PlanView → ResourceView → Option ℕ → List MetadataUpdateView
+metadata_updates_at plan r None = []
+metadata_updates_at plan r (Some n) = if nat_lt n (length (plan_names plan)) then map (metadata_update_of_record plan r.label n) (filter (stays plan n) r.records) else []
 
-abbrev pub renewals_of : PlanView → ResourceView → List RenewalView
-renewals_of plan r = renewals_at plan r (place_in (numbered (plan_names plan) plan.prior.resources) r.label)
+abbrev pub metadata_updates_of : PlanView → ResourceView → List MetadataUpdateView
+metadata_updates_of plan r = metadata_updates_at plan r (place_in (numbered (plan_names plan) plan.prior.resources) r.label)
 
 -- What is given anew: the records of the objects without an action whose blocks stand.
-abbrev pub renewals : PlanView → List RenewalView
-renewals plan = flat_map (renewals_of plan) plan.prior.resources
+abbrev pub metadata_updates : PlanView → List MetadataUpdateView
+metadata_updates plan = flat_map (metadata_updates_of plan) plan.prior.resources
 
 -- What comes of an apply: of each action what it changes, and the records that are given anew.
-abbrev pub events : List Meaning → PlanView → List Head → List Done → EventsView
-events ms plan heads done = record { destroys = destroys_in (changes_in ms heads done); applies = applies_in (changes_in ms heads done); renewals = renewals plan }
+abbrev pub events : List Meaning → PlanView → List Head → List ActionResultView → EventsView
+events ms plan heads done = record { destroys = destroys_in (changes_in ms heads done); applies = applies_in (changes_in ms heads done); metadata_updates = metadata_updates plan }

@@ -1,12 +1,12 @@
 pub mod Events
-pub mod Furnished
+pub mod Reserved
 pub mod Good
 pub mod Outcomes
-pub mod OutputsRoom
+pub mod OutputsBuffers
 pub mod OutputsTold
 pub mod Report
 pub mod Savable
 pub mod Settling
-pub mod Standing
+pub mod Asked
 pub mod Told
 pub mod Settled

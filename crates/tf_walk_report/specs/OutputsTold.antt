@@ -3,8 +3,8 @@ use Rattle.std.specs.Prelude.{ℕ, ◌+◌, List, [], ◌∷◌, ◌++◌, codes
 use Rattle.tf_outcome.specs.Message.{evaluation_text}
 use Rattle.tf_outcome.specs.declared.excuse.Excuse.{Excuse}
 use Rattle.tf_outcome.specs.declared.excuse.Excuse.TheVariants.{Output}
-use Rattle.tf_outputs.specs.declared.ends.OutputEnd.{OutputEnd}
-use Rattle.tf_outputs.specs.declared.ends.OutputEnd.TheVariants.{NotEvaluated, NoMemory, Faulted, Valued}
+use Rattle.tf_outputs.specs.declared.ends.OutputResult.{OutputResult}
+use Rattle.tf_outputs.specs.declared.ends.OutputResult.TheVariants.{NotEvaluated, NoMemory, Faulted, Valued}
 use Rattle.tf_syntax.specs.ExprTree.{Entries, entry}
 use Rattle.tf_additions.specs.Diagnostics.{DiagnosticView}
 
@@ -13,23 +13,23 @@ abbrev pub output_place : List ℕ → List ℕ
 output_place name = codes "output." ++ name
 
 -- A fault is 24, want of memory 26; an output that wasn't evaluated anew, or has a value, has none.
-abbrev pub diagnostics_of_output : List ℕ → OutputEnd → List DiagnosticView
+abbrev pub diagnostics_of_output : List ℕ → OutputResult → List DiagnosticView
 diagnostics_of_output place (Faulted why) = record { code = 24; place = place; verb = None; message = evaluation_text why } ∷ []
 diagnostics_of_output place NoMemory = record { code = 26; place = place; verb = None; message = codes "no memory" } ∷ []
 diagnostics_of_output place NotEvaluated = []
 diagnostics_of_output place Valued = []
 
 -- the diagnostics of outputs, by name
-abbrev pub output_diagnostics : Entries → List OutputEnd → List DiagnosticView
+abbrev pub output_diagnostics : Entries → List OutputResult → List DiagnosticView
 output_diagnostics (entry name e es) (end ∷ ends) = diagnostics_of_output (output_place name) end ++ output_diagnostics es ends
 output_diagnostics _ _ = []
 
 -- the excuse of the output at a place, where memory was refused for it
-abbrev pub output_excuses_at : ℕ → OutputEnd → List Excuse
+abbrev pub output_excuses_at : ℕ → OutputResult → List Excuse
 output_excuses_at n NoMemory = Output n ∷ []
 output_excuses_at n _ = []
 
 -- the excuses of outputs, each once and by name, where the first one is at a place
-abbrev pub output_excuses : ℕ → List OutputEnd → List Excuse
+abbrev pub output_excuses : ℕ → List OutputResult → List Excuse
 output_excuses n [] = []
 output_excuses n (end ∷ ends) = output_excuses_at n end ++ output_excuses (n + 1) ends

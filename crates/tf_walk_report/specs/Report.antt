@@ -10,8 +10,8 @@ use Rattle.tf_state_next.specs.Events.{ends_in, given_in}
 use Rattle.tf_state_next.specs.StateAfter.{IsStateAfter}
 use Rattle.tf_outcome.specs.Excuse.{during_call}
 use Rattle.tf_outcome.specs.Journal.{IsJournal}
-use Rattle.tf_outcome.specs.Outcome.{Done, Requests, AreOutcomes, AreRequests, call_at, done_at, excused, is_faulted, objects_by}
-use Rattle.tf_outputs.specs.Outputs.{OutputDone, AreOutputsDone, end_of, outputs_after}
+use Rattle.tf_outcome.specs.Outcome.{ActionResultView, Requests, AreOutcomes, AreRequests, call_at, done_at, excused, is_faulted, objects_by}
+use Rattle.tf_outputs.specs.Outputs.{OutputResultView, AreOutputsDone, end_of, outputs_after}
 use Rattle.tf_outputs.specs.Settled.{AreSettled}
 use Rattle.tf_plan_data.specs.Plan.{PlanView, plan_names}
 use Rattle.tf_protocol.specs.Meaning.{Meaning}
@@ -28,12 +28,12 @@ use Rattle.tf_walk_report.specs.declared.report.Walked.{Walked}
 use Rattle.tf_walk_report.specs.declared.report.Walked.TheVariants.{Whole, Torn}
 
 -- what instances stand for in outputs: the objects that the providers answered to all actions, and else their prior objects
-abbrev pub objects_after : PlanView → List Done → ℕ → InstanceKeyView → Tree
+abbrev pub objects_after : PlanView → List ActionResultView → ℕ → InstanceKeyView → Tree
 objects_after plan done = objects_by plan (seen_by (done_at done) (range_with_len 0 (length plan.actions)))
 
 -- What comes of the outputs: one is evaluated anew where each name that it names is settled, which a resource is where
 -- all its creates and updates are good, or none is planned.
-abbrev pub AreOutputsOf : PlanView → List Done → List OutputDone → Type 0
+abbrev pub AreOutputsOf : PlanView → List ActionResultView → List OutputResultView → Type 0
 AreOutputsOf plan done outputs =
     (settled : ℕ → Bool) × AreSettled (plan_names plan) (are_good_at plan.actions done) settled
     × AreOutputsDone plan.variables (plan_names plan) plan.shapes (objects_after plan done) settled plan.config.outputs outputs
@@ -41,7 +41,7 @@ AreOutputsOf plan done outputs =
 -- The state after the actions of a plan, with these outputs: what is known of each instance is what comes of its actions and
 -- is given anew. What is known of each action before its call is that of the plan, so an object that may become deposed has
 -- the key that is given for it.
-pub record IsStateOf (ms : List Meaning) (plan : PlanView) (done : List Done) (outputs : Entries) (s : StateView) : Type 0 where
+pub record IsStateOf (ms : List Meaning) (plan : PlanView) (done : List ActionResultView) (outputs : Entries) (s : StateView) : Type 0 where
   pub heads : List Head
   pub are_heads : AreHeads plan plan.actions heads
   pub after : IsStateAfter plan.prior (given_in (events ms plan heads done)) (ends_in (events ms plan heads done)) outputs s
@@ -49,7 +49,7 @@ pub record IsStateOf (ms : List Meaning) (plan : PlanView) (done : List Done) (o
 -- A report tells what came of each action and of each output: its excuses are those of the excused ones; outcomes,
 -- state, diagnostics and the numbers of good actions are those that the rules give. Where the addresses of the
 -- configuration's blocks are of names and the prior state is valid, the state is valid, so that its text reads back as it.
-pub record IsTold (ms : List Meaning) (plan : PlanView) (done : List Done) (outputs : List OutputDone) (report : Report) : Type 0 where
+pub record IsTold (ms : List Meaning) (plan : PlanView) (done : List ActionResultView) (outputs : List OutputResultView) (report : Report) : Type 0 where
   pub lawful : report.excused.items ≡ excuses_from 0 done ++ output_excuses 0 (map end_of outputs)
   pub outcomes : report.outcomes.items ≡ map outcome_of done
   pub outputs_done : AreOutputsOf plan done outputs
@@ -60,7 +60,7 @@ pub record IsTold (ms : List Meaning) (plan : PlanView) (done : List Done) (outp
 
 -- A report on a plan: each action has what the rule makes of those directly before it, with the report's own excuses; of
 -- an action that was excused during its call the request had no fault; and the report tells what came of all.
-pub record IsReport (ms : List Meaning) (requests : Requests) (plan : PlanView) (done : List Done) (outputs : List OutputDone) (report : Report) : Type 0 where
+pub record IsReport (ms : List Meaning) (requests : Requests) (plan : PlanView) (done : List ActionResultView) (outputs : List OutputResultView) (report : Report) : Type 0 where
   pub solved : AreOutcomes ms requests plan report.excused.items done
   pub asked : (n : ℕ) → done_at done n ≡ excused during_call → is_faulted (call_at ms requests plan n (seen_by (done_at done) (predecessors_of plan.order n))) ≡ false
   pub told : IsTold ms plan done outputs report
@@ -75,8 +75,8 @@ report_of (Torn report) = report
 pub record IsReported (ms : List Meaning) (plan : PlanView) (report : Report) : Type 0 where
   pub requests : Requests
   pub are_requests : AreRequests plan requests
-  pub done : List Done
-  pub outputs : List OutputDone
+  pub done : List ActionResultView
+  pub outputs : List OutputResultView
   pub is_report : IsReport ms requests plan done outputs report
 
 -- A whole report tells what came of a plan, and its journal has exactly the called actions.

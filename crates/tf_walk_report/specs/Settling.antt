@@ -1,18 +1,18 @@
 -- What comes of outputs by what came of actions, and the room for it.
 use Rattle.std.specs.Prelude.{◌≡◌, ◌≤◌, ℕ, Bool, List, [], length, vec_capacity}
 use Rattle.tf_config_data.specs.Names.{NameView}
-use Rattle.tf_environment.specs.Shape.{ShapeView}
+use Rattle.tf_environment.specs.InstanceKeys.{InstanceKeysView}
 use Rattle.tf_graph.specs.Solutions.{seen_by}
-use Rattle.tf_outcome.specs.Outcome.{Done, done_at, objects_seen}
+use Rattle.tf_outcome.specs.Outcome.{ActionResultView, done_at, objects_seen}
 use Rattle.tf_outputs.specs.Outputs.{AreOutputsEnded}
-use Rattle.tf_outputs.specs.Rooms.{HavePlaces, outputs_in}
+use Rattle.tf_outputs.specs.Buffers.{HavePlaces, outputs_in}
 use Rattle.tf_outputs.specs.Settled.{AreSettled}
 use Rattle.tf_plan_data.specs.Action.{ActionView}
 use Rattle.tf_state_data.specs.State.{StateView, outputs_of}
 use Rattle.tf_value.specs.Stored.{IsTable}
 use Rattle.tf_value.specs.Tree.{Entries}
 use Rattle.tf_walk_report.specs.Good.{are_good_at}
-use Rattle.tf_walk_report.specs.declared.settling.Outputs.{Outputs}
+use Rattle.tf_walk_report.specs.declared.settling.OutputValues.{OutputValues}
 use Rattle.tf_walk_report.specs.declared.settling.Settling.{Settling}
 
 -- there is room for each name and each output
@@ -24,7 +24,7 @@ pub record IsReady (names : List NameView) (s : Settling) : Type 0 where
   pub room : length s.rooms.items ≤ vec_capacity s.ends
 
 -- The outputs have ended as the settled names and the answered objects have it; their values may be stored where the prior ones may.
-pub record AreEnded (variables : Entries) (names : List NameView) (shapes : ℕ → ShapeView) (prior : StateView) (actions : List ActionView) (done : List Done) (s : Settling) (o : Outputs) : Type 0 where
+pub record AreEnded (variables : Entries) (names : List NameView) (shapes : ℕ → InstanceKeysView) (prior : StateView) (actions : List ActionView) (done : List ActionResultView) (s : Settling) (o : OutputValues) : Type 0 where
   pub settled : ℕ → Bool
   pub are_settled : AreSettled names (are_good_at actions done) settled
   pub ended : AreOutputsEnded variables names shapes (objects_seen names prior actions (seen_by (done_at done) s.seen.items)) settled (outputs_of s.kept.entries) (outputs_in s.rooms.items) o.ends.items (outputs_of o.values.entries)

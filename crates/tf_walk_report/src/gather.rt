@@ -1,41 +1,42 @@
 //! How actions ended, without taking memory.
 
 ghost use Rattle.std.specs.Prelude.{◌≡◌, ◌-◌, ◌<◌, ◌≤◌, ◌^◌, [], length, map, vec_capacity};
-ghost use Rattle.tf_outcome.specs.Words.{action_of, done_or_skipped, dones_of, is_good, op_of, step_of};
-ghost use Rattle.tf_additions.specs.Addition.{listed};
+ghost use Rattle.tf_outcome.specs.Words.{action_of, result_or_skipped, action_results_of, is_good, op_of, step_of};
+ghost use Rattle.tf_additions.specs.ActionReport.{listed};
 ghost use Rattle.tf_walk_report.specs.Outcomes.{counted_one, excuses_at, excuses_from, good_totals, outcome_of};
 
-use tf_outcome::{Ended, Excuse, Outcome};
+use tf_outcome::{ActionResult, Excuse, Outcome};
 use tf_plan_data::{Action, Step};
 use tf_provider::Verdict;
 
 /// How each action ended, in action order.
-pub fn tell_outcomes(outcomes: &mut Vec<Outcome>, results: &[Option<Ended>])
+pub fn tell_outcomes(outcomes: &mut Vec<Outcome>, results: &[Option<ActionResult>])
     requires none { outcomes.old.items ≡ [] }
     requires room { length results.now ≤ vec_capacity outcomes.old }
-    ensures { outcomes.new.items ≡ map outcome_of (dones_of results.now) }
+    ensures { outcomes.new.items ≡ map outcome_of (action_results_of results.now) }
 {
     for ended in results {
         outcomes.push(outcome(ended)).unwrap();
     }
 }
 
-fn outcome(ended: &Option<Ended>) -> Outcome
-    ensures { result ≡ outcome_of (done_or_skipped ended.now) }
+fn outcome(ended: &Option<ActionResult>) -> Outcome
+    ensures { result ≡ outcome_of (result_or_skipped ended.now) }
 {
     match ended {
-        None | Some(Ended::Skipped(_, _)) => Outcome::Skipped,
-        Some(Ended::NotAsked(_) | Ended::NotServed(_) | Ended::Left(_, _)) => Outcome::Excused,
-        Some(Ended::Faulted(_, _)) => Outcome::ArgumentFault,
-        Some(Ended::Called(served)) => Outcome::Judged(served.call.verdict()),
+        None | Some(ActionResult::Skipped(_, _)) => Outcome::Skipped,
+        Some(ActionResult::NotAsked(_) | ActionResult::NotServed(_) | ActionResult::Left(_, _)) =>
+            Outcome::Excused,
+        Some(ActionResult::Faulted(_, _)) => Outcome::ArgumentFault,
+        Some(ActionResult::Called(served)) => Outcome::Judged(served.call.verdict()),
     }
 }
 
 /// The actions that are excused, in action order.
-pub fn tell_excuses(excused: &mut Vec<Excuse>, results: &[Option<Ended>])
+pub fn tell_excuses(excused: &mut Vec<Excuse>, results: &[Option<ActionResult>])
     requires none { excused.old.items ≡ [] }
     requires room { length results.now ≤ vec_capacity excused.old }
-    ensures told { excused.new.items ≡ excuses_from 0 (dones_of results.now) }
+    ensures told { excused.new.items ≡ excuses_from 0 (action_results_of results.now) }
     ensures few { length excused.new.items ≤ length results.now }
     ensures capacity { vec_capacity excused.old ≤ vec_capacity excused.new }
 {
@@ -46,22 +47,22 @@ pub fn tell_excuses(excused: &mut Vec<Excuse>, results: &[Option<Ended>])
     }
 }
 
-fn excuse(place: usize, ended: &Option<Ended>) -> Option<Excuse>
-    ensures { listed result ≡ excuses_at place (done_or_skipped ended.now) }
+fn excuse(place: usize, ended: &Option<ActionResult>) -> Option<Excuse>
+    ensures { listed result ≡ excuses_at place (result_or_skipped ended.now) }
 {
     match ended {
-        Some(Ended::NotAsked(_)) => Some(Excuse::Before(place)),
-        Some(Ended::NotServed(_)) => Some(Excuse::During(place)),
-        Some(Ended::Left(_, _)) => Some(Excuse::Left(place)),
+        Some(ActionResult::NotAsked(_)) => Some(Excuse::Before(place)),
+        Some(ActionResult::NotServed(_)) => Some(Excuse::During(place)),
+        Some(ActionResult::Left(_, _)) => Some(Excuse::Left(place)),
         _ => None,
     }
 }
 
 /// How many creates, updates and destroys are good.
-pub fn count_good(actions: &[Action], results: &[Option<Ended>]) -> (u32, u32, u32)
+pub fn count_good(actions: &[Action], results: &[Option<ActionResult>]) -> (u32, u32, u32)
     requires few { length actions.now < 2 ^ 32 }
     requires sized { length results.now ≡ length actions.now }
-    ensures { result ≡ good_totals (map action_of actions.now) (dones_of results.now) }
+    ensures { result ≡ good_totals (map action_of actions.now) (action_results_of results.now) }
 {
     let mut totals = (0, 0, 0);
     for index in (0..actions.len()).rev() {
@@ -78,20 +79,20 @@ fn counted(totals: (u32, u32, u32), step: &Step, is_good: bool) -> (u32, u32, u3
     let (creates, updates, destroys) = totals;
     match step {
         _ if !is_good => totals,
-        Step::Create(_) | Step::Replacement(_, _) => (creates + 1, updates, destroys),
+        Step::Create(_) | Step::CreateReplacement(_, _) => (creates + 1, updates, destroys),
         Step::Update(_, _, _) => (creates, updates + 1, destroys),
-        Step::Replaced(_) | Step::Destroy(_) | Step::DestroyDeposed(_, _) => {
+        Step::DestroyReplaced(_) | Step::Destroy(_) | Step::DestroyDeposed(_, _) => {
             (creates, updates, destroys + 1)
         }
     }
 }
 
 /// Whether an action is good; one that hasn't ended isn't.
-pub fn is_good(ended: &Option<Ended>) -> bool
-    ensures { result ≡ is_good (done_or_skipped ended.now) }
+pub fn is_good(ended: &Option<ActionResult>) -> bool
+    ensures { result ≡ is_good (result_or_skipped ended.now) }
 {
     match ended {
-        Some(Ended::Called(served)) => served.call.verdict() == Verdict::Good,
+        Some(ActionResult::Called(served)) => served.call.verdict() == Verdict::Good,
         _ => false,
     }
 }

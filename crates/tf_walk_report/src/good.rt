@@ -1,18 +1,18 @@
 //! Of which resources all creates and updates are good.
 
 ghost use Rattle.std.specs.Prelude.{◌≡◌, ◌<◌, ◌&&◌, ◌||◌, ℕ, length, map, not, true};
-ghost use Rattle.tf_outcome.specs.Words.{action_of, done_or_skipped, dones_of, has, is_apply, is_good, step_of};
+ghost use Rattle.tf_outcome.specs.Words.{action_of, result_or_skipped, action_results_of, has, is_apply, is_good, step_of};
 ghost use Rattle.tf_walk_report.specs.Good.{are_good_at, is_apply_of};
 
 use crate::gather::is_good;
-use tf_outcome::Ended;
+use tf_outcome::ActionResult;
 use tf_plan_data::{Action, Step};
 
 /// Notes of each resource, by the place of its name, whether all its creates and updates are good.
-pub fn note_good(good: &mut [bool], actions: &[Action], results: &[Option<Ended>])
+pub fn note_good(good: &mut [bool], actions: &[Action], results: &[Option<ActionResult>])
     requires { length results.now ≡ length actions.now }
     ensures length { length good.new ≡ length good.old }
-    ensures good { (n : ℕ) → n < length good.old → has good.new n ≡ are_good_at (map action_of actions.now) (dones_of results.now) n }
+    ensures good { (n : ℕ) → n < length good.old → has good.new n ≡ are_good_at (map action_of actions.now) (action_results_of results.now) n }
 {
     mark_all(good);
     for index in 0..actions.len() {
@@ -31,10 +31,10 @@ fn mark_all(good: &mut [bool])
 }
 
 /// Notes of the resource of an action that isn't good that not all are; a destroy doesn't count.
-fn note_end(good: &mut [bool], action: &Action, ended: &Option<Ended>)
+fn note_end(good: &mut [bool], action: &Action, ended: &Option<ActionResult>)
     ensures length { length good.new ≡ length good.old }
     ensures good { (n : ℕ) → n < length good.old → has good.new n
-        ≡ (has good.old n && (not (is_apply_of n (action_of action.now)) || is_good (done_or_skipped ended.now))) }
+        ≡ (has good.old n && (not (is_apply_of n (action_of action.now)) || is_good (result_or_skipped ended.now))) }
 {
     let number = action.resource;
     if is_apply(&action.step) && !is_good(ended) && number < good.len() {
@@ -48,6 +48,6 @@ pub fn is_apply(step: &Step) -> bool
 {
     matches!(
         step,
-        Step::Create(_) | Step::Update(_, _, _) | Step::Replacement(_, _)
+        Step::Create(_) | Step::Update(_, _, _) | Step::CreateReplacement(_, _)
     )
 }

@@ -2,25 +2,25 @@
 //! whether its journal is the one that it tells of.
 //!
 //! By then providers were called, so nothing here may be forgotten. All memory that the report needs is had before the
-//! first call (`furnish`), and none is taken after it for what a reply says (`report_of`), nor to compare the journal (`settle`).
+//! first call (`reserve_report`), and none is taken after it for what a reply says (`report_of`), nor to compare the journal (`settle`).
 #![tactic(auto)]
 
+mod asked;
 mod calls_told;
 mod comparing;
-mod furnishing;
 mod gather;
 mod good;
 mod operations;
 mod outputs;
-mod renewing;
 mod report;
+mod reserving;
 mod settling;
-mod standing;
 mod texts;
+mod updating;
 mod whole;
 
 pub use comparing::settle;
-pub use furnishing::{Furnished, furnish};
 pub use report::{Report, Walked};
+pub use reserving::{ReportBuffers, reserve_report};
 pub use tf_additions::Diagnostic;
 pub use whole::report_of;

@@ -3,10 +3,10 @@
 ghost use Rattle.std.specs.Prelude.{◌≡◌, ◌+◌, ◌++◌, ◌≤◌, None, IfOk, length, map, option_map, string_bytes, vec_capacity};
 ghost use Rattle.tf_outcome.specs.Message.{evaluation_text};
 ghost use Rattle.tf_syntax.specs.ExprTree.{entries_view};
-ghost use Rattle.tf_additions.specs.Addition.{listed};
+ghost use Rattle.tf_additions.specs.ActionReport.{listed};
 ghost use Rattle.tf_additions.specs.Diagnostics.{diagnostic_of};
 ghost use Rattle.tf_walk_report.specs.OutputsTold.{diagnostics_of_output, output_excuses, output_excuses_at, output_place};
-ghost use Rattle.tf_walk_report.specs.OutputsRoom.{places_in, places_of, told_of_texts};
+ghost use Rattle.tf_walk_report.specs.OutputsBuffers.{places_in, places_of, told_of_texts};
 
 use crate::texts::OutputTexts;
 use std::alloc::{AllocError, Global};
@@ -14,7 +14,7 @@ use std::collections::BTreeMap;
 use tf_additions::{Diagnostic, add};
 use tf_eval::EvalFault;
 use tf_outcome::Excuse;
-use tf_outputs::OutputEnd;
+use tf_outputs::OutputResult;
 use tf_syntax::Expr;
 
 /// The texts for each output, in byte order of their names.
@@ -47,7 +47,7 @@ fn texts_of(alloc: Global, name: &String) -> Result<OutputTexts, AllocError>
 /// Tells of each output that has a fault or for which memory was refused.
 pub fn tell_outputs(
     texts: Vec<OutputTexts>,
-    ends: Vec<OutputEnd>,
+    ends: Vec<OutputResult>,
     diagnostics: &mut Vec<Diagnostic>,
 )
     requires paired { length texts.items ≡ length ends.items }
@@ -64,17 +64,17 @@ pub fn tell_outputs(
 }
 
 /// What is told of an output.
-fn tell_output(texts: OutputTexts, end: OutputEnd) -> Option<Diagnostic>
+fn tell_output(texts: OutputTexts, end: OutputResult) -> Option<Diagnostic>
     ensures { listed (option_map diagnostic_of result) ≡ diagnostics_of_output (string_bytes texts.place) end }
 {
     let OutputTexts { place, mut message } = texts;
     match end {
-        OutputEnd::NotEvaluated | OutputEnd::Valued => None,
-        OutputEnd::NoMemory => {
+        OutputResult::NotEvaluated | OutputResult::Valued => None,
+        OutputResult::NoMemory => {
             message.push_str("no memory").unwrap();
             Some(diagnostic(26, place, message))
         }
-        OutputEnd::Faulted(fault) => {
+        OutputResult::Faulted(fault) => {
             message.push_str(evaluation_message(fault)).unwrap();
             Some(diagnostic(24, place, message))
         }
@@ -108,7 +108,7 @@ fn evaluation_message(fault: EvalFault) -> &'static str
 }
 
 /// The outputs for which memory was refused, by name.
-pub fn tell_output_excuses(excused: &mut Vec<Excuse>, ends: &[OutputEnd])
+pub fn tell_output_excuses(excused: &mut Vec<Excuse>, ends: &[OutputResult])
     requires room { length excused.old.items + length ends.now ≤ vec_capacity excused.old }
     ensures { excused.new.items ≡ excused.old.items ++ output_excuses 0 ends.now }
 {
@@ -119,11 +119,11 @@ pub fn tell_output_excuses(excused: &mut Vec<Excuse>, ends: &[OutputEnd])
     }
 }
 
-fn excuse_of_output(place: usize, end: &OutputEnd) -> Option<Excuse>
+fn excuse_of_output(place: usize, end: &OutputResult) -> Option<Excuse>
     ensures { listed result ≡ output_excuses_at place end.now }
 {
     match end {
-        OutputEnd::NoMemory => Some(Excuse::Output(place)),
+        OutputResult::NoMemory => Some(Excuse::Output(place)),
         _ => None,
     }
 }

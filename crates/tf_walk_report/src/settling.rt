@@ -1,10 +1,10 @@
 //! What comes of outputs, once all actions have ended.
 
 ghost use Rattle.std.specs.Prelude.{◌≡◌, ◌<◌, ◌≤◌, ℕ, [], List, length, map, vec_capacity};
-ghost use Rattle.tf_outcome.specs.Words.{action_of, done_at, dones_of, entries_view, has, IsAcyclic, IsDependence, IsTable, names_in, outputs_of, plan_of, seen_by};
+ghost use Rattle.tf_outcome.specs.Words.{action_of, done_at, action_results_of, entries_view, has, IsAcyclic, IsDependence, IsTable, names_in, outputs_of, plan_of, seen_by};
 ghost use Rattle.tf_outcome.specs.Outcome.{objects_seen};
 ghost use Rattle.tf_outputs.specs.Outputs.{AreOutputsEnded};
-ghost use Rattle.tf_outputs.specs.Rooms.{HavePlaces, outputs_in};
+ghost use Rattle.tf_outputs.specs.Buffers.{HavePlaces, outputs_in};
 ghost use Rattle.tf_outputs.specs.Settled.{AreSettled};
 ghost use Rattle.tf_walk_report.specs.Good.{are_good_at};
 ghost use Rattle.tf_walk_report.specs.Settling.{AreEnded, IsReady};
@@ -12,9 +12,9 @@ ghost use Rattle.tf_walk_report.specs.Settling.{AreEnded, IsReady};
 use crate::good::note_good;
 use std::alloc::Global;
 use std::collections::BTreeMap;
-use tf_environment::Declarations;
-use tf_outcome::{Answered, Ended};
-use tf_outputs::{OutputEnd, OutputRoom, renew_outputs, settle_names};
+use tf_environment::Module;
+use tf_outcome::{ActionResult, Answered};
+use tf_outputs::{OutputBuffers, OutputResult, renew_outputs, settle_names};
 use tf_plan_data::{Action, Plan};
 use tf_state_data::Object;
 
@@ -28,18 +28,18 @@ pub struct Settling<'p> {
     /// The places of all actions.
     pub seen: Vec<usize>,
     /// Room for what comes of each output.
-    pub rooms: Vec<OutputRoom<'p>>,
+    pub rooms: Vec<OutputBuffers<'p>>,
     /// Room for what is told of each output.
-    pub ends: Vec<OutputEnd>,
+    pub ends: Vec<OutputResult>,
     /// The prior values of outputs that are still declared, by name.
     pub kept: BTreeMap<String, Object>,
 }
 
 /// The values of outputs by name, and what is told of each output.
 #[derive(Drop)]
-pub struct Outputs {
+pub struct OutputValues {
     pub values: BTreeMap<String, Object>,
-    pub ends: Vec<OutputEnd>,
+    pub ends: Vec<OutputResult>,
 }
 
 /// What comes of the outputs, by what came of the actions. Memory for an output's value may be refused, which is told of
@@ -47,16 +47,16 @@ pub struct Outputs {
 pub fn outputs_after(
     alloc: Global,
     plan: &Plan,
-    declared: &Declarations,
+    declared: &Module,
     settling: Settling<'_>,
-    results: &[Option<Ended>],
-) -> Outputs
+    results: &[Option<ActionResult>],
+) -> OutputValues
     requires dependence { IsDependence (names_in declared.now.names.now) declared.now.dependence.now }
     requires acyclic { IsAcyclic declared.now.dependence.now }
     requires ready { IsReady (names_in declared.now.names.now) settling }
     requires sized { length results.now ≡ length plan.now.actions.items }
     ensures { AreEnded (entries_view declared.now.variables.now.entries) (names_in declared.now.names.now) (plan_of plan.now).shapes (plan_of plan.now).prior
-        (plan_of plan.now).actions (dones_of results.now) settling.entry result }
+        (plan_of plan.now).actions (action_results_of results.now) settling.entry result }
 {
     let Settling {
         good,
@@ -85,21 +85,21 @@ pub fn outputs_after(
         kept,
         &mut ends,
     );
-    Outputs { values, ends }
+    OutputValues { values, ends }
 }
 
 /// Of which resources all creates and updates are good, by the places of their names.
-fn noted(mut good: Vec<bool>, actions: &[Action], results: &[Option<Ended>]) -> Vec<bool>
+fn noted(mut good: Vec<bool>, actions: &[Action], results: &[Option<ActionResult>]) -> Vec<bool>
     requires { length results.now ≡ length actions.now }
     ensures length { length result.items ≡ length good.items }
-    ensures good { (n : ℕ) → n < length good.items → has result.items n ≡ are_good_at (map action_of actions.now) (dones_of results.now) n }
+    ensures good { (n : ℕ) → n < length good.items → has result.items n ≡ are_good_at (map action_of actions.now) (action_results_of results.now) n }
 {
     note_good(&mut good, actions, results);
     good
 }
 
 /// Which names are settled, by their places.
-fn settled_by(declared: &Declarations, good: &[bool], mut settled: Vec<bool>) -> Vec<bool>
+fn settled_by(declared: &Module, good: &[bool], mut settled: Vec<bool>) -> Vec<bool>
     requires dependence { IsDependence (names_in declared.now.names.now) declared.now.dependence.now }
     requires acyclic { IsAcyclic declared.now.dependence.now }
     requires good { length good.now ≡ length (names_in declared.now.names.now) }

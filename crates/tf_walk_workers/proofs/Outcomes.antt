@@ -4,7 +4,7 @@ use Rattle.tf_graph.proofs.Solving.{solution-exists}
 use Rattle.tf_graph.specs.Digraph.{predecessors_of}
 use Rattle.tf_graph.specs.Solutions.{Ranked, seen_by}
 use Rattle.tf_outcome.specs.Excuse.{Moment, during_call, excuse_of}
-use Rattle.tf_outcome.specs.Outcome.{Done, skipped, excused, faulted, called, Requests, AreRequests, is_good, all_good, call_at, done_at, excuse_in, is_faulted, or_excused, rule}
+use Rattle.tf_outcome.specs.Outcome.{ActionResultView, skipped, excused, faulted, called, Requests, AreRequests, is_good, all_good, call_at, done_at, excuse_in, is_faulted, or_excused, rule}
 use Rattle.tf_outcome.specs.declared.excuse.Excuse.{Excuse}
 use Rattle.tf_plan_data.specs.Plan.{PlanView}
 use Rattle.tf_protocol.specs.Meaning.{Meaning}
@@ -15,30 +15,30 @@ use Rattle.tf_walk_workers.specs.Ideal.{IsIdeal, AgreesWith}
 use Rattle.tf_walk_workers.specs.Laws.{is_skipped, FitTogether, TrueEndsAreOutcomes, ExcusedHaveNoFault}
 
 -- where all that is seen is good, and good results are the ideal ones, the ideal is seen
-good-seen : (results ideal : ℕ → Done) (nodes : List ℕ) → ((a : ℕ) → is_good (results a) ≡ true → results a ≡ ideal a) → all_good (seen_by results nodes) ≡ true → seen_by results nodes ≡ seen_by ideal nodes
+good-seen : (results ideal : ℕ → ActionResultView) (nodes : List ℕ) → ((a : ℕ) → is_good (results a) ≡ true → results a ≡ ideal a) → all_good (seen_by results nodes) ≡ true → seen_by results nodes ≡ seen_by ideal nodes
 good-seen results ideal [] same good = refl
 good-seen results ideal (a ∷ nodes) same good =
-    ap₂ (λ (d : Done) (seen : List (ℕ × Done)). (a, d) ∷ seen)
+    ap₂ (λ (d : ActionResultView) (seen : List (ℕ × ActionResultView)). (a, d) ∷ seen)
     (same a (and-first (is_good (results a)) (all_good (seen_by results nodes)) good))
     (good-seen results ideal nodes same (and-second (is_good (results a)) (all_good (seen_by results nodes)) good))
 
 -- an end that agrees with the ideal is what comes of the call, or is excused
-run-is : (before : ℕ → List ℕ) (ideal : ℕ → Done) (n : ℕ) (call d : Done) → is_skipped d ≡ false → AgreesWith before ideal n d → ideal n ≡ call → d ≡ or_excused (excuse_in d) call
+run-is : (before : ℕ → List ℕ) (ideal : ℕ → ActionResultView) (n : ℕ) (call d : ActionResultView) → is_skipped d ≡ false → AgreesWith before ideal n d → ideal n ≡ call → d ≡ or_excused (excuse_in d) call
 run-is before ideal n call skipped isnt agrees is = absurd (cc)
 run-is before ideal n call (excused m) isnt agrees is = refl
 run-is before ideal n call (faulted why) isnt agrees is = agrees ∙ is
 run-is before ideal n call (called asked answer v) isnt agrees is = agrees ∙ is
 
 -- a skipped end is skipped
-skip-is : (d : Done) → is_skipped d ≡ true → d ≡ skipped
+skip-is : (d : ActionResultView) → is_skipped d ≡ true → d ≡ skipped
 skip-is skipped is = refl
 skip-is (excused m) is = absurd (cc)
 skip-is (faulted why) is = absurd (cc)
 skip-is (called asked answer v) is = absurd (cc)
 
-module _ (ms : List Meaning) (plan : PlanView) (done : List Done) (ranked : Ranked (predecessors_of plan.order)) (fit : FitTogether ms plan done) (requests : Requests) (are : AreRequests plan requests) where
+module _ (ms : List Meaning) (plan : PlanView) (done : List ActionResultView) (ranked : Ranked (predecessors_of plan.order)) (fit : FitTogether ms plan done) (requests : Requests) (are : AreRequests plan requests) where
   -- some ideal
-  some : (ideal : ℕ → Done) × IsIdeal ms plan requests ideal
+  some : (ideal : ℕ → ActionResultView) × IsIdeal ms plan requests ideal
   some =
       let found = solution-exists (length plan.actions) (predecessors_of plan.order) (rule ms requests plan []) ranked in
       (found.0, (are, found.1))

@@ -6,11 +6,11 @@ use denote.Enum.Declared as choice
 use Rattle.std.proofs.Crossing.{crosses}
 use Rattle.std.proofs.MapsCrossing as maps
 use Rattle.counted_slot.proofs.Counted.TheSendSync.{the_sync}
-use Rattle.tf_outcome.specs.contracts.ended.Ended as ended
+use Rattle.tf_outcome.specs.contracts.action_result.ActionResult as ended
 use Rattle.tf_provider.specs.contracts.called.Judged as judged
 use Rattle.tf_value.proofs.value.Value.TheLaws.TheKnot as value
 use Rattle.tf_walk_workers.specs.contracts.cells.Cells.{the_row}
-use Rattle.tf_walk_workers.specs.declared.naming.Naming.{Ghosts}
+use Rattle.tf_walk_workers.specs.declared.walk_brand.WalkBrand.{Ghosts}
 
 judged_send : IsSend judged.the_row
 judged_send = search (value.crosses, maps.crosses, crosses, sendable) depth 60 fits 20000

@@ -6,29 +6,29 @@ use Rattle.std.proofs.lemmas.List.{get_or_append_left, get_or_push, get_or-set_s
 use Rattle.std.specs.Prelude.{slice_set}
 use Rattle.tf_plan_data.specs.Plan.{PlanView}
 use Rattle.tf_protocol.specs.Meaning.{Meaning}
-use Rattle.tf_outcome.specs.Ended.{done_of, done_or_skipped, dones_of}
+use Rattle.tf_outcome.specs.ResultViews.{action_result_of, result_or_skipped, action_results_of}
 use Rattle.tf_outcome.specs.Outcome.{done_at}
-use Rattle.tf_outcome.specs.declared.ended.Ended.{Ended}
+use Rattle.tf_outcome.specs.declared.action_result.ActionResult.{ActionResult}
 use Rattle.tf_walk_workers.specs.Ideal.{IsTrueTo, IsNumbered}
 use Rattle.tf_walk_workers.proofs.TakingOut.{IsTakenOut}
 
 -- where nothing is known of an action, it counts as skipped
-one_done : (results : List (Option Ended)) (n : ℕ) → done_at (dones_of results) n ≡ done_or_skipped (get_or results n None)
+one_done : (results : List (Option ActionResult)) (n : ℕ) → done_at (action_results_of results) n ≡ result_or_skipped (get_or results n None)
 one_done [] n = refl
 one_done (o ∷ results) zero = refl
 one_done (o ∷ results) (suc n) = one_done results n
 
-none_known : (count n : ℕ) → get_or (replicate {A = Option Ended} count None) n None ≡ None
+none_known : (count n : ℕ) → get_or (replicate {A = Option ActionResult} count None) n None ≡ None
 none_known zero n = refl
 none_known (suc count) zero = refl
 none_known (suc count) (suc n) = none_known count n
 
 module _ (ms : List Meaning) (plan : PlanView) (count : ℕ) where
   -- what is known of a place, by what stands there
-  fits_at : (results : List (Option Ended)) (n : ℕ) (o : Option Ended) → get_or results n None ≡ o → IsTrueTo ms plan n (done_or_skipped o) → IsTrueTo ms plan n (done_at (dones_of results) n)
-  fits_at results n o is fits = subst (IsTrueTo ms plan n) (sym (one_done results n ∙ ap done_or_skipped is)) fits
+  fits_at : (results : List (Option ActionResult)) (n : ℕ) (o : Option ActionResult) → get_or results n None ≡ o → IsTrueTo ms plan n (result_or_skipped o) → IsTrueTo ms plan n (done_at (action_results_of results) n)
+  fits_at results n o is fits = subst (IsTrueTo ms plan n) (sym (one_done results n ∙ ap result_or_skipped is)) fits
 
-  pub none-taken : (cells : List ℕ) (results : List (Option Ended)) → IsNumbered cells → length cells ≡ count → results ≡ replicate count None → IsTakenOut ms plan count cells results
+  pub none-taken : (cells : List ℕ) (results : List (Option ActionResult)) → IsNumbered cells → length cells ≡ count → results ≡ replicate count None → IsTakenOut ms plan count cells results
   none-taken cells results numbered all free =
       record {
         numbered = numbered;
@@ -39,7 +39,7 @@ module _ (ms : List Meaning) (plan : PlanView) (count : ℕ) where
       }
 
   -- the last cell is gone
-  pub one-less : (cells rest : List ℕ) (cell : ℕ) (results : List (Option Ended)) → cells ≡ rest ++ cell ∷ [] → IsTakenOut ms plan count cells results → IsTakenOut ms plan count rest results
+  pub one-less : (cells rest : List ℕ) (cell : ℕ) (results : List (Option ActionResult)) → cells ≡ rest ++ cell ∷ [] → IsTakenOut ms plan count cells results → IsTakenOut ms plan count rest results
   one-less cells rest cell results is so_far =
       let all : length cells ≡ length rest + 1 = ap length is ∙ length_push rest cell in
       record {
@@ -51,13 +51,13 @@ module _ (ms : List Meaning) (plan : PlanView) (count : ℕ) where
       }
 
   -- it was that of the action behind those that are left
-  pub last-cell : (cells rest : List ℕ) (cell : ℕ) (results : List (Option Ended)) → cells ≡ rest ++ cell ∷ [] → IsTakenOut ms plan count cells results → cell ≡ length rest
+  pub last-cell : (cells rest : List ℕ) (cell : ℕ) (results : List (Option ActionResult)) → cells ≡ rest ++ cell ∷ [] → IsTakenOut ms plan count cells results → cell ≡ length rest
   last-cell cells rest cell results is so_far =
       let all : length cells ≡ length rest + 1 = ap length is ∙ length_push rest cell in
       sym (get_or_push rest cell 0 (length rest) refl) ∙ ap (λ cs. get_or cs (length rest) 0) (sym is) ∙ so_far.numbered (length rest) (omega (arith, all))
 
   -- and its end stands in its place
-  pub one-placed : (rest : List ℕ) (results : List (Option Ended)) (ended : Ended) → length rest < count → IsTrueTo ms plan (length rest) (done_of ended) → IsTakenOut ms plan count rest results
+  pub one-placed : (rest : List ℕ) (results : List (Option ActionResult)) (ended : ActionResult) → length rest < count → IsTrueTo ms plan (length rest) (action_result_of ended) → IsTakenOut ms plan count rest results
       → IsTakenOut ms plan count rest (slice_set results (length rest) (Some ended))
   one-placed rest results ended below fits so_far =
       let at = length rest in
@@ -69,7 +69,7 @@ module _ (ms : List Meaning) (plan : PlanView) (count : ℕ) where
         free = λ n small. get_or-set_other results at n (Some ended) None (λ same. absurd (omega (arith, same))) ∙ so_far.free n small;
         fits = λ n. dite (ℕ_discrete n at)
             (λ here. fits_at (slice_set results at (Some ended)) n (Some ended) (ap (λ k. get_or (slice_set results at (Some ended)) k None) here ∙ get_or-set_same results at (Some ended) None inside)
-            (subst (λ (k : ℕ). IsTrueTo ms plan k (done_of ended)) (sym here) fits))
+            (subst (λ (k : ℕ). IsTrueTo ms plan k (action_result_of ended)) (sym here) fits))
             (λ other. fits_at (slice_set results at (Some ended)) n (get_or results n None) (get_or-set_other results at n (Some ended) None other)
             (subst (IsTrueTo ms plan n) (one_done results n) (so_far.fits n)));
       }

@@ -6,12 +6,12 @@ use Rattle.tf_address.specs.ObjectId.{InstanceKeyView}
 use Rattle.tf_walk_workers.proofs.CallsSeen.{calls_true, excuses_true}
 use Rattle.tf_walk_workers.specs.Ideal.{IsTrueTo}
 use Rattle.tf_walk_workers.specs.Laws.{OfCall}
-use Rattle.tf_walk_workers.specs.Sight.{AreShown}
+use Rattle.tf_walk_workers.specs.SeenResult.{AreShown}
 use Rattle.tf_config_data.specs.Names.{NameView}
 use Rattle.tf_graph.specs.Digraph.{predecessors_of}
 use Rattle.tf_outcome.proofs.Calling.{run_at, seen_objects}
 use Rattle.tf_outcome.specs.Excuse.{before_call, during_call, by_stop}
-use Rattle.tf_outcome.specs.Outcome.{Done, skipped, excused, faulted, called, Requests, AreRequests, call_with, objects_by, objects_seen}
+use Rattle.tf_outcome.specs.Outcome.{ActionResultView, skipped, excused, faulted, called, Requests, AreRequests, call_with, objects_by, objects_seen}
 use Rattle.tf_outcome.specs.Run.{IsRun}
 use Rattle.tf_plan_data.specs.Plan.{PlanView, plan_names}
 use Rattle.tf_protocol.specs.Meaning.{Meaning}
@@ -19,7 +19,7 @@ use Rattle.tf_state_data.specs.State.{StateView}
 use Rattle.tf_value.specs.Tree.{Tree}
 
 -- what may come of the action's call is true of it
-runs_true : (ms : List Meaning) (plan : PlanView) (n : ℕ) (seen : List (ℕ × Done)) (d : Done) → n < length plan.actions
+runs_true : (ms : List Meaning) (plan : PlanView) (n : ℕ) (seen : List (ℕ × ActionResultView)) (d : ActionResultView) → n < length plan.actions
     → AreShown ms plan (predecessors_of plan.order n) seen → OfCall ms plan n seen (λ call. IsRun call d) → IsTrueTo ms plan n d
 runs_true ms plan n seen skipped below shown run = calls_true ms plan n seen skipped below shown run
 runs_true ms plan n seen (excused before_call) below shown run = λ requests ideal is. tt
@@ -30,7 +30,7 @@ runs_true ms plan n seen (called asked answer v) below shown run = calls_true ms
 
 -- What may come of what was asked for an action, by what is seen of those before it, is true of it. The plan of the walk is
 -- the plan, and what is seen is seen for the plan's own names, prior state and actions.
-pub asked_true : (named ms : List Meaning) (walk plan : PlanView) (n : ℕ) (names : List NameView) (prior : StateView) (actions : List ActionView) (seen : List (ℕ × Done)) (a : ActionView) (call d : Done)
+pub asked_true : (named ms : List Meaning) (walk plan : PlanView) (n : ℕ) (names : List NameView) (prior : StateView) (actions : List ActionView) (seen : List (ℕ × ActionResultView)) (a : ActionView) (call d : ActionResultView)
     → named ≡ ms → walk ≡ plan → names ≡ plan_names plan → prior ≡ plan.prior → actions ≡ plan.actions
     → n < length plan.actions → slice_get plan.actions n ≡ Some a → AreShown named walk (predecessors_of plan.order n) seen
     → ((requests : Requests) → AreRequests plan requests → call ≡ call_with ms requests plan (objects_seen names prior actions seen) a)

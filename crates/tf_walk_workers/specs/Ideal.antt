@@ -4,23 +4,23 @@ use Rattle.tf_graph.specs.Digraph.{predecessors_of}
 use Rattle.tf_graph.specs.Solutions.{Solves, seen_by}
 use Rattle.tf_plan_data.specs.Plan.{PlanView}
 use Rattle.tf_protocol.specs.Meaning.{Meaning}
-use Rattle.tf_outcome.specs.Ended.{HasCause, done_of, ended_action}
-use Rattle.tf_outcome.specs.declared.ended.Ended.{Ended}
+use Rattle.tf_outcome.specs.ResultViews.{HasCause, action_result_of, ended_action}
+use Rattle.tf_outcome.specs.declared.action_result.ActionResult.{ActionResult}
 use Rattle.tf_outcome.specs.Excuse.{before_call, during_call, by_stop}
-use Rattle.tf_outcome.specs.Outcome.{Done, skipped, excused, Requests, AreRequests, all_good, is_faulted, is_good, rule}
+use Rattle.tf_outcome.specs.Outcome.{ActionResultView, skipped, excused, Requests, AreRequests, all_good, is_faulted, is_good, rule}
 
 -- Ideal outcomes are those of a plan where nothing is excused.
-abbrev pub IsIdeal : List Meaning → PlanView → Requests → (ℕ → Done) → Type 0
+abbrev pub IsIdeal : List Meaning → PlanView → Requests → (ℕ → ActionResultView) → Type 0
 IsIdeal ms plan requests ideal = AreRequests plan requests × Solves (length plan.actions) (predecessors_of plan.order) (rule ms requests plan []) ideal
 
 -- what holds of all ideal outcomes
-abbrev pub InEachIdeal : List Meaning → PlanView → ((ℕ → Done) → Type 0) → Type 0
-InEachIdeal ms plan Holds = (requests : Requests) (ideal : ℕ → Done) → IsIdeal ms plan requests ideal → Holds ideal
+abbrev pub InEachIdeal : List Meaning → PlanView → ((ℕ → ActionResultView) → Type 0) → Type 0
+InEachIdeal ms plan Holds = (requests : Requests) (ideal : ℕ → ActionResultView) → IsIdeal ms plan requests ideal → Holds ideal
 
 -- An end of an action agrees with ideal outcomes: a call and a fault are the ideal ones. Where it was excused during its
 -- call, all before it is good in the ideal, and its request has no fault there. Of one that was skipped, excused before
 -- its call or left nothing is said.
-abbrev pub AgreesWith : (ℕ → List ℕ) → (ℕ → Done) → ℕ → Done → Type 0
+abbrev pub AgreesWith : (ℕ → List ℕ) → (ℕ → ActionResultView) → ℕ → ActionResultView → Type 0
 AgreesWith before ideal n skipped = ⊤
 AgreesWith before ideal n (excused before_call) = ⊤
 AgreesWith before ideal n (excused by_stop) = ⊤
@@ -28,12 +28,12 @@ AgreesWith before ideal n (excused during_call) = (all_good (seen_by ideal (befo
 AgreesWith before ideal n d = d ≡ ideal n
 
 -- an end of an action of a plan is true: it agrees with all ideal outcomes
-abbrev pub IsTrueTo : List Meaning → PlanView → ℕ → Done → Type 0
+abbrev pub IsTrueTo : List Meaning → PlanView → ℕ → ActionResultView → Type 0
 IsTrueTo ms plan n d = InEachIdeal ms plan (λ ideal. AgreesWith (predecessors_of plan.order) ideal n d)
 
 -- What came of an action is of this one, has its cause directly before it where it is a skip, and is true of the action.
-abbrev pub IsEndOf : List Meaning → PlanView → ℕ → Ended → Type 0
-IsEndOf ms plan n ended = (ended_action ended ≡ n) × HasCause plan.order ended × IsTrueTo ms plan n (done_of ended)
+abbrev pub IsEndOf : List Meaning → PlanView → ℕ → ActionResult → Type 0
+IsEndOf ms plan n ended = (ended_action ended ≡ n) × HasCause plan.order ended × IsTrueTo ms plan n (action_result_of ended)
 
 -- an action is good in every ideal
 abbrev pub IsGoodInEach : List Meaning → PlanView → ℕ → Type 0

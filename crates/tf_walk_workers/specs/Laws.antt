@@ -5,34 +5,34 @@ use Rattle.tf_graph.specs.Solutions.{Ranked, seen_by}
 use Rattle.tf_plan_data.specs.Plan.{PlanView}
 use Rattle.tf_protocol.specs.Meaning.{Meaning}
 use Rattle.tf_outcome.specs.Excuse.{during_call, excuse_of}
-use Rattle.tf_outcome.specs.Outcome.{Done, skipped, excused, Requests, AreOutcomes, AreRequests, all_good, call_at, done_at, excuse_in, is_faulted}
+use Rattle.tf_outcome.specs.Outcome.{ActionResultView, skipped, excused, Requests, AreOutcomes, AreRequests, all_good, call_at, done_at, excuse_in, is_faulted}
 use Rattle.tf_outcome.specs.declared.excuse.Excuse.{Excuse}
 use Rattle.tf_walk_workers.specs.Ideal.{IsTrueTo}
-use Rattle.tf_walk_workers.specs.Sight.{AreShown}
+use Rattle.tf_walk_workers.specs.SeenResult.{AreShown}
 
 -- Where all before an action are good, something holds of what comes of it, by what is seen of them.
-abbrev pub OfCall : List Meaning → PlanView → ℕ → List (ℕ × Done) → (Done → Type 0) → Type 0
+abbrev pub OfCall : List Meaning → PlanView → ℕ → List (ℕ × ActionResultView) → (ActionResultView → Type 0) → Type 0
 OfCall ms plan n seen Holds = (requests : Requests) → AreRequests plan requests → Holds (call_at ms requests plan n seen)
 
 -- What comes of an action, by what is seen of those before it, is true.
 abbrev pub CallsAreTrue : Type 0
 CallsAreTrue =
-    (ms : List Meaning) (plan : PlanView) (n : ℕ) (seen : List (ℕ × Done)) (d : Done) → n < length plan.actions
+    (ms : List Meaning) (plan : PlanView) (n : ℕ) (seen : List (ℕ × ActionResultView)) (d : ActionResultView) → n < length plan.actions
     → AreShown ms plan (predecessors_of plan.order n) seen → OfCall ms plan n seen (λ call. d ≡ call) → IsTrueTo ms plan n d
 
 -- And so it is true of an action that it was excused during its call, where its request has no fault.
 abbrev pub ExcusesAreTrue : Type 0
 ExcusesAreTrue =
-    (ms : List Meaning) (plan : PlanView) (n : ℕ) (seen : List (ℕ × Done)) → n < length plan.actions
+    (ms : List Meaning) (plan : PlanView) (n : ℕ) (seen : List (ℕ × ActionResultView)) → n < length plan.actions
     → AreShown ms plan (predecessors_of plan.order n) seen → OfCall ms plan n seen (λ call. is_faulted call ≡ false) → IsTrueTo ms plan n (excused during_call)
 
-abbrev pub is_skipped : Done → Bool
+abbrev pub is_skipped : ActionResultView → Bool
 is_skipped skipped = true
 is_skipped _ = false
 
 -- Ends of all actions fit together: each is true, and an action is skipped exactly where one directly before it isn't
 -- good.
-pub record FitTogether (ms : List Meaning) (plan : PlanView) (done : List Done) : Type 0 where
+pub record FitTogether (ms : List Meaning) (plan : PlanView) (done : List ActionResultView) : Type 0 where
   pub all : length done ≡ length plan.actions
   pub fits : (n : ℕ) → IsTrueTo ms plan n (done_at done n)
   pub skips : (n : ℕ) → n < length plan.actions → is_skipped (done_at done n) ≡ not (all_good (seen_by (done_at done) (predecessors_of plan.order n)))
@@ -40,7 +40,7 @@ pub record FitTogether (ms : List Meaning) (plan : PlanView) (done : List Done) 
 -- Such ends are the plan's outcomes, with excuses that name exactly the excused actions.
 abbrev pub TrueEndsAreOutcomes : Type 0
 TrueEndsAreOutcomes =
-    (ms : List Meaning) (plan : PlanView) (done : List Done) → Ranked (predecessors_of plan.order) → FitTogether ms plan done
+    (ms : List Meaning) (plan : PlanView) (done : List ActionResultView) → Ranked (predecessors_of plan.order) → FitTogether ms plan done
     → (requests : Requests) → AreRequests plan requests
     → (excuses : List Excuse) → ((n : ℕ) → n < length plan.actions → excuse_of excuses n ≡ excuse_in (done_at done n))
     → AreOutcomes ms requests plan excuses done
@@ -48,7 +48,7 @@ TrueEndsAreOutcomes =
 -- And the request of an action that was excused during its call has no fault.
 abbrev pub ExcusedHaveNoFault : Type 0
 ExcusedHaveNoFault =
-    (ms : List Meaning) (plan : PlanView) (done : List Done) → Ranked (predecessors_of plan.order) → FitTogether ms plan done
+    (ms : List Meaning) (plan : PlanView) (done : List ActionResultView) → Ranked (predecessors_of plan.order) → FitTogether ms plan done
     → (requests : Requests) → AreRequests plan requests
     → (n : ℕ) → n < length plan.actions → done_at done n ≡ excused during_call
     → is_faulted (call_at ms requests plan n (seen_by (done_at done) (predecessors_of plan.order n))) ≡ false

@@ -3,7 +3,7 @@ pub mod Ideal
 pub mod Laws
 pub mod NoPlan
 pub mod Reading
-pub mod Sight
+pub mod SeenResult
 pub mod Memo
 pub mod Seen
 pub mod Shared

@@ -1,8 +1,8 @@
 -- What a worker keeps of the requests that it made.
 use Rattle.std.specs.Prelude.{◌<◌, List, map}
 use Rattle.tf_plan_data.specs.Action.{action_of}
-use Rattle.tf_asks.specs.SoFar.{StandSoFar}
-use Rattle.tf_walk_workers.specs.Sight.{sight_of}
+use Rattle.tf_asks.specs.SoFar.{ResolvedSoFar}
+use Rattle.tf_walk_workers.specs.SeenResult.{seen_result_of}
 use Rattle.tf_config_data.specs.Names.{NameView}
 use Rattle.tf_names.specs.Table.{names_in}
 use Rattle.tf_outcome.specs.Objects.{objects_seen}
@@ -18,4 +18,4 @@ use Rattle.tf_walk_workers.specs.declared.memo.Memo.{Memo}
 pub record IsTrueMemo {N : Type 0} (ms : List Meaning) (walk : PlanView) (plan : Plan) (names : List NameView) (memo : Memo N) : Type 0 where
   pub inside : memo.action < plan.order.nodes
   pub seen : AreSeen ms walk plan names memo.action memo.before
-  pub so_far : StandSoFar (plan_of plan) (objects_seen (names_in memo.before.names.now) (state_of memo.before.prior.now) (map action_of memo.before.actions.now) (sight_of memo.before)) memo.kept.items
+  pub so_far : ResolvedSoFar (plan_of plan) (objects_seen (names_in memo.before.names.now) (state_of memo.before.prior.now) (map action_of memo.before.actions.now) (seen_result_of memo.before)) memo.kept.items

@@ -1,6 +1,6 @@
 -- What a worker sees of the actions before one.
 use Rattle.std.specs.Prelude.{◌≡◌, ℕ, List}
-use Rattle.tf_walk_workers.specs.Sight.{Shows}
+use Rattle.tf_walk_workers.specs.SeenResult.{Shows}
 use Rattle.tf_walk_workers.specs.declared.before.Before.{Before}
 use Rattle.tf_config_data.specs.Names.{NameView}
 use Rattle.tf_graph.specs.Digraph.{predecessors_of}

@@ -1,22 +1,22 @@
 //! What a worker asks for an action.
 
 ghost use Rattle.std.specs.Prelude.{◌≡◌, ◌<◌, All, map, IfOk, IfSome, IsSomeAnd, IsTrue};
-ghost use Rattle.tf_outcome.specs.Words.{asked, asks_fully, comes_of, Done, IsRun, names_in, predecessors_of, schema_in};
+ghost use Rattle.tf_outcome.specs.Words.{asked, asks_fully, comes_of, ActionResultView, IsRun, names_in, predecessors_of, schema_in};
 ghost use Rattle.tf_asks.specs.AskedBy.{asked_by};
 ghost use Rattle.tf_walk_workers.specs.Ideal.{IsGoodInEach, IsTrueTo};
 ghost use Rattle.tf_walk_workers.specs.Memo.{IsTrueMemo};
 ghost use Rattle.tf_walk_workers.specs.Shared.{IsOfWalk};
 
 use crate::memo::Memo;
-use crate::naming::Naming;
-use crate::steps::Workshop;
+use crate::steps::WorkerContext;
+use crate::walk_brand::WalkBrand;
 use std::alloc::AllocError;
 use std::sync::Wait;
 use tf_asks::ask_provider;
-use tf_outcome::{Asking, Faulted};
+use tf_outcome::{Faulted, PreparedCall};
 use tf_provider::Provider;
 
-impl<'a, N: Naming, R: Wait> Workshop<'a, N, R> {
+impl<'a, N: WalkBrand, R: Wait> WorkerContext<'a, N, R> {
     /// What is asked for an action whose predecessors are all good, or what is wrong with its request, by what came of them.
     /// What may come of that is true of the action. What was seen for it is kept for the next one.
     ///
@@ -28,12 +28,12 @@ impl<'a, N: Naming, R: Wait> Workshop<'a, N, R> {
         providers: &[Box<dyn Provider + Sync>],
         action: usize,
         memo: &mut Option<Memo<'a, N>>,
-    ) -> Result<Result<Asking, Faulted>, AllocError>
+    ) -> Result<Result<PreparedCall, Faulted>, AllocError>
         requires walk { IsOfWalk N.plan N.meanings self.now.plan.now (names_in self.now.names.now) self.now.cells.now (map meaning providers.now) }
         requires within { action < self.now.plan.now.order.nodes }
         requires good { All (λ n. IsGoodInEach N.meanings N.plan n) (predecessors_of self.now.plan.now.order action) }
         requires memo { IfSome memo.old (IsTrueMemo N.meanings N.plan self.now.plan.now (names_in self.now.names.now)) }
-        ensures asked { IfOk result (λ made. (d : Done) → IsRun (comes_of (map meaning providers.now) (asked_by made)) d → IsTrueTo N.meanings N.plan action d) }
+        ensures asked { IfOk result (λ made. (d : ActionResultView) → IsRun (comes_of (map meaning providers.now) (asked_by made)) d → IsTrueTo N.meanings N.plan action d) }
         ensures served { IfOk result (λ made. IfOk made (λ asking.
             IsSomeAnd (schema_in (asked asking.request).type_name (map meaning providers.now)) (λ s. IsTrue (asks_fully (asked asking.request) s)))) }
         ensures memo { IfSome memo.new (IsTrueMemo N.meanings N.plan self.now.plan.now (names_in self.now.names.now)) }
@@ -50,12 +50,12 @@ impl<'a, N: Naming, R: Wait> Workshop<'a, N, R> {
         providers: &[Box<dyn Provider + Sync>],
         action: usize,
         memo: &mut Memo<'a, N>,
-    ) -> Result<Result<Asking, Faulted>, AllocError>
+    ) -> Result<Result<PreparedCall, Faulted>, AllocError>
         requires walk { IsOfWalk N.plan N.meanings self.now.plan.now (names_in self.now.names.now) self.now.cells.now (map meaning providers.now) }
         requires within { action < self.now.plan.now.order.nodes }
         requires memo { IsTrueMemo N.meanings N.plan self.now.plan.now (names_in self.now.names.now) memo.old }
         requires own { predecessors_of self.now.plan.now.order memo.old.action ≡ predecessors_of self.now.plan.now.order action }
-        ensures asked { IfOk result (λ made. (d : Done) → IsRun (comes_of (map meaning providers.now) (asked_by made)) d → IsTrueTo N.meanings N.plan action d) }
+        ensures asked { IfOk result (λ made. (d : ActionResultView) → IsRun (comes_of (map meaning providers.now) (asked_by made)) d → IsTrueTo N.meanings N.plan action d) }
         ensures served { IfOk result (λ made. IfOk made (λ asking.
             IsSomeAnd (schema_in (asked asking.request).type_name (map meaning providers.now)) (λ s. IsTrue (asks_fully (asked asking.request) s)))) }
         ensures memo { IsTrueMemo N.meanings N.plan self.now.plan.now (names_in self.now.names.now) memo.new }

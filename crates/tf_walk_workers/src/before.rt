@@ -3,14 +3,14 @@
 ghost use Rattle.std.specs.Prelude.{◌≡◌, ◌<◌, All, IfOk, map};
 ghost use Rattle.tf_outcome.specs.Words.{action_of, names_in, objects_seen, state_of};
 ghost use Rattle.tf_walk_workers.specs.Reading.{seen_in};
-ghost use Rattle.tf_walk_workers.specs.Sight.{IfGood, Shows};
+ghost use Rattle.tf_walk_workers.specs.SeenResult.{IfGood, Shows};
 
 use crate::cells::Cells;
-use crate::naming::Naming;
 use crate::reading::Reading;
+use crate::walk_brand::WalkBrand;
 use std::alloc::{AllocError, Global};
 use tf_address::InstanceKey;
-use tf_names::Names;
+use tf_names::Declarations;
 use tf_outcome::{applies_to, prior_object};
 use tf_plan_data::Action;
 use tf_request::Results;
@@ -19,8 +19,8 @@ use tf_value::Value;
 
 /// What came of some actions of a plan, all of which are good. It stays in their cells while this lives.
 #[derive(Drop)]
-pub struct Before<'a, N: Naming> {
-    names: &'a Names<'a>,
+pub struct Before<'a, N: WalkBrand> {
+    names: &'a Declarations<'a>,
     prior: &'a State,
     actions: &'a [Action],
     readings: Vec<Reading<'a, N>>,
@@ -28,7 +28,7 @@ pub struct Before<'a, N: Naming> {
 
 /// What is seen of some actions.
 #[derive(Drop)]
-pub enum Sight<'a, N: Naming> {
+pub enum SeenResult<'a, N: WalkBrand> {
     /// Of one of them nothing can be read yet.
     Waits,
     /// One of them isn't good.
@@ -37,7 +37,7 @@ pub enum Sight<'a, N: Naming> {
     Good(Before<'a, N>),
 }
 
-impl<N: Naming> Results for Before<'_, N> {
+impl<N: WalkBrand> Results for Before<'_, N> {
     ghost objects = { λ s. objects_seen (names_in s.names.now) (state_of s.prior.now) (map action_of s.actions.now) (map seen_in s.readings.items) };
 
     fn object(&self, alloc: Global, place: usize, key: &InstanceKey) -> Result<Value, AllocError> {
@@ -50,7 +50,7 @@ impl<N: Naming> Results for Before<'_, N> {
     }
 }
 
-impl<N: Naming> Cells<N> {
+impl<N: WalkBrand> Cells<N> {
     /// What came of some actions of a plan, where all of them are good. Then it is what came of them in every ideal. The
     /// names are those of the plan's configuration, and the state is the one that it starts from.
     ///
@@ -60,29 +60,29 @@ impl<N: Naming> Cells<N> {
     pub fn look<'a>(
         &'a self,
         alloc: Global,
-        names: &'a Names<'a>,
+        names: &'a Declarations<'a>,
         prior: &'a State,
         actions: &'a [Action],
         before: &[usize],
-    ) -> Result<Sight<'a, N>, AllocError>
+    ) -> Result<SeenResult<'a, N>, AllocError>
         requires { All (λ n. n < self.now) before.now }
-        ensures names { IfOk result (λ sight. IfGood sight (λ good. good.names.now ≡ names.now)) }
-        ensures prior { IfOk result (λ sight. IfGood sight (λ good. good.prior.now ≡ prior.now)) }
-        ensures actions { IfOk result (λ sight. IfGood sight (λ good. good.actions.now ≡ actions.now)) }
-        ensures shows { IfOk result (λ sight. IfGood sight (Shows N.meanings N.plan before.now)) }
+        ensures names { IfOk result (λ seen_result. IfGood seen_result (λ good. good.names.now ≡ names.now)) }
+        ensures prior { IfOk result (λ seen_result. IfGood seen_result (λ good. good.prior.now ≡ prior.now)) }
+        ensures actions { IfOk result (λ seen_result. IfGood seen_result (λ good. good.actions.now ≡ actions.now)) }
+        ensures shows { IfOk result (λ seen_result. IfGood seen_result (Shows N.meanings N.plan before.now)) }
     {
         let mut readings = Vec::with_capacity(alloc, before.len())?;
         for action in before {
             let Some(reading) = self.read(*action) else {
-                return Ok(Sight::Waits);
+                return Ok(SeenResult::Waits);
             };
             let bad = !reading.is_good();
             if bad {
-                return Ok(Sight::Bad);
+                return Ok(SeenResult::Bad);
             }
             readings.push_reserved(reading);
         }
-        Ok(Sight::Good(Before {
+        Ok(SeenResult::Good(Before {
             names,
             prior,
             actions,

@@ -6,14 +6,14 @@ use crossbeam_deque::protocol::{Outcome, Protocol};
 use std::marker::PhantomData;
 
 /// Below which number all hints of some workers are. It is for contracts alone.
-pub trait Bound {
+pub trait HintBound {
     ghost bound: { ℕ };
 }
 
 /// The rule of some workers' hints: each is below the bound.
 pub struct Below<B>(PhantomData<B>);
 
-impl<B: Bound> Protocol<usize, ()> for Below<B> {
+impl<B: HintBound> Protocol<usize, ()> for Below<B> {
     ghost holds = { λ hints _. All (λ n. n < B.bound) hints };
 
     ghost first = { tt };
@@ -22,6 +22,6 @@ impl<B: Bound> Protocol<usize, ()> for Below<B> {
 }
 
 /// What comes or goes is below the bound too.
-impl<B: Bound> Outcome<usize, ()> for Below<B> {
+impl<B: HintBound> Outcome<usize, ()> for Below<B> {
     ghost then = { λ _ hints _. All (λ n. n < B.bound) hints };
 }

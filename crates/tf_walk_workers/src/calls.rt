@@ -1,30 +1,30 @@
 //! Calls of providers, and their records.
 
 ghost use Rattle.std.specs.Prelude.{◌≡◌, ◌<◌, map, IsSomeAnd, IsTrue};
-ghost use Rattle.tf_outcome.specs.Words.{asked, asks_fully, call_of, call_of_provider, done_of, ended_action, HasCause, IsRun, IsServed, schema_in};
+ghost use Rattle.tf_outcome.specs.Words.{asked, asks_fully, call_of, call_of_provider, action_result_of, ended_action, HasCause, IsRun, IsServed, schema_in};
 
 use crate::log::Log;
-use crate::naming::Naming;
+use crate::walk_brand::WalkBrand;
 use std::sync::{Mutex, Wait};
 use std::thread;
 use tf_claim::{Finished, Permit};
-use tf_outcome::{Asking, Ended, ended_by};
+use tf_outcome::{ActionResult, PreparedCall, ended_by};
 use tf_provider::{Called, Provider, Recorded, call, first_provider};
 
 /// Calls the first provider that has the type of a request, and records the call.
-pub(crate) fn serve<N: Naming, R: Wait>(
+pub(crate) fn serve<N: WalkBrand, R: Wait>(
     rt: &R,
     providers: &[Box<dyn Provider + Sync>],
     log: &Mutex<Log<N>>,
     permit: Permit,
-    asking: Asking,
-) -> (Ended, Finished)
+    asking: PreparedCall,
+) -> (ActionResult, Finished)
     requires served { IsSomeAnd (schema_in (asked asking.request).type_name (map meaning providers.now)) (λ s. IsTrue (asks_fully (asked asking.request) s)) }
     requires within { permit < N.plan.order.nodes }
     ensures finished { result.1 ≡ permit }
     ensures action { ended_action result.0 ≡ permit }
     ensures cause { HasCause N.plan.order result.0 }
-    ensures ended { IsRun (call_of (map meaning providers.now) (asked asking.request)) (done_of result.0) }
+    ensures ended { IsRun (call_of (map meaning providers.now) (asked asking.request)) (action_result_of result.0) }
 {
     match first_provider(providers, asking.request.type_name.as_str()) {
         None => unreachable!(),
@@ -33,19 +33,19 @@ pub(crate) fn serve<N: Naming, R: Wait>(
 }
 
 /// Calls a provider with a request, and records the call. No lock is held while the provider works.
-fn make_call<N: Naming, R: Wait>(
+fn make_call<N: WalkBrand, R: Wait>(
     rt: &R,
     provider: &Box<dyn Provider + Sync>,
     log: &Mutex<Log<N>>,
     permit: Permit,
-    asking: Asking,
-) -> (Ended, Finished)
+    asking: PreparedCall,
+) -> (ActionResult, Finished)
     requires served { IsServed (meaning provider.now) (asked asking.request) }
     requires within { permit < N.plan.order.nodes }
     ensures finished { result.1 ≡ permit }
     ensures action { ended_action result.0 ≡ permit }
     ensures cause { HasCause N.plan.order result.0 }
-    ensures ended { IsRun (call_of_provider (asked asking.request) (meaning provider.now)) (done_of result.0) }
+    ensures ended { IsRun (call_of_provider (asked asking.request) (meaning provider.now)) (action_result_of result.0) }
 {
     let called = call(provider, permit, asking.request);
     let recorded = record(rt, log, called);
@@ -54,7 +54,7 @@ fn make_call<N: Naming, R: Wait>(
 
 /// Records a call. Where the journal refuses it, which it doesn't where all actions directly before its own are recorded,
 /// it waits.
-fn record<N: Naming, R: Wait>(rt: &R, log: &Mutex<Log<N>>, called: Called) -> Recorded
+fn record<N: WalkBrand, R: Wait>(rt: &R, log: &Mutex<Log<N>>, called: Called) -> Recorded
     requires { called.action < N.plan.order.nodes }
     ensures { result ≡ called }
 {

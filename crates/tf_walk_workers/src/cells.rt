@@ -2,26 +2,26 @@
 
 ghost use Rattle.std.specs.Prelude.{◌≡◌, ◌+◌, ◌<◌, ℕ, None, IfOk, IfErr, IfSome, IsTrue, length, replicate, slice_index_or, slice_set, vec_len, Some};
 ghost use Rattle.counted_slot.specs.Counting.{IsTurn};
-ghost use Rattle.tf_outcome.specs.Ended.{dones_of};
+ghost use Rattle.tf_outcome.specs.ResultViews.{action_results_of};
 ghost use Rattle.tf_outcome.specs.Outcome.{done_at};
 ghost use Rattle.tf_walk_workers.specs.Ideal.{IsEndOf, IsTrueTo, IsNumbered};
 
-use crate::kept::Kept;
-use crate::naming::Naming;
+use crate::kept::CellResult;
 use crate::reading::Reading;
+use crate::walk_brand::WalkBrand;
 use counted_slot::{Counted, FREE, MOST_READERS, ONE_READER, PRESENT, TAKEN};
 use std::alloc::{AllocError, Global};
 use std::marker::{Model, PhantomData};
 use std::mem;
-use tf_outcome::Ended;
+use tf_outcome::ActionResult;
 
 /// One cell for each action of a plan, into which what came of it is published, and from which it is read, without a
 /// lock. Contracts see how many there are.
-pub struct Cells<N: Naming> {
-    cells: Vec<Counted<Option<Kept<N>>>>,
+pub struct Cells<N: WalkBrand> {
+    cells: Vec<Counted<Option<CellResult<N>>>>,
 }
 
-impl<N: Naming> Model for Cells<N> {
+impl<N: WalkBrand> Model for Cells<N> {
     ghost Value = { ℕ };
 
     ghost view = { λ s. vec_len s.cells };
@@ -29,7 +29,7 @@ impl<N: Naming> Model for Cells<N> {
     ghost invariant = { λ s. IsNumbered s.cells.items };
 }
 
-impl<N: Naming> Cells<N> {
+impl<N: WalkBrand> Cells<N> {
     /// So many cells, in which nothing is.
     ///
     /// # Errors
@@ -46,7 +46,7 @@ impl<N: Naming> Cells<N> {
     }
 
     /// The cell of an action.
-    fn cell(&self, action: usize) -> &Counted<Option<Kept<N>>>
+    fn cell(&self, action: usize) -> &Counted<Option<CellResult<N>>>
         requires { action < self.now }
         ensures { result.now ≡ action }
     {
@@ -59,7 +59,7 @@ impl<N: Naming> Cells<N> {
     ///
     /// Where something was published for the action already, or is just being published: what isn't in the cell comes
     /// back.
-    pub fn publish(&self, action: usize, ended: Ended) -> Result<(), Ended>
+    pub fn publish(&self, action: usize, ended: ActionResult) -> Result<(), ActionResult>
         requires action { action < self.now }
         requires own { IsEndOf N.meanings N.plan action ended }
         ensures { IfErr result (IsEndOf N.meanings N.plan action) }
@@ -69,13 +69,13 @@ impl<N: Naming> Cells<N> {
             claim.done();
             return Err(ended);
         }
-        let kept = Kept {
+        let kept = CellResult {
             ended,
             of: PhantomData,
         };
         match claim.put(Some(kept), PRESENT) {
             None => Ok(()),
-            Some(Kept { ended, of: _ }) => Err(ended),
+            Some(CellResult { ended, of: _ }) => Err(ended),
         }
     }
 
@@ -100,15 +100,15 @@ impl<N: Naming> Cells<N> {
     }
 
     /// Takes out all that was published, each into the place of its action.
-    pub fn take_out(self, results: &mut [Option<Ended>])
+    pub fn take_out(self, results: &mut [Option<ActionResult>])
         requires { results.old ≡ replicate self None }
         ensures length { length results.new ≡ self }
-        ensures fits { (n : ℕ) → IsTrueTo N.meanings N.plan n (done_at (dones_of results.new) n) }
+        ensures fits { (n : ℕ) → IsTrueTo N.meanings N.plan n (done_at (action_results_of results.new) n) }
     {
         let Self { mut cells } = self;
         while let Some(cell) = cells.pop() {
             match cell.into_inner() {
-                Some(Kept { ended, of: _ }) => place(results, cells.len(), ended),
+                Some(CellResult { ended, of: _ }) => place(results, cells.len(), ended),
                 None => {}
             }
         }
@@ -124,7 +124,7 @@ fn may_be_read(word: u64) -> bool
 }
 
 /// Puts what came of an action into its place, in which nothing is yet.
-fn place(results: &mut [Option<Ended>], action: usize, ended: Ended)
+fn place(results: &mut [Option<ActionResult>], action: usize, ended: ActionResult)
     requires action { action < length results.old }
     requires free { slice_index_or results.old action None ≡ None }
     ensures { results.new ≡ slice_set results.old action (Some ended) }

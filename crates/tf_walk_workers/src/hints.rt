@@ -2,7 +2,7 @@
 
 ghost use Rattle.std.specs.Prelude.{◌≡◌, ◌+◌, ◌<◌, ◌≤◌, IfOk, IfSome, MatchBool};
 
-use crate::bound::{Below, Bound};
+use crate::bound::{Below, HintBound};
 use crossbeam_deque::{Steal, Stealer, Worker};
 use std::alloc::{AllocError, Global};
 use std::marker::Model;
@@ -10,11 +10,11 @@ use std::sync::Wait;
 
 /// The hints of one worker.
 #[derive(Drop)]
-pub struct Hints<B: Bound> {
+pub struct Hints<B: HintBound> {
     own: Worker<usize, Global, (), Below<B>>,
 }
 
-impl<B: Bound> Model for Hints<B> {
+impl<B: HintBound> Model for Hints<B> {
     ghost use Rattle.crossbeam_deque.specs.Handles.{worker_capacity, worker_index};
     ghost use Rattle.tf_walk_workers.specs.Hoard.{Hoard};
 
@@ -25,11 +25,11 @@ impl<B: Bound> Model for Hints<B> {
 
 /// With which any worker steals the hints of one.
 #[derive(Drop)]
-pub struct Thief<B: Bound> {
+pub struct HintStealer<B: HintBound> {
     of: Stealer<usize, Global, (), Below<B>>,
 }
 
-impl<B: Bound> Hints<B> {
+impl<B: HintBound> Hints<B> {
     /// No hints, with room for so many at first.
     ///
     /// # Errors
@@ -47,9 +47,9 @@ impl<B: Bound> Hints<B> {
     /// # Errors
     ///
     /// Only where memory runs out.
-    pub fn thief(&self) -> Result<Thief<B>, AllocError> {
+    pub fn stealer(&self) -> Result<HintStealer<B>, AllocError> {
         let of = self.own.stealer()?;
-        Ok(Thief { of })
+        Ok(HintStealer { of })
     }
 
     /// Gives a hint, and says whether it was taken. Where it wasn't, which is so only where the hints stand as high as there is
@@ -73,7 +73,7 @@ impl<B: Bound> Hints<B> {
     }
 }
 
-impl<B: Bound> Thief<B> {
+impl<B: HintBound> HintStealer<B> {
     /// The hint that was given first, if there is one. Where another worker was quicker it tries again. `None` too where the
     /// worker whose hints they are is about to pop the only one.
     pub fn steal<R: Wait>(&self, rt: &R) -> Option<usize>

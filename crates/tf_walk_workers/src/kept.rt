@@ -2,18 +2,18 @@
 
 ghost use Rattle.tf_walk_workers.specs.Ideal.{IsEndOf};
 
-use crate::naming::Naming;
+use crate::walk_brand::WalkBrand;
 use counted_slot::Fits;
 use std::marker::PhantomData;
-use tf_outcome::Ended;
+use tf_outcome::ActionResult;
 
 /// What came of an action, in its cell.
-pub(crate) struct Kept<N: Naming> {
-    pub ended: Ended,
+pub(crate) struct CellResult<N: WalkBrand> {
+    pub ended: ActionResult,
     pub of: PhantomData<N>,
 }
 
-impl<N: Naming> Fits for Kept<N> {
+impl<N: WalkBrand> Fits for CellResult<N> {
     type Tag = usize;
 
     ghost fits = { λ n kept. IsEndOf N.meanings N.plan n kept.ended };

@@ -3,7 +3,7 @@
 ghost use Rattle.tf_walk_workers.specs.Laws.{CallsAreTrue, ExcusesAreTrue, TrueEndsAreOutcomes, ExcusedHaveNoFault};
 
 use crate::cells::Cells;
-use crate::naming::Naming;
+use crate::walk_brand::WalkBrand;
 
 /// What comes of an action, by what is seen of those before it, is true; and so is it that it was excused during its
 /// call, where its request has no fault.
@@ -21,7 +21,7 @@ pub fn all_are_outcomes()
 {}
 
 /// Cells may be shared by threads.
-pub fn cells_are_shared<N: Naming + Send + Sync>(cells: &Cells<N>) {
+pub fn cells_are_shared<N: WalkBrand + Send + Sync>(cells: &Cells<N>) {
     share(cells);
 }
 

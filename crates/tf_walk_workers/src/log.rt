@@ -2,20 +2,20 @@
 
 ghost use Rattle.std.specs.Prelude.{◌≡◌, ◌<◌, MatchResult};
 
-use crate::naming::Naming;
+use crate::walk_brand::WalkBrand;
 use std::marker::PhantomData;
 use std::sync::Mutex;
 use tf_provider::{Called, Journal, Recorded};
 
 /// The journal of a walk, which workers share under a lock. It is over the order of the walk's plan.
 #[derive(Drop)]
-pub struct Log<N: Naming> {
+pub struct Log<N: WalkBrand> {
     journal: Journal,
     of: PhantomData<N>,
     pub ghost placed: { journal.graph ≡ N.plan.order },
 }
 
-impl<N: Naming> Log<N> {
+impl<N: WalkBrand> Log<N> {
     /// The log that a journal is, over the order of the walk's plan.
     pub fn new(journal: Journal) -> Log<N>
         requires { journal.graph ≡ N.plan.order }
@@ -47,7 +47,7 @@ impl<N: Naming> Log<N> {
 }
 
 /// A log may be shared by threads under a lock.
-pub fn logs_are_shared<N: Naming + Send + Sync>(log: &Mutex<Log<N>>) {
+pub fn logs_are_shared<N: WalkBrand + Send + Sync>(log: &Mutex<Log<N>>) {
     share(log);
 }
 

@@ -6,26 +6,26 @@ ghost use Rattle.tf_walk_workers.specs.Ideal.{IsGoodInEach};
 ghost use Rattle.tf_walk_workers.specs.Memo.{IsTrueMemo};
 
 use crate::before::Before;
-use crate::naming::Naming;
 use crate::seeing::{first_not_good, good_before};
-use crate::steps::Workshop;
+use crate::steps::WorkerContext;
+use crate::walk_brand::WalkBrand;
 use std::alloc::AllocError;
 use std::sync::Wait;
-use tf_environment::Standing;
+use tf_environment::Resolved;
 use tf_outcome::NotGood;
 use tf_plan_data::Plan;
 
 /// What a worker saw of the actions before one, and what names stand for by it, as far as that was worked out. It holds for each
 /// action that has the same actions before it, as the instances of a resource mostly have: for all of them each local is evaluated
-/// once, and each resource's objects are laid out once.
+/// once, and each resource's objects are collected once.
 #[derive(Drop)]
-pub struct Memo<'a, N: Naming> {
+pub struct Memo<'a, N: WalkBrand> {
     pub(crate) action: usize,
     pub(crate) before: Before<'a, N>,
-    pub(crate) kept: Vec<Standing>,
+    pub(crate) kept: Vec<Resolved>,
 }
 
-impl<N: Naming> Memo<'_, N> {
+impl<N: WalkBrand> Memo<'_, N> {
     /// Whether the same actions stand before another one too.
     pub(crate) fn holds_for(&self, plan: &Plan, action: usize) -> bool
         requires own { self.now.action < plan.now.order.nodes }
@@ -37,7 +37,7 @@ impl<N: Naming> Memo<'_, N> {
     }
 }
 
-impl<'a, N: Naming, R: Wait> Workshop<'a, N, R> {
+impl<'a, N: WalkBrand, R: Wait> WorkerContext<'a, N, R> {
     /// The evidence that an action directly before one isn't good, where one isn't, once what came of those up to it can be read.
     /// Where the same actions were seen before, all of them are good. It takes no memory.
     pub(crate) fn not_good_before(
@@ -90,7 +90,7 @@ impl<'a, N: Naming, R: Wait> Workshop<'a, N, R> {
 
     /// What is seen now for an action whose predecessors are all good. The list, in which nothing stands, is for what names stand
     /// for.
-    fn new_memo(&self, kept: Vec<Standing>, action: usize) -> Result<Memo<'a, N>, AllocError>
+    fn new_memo(&self, kept: Vec<Resolved>, action: usize) -> Result<Memo<'a, N>, AllocError>
         requires cells { self.now.cells.now ≡ self.now.plan.now.order.nodes }
         requires within { action < self.now.plan.now.order.nodes }
         requires good { All (λ n. IsGoodInEach N.meanings N.plan n) (predecessors_of self.now.plan.now.order action) }
@@ -110,7 +110,7 @@ impl<'a, N: Naming, R: Wait> Workshop<'a, N, R> {
 }
 
 /// The list of a memo, in which nothing stands any more. What it saw is let go.
-fn emptied<N: Naming>(memo: Memo<'_, N>) -> Vec<Standing>
+fn emptied<N: WalkBrand>(memo: Memo<'_, N>) -> Vec<Resolved>
     ensures { result.items ≡ [] }
 {
     let Memo {

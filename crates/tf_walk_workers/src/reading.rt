@@ -2,38 +2,41 @@
 
 ghost use Rattle.std.specs.Option.{option_map_or};
 ghost use Rattle.std.specs.Prelude.{◌≡◌, IfOk, IfSome, IsTrue, MatchOption, is_some, true, false};
-ghost use Rattle.tf_outcome.specs.Words.{done_of, ended_action, is_good, object_of, tree_of};
+ghost use Rattle.tf_outcome.specs.Words.{action_result_of, ended_action, is_good, object_of, tree_of};
 ghost use Rattle.tf_walk_workers.specs.Ideal.{InEachIdeal, IsGoodInEach, IsTrueTo};
 
-use crate::kept::Kept;
-use crate::naming::Naming;
+use crate::kept::CellResult;
+use crate::walk_brand::WalkBrand;
 use counted_slot::Claim;
 use std::alloc::{AllocError, Global};
-use tf_outcome::{Ended, NotGood};
+use tf_outcome::{ActionResult, NotGood};
 use tf_protocol::Reply;
 use tf_value::{Value, copy};
 
 /// What came of an action, which stays in its cell while this lives.
-pub struct Reading<'a, N: Naming> {
+pub struct Reading<'a, N: WalkBrand> {
     action: usize,
-    claim: Claim<'a, Option<Kept<N>>>,
+    claim: Claim<'a, Option<CellResult<N>>>,
     pub ghost own: { claim.tag ≡ action },
     pub ghost reads: { claim.right ≡ 1 },
     pub ghost filled: { option_map_or is_some claim.value false ≡ true },
 }
 
-impl<'a, N: Naming> Drop for Reading<'a, N> {
+impl<'a, N: WalkBrand> Drop for Reading<'a, N> {
     fn drop(self) {
         let Self { action: _, claim } = self;
         claim.leave();
     }
 }
 
-impl<'a, N: Naming> Reading<'a, N> {
+impl<'a, N: WalkBrand> Reading<'a, N> {
     ghost use Rattle.tf_walk_workers.specs.Reading.{done_in};
 
     /// What the claim on an action's cell reads, if anything is there.
-    pub(crate) fn of(action: usize, claim: Claim<'a, Option<Kept<N>>>) -> Option<Reading<'a, N>>
+    pub(crate) fn of(
+        action: usize,
+        claim: Claim<'a, Option<CellResult<N>>>,
+    ) -> Option<Reading<'a, N>>
         requires own { claim.tag ≡ action }
         requires reads { claim.right ≡ 1 }
         ensures { IfSome result (λ reading. reading.action ≡ action) }
@@ -54,9 +57,9 @@ impl<'a, N: Naming> Reading<'a, N> {
     }
 
     /// What came of the action, which is of it and true of it.
-    pub fn ended(&self) -> &Ended
+    pub fn ended(&self) -> &ActionResult
         ensures own { ended_action result.now ≡ self.now.action }
-        ensures same { done_of result.now ≡ done_in self.now }
+        ensures same { action_result_of result.now ≡ done_in self.now }
         ensures fits { IsTrueTo N.meanings N.plan self.now.action (done_in self.now) }
     {
         match self.claim.get() {
@@ -98,11 +101,11 @@ impl<'a, N: Naming> Reading<'a, N> {
 }
 
 /// The object that a provider answered, copied; null where there is none.
-fn object_of(alloc: Global, ended: &Ended) -> Result<Value, AllocError>
-    ensures { IfOk result (λ value. tree_of value ≡ object_of (done_of ended.now)) }
+fn object_of(alloc: Global, ended: &ActionResult) -> Result<Value, AllocError>
+    ensures { IfOk result (λ value. tree_of value ≡ object_of (action_result_of ended.now)) }
 {
     match ended {
-        Ended::Called(served) => match served.call.reply() {
+        ActionResult::Called(served) => match served.call.reply() {
             Reply::Object(object) => copy(object),
             _ => Ok(Value::Null),
         },

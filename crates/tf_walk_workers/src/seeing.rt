@@ -5,19 +5,19 @@ ghost use Rattle.tf_outcome.specs.Words.{names_in, predecessors_of};
 ghost use Rattle.tf_walk_workers.specs.Ideal.{IsGoodInEach};
 ghost use Rattle.tf_walk_workers.specs.Seen.{AreSeen};
 
-use crate::before::{Before, Sight};
+use crate::before::{Before, SeenResult};
 use crate::cells::Cells;
-use crate::naming::Naming;
+use crate::walk_brand::WalkBrand;
 use std::alloc::{AllocError, Global};
 use std::sync::Wait;
 use std::thread;
-use tf_names::Names;
+use tf_names::Declarations;
 use tf_outcome::NotGood;
 use tf_plan_data::Plan;
 
 /// The evidence that one of some actions isn't good, of the first that isn't, once what came of those up to it can be read;
 /// `None` where all are good, and then they are in every ideal. It takes no memory.
-pub(crate) fn first_not_good<N: Naming, R: Wait>(
+pub(crate) fn first_not_good<N: WalkBrand, R: Wait>(
     rt: &R,
     cells: &Cells<N>,
     actions: &[usize],
@@ -36,7 +36,7 @@ pub(crate) fn first_not_good<N: Naming, R: Wait>(
 }
 
 /// The evidence that an action isn't good, where it isn't, once what came of it can be read.
-fn not_good<N: Naming, R: Wait>(rt: &R, cells: &Cells<N>, action: usize) -> Option<NotGood>
+fn not_good<N: WalkBrand, R: Wait>(rt: &R, cells: &Cells<N>, action: usize) -> Option<NotGood>
     requires { action < cells.now }
     ensures { MatchOption result (IsGoodInEach N.meanings N.plan action) (λ bad. bad ≡ action) }
 {
@@ -54,11 +54,11 @@ fn not_good<N: Naming, R: Wait>(rt: &R, cells: &Cells<N>, action: usize) -> Opti
 /// # Errors
 ///
 /// Only where memory runs out.
-pub(crate) fn good_before<'a, N: Naming, R: Wait>(
+pub(crate) fn good_before<'a, N: WalkBrand, R: Wait>(
     rt: &R,
     alloc: Global,
     plan: &'a Plan,
-    names: &'a Names<'a>,
+    names: &'a Declarations<'a>,
     cells: &'a Cells<N>,
     action: usize,
 ) -> Result<Before<'a, N>, AllocError>
@@ -71,8 +71,8 @@ pub(crate) fn good_before<'a, N: Naming, R: Wait>(
     let nodes = plan.order.graph().predecessors(action);
     for _ in rt.forever() {
         match cells.look(alloc, names, &plan.prior, actions, nodes) {
-            Ok(Sight::Good(before)) => return Ok(before),
-            Ok(Sight::Waits | Sight::Bad) => thread::yield_now(),
+            Ok(SeenResult::Good(before)) => return Ok(before),
+            Ok(SeenResult::Waits | SeenResult::Bad) => thread::yield_now(),
             Err(AllocError) => return Err(AllocError),
         }
     }

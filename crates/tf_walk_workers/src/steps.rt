@@ -1,7 +1,7 @@
 //! The end of one action, by a worker.
 
 ghost use Rattle.std.specs.Prelude.{◌≡◌, ◌<◌, IfSome, map};
-ghost use Rattle.tf_outcome.specs.Words.{done_of, ended_action, HasCause, names_in};
+ghost use Rattle.tf_outcome.specs.Words.{action_result_of, ended_action, HasCause, names_in};
 ghost use Rattle.tf_walk_workers.specs.Ideal.{IsEndOf, IsTrueTo};
 ghost use Rattle.tf_walk_workers.specs.Memo.{IsTrueMemo};
 ghost use Rattle.tf_walk_workers.specs.Shared.{IsOfWalk};
@@ -10,20 +10,20 @@ use crate::calls::serve;
 use crate::cells::Cells;
 use crate::log::Log;
 use crate::memo::Memo;
-use crate::naming::Naming;
+use crate::walk_brand::WalkBrand;
 use std::alloc::{AllocError, Global};
 use std::sync::{Mutex, Wait};
 use std::thread;
 use tf_claim::{Finished, Permit};
-use tf_names::Names;
-use tf_outcome::{Ended, Stop};
+use tf_names::Declarations;
+use tf_outcome::{ActionResult, Stop};
 use tf_plan_data::Plan;
 use tf_provider::Provider;
 
 /// What a worker works with, beside the providers: the plan of a walk, the names of its configuration, the cells of the plan's
 /// actions, the journal that workers share, and whether the walk is to stop.
 #[derive(Drop)]
-pub struct Workshop<'a, N: Naming, R> {
+pub struct WorkerContext<'a, N: WalkBrand, R> {
     /// What it waits by.
     pub rt: &'a R,
     /// What requests are made in.
@@ -31,7 +31,7 @@ pub struct Workshop<'a, N: Naming, R> {
     /// The plan.
     pub plan: &'a Plan,
     /// The names of its configuration.
-    pub names: &'a Names<'a>,
+    pub names: &'a Declarations<'a>,
     /// The cells of the plan's actions.
     pub cells: &'a Cells<N>,
     /// The journal.
@@ -40,7 +40,7 @@ pub struct Workshop<'a, N: Naming, R> {
     pub stop: &'a Stop,
 }
 
-impl<'a, N: Naming, R: Wait> Workshop<'a, N, R> {
+impl<'a, N: WalkBrand, R: Wait> WorkerContext<'a, N, R> {
     /// Ends a claimed action, and publishes what came of it: it is skipped where an action directly before it isn't good;
     /// left where the walk is to stop; excused where memory for its request is refused; it has a fault where its request has
     /// one; and else its provider is called, outside the lock, and the call is recorded under it. All actions directly
@@ -70,33 +70,33 @@ impl<'a, N: Naming, R: Wait> Workshop<'a, N, R> {
         providers: &[Box<dyn Provider + Sync>],
         permit: Permit,
         memo: &mut Option<Memo<'a, N>>,
-    ) -> (Ended, Finished)
+    ) -> (ActionResult, Finished)
         requires walk { IsOfWalk N.plan N.meanings self.now.plan.now (names_in self.now.names.now) self.now.cells.now (map meaning providers.now) }
         requires within { permit < self.now.plan.now.order.nodes }
         requires memo { IfSome memo.old (IsTrueMemo N.meanings N.plan self.now.plan.now (names_in self.now.names.now)) }
         ensures finished { result.1 ≡ permit }
         ensures action { ended_action result.0 ≡ permit }
         ensures cause { HasCause N.plan.order result.0 }
-        ensures ended { IsTrueTo N.meanings N.plan permit (done_of result.0) }
+        ensures ended { IsTrueTo N.meanings N.plan permit (action_result_of result.0) }
         ensures memo { IfSome memo.new (IsTrueMemo N.meanings N.plan self.now.plan.now (names_in self.now.names.now)) }
     {
         let action = permit.action();
         if let Some(bad) = self.not_good_before(memo, action) {
-            return Ended::skipped(permit, bad);
+            return ActionResult::skipped(permit, bad);
         }
         if let Some(stopped) = self.stop.look() {
-            return Ended::left(permit, stopped);
+            return ActionResult::left(permit, stopped);
         }
         match self.ask(providers, action, memo) {
-            Err(AllocError) => Ended::not_asked(permit),
-            Ok(Err(faulted)) => Ended::faulted(permit, faulted),
+            Err(AllocError) => ActionResult::not_asked(permit),
+            Ok(Err(faulted)) => ActionResult::faulted(permit, faulted),
             Ok(Ok(asking)) => serve(self.rt, providers, self.journal, permit, asking),
         }
     }
 }
 
 /// Publishes what came of an action. Where something was published for it already, it waits.
-fn publish<N: Naming, R: Wait>(rt: &R, cells: &Cells<N>, action: usize, ended: Ended)
+fn publish<N: WalkBrand, R: Wait>(rt: &R, cells: &Cells<N>, action: usize, ended: ActionResult)
     requires action { action < cells.now }
     requires own { IsEndOf N.meanings N.plan action ended }
 {

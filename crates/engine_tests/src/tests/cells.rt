@@ -10,9 +10,9 @@ use std::thread;
 use std::thread::Threads;
 use tf_claim::Book;
 use tf_graph::Graph;
-use tf_outcome::{Ended, Served, Stop};
+use tf_outcome::{ActionResult, Served, Stop};
 use tf_provider::{Waived, waive_for};
-use tf_walk_workers::{Cells, Naming};
+use tf_walk_workers::{Cells, WalkBrand};
 
 /// How an end is called here.
 #[derive(Clone, Copy, Debug, PartialEq, Eq)]
@@ -26,14 +26,14 @@ enum Kind {
 }
 
 /// The kind of an end, of which nothing else is kept.
-fn kind_of(ended: Ended) -> Kind {
+fn kind_of(ended: ActionResult) -> Kind {
     match ended {
-        Ended::Skipped(_, _) => Kind::Skipped,
-        Ended::NotAsked(_) => Kind::NotAsked,
-        Ended::NotServed(_) => Kind::NotServed,
-        Ended::Faulted(_, _) => Kind::Faulted,
-        Ended::Left(_, _) => Kind::Left,
-        Ended::Called(served) => {
+        ActionResult::Skipped(_, _) => Kind::Skipped,
+        ActionResult::NotAsked(_) => Kind::NotAsked,
+        ActionResult::NotServed(_) => Kind::NotServed,
+        ActionResult::Faulted(_, _) => Kind::Faulted,
+        ActionResult::Left(_, _) => Kind::Left,
+        ActionResult::Called(served) => {
             let Served {
                 call,
                 message: _,
@@ -62,18 +62,18 @@ fn second_waived(alloc: Global) -> Result<Waived, Fail>
 }
 
 /// That the second action was left where a flag is set, and else that nothing was asked for it.
-fn end_of<N: Naming>(waived: Waived, stop: &Stop) -> Ended
+fn end_of<N: WalkBrand>(waived: Waived, stop: &Stop) -> ActionResult
     requires { waived ≡ 1 }
     ensures { IsEndOf N.meanings N.plan 1 result }
 {
     match stop.look() {
-        Some(stopped) => Ended::Left(waived, stopped),
-        None => Ended::NotAsked(waived),
+        Some(stopped) => ActionResult::Left(waived, stopped),
+        None => ActionResult::NotAsked(waived),
     }
 }
 
 /// Publishes that the second action was left, or that nothing was asked for it: what didn't go into the cell.
-fn publish<N: Naming>(cells: &Cells<N>, waived: Waived, stop: &Stop) -> Option<Kind>
+fn publish<N: WalkBrand>(cells: &Cells<N>, waived: Waived, stop: &Stop) -> Option<Kind>
     requires { (1 < cells.now) × (waived ≡ 1) }
 {
     match cells.publish(1, end_of::<N>(waived, stop)) {
@@ -103,7 +103,7 @@ fn taken(cells: Cells<Brand>) -> (Option<Kind>, Option<Kind>)
 }
 
 /// Two threads publish for one action: what didn't go into its cell.
-fn publish_twice<N: Naming + Send + Sync, R: Threads + Sync>(
+fn publish_twice<N: WalkBrand + Send + Sync, R: Threads + Sync>(
     rt: &R,
     cells: &Cells<N>,
     one: Waived,

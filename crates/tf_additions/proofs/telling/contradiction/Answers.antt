@@ -11,7 +11,7 @@ use Rattle.tf_value.proofs.Conjunction.{and-second}
 use Rattle.tf_additions.proofs.Named.{named-there, holds-there, named-beyond, pushed}
 use Rattle.tf_additions.proofs.telling.contradiction.Goals as goal
 
--- src/conclude.rt:104:13
+-- src/reporting.rt:104:13
 pub unwrap-requires-in-Some-nth : goal.unwrap-requires-in-Some-nth
 unwrap-requires-in-Some-nth c =
     let ran = c.in-Some-nth.ensures.ran in
@@ -26,7 +26,7 @@ unwrap-requires-in-Some-nth c =
     let name : length c.as_str.result.now ≡ length (string_bytes c.in-Some-nth.name.now) = ap length c.as_str.ensures.value in
     c.push_str-in-Some-nth.ensures.succeeds (grind (arith, nat_tests))
 
--- src/conclude.rt:96:1
+-- src/reporting.rt:96:1
 pub returns-in-Some-nth : goal.returns-in-Some-nth
 returns-in-Some-nth c =
     let ran = c.in-Some-nth.ensures.ran in
@@ -38,7 +38,7 @@ returns-in-Some-nth c =
     let first : string_bytes c.push_str.new.self ≡ codes "contradicts " = pushed c.push_str.result c.unwrap.result (string_bytes c.push_str.new.self) (string_bytes c.args.message) (codes "contradicts ") c.push_str.ensures.bytes c.unwrap.ensures ∙ ap (λ b. b ++ codes "contradicts ") c.requires.blank in
     pushed c.push_str-in-Some-nth.result c.unwrap-in-Some-nth.result (string_bytes c.push_str-in-Some-nth.new.self) (string_bytes c.push_str.new.self) c.as_str.result.now c.push_str-in-Some-nth.ensures.bytes c.unwrap-in-Some-nth.ensures ∙ ap₂ (λ a b. a ++ b) first (c.as_str.ensures.value ∙ sym name)
 
--- src/conclude.rt:96:1
+-- src/reporting.rt:96:1
 pub returns-in_default-nth : goal.returns-in_default-nth
 returns-in_default-nth c =
     let ran = c.in_default-nth.ensures.ran in

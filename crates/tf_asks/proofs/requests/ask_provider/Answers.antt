@@ -4,8 +4,8 @@ use Rattle.tf_plan_data.specs.Plan.{plan_names, plan_of}
 use Rattle.tf_protocol.specs.Meaning.{schema_in}
 use Rattle.tf_outcome.specs.Asked.{asked_for}
 use Rattle.tf_outcome.specs.Outcome.{Requests, AreRequests, call_with, comes_of}
-use Rattle.tf_outcome.specs.declared.asking.Asking.{Asking}
-use Rattle.tf_outcome.specs.declared.ended.Faulted.{Faulted}
+use Rattle.tf_outcome.specs.declared.prepared_call.PreparedCall.{PreparedCall}
+use Rattle.tf_outcome.specs.declared.action_result.Faulted.{Faulted}
 use Rattle.tf_asks.specs.AskedBy.{asked_by}
 use Rattle.tf_asks.proofs.Asking.{asked-with, if_ok-weaker}
 use Rattle.tf_asks.proofs.requests.ask_provider.Goals as goal
@@ -18,8 +18,8 @@ returns-clause-asked g c =
     let objects = g.R.Results.objects c.args.results.now in
     let there : schema_in a.label.type_name ms ≡ Some c.in-Some.schema.now = sym (rw c.as_str.ensures.value at c.in-Some.ensures) in
     if_ok-weaker
-    (λ (made : Result Asking Faulted). (requests : Requests) → AreRequests plan requests → asked_by made ≡ asked_for (plan_names plan) c.in-Some.schema.now a (requests objects a c.in-Some.schema.now))
-    (λ (made : Result Asking Faulted). (requests : Requests) → AreRequests plan requests → comes_of ms (asked_by made) ≡ call_with ms requests plan objects a)
+    (λ (made : Result PreparedCall Faulted). (requests : Requests) → AreRequests plan requests → asked_by made ≡ asked_for (plan_names plan) c.in-Some.schema.now a (requests objects a c.in-Some.schema.now))
+    (λ (made : Result PreparedCall Faulted). (requests : Requests) → AreRequests plan requests → comes_of ms (asked_by made) ≡ call_with ms requests plan objects a)
     c.ask.result
     (λ made h requests are. asked-with ms requests plan objects a c.in-Some.schema.now (asked_by made) there (h requests are))
     c.ask.ensures.asked

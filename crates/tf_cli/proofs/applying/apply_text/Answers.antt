@@ -11,7 +11,7 @@ use Rattle.tf_walk_report.specs.Savable.{IsNamed}
 use Rattle.tf_state_data.specs.State.{state_of}
 use Rattle.tf_inputs.specs.Texts.{the_texts}
 use Rattle.tf_plan.specs.Refused.{Tells}
-use Rattle.tf_refusal.specs.Refusal.{told}
+use Rattle.tf_refusal.specs.Refusal.{refusal_of}
 use Rattle.tf_cli.specs.Refusals.{AreRefusals}
 use Rattle.tf_cli.proofs.Carried.{is_carried_out}
 use Rattle.tf_cli.proofs.Numbered.{refused-first, refused-walk}
@@ -47,4 +47,4 @@ pub returns-clause-refused : goal.returns-clause-refused
 returns-clause-refused g c =
     let ms = map (λ b. (goal.Provider-dyn g (b.vtable, b.value)).meaning b.value) c.args.providers.now in
     let texts = the_texts c.args.config.now (option_map (λ s. s.now) c.args.vars) (option_map (λ s. s.now) c.args.state) in
-    refused-walk ms texts c.args.lineage.now c.args.workers (plan_of c.in_ok-planned.planned) c.in_ok-planned.ensures.planned (told c.in-Err.refusal) c.in-Err.ensures.refused c.one_refusal.result c.one_refusal.ensures
+    refused-walk ms texts c.args.lineage.now c.args.workers (plan_of c.in_ok-planned.planned) c.in_ok-planned.ensures.planned (refusal_of c.in-Err.refusal) c.in-Err.ensures.refused c.one_refusal.result c.one_refusal.ensures

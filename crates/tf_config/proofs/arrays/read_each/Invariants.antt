@@ -5,4 +5,4 @@ use Rattle.tf_config.proofs.arrays.read_each.Given as goal
 
 -- the elements so far are read
 abbrev pub invariant-loop-position : goal.invariant-loop-position
-invariant-loop-position g l = EachSays g.E.Listed.says (items_view (take l.position l.value-items)) (map g.E.Listed.told_by l.all.items)
+invariant-loop-position g l = EachSays g.E.Listed.says (items_view (take l.position l.value-items)) (map g.E.Listed.out_view l.all.items)

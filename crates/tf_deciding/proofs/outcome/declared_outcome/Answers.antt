@@ -4,7 +4,7 @@ use Rattle.tf_change.specs.Instance.{instance_object, instance_of}
 use Rattle.tf_config_data.specs.Config.{block_at, lifecycle_of}
 use Rattle.tf_deciding.proofs.Declared.{steps_done, refusal_told}
 use Rattle.tf_deciding.specs.Views.{steps_of}
-use Rattle.tf_decision.specs.Answer.{decision_of, refusal_of}
+use Rattle.tf_decision.specs.Answer.{decision_of, decision_fault_of}
 use Rattle.tf_deciding.proofs.outcome.declared_outcome.Goals as goal
 use Rattle.tf_state_data.specs.Record.{record_of}
 
@@ -21,4 +21,4 @@ returns-in-Err g c = λ label.
     let records = map record_of c.args.member.now.records.now in
     let object = instance_object c.args.schema.now (block_at label c.args.block.now) (instance_key_of c.args.member.now.key) (g.S.Scope.environment c.args.scope.now) in
     let is = rw c.in-Err.is at c.in_ok-decision.ensures in
-    refusal_told c.args.schema.now (lifecycle_of c.args.block.now.lifecycle) records (instance_of c.in_ok-planned.planned) object (c.in_ok-planned.ensures.plans label) (refusal_of c.in-Err.why) is
+    refusal_told c.args.schema.now (lifecycle_of c.args.block.now.lifecycle) records (instance_of c.in_ok-planned.planned) object (c.in_ok-planned.ensures.plans label) (decision_fault_of c.in-Err.why) is

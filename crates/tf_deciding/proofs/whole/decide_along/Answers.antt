@@ -23,15 +23,15 @@ loop-place-preserved g c =
     let p : ℕ = slice_index_or c.args.order.now i 0 in
     let below : i < length c.args.order.now = c.loop-place-test.true in
     looked_more ms (state_of c.args.stage.now.state.now).resources (entries_view c.args.declared.now.variables.now.entries) names (shapes_of c.args.stage.now.shapes.now)
-    c.args.order.now c.args.wanted.now i p c.loop-place.kept.items _ c.loop-place.rows.items _ c.in_ok-looked.looked.standing c.in_ok-looked.looked.decided c.contains-is_wanted.result c.as_slice.result.now
+    c.args.order.now c.args.wanted.now i p c.loop-place.kept.items _ c.loop-place.rows.items _ c.in_ok-looked.looked.resolved c.in_ok-looked.looked.decided c.contains-is_wanted.result c.as_slice.result.now
     c.requires.order c.requires.closed c.requires.needed below refl (c.requires.within p (i, below, get_or_default c.args.order.now i p 0 below)) refl refl
-    c.contains-is_wanted.ensures c.as_slice.ensures.value c.in_ok-looked.ensures.standing c.in_ok-looked.ensures.decided c.loop-place.invariant
+    c.contains-is_wanted.ensures c.as_slice.ensures.value c.in_ok-looked.ensures.resolved c.in_ok-looked.ensures.decided c.loop-place.invariant
 
-pub returns-clause-standings : goal.returns-clause-standings
-returns-clause-standings g c =
+pub returns-clause-resolved_names : goal.returns-clause-resolved_names
+returns-clause-resolved_names g c =
     let ms = map (λ b. (goal.Provider-dyn g (b.vtable, b.value)).meaning b.value) c.args.stage.now.providers.now in
     kept_all (deciding ms (state_of c.args.stage.now.state.now).resources (shapes_of c.args.stage.now.shapes.now)) (entries_view c.args.declared.now.variables.now.entries) (names_in c.args.declared.now.names.now)
-    c.args.order.now c.args.wanted.now c.loop-place.place-index c.loop-place.kept.items (omega (arith, c.loop-place-test.false)) c.loop-place.invariant.standing
+    c.args.order.now c.args.wanted.now c.loop-place.place-index c.loop-place.kept.items (omega (arith, c.loop-place-test.false)) c.loop-place.invariant.resolved
 
 pub returns-clause-rows : goal.returns-clause-rows
 returns-clause-rows g c =
@@ -50,7 +50,7 @@ index_mut-requires g c =
     let i = c.loop-place.place-index in
     let p : ℕ = slice_index_or c.args.order.now i 0 in
     let inside : p < length (names_in c.args.declared.now.names.now) = c.requires.within p (i, c.loop-place-test.true, get_or_default c.args.order.now i p 0 c.loop-place-test.true) in
-    let long : length c.loop-place.kept.items ≡ length (names_in c.args.declared.now.names.now) = c.loop-place.invariant.standing.long in
+    let long : length c.loop-place.kept.items ≡ length (names_in c.args.declared.now.names.now) = c.loop-place.invariant.resolved.long in
     let wide : length c.loop-place.rows.items ≡ length (names_in c.args.declared.now.names.now) = c.loop-place.invariant.long in
     search rules
 
@@ -59,6 +59,6 @@ index_mut-requires-in-loop-place g c =
     let i = c.loop-place.place-index in
     let p : ℕ = slice_index_or c.args.order.now i 0 in
     let inside : p < length (names_in c.args.declared.now.names.now) = c.requires.within p (i, c.loop-place-test.true, get_or_default c.args.order.now i p 0 c.loop-place-test.true) in
-    let long : length c.loop-place.kept.items ≡ length (names_in c.args.declared.now.names.now) = c.loop-place.invariant.standing.long in
+    let long : length c.loop-place.kept.items ≡ length (names_in c.args.declared.now.names.now) = c.loop-place.invariant.resolved.long in
     let wide : length c.loop-place.rows.items ≡ length (names_in c.args.declared.now.names.now) = c.loop-place.invariant.long in
     search rules

@@ -1,8 +1,8 @@
 use Rattle.std.proofs.Common.{IfOk, Contains, map, subst}
 use Rattle.tf_deciding.specs.Rows.{AreDecided, rows_of}
 use Rattle.tf_deciding.specs.Stage.{deciding}
-use Rattle.tf_environment.specs.Kept.{HaveStandings}
-use Rattle.tf_environment.specs.Views.{shapes_of, standings_of}
+use Rattle.tf_environment.specs.Kept.{AreResolved}
+use Rattle.tf_environment.specs.Views.{shapes_of, resolved_names_of}
 use Rattle.tf_names.specs.Table.{names_in}
 use Rattle.tf_state_data.specs.State.{state_of}
 use Rattle.tf_value.specs.Tree.{entries_view}
@@ -11,13 +11,13 @@ use Rattle.tf_deciding.proofs.whole.decide_in_order.Goals as goal
 pub decide_along-requires-clause-within : goal.decide_along-requires-clause-within
 decide_along-requires-clause-within g c = λ n h. c.requires.dependence.within n (subst (λ xs. Contains xs n) c.order.ensures h)
 
-pub returns-clause-standings : goal.returns-clause-standings
-returns-clause-standings g c =
+pub returns-clause-resolved_names : goal.returns-clause-resolved_names
+returns-clause-resolved_names g c =
     let ms = map (λ b. (goal.Provider-dyn g (b.vtable, b.value)).meaning b.value) c.args.stage.now.providers.now in
     subst
-    (λ xs. IfOk c.decide_along.result (λ r. HaveStandings (deciding ms (state_of c.args.stage.now.state.now).resources (shapes_of c.args.stage.now.shapes.now)) (entries_view c.args.declared.now.variables.now.entries)
-    (names_in c.args.declared.now.names.now) xs c.args.wanted.now (standings_of r.standings.items)))
-    c.order.ensures c.decide_along.ensures.standings
+    (λ xs. IfOk c.decide_along.result (λ r. AreResolved (deciding ms (state_of c.args.stage.now.state.now).resources (shapes_of c.args.stage.now.shapes.now)) (entries_view c.args.declared.now.variables.now.entries)
+    (names_in c.args.declared.now.names.now) xs c.args.wanted.now (resolved_names_of r.resolved_names.items)))
+    c.order.ensures c.decide_along.ensures.resolved_names
 
 pub returns-clause-rows : goal.returns-clause-rows
 returns-clause-rows g c =

@@ -7,4 +7,4 @@ use Rattle.tf_plan_resources.specs.Table.{numbered_in}
 
 abbrev pub invariant-loop-place : goal.invariant-loop-place
 invariant-loop-place g l =
-    AreGathered (map (λ b. (goal.Provider-dyn g (b.vtable, b.value)).meaning b.value) l.providers) (numbered_in l.numbering) l.order (rows_of l.fn.rows.items) l.place-index (rows_of l.left.items) (decided_of l.decided)
+    AreGathered (map (λ b. (goal.Provider-dyn g (b.vtable, b.value)).meaning b.value) l.providers) (numbered_in l.resource_index) l.order (rows_of l.fn.rows.items) l.place-index (rows_of l.left.items) (decided_of l.decided)

@@ -5,5 +5,5 @@ pub returns : goal.returns
 returns c =
     let law = c.known_names_give_known_values.ensures.expressions in
     let instances = c.objects_grow.ensures.instances in
-    let grow = c.standings_grow.ensures.standings in
+    let grow = c.resolved_names_grow.ensures.resolved_names in
     record { objects = second_keeps law instances grow; second = second_flags law instances grow; serials = second_serials law instances grow; records = third_keeps law instances grow; third = third_nothing law instances grow; reports = reports_settle law instances grow }

@@ -5,8 +5,8 @@ pub returns : goal.returns
 returns c =
     let laws : Laws =
     record {
-      one = c.standings_are_one.ensures.one;
-      grow = c.standings_grow.ensures.standings;
+      one = c.resolved_names_are_one.ensures.one;
+      grow = c.resolved_names_grow.ensures.resolved_names;
       instances = c.instances_stay.ensures.instances;
       meaning = c.expr_knowledge_grows.ensures;
       stands = c.all_stand_where_none_is_refused.ensures;

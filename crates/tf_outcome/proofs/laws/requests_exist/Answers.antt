@@ -3,6 +3,6 @@ use Rattle.tf_outcome.proofs.laws.requests_exist.Goals as goal
 
 pub returns : goal.returns
 returns c = record {
-  exist = requests_exist c.standings_are_one.ensures.exist c.standings_are_one.ensures.one;
-  one = requests_one c.standings_are_one.ensures.exist;
+  exist = requests_exist c.resolved_names_are_one.ensures.exist c.resolved_names_are_one.ensures.one;
+  one = requests_one c.resolved_names_are_one.ensures.exist;
 }

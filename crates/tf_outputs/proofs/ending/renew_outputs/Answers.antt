@@ -5,8 +5,8 @@ use Rattle.tf_graph.specs.NodeSet.{has}
 use Rattle.tf_names.specs.Table.{names_in}
 use Rattle.tf_outputs.proofs.Done.{EndsWith, ends_start, ends_more, ends_all, none_listed, one_longer, rooms_less, table_more}
 use Rattle.tf_outputs.specs.Keeping.{done_of}
-use Rattle.tf_outputs.specs.Rooms.{HavePlaces, outputs_in}
-use Rattle.tf_outputs.specs.declared.rooms.OutputRoom.{OutputRoom}
+use Rattle.tf_outputs.specs.Buffers.{HavePlaces, outputs_in}
+use Rattle.tf_outputs.specs.declared.buffers.OutputBuffers.{OutputBuffers}
 use Rattle.tf_request.proofs.Shared.{none_answered}
 use Rattle.tf_state_data.specs.State.{outputs_of}
 use Rattle.tf_syntax.specs.ExprTree.{tree_of}
@@ -44,7 +44,7 @@ loop-room-preserved g c =
     let after = outputs_of c.keep.new.outputs.entries in
     let d = done_of c.end_output-ended.result in
     let more : c.push.new.self.items ≡ old.ends.items ++ c.keep.result ∷ [] = rw c.unwrap.ensures at c.push.ensures.items in
-    let before = subst (λ (rs : List OutputRoom). EndsWith variables names shapes objects settled kept all (outputs_in rs) old.ends.items saved) step old.invariant.ended in
+    let before = subst (λ (rs : List OutputBuffers). EndsWith variables names shapes objects settled kept all (outputs_in rs) old.ends.items saved) step old.invariant.ended in
     record {
       ended =
           ends_more variables names shapes objects settled kept all name (tree_of room.expr.now) (outputs_in left) old.ends.items c.push.new.self.items saved after d c.keep.result

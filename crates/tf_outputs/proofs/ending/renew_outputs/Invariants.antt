@@ -2,12 +2,12 @@
 use Rattle.std.proofs.Common.{◌≤◌, ◌+◌, length}
 use Rattle.std.specs.Prelude.{vec_capacity}
 use Rattle.std.specs.Vec.Iter.{into_iter_items}
-use Rattle.tf_environment.specs.Views.{shapes_of, standings_of}
+use Rattle.tf_environment.specs.Views.{shapes_of, resolved_names_of}
 use Rattle.tf_graph.specs.NodeSet.{has}
 use Rattle.tf_names.specs.Table.{names_in}
 use Rattle.tf_outputs.proofs.Done.{EndsWith}
-use Rattle.tf_outputs.specs.Rooms.{HavePlaces, outputs_in}
-use Rattle.tf_request.specs.Requests.{AreStandingsSoFar}
+use Rattle.tf_outputs.specs.Buffers.{HavePlaces, outputs_in}
+use Rattle.tf_request.specs.Requests.{AreResolvedSoFar}
 use Rattle.tf_state_data.specs.State.{outputs_of}
 use Rattle.tf_value.specs.Stored.{IsTable}
 use Rattle.tf_value.specs.Tree.{entries_view}
@@ -22,5 +22,5 @@ invariant-loop-room g l =
       stored : IsTable (outputs_of l.fn.kept.entries) → IsTable (outputs_of l.outputs.entries);
       places : HavePlaces (names_in l.declared.names.now) left;
       room : length l.ends.items + length left ≤ vec_capacity l.ends;
-      answered : AreStandingsSoFar (entries_view l.declared.variables.now.entries) (names_in l.declared.names.now) (shapes_of l.shapes) (g.R.Results.objects l.results) (standings_of l.stood.items);
+      answered : AreResolvedSoFar (entries_view l.declared.variables.now.entries) (names_in l.declared.names.now) (shapes_of l.shapes) (g.R.Results.objects l.results) (resolved_names_of l.stood.items);
     }

@@ -1,15 +1,15 @@
 use Rattle.std.proofs.Common.{map}
 use Rattle.tf_plan_resources.specs.Order.{AreInAddressOrder}
 use Rattle.tf_deciding.specs.Rows.{rows_of}
-use Rattle.tf_environment.specs.Views.{shapes_of, standings_of}
+use Rattle.tf_environment.specs.Views.{shapes_of, resolved_names_of}
 use Rattle.tf_plan.proofs.Looking.{once-placed, planned-is}
-use Rattle.tf_plan.specs.Given.{names_given, outputs_given, resources_given, variables_given}
-use Rattle.tf_plan_resources.specs.Numbering.{numbered}
+use Rattle.tf_plan.specs.Input.{names_given, outputs_given, resources_given, variables_given}
+use Rattle.tf_plan_resources.specs.ResourceIndex.{numbered}
 use Rattle.tf_plan_resources.specs.Table.{numbered_in}
 use Rattle.tf_plan.proofs.deciding.plan_instances.Goals as goal
 
 pub plan_places-requires-clause-once : goal.plan_places-requires-clause-once
-plan_places-requires-clause-once g c = rw c.as_slice.ensures.value (once-placed (numbered_in c.args.given.now.numbering.now) c.in_ok-places.places.items c.in_ok-places.ensures)
+plan_places-requires-clause-once g c = rw c.as_slice.ensures.value (once-placed (numbered_in c.args.given.now.resource_index.now) c.in_ok-places.places.items c.in_ok-places.ensures)
 
 pub returns : goal.returns
 returns g c =
@@ -17,6 +17,6 @@ returns g c =
     let names = names_given c.args.given.now in
     let resources = resources_given c.args.given.now in
     let sorted : AreInAddressOrder (numbered names resources) c.in_ok-places.places.items = rw c.requires.numbered at c.in_ok-places.ensures in
-    planned-is ms resources (variables_given c.args.given.now) names (outputs_given c.args.given.now) (shapes_of c.args.shapes.now) c.in_ok-places.places.items (standings_of c.in_ok-looked.looked.standings.items)
-    (rows_of c.in_ok-looked.looked.rows.items) c.args.given.now.declared.now.dependence.now c.plan_places.result c.requires.dependence c.requires.acyclic sorted c.in_ok-looked.ensures.standings c.in_ok-looked.ensures.rows
+    planned-is ms resources (variables_given c.args.given.now) names (outputs_given c.args.given.now) (shapes_of c.args.shapes.now) c.in_ok-places.places.items (resolved_names_of c.in_ok-looked.looked.resolved_names.items)
+    (rows_of c.in_ok-looked.looked.rows.items) c.args.given.now.declared.now.dependence.now c.plan_places.result c.requires.dependence c.requires.acyclic sorted c.in_ok-looked.ensures.resolved_names c.in_ok-looked.ensures.rows
     (rw c.as_slice.ensures.value at c.plan_places.ensures)

@@ -12,29 +12,29 @@ use Rattle.tf_plan.proofs.ordering.order_actions.Goals as goal
 pub order_by-requires-clause-sound : goal.order_by-requires-clause-sound
 order_by-requires-clause-sound c =
     let d = c.args.declared.now.dependence.now in
-    let all = numbered_in c.args.numbering.now in
+    let all = numbered_in c.args.resource_index.now in
     let are : AreLate d.graph c.in_ok-stored.stored.graph (map is_marked all) c.in_ok-late.late.items =
     rw (c.graph-needs.ensures, c.graph.ensures, c.as_slice.ensures.value, c.in_ok-marked.ensures) at c.in_ok-late.ensures.late in
     rw c.as_slice-2.ensures.value
-    (ties-sound (names_in c.args.declared.now.names.now) (resources_in c.args.numbering.now) all d c.in_ok-stored.stored c.in_ok-late.late.items c.requires.dependence c.requires.numbered c.in_ok-stored.ensures (map is_marked all)
+    (ties-sound (names_in c.args.declared.now.names.now) (resources_in c.args.resource_index.now) all d c.in_ok-stored.stored c.in_ok-late.late.items c.requires.dependence c.requires.numbered c.in_ok-stored.ensures (map is_marked all)
     c.requires.acyclic are)
 
 pub returns-in_err-order-clause-refused : goal.returns-in_err-order-clause-refused
 returns-in_err-order-clause-refused c =
     let d = c.args.declared.now.dependence.now in
-    let all = numbered_in c.args.numbering.now in
+    let all = numbered_in c.args.resource_index.now in
     let are : AreLate d.graph c.in_ok-stored.stored.graph (map is_marked all) c.in_ok-late.late.items =
     rw (c.graph-needs.ensures, c.graph.ensures, c.as_slice.ensures.value, c.in_ok-marked.ensures) at c.in_ok-late.ensures.late in
     let p = err_from_is_err_and c.from_residual-in_err-order.result c.from_residual-in_err-order.ensures.1 in
     rw (p.1, p.2)
-    (pairs-refused (names_in c.args.declared.now.names.now) (resources_in c.args.numbering.now) all d c.in_ok-stored.stored c.in_ok-late.late.items c.requires.dependence c.requires.numbered c.in_ok-stored.ensures
+    (pairs-refused (names_in c.args.declared.now.names.now) (resources_in c.args.resource_index.now) all d c.in_ok-stored.stored c.in_ok-late.late.items c.requires.dependence c.requires.numbered c.in_ok-stored.ensures
     (map action_of c.args.actions.now) c.in_err-order.field-0.0 are (rw c.as_slice-2.ensures.value at c.in_err-order.ensures.refused))
 
 pub returns-clause-ordered : goal.returns-clause-ordered
 returns-clause-ordered c =
     let d = c.args.declared.now.dependence.now in
-    let all = numbered_in c.args.numbering.now in
+    let all = numbered_in c.args.resource_index.now in
     let are : AreLate d.graph c.in_ok-stored.stored.graph (map is_marked all) c.in_ok-late.late.items =
     rw (c.graph-needs.ensures, c.graph.ensures, c.as_slice.ensures.value, c.in_ok-marked.ensures) at c.in_ok-late.ensures.late in
-    order-is (names_in c.args.declared.now.names.now) (resources_in c.args.numbering.now) all d c.in_ok-stored.stored c.in_ok-late.late.items c.requires.dependence c.requires.numbered c.in_ok-stored.ensures c.in_ok-order.order
+    order-is (names_in c.args.declared.now.names.now) (resources_in c.args.resource_index.now) all d c.in_ok-stored.stored c.in_ok-late.late.items c.requires.dependence c.requires.numbered c.in_ok-stored.ensures c.in_ok-order.order
     (map action_of c.args.actions.now) are (c.in_ok-order.ensures.nodes ∙ sym (length-map c.args.actions.now action_of)) (rw c.as_slice-2.ensures.value at c.in_ok-order.ensures.edges) c.in_ok-order.ensures.few

@@ -1,6 +1,6 @@
 use Rattle.std.proofs.Common.{◌≡◌, ◌∷◌, [], List}
 use Rattle.tf_names.specs.Table.{names_in}
-use Rattle.tf_refusal.specs.Refusal.{Told, told}
+use Rattle.tf_refusal.specs.Refusal.{RefusalView, refusal_of}
 use Rattle.tf_value.specs.Tree.{entries_view}
 use Rattle.tf_environment.specs.Views.{shapes_of}
 use Rattle.tf_plan.proofs.Refusing.{fault-placed, fault-told, instances-are, tells-weaker}
@@ -16,10 +16,10 @@ pub returns-in_ok-alone-in-Err-clause-refused : goal.returns-in_ok-alone-in-Err-
 returns-in_ok-alone-in-Err-clause-refused c =
     let variables = entries_view c.args.declared.now.variables.now.entries in
     let names = names_in c.args.declared.now.names.now in
-    let t = told c.in_ok-refusal-in-Err.refusal in
-    tells-weaker (λ (tolds : List Told). tolds ≡ t ∷ []) (AreUnexpanded variables names) c.in_ok-alone-in-Err.field-0
-    (λ tolds is.
-    fault-told variables names c.args.declared.now.dependence.now c.in-Err.fault t tolds c.requires.dependence c.requires.acyclic c.in-Err.ensures c.in_ok-refusal-in-Err.ensures is) c.in_ok-alone-in-Err.ensures
+    let t = refusal_of c.in_ok-refusal-in-Err.refusal in
+    tells-weaker (λ (refusal_views : List RefusalView). refusal_views ≡ t ∷ []) (AreUnexpanded variables names) c.in_ok-alone-in-Err.field-0
+    (λ refusal_views is.
+    fault-told variables names c.args.declared.now.dependence.now c.in-Err.fault t refusal_views c.requires.dependence c.requires.acyclic c.in-Err.ensures c.in_ok-refusal-in-Err.ensures is) c.in_ok-alone-in-Err.ensures
 
 pub returns-in-Ok-clause-instances : goal.returns-in-Ok-clause-instances
 returns-in-Ok-clause-instances c =

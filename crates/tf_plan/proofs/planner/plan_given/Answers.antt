@@ -3,15 +3,15 @@ use Rattle.std.proofs.lemmas.List.{length-map}
 use Rattle.std.proofs.lemmas.Result.{err_from_is_err_and}
 use Rattle.tf_plan_data.specs.Action.{action_of}
 use Rattle.tf_environment.specs.Views.{shapes_of}
-use Rattle.tf_environment.specs.declared.shape.Shape.{Shape}
+use Rattle.tf_environment.specs.declared.shape.InstanceKeys.{InstanceKeys}
 use Rattle.tf_plan.proofs.Declaring.{unplanned, many_pairs}
-use Rattle.tf_plan.specs.Given.{names_given, outputs_given, resources_given, variables_given}
+use Rattle.tf_plan.specs.Input.{names_given, outputs_given, resources_given, variables_given}
 use Rattle.tf_plan.specs.Plan.{max_actions}
 use Rattle.tf_plan.specs.Planned.{AreInstances}
-use Rattle.tf_plan.specs.declared.deciding.Given.{Given}
+use Rattle.tf_plan.specs.declared.deciding.PlanInput.{PlanInput}
 use Rattle.tf_plan.proofs.planner.plan_given.Goals as goal
 
-same_instances : (given : Given) (xs ys : List Shape) → xs ≡ ys → AreInstances (variables_given given) (names_given given) (shapes_of ys) → AreInstances (variables_given given) (names_given given) (shapes_of xs)
+same_instances : (given : PlanInput) (xs ys : List InstanceKeys) → xs ≡ ys → AreInstances (variables_given given) (names_given given) (shapes_of ys) → AreInstances (variables_given given) (names_given given) (shapes_of xs)
 same_instances given xs ys e h = subst (λ zs. AreInstances (variables_given given) (names_given given) (shapes_of zs)) (sym e) h
 
 pub returns-in_err-actions-clause-refused : goal.returns-in_err-actions-clause-refused

@@ -9,7 +9,7 @@ plan_given-requires-clause-few g c =
     let names = names_in c.in_ok-names.names in
     let resources = (state_of c.args.prior.now).resources in
     let few = numbers-few names resources in
-    let all = ap length c.in_ok-numbering.ensures.numbered in
+    let all = ap length c.in_ok-resource_index.ensures.numbered in
     let own = ap length c.in_ok-names.ensures in
     let asked = c.requires.few in
     omega (arith, few, all, own, asked)

@@ -2,10 +2,10 @@
 use Rattle.std.proofs.Common.{◌≡◌, ◌++◌, map}
 use Rattle.std.specs.Vec.Iter.{into_iter_items}
 use Rattle.tf_deciding.specs.Deciding.{refused_of}
-use Rattle.tf_refusal.specs.Refusal.{told}
+use Rattle.tf_refusal.specs.Refusal.{refusal_of}
 use Rattle.tf_plan.specs.Told.{instance_told}
 use Rattle.tf_plan.proofs.telling.refusals_of.Given as goal
 
 abbrev pub invariant-loop-instance : goal.invariant-loop-instance
 invariant-loop-instance l =
-    map told l.refusals.items ++ map instance_told (map refused_of (into_iter_items l.instance-iterator)) ≡ map instance_told (map refused_of l.fn.instances.items)
+    map refusal_of l.refusals.items ++ map instance_told (map refused_of (into_iter_items l.instance-iterator)) ≡ map instance_told (map refused_of l.fn.instances.items)

@@ -11,7 +11,7 @@ use Rattle.tf_plan_resources.specs.Table.{numbered_in}
 
 pub returns : goal.returns
 returns c =
-    let all = numbered_in c.args.numbering.now in
+    let all = numbered_in c.args.resource_index.now in
     record {
       each = subst (λ xs. IsPermutation xs c.sort_by.new.self.items) c.in_ok-places.ensures c.sort_by.ensures.permutation;
       sorted = c.in_ok-sort_by.ensures.sorted (is_below all) (ranks_by (options_total label_total) (address_at all))

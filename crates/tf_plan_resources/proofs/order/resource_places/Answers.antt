@@ -7,7 +7,7 @@ use Rattle.tf_plan_resources.specs.Table.{numbered_in}
 
 pub loop-place-preserved : goal.loop-place-preserved
 loop-place-preserved c =
-    let all = numbered_in c.args.numbering.now in
+    let all = numbered_in c.args.resource_index.now in
     let place = c.loop-place.place in
     elim c.if-is_resource.branch [
       | then-is_resource+in_ok-push w ↦

@@ -5,4 +5,4 @@ use Rattle.tf_plan_resources.proofs.order.resource_places.Given as goal
 use Rattle.tf_plan_resources.specs.Table.{numbered_in}
 
 abbrev pub invariant-loop-place : goal.invariant-loop-place
-invariant-loop-place l = l.places.items ≡ filter (is_resource (numbered_in l.numbering)) (range_with_len 0 l.place)
+invariant-loop-place l = l.places.items ≡ filter (is_resource (numbered_in l.resource_index)) (range_with_len 0 l.place)

@@ -3,14 +3,14 @@ use Rattle.std.proofs.lemmas.Result.{err_from_is_err_and}
 use Rattle.tf_precedence.proofs.Keeping.{no_pair}
 use Rattle.tf_precedence.proofs.Listed.{made-done, made-step, made-skip, made-many}
 use Rattle.tf_precedence.specs.Order.{pair, pairs_into}
-use Rattle.tf_precedence.specs.Ties.{ties_of}
+use Rattle.tf_precedence.specs.OrderInput.{order_input_of}
 use Rattle.tf_precedence.proofs.order.add_before.Goals as goal
 
 pub loop-first-preserved : goal.loop-first-preserved
 loop-first-preserved c =
     let a = c.args in
     let l = c.loop-first in
-    let t = ties_of a.ties.now in
+    let t = order_input_of a.ties.now in
     let f = pair t a.actions.now a.second in
     let all = a.found.now.items ++ pairs_into t a.actions.now a.second in
     let next = c.in-Some.ensures.first in
@@ -30,7 +30,7 @@ returns-in_err-add_if-clause-too_many c h =
     let e = err_from_is_err_and c.from_residual.result c.from_residual.ensures.1 in
     let a = c.args in
     let l = c.loop-first in
-    let t = ties_of a.ties.now in
+    let t = order_input_of a.ties.now in
     let f = pair t a.actions.now a.second in
     let all = a.found.now.items ++ pairs_into t a.actions.now a.second in
     let next = c.in-Some.ensures.first in
@@ -45,7 +45,7 @@ pub returns-clause-pairs : goal.returns-clause-pairs
 returns-clause-pairs c =
     let a = c.args in
     let l = c.loop-first in
-    let t = ties_of a.ties.now in
+    let t = order_input_of a.ties.now in
     let f = pair t a.actions.now a.second in
     let all = a.found.now.items ++ pairs_into t a.actions.now a.second in
     let end = length a.actions.now in

@@ -2,7 +2,7 @@ use Rattle.std.proofs.Common.{Result, ◌≡◌, ◌∙◌, Err, length, sym, ap
 use Rattle.std.proofs.lemmas.Result.{err_from_is_err_and}
 use Rattle.tf_precedence.proofs.Listed.{made-step, made-many}
 use Rattle.tf_precedence.specs.Order.{pairs, pairs_into}
-use Rattle.tf_precedence.specs.Ties.{ties_of}
+use Rattle.tf_precedence.specs.OrderInput.{order_input_of}
 use Rattle.tf_precedence.specs.declared.order.OrderFault.TheVariants.{TooMany}
 use Rattle.tf_precedence.proofs.order.all_pairs.Goals as goal
 
@@ -14,7 +14,7 @@ loop-second-preserved c =
     let a = c.args in
     let l = c.loop-second in
     record {
-      rest = made-step (pairs_into (ties_of a.ties.now) a.actions.now) l.second (length a.actions.now) l.found.items c.add_before.new.found.items (pairs (ties_of a.ties.now) a.actions.now)
+      rest = made-step (pairs_into (order_input_of a.ties.now) a.actions.now) l.second (length a.actions.now) l.found.items c.add_before.new.found.items (pairs (order_input_of a.ties.now) a.actions.now)
           c.loop-second-test.true c.in_ok-add_before.ensures.pairs l.invariant.rest;
       few = c.in_ok-add_before.ensures.few;
     }
@@ -23,6 +23,6 @@ pub returns-in_err-add_before-clause-too_many : goal.returns-in_err-add_before-c
 returns-in_err-add_before-clause-too_many c h =
     let e = err_from_is_err_and c.from_residual.result c.from_residual.ensures.1 in
     let l = c.loop-second in
-    let f = pairs_into (ties_of c.args.ties.now) c.args.actions.now in
-    made-many f 200000 l.second (length c.args.actions.now) l.found.items (pairs (ties_of c.args.ties.now) c.args.actions.now) c.loop-second-test.true l.invariant.rest
+    let f = pairs_into (order_input_of c.args.ties.now) c.args.actions.now in
+    made-many f 200000 l.second (length c.args.actions.now) l.found.items (pairs (order_input_of c.args.ties.now) c.args.actions.now) c.loop-second-test.true l.invariant.rest
     (c.in_err-add_before.ensures.too_many (ap Err (sym e.2 ∙ same_fault c.from_residual.result e.0 TooMany e.1 h)))

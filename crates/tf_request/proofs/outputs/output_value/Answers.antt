@@ -2,7 +2,7 @@ use Rattle.std.proofs.Common.{◌≡◌, ◌<◌, ℕ, List, length, sym, subst,
 use Rattle.std.specs.List.{AllByRecursion}
 use Rattle.tf_config_data.specs.Names.{places}
 use Rattle.tf_environment.proofs.Places.{all_places}
-use Rattle.tf_environment.specs.Views.{shapes_of, standings_of}
+use Rattle.tf_environment.specs.Views.{shapes_of, resolved_names_of}
 use Rattle.tf_names.specs.Table.{names_in}
 use Rattle.tf_syntax.specs.ExprNames.{named_by}
 use Rattle.tf_syntax.specs.ExprTree.{tree_of}
@@ -11,8 +11,8 @@ use Rattle.tf_request.proofs.Requesting.{answered, standing_same}
 use Rattle.tf_request.proofs.Shared.{answered_each}
 use Rattle.tf_request.proofs.outputs.output_value.Goals as goal
 
-pub add_standings-requires-clause-within : goal.add_standings-requires-clause-within
-add_standings-requires-clause-within g c =
+pub add_resolved_names-requires-clause-within : goal.add_resolved_names-requires-clause-within
+add_resolved_names-requires-clause-within g c =
     let names = names_in c.args.declared.now.names.now in
     let named : c.as_slice.result.now ≡ places names (named_by (tree_of c.args.expr.now)) = c.as_slice.ensures.value ∙ c.in_ok-named.ensures in
     subst (λ (ns : List ℕ). AllByRecursion (λ n. n < length names) ns) (sym named) (all_places (λ n. n < length names) names (named_by (tree_of c.args.expr.now)) (λ n h. h))
@@ -24,7 +24,7 @@ returns-clause-output g c =
     let shapes = shapes_of c.args.shapes.now in
     let objects = g.R.Results.objects c.args.results.now in
     let named : c.as_slice.result.now ≡ places names (named_by (tree_of c.args.expr.now)) = c.as_slice.ensures.value ∙ c.in_ok-named.ensures in
-    answered variables names shapes objects (standings_of c.as_slice-2.result.now) (tree_of c.args.expr.now)
-    (λ standings solves. standing_same standings c.as_slice.result.now (places names (named_by (tree_of c.args.expr.now))) c.add_standings.new.kept.items c.as_slice-2.result.now named c.as_slice-2.ensures.value
-    (answered_each variables names shapes objects (standings_of c.add_standings.new.kept.items) c.as_slice.result.now c.in_ok-add_standings.ensures.answered c.in_ok-add_standings.ensures.there standings solves))
+    answered variables names shapes objects (resolved_names_of c.as_slice-2.result.now) (tree_of c.args.expr.now)
+    (λ resolved_names solves. standing_same resolved_names c.as_slice.result.now (places names (named_by (tree_of c.args.expr.now))) c.add_resolved_names.new.kept.items c.as_slice-2.result.now named c.as_slice-2.ensures.value
+    (answered_each variables names shapes objects (resolved_names_of c.add_resolved_names.new.kept.items) c.as_slice.result.now c.in_ok-add_resolved_names.ensures.answered c.in_ok-add_resolved_names.ensures.there resolved_names solves))
     c.listed_value.result c.listed_value.ensures

@@ -5,7 +5,7 @@ use Rattle.tf_address.specs.ObjectId.{instance_key_of}
 use Rattle.tf_config_data.specs.Config.{block_at}
 use Rattle.tf_config_data.specs.Names.{places}
 use Rattle.tf_environment.proofs.Places.{all_places}
-use Rattle.tf_environment.specs.Views.{shapes_of, standings_of}
+use Rattle.tf_environment.specs.Views.{shapes_of, resolved_names_of}
 use Rattle.tf_names.specs.Table.{names_in}
 use Rattle.tf_value.specs.Tree.{entries_view}
 use Rattle.tf_request.specs.Wanted.{instance_names}
@@ -16,8 +16,8 @@ use Rattle.tf_request.proofs.requests.request.Goals as goal
 pub at-requires : goal.at-requires
 at-requires g c = resource_below (names_in c.args.declared.now.names.now) c.args.place c.requires.resource
 
-pub add_standings-requires-clause-within : goal.add_standings-requires-clause-within
-add_standings-requires-clause-within g c =
+pub add_resolved_names-requires-clause-within : goal.add_resolved_names-requires-clause-within
+add_resolved_names-requires-clause-within g c =
     let names = names_in c.args.declared.now.names.now in
     let refers = instance_names (block_at (label_of c.in-Resource.field-0.now) c.in-Resource.block.now) in
     let named : c.as_slice.result.now ≡ places names refers = c.as_slice.ensures.value ∙ c.in_ok-named.ensures (label_of c.in-Resource.field-0.now) in
@@ -32,8 +32,8 @@ returns-clause-request g c =
     let variables = entries_view c.args.declared.now.variables.now.entries in
     let shapes = shapes_of c.args.shapes.now in
     let objects = g.R.Results.objects c.args.results.now in
-    requested variables names shapes objects (standings_of c.as_slice-2.result.now) block c.args.place
+    requested variables names shapes objects (resolved_names_of c.as_slice-2.result.now) block c.args.place
     c.in-Resource.ensures.meant
-    (λ standings solves. standing_same standings c.as_slice.result.now (places names (instance_names block)) c.add_standings.new.kept.items c.as_slice-2.result.now named c.as_slice-2.ensures.value
-    (answered_each variables names shapes objects (standings_of c.add_standings.new.kept.items) c.as_slice.result.now c.in_ok-add_standings.ensures.answered c.in_ok-add_standings.ensures.there standings solves))
+    (λ resolved_names solves. standing_same resolved_names c.as_slice.result.now (places names (instance_names block)) c.add_resolved_names.new.kept.items c.as_slice-2.result.now named c.as_slice-2.ensures.value
+    (answered_each variables names shapes objects (resolved_names_of c.add_resolved_names.new.kept.items) c.as_slice.result.now c.in_ok-add_resolved_names.ensures.answered c.in_ok-add_resolved_names.ensures.there resolved_names solves))
     (instance_key_of c.args.key.now) c.args.schema.now c.plan_instance.result (c.plan_instance.ensures.plans label)

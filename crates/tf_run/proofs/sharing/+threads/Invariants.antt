@@ -1,4 +1,4 @@
--- each thread has one desk less to give away
+-- each thread has one state less to give away
 use Rattle.std.proofs.Common.{◌+◌, ◌*◌}
 use Rattle.tf_run.proofs.sharing.+threads.Given as goal
 

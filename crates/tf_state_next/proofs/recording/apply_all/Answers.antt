@@ -5,7 +5,7 @@ use Rattle.tf_state_next.proofs.Changing.{all_there, empty, heads_ordered, room_
 use Rattle.tf_state_next.proofs.Finding.{apart_front}
 use Rattle.tf_state_next.proofs.OneByOne.{applied_joined, none_applied}
 use Rattle.tf_state_next.specs.Events.{ApplyView, AreApart, apply_of, instance_of}
-use Rattle.tf_state_next.specs.Homes.{HaveRoom, count_of}
+use Rattle.tf_state_next.specs.StateDraft.{HaveRoom, count_of}
 use Rattle.tf_state_next.specs.Recorded.{AreApplied, AreThere}
 use Rattle.tf_state_next.specs.declared.events.Apply.{Apply}
 use Rattle.tf_state_data.specs.Resource.{resource_of}

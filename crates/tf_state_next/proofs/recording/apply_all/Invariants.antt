@@ -1,7 +1,7 @@
 -- what came of the applies that are left is recorded before that of those that were
 use Rattle.std.proofs.Common.{List, map, vec_len}
 use Rattle.tf_state_next.specs.Events.{AreApart, apply_of, instance_of}
-use Rattle.tf_state_next.specs.Homes.{HaveRoom, count_of}
+use Rattle.tf_state_next.specs.StateDraft.{HaveRoom, count_of}
 use Rattle.tf_state_next.specs.Recorded.{AreApplied, AreThere}
 use Rattle.tf_state_data.specs.Addresses.{AreByAddress}
 use Rattle.tf_state_data.specs.Resource.{ResourceView, resource_of}

@@ -1,7 +1,7 @@
 use Rattle.std.proofs.Common.{◌+◌, ℕ, None, [], map, sym, subst, arith}
 use Rattle.tf_state_next.proofs.Changing.{changed_in, read_at, room_kept}
 use Rattle.tf_state_next.proofs.OneByOne.{one_applied}
-use Rattle.tf_state_next.specs.Events.{as_apply, renewal_of}
+use Rattle.tf_state_next.specs.Events.{as_apply, metadata_update_of}
 use Rattle.tf_state_next.specs.After.{IsAfter}
 use Rattle.tf_state_next.specs.Ends.{unplanned}
 use Rattle.tf_state_data.specs.Resource.{HasRoomForRecords, resource_of}
@@ -10,7 +10,7 @@ use Rattle.tf_state_next.proofs.recording.renew.Goals as goal
 
 pub returns-in-Ok-clause-recorded : goal.returns-in-Ok-clause-recorded
 returns-in-Ok-clause-recorded c =
-    let a = as_apply (renewal_of c.args.event) in
+    let a = as_apply (metadata_update_of c.args.event) in
     let old = c.index-resources-index.result in
     let new = c.record_current.new.resource in
     let is =
@@ -20,7 +20,7 @@ returns-in-Ok-clause-recorded c =
 
 pub returns-in-Ok-clause-room : goal.returns-in-Ok-clause-room
 returns-in-Ok-clause-room c count room =
-    let a = as_apply (renewal_of c.args.event) in
+    let a = as_apply (metadata_update_of c.args.event) in
     let old = c.index-resources-index.result in
     let new = c.record_current.new.resource in
     let is =

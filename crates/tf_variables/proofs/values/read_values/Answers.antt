@@ -20,5 +20,5 @@ loop-name-preserved c =
     let file = option_map (λ tree. view tree.now) c.args.file in
     let e : Entry = (c.in-Some.name.now, c.in-Some.variable.now) in
     let literal = rw c.as_str.ensures.value at c.in_ok-taken.ensures.literal in
-    let next = rw (c.in_ok-taken.ensures.ok, c.as_str.ensures.value) at c.and_value-answer.ensures in
-    read_next file c.args.variables.now.entries _ e c.next.new.self c.loop-name.answer c.and_value-answer.result c.iter-name-items.ensures.ordered c.in-Some.ensures.steps literal next c.loop-name.invariant
+    let next = rw (c.in_ok-taken.ensures.ok, c.as_str.ensures.value) at c.put_value_for-answer.ensures in
+    read_next file c.args.variables.now.entries _ e c.next.new.self c.loop-name.answer c.put_value_for-answer.result c.iter-name-items.ensures.ordered c.in-Some.ensures.steps literal next c.loop-name.invariant

@@ -3,8 +3,8 @@ use Rattle.tf_provider.specs.Call.{Call}
 use Rattle.tf_protocol.specs.Meaning.{asked, answered}
 use Rattle.tf_protocol.specs.declared.request.Request.{Request}
 use Rattle.tf_outcome.proofs.Judging.{call-runs}
-use Rattle.tf_outcome.specs.Done.{Done}
-use Rattle.tf_outcome.specs.Ended.{done_by, done_of}
+use Rattle.tf_outcome.specs.ActionResult.{ActionResultView}
+use Rattle.tf_outcome.specs.ResultViews.{result_by, action_result_of}
 use Rattle.tf_outcome.specs.Outcome.{call_of_provider}
 use Rattle.tf_outcome.specs.Run.{IsRun}
 use Rattle.tf_walk.proofs.calls.make_call.Goals as goal
@@ -14,8 +14,8 @@ returns-clause-ended g c =
     let made = c.call-called.result in
     let q = asked c.args.asking.request in
     let m = (goal.Provider-dyn g (c.args.provider.now.vtable, c.args.provider.now.value)).meaning c.args.provider.now.value in
-    let ended : done_of c.ended_by.result.0 ≡ done_by q (answered made.reply) made.verdict =
+    let ended : action_result_of c.ended_by.result.0 ≡ result_by q (answered made.reply) made.verdict =
     c.ended_by.ensures.ended
-    ∙ (ap (λ (x : Call). done_by (asked x.request) (answered x.reply) x.verdict) c.in-Ok.ensures.recorded.1
-    ∙ ap (λ (r : Request). done_by (asked r) (answered made.reply) made.verdict) c.call-called.ensures.request) in
-    subst (λ (d : Done). IsRun (call_of_provider q m) d) (sym ended) (call-runs m q (answered made.reply) made.verdict c.requires.served c.call-called.ensures.answer c.call-called.ensures.verdict)
+    ∙ (ap (λ (x : Call). result_by (asked x.request) (answered x.reply) x.verdict) c.in-Ok.ensures.recorded.1
+    ∙ ap (λ (r : Request). result_by (asked r) (answered made.reply) made.verdict) c.call-called.ensures.request) in
+    subst (λ (d : ActionResultView). IsRun (call_of_provider q m) d) (sym ended) (call-runs m q (answered made.reply) made.verdict c.requires.served c.call-called.ensures.answer c.call-called.ensures.verdict)

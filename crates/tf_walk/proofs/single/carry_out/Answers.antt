@@ -6,12 +6,12 @@ use Rattle.tf_graph.specs.Order.{IsInOrder}
 use Rattle.tf_provider.specs.Entries.{Log, actions_of}
 use Rattle.tf_plan_data.specs.Action.{action_of}
 use Rattle.tf_plan_data.specs.Plan.{plan_of}
-use Rattle.tf_outcome.specs.Ended.{done_of, done_or_skipped, dones_of}
+use Rattle.tf_outcome.specs.ResultViews.{action_result_of, result_or_skipped, action_results_of}
 use Rattle.tf_outcome.specs.Excuse.{excuse_of}
 use Rattle.tf_outcome.specs.Journal.{IsOfAction, verdict_in}
 use Rattle.tf_outcome.specs.Outcome.{done_at, op_of}
 use Rattle.tf_outputs.specs.Outputs.{end_of}
-use Rattle.tf_additions.specs.Addition.{AreJudged}
+use Rattle.tf_additions.specs.ActionReport.{AreJudged}
 use Rattle.tf_walk.specs.Ends.{done_in}
 use Rattle.tf_asks.proofs.Asking.{some_requests}
 use Rattle.tf_walk.proofs.Carried.{left_by_walk}
@@ -49,8 +49,8 @@ report_of-requires-clause-judged g c =
     let new = c.walk.new.results in
     let left = left_by_walk new c.args.prepared.results.items c.args.prepared.results.len c.args.plan.now.order.nodes (map action_of c.args.plan.now.actions.items) c.walk.ensures.so_far.sized (omega (arith, length-map c.args.plan.now.actions.items action_of, c.args.plan.now.counted, c.args.plan.now.actions.ok.0)) c.requires.prepared.results (omega (arith, c.args.prepared.results.ok.0)) in
     let asked = some_requests plan (c.requires.fits.dependence.ranked c.requires.fits.acyclic) in
-    let judged = so_far-judged ms asked.0 plan (map (option_map done_of) new) c.walk.new.journal.entries (dones_of new) c.walk.ensures.so_far asked.1 (dones-are new) in
-    subst (λ rs. AreJudged ms (map (λ a. op_of a.step) (map action_of c.args.plan.now.actions.items)) (dones_of rs)) (sym left.0) judged
+    let judged = so_far-judged ms asked.0 plan (map (option_map action_result_of) new) c.walk.new.journal.entries (action_results_of new) c.walk.ensures.so_far asked.1 (dones-are new) in
+    subst (λ rs. AreJudged ms (map (λ a. op_of a.step) (map action_of c.args.plan.now.actions.items)) (action_results_of rs)) (sym left.0) judged
 
 pub returns : goal.returns
 returns g c =
@@ -59,11 +59,11 @@ returns g c =
     let new = c.walk.new.results in
     let left = left_by_walk new c.args.prepared.results.items c.args.prepared.results.len c.args.plan.now.order.nodes (map action_of c.args.plan.now.actions.items) c.walk.ensures.so_far.sized (omega (arith, length-map c.args.plan.now.actions.items action_of, c.args.plan.now.counted, c.args.plan.now.actions.ok.0)) c.requires.prepared.results (omega (arith, c.args.prepared.results.ok.0)) in
     let back : take c.args.prepared.results.len (new ++ drop (length new) c.args.prepared.results.items) ≡ new = left.0 in
-    let ends = map (option_map done_of) new in
+    let ends = map (option_map action_result_of) new in
     let entries = c.walk.new.journal.entries in
-    let done = dones_of (take c.args.prepared.results.len (new ++ drop (length new) c.args.prepared.results.items)) in
-    let same : (n : ℕ) → done_at done n ≡ done_in ends n = λ n. ap (λ rs. done_at (dones_of rs) n) back ∙ dones-are new n in
-    let lengths : length done ≡ length ends = ap (λ rs. length (dones_of rs)) back ∙ (length-map new done_or_skipped ∙ sym (length-map new (option_map done_of))) in
+    let done = action_results_of (take c.args.prepared.results.len (new ++ drop (length new) c.args.prepared.results.items)) in
+    let same : (n : ℕ) → done_at done n ≡ done_in ends n = λ n. ap (λ rs. done_at (action_results_of rs) n) back ∙ dones-are new n in
+    let lengths : length done ≡ length ends = ap (λ rs. length (action_results_of rs)) back ∙ (length-map new result_or_skipped ∙ sym (length-map new (option_map action_result_of))) in
     let report = c.report_of.result in
     let told = c.report_of.ensures.told in
     let excuses = λ (n : ℕ). ap (λ es. excuse_of es n) told.1.lawful ∙ excuses-with_outputs done (map end_of told.0) n in

@@ -7,14 +7,14 @@ use Rattle.tf_plan_data.specs.Fits.{IsDeclared}
 use Rattle.tf_plan_data.specs.Plan.{plan_of}
 use Rattle.tf_plan_data.specs.Served.{IsServedBy}
 use Rattle.tf_change.specs.Instance.{instance_fault_of}
-use Rattle.tf_outcome.specs.Ended.{done_of}
+use Rattle.tf_outcome.specs.ResultViews.{action_result_of}
 use Rattle.tf_outcome.specs.Excuse.{before_call, by_stop}
 use Rattle.tf_outcome.specs.Outcome.{excused, faulted}
 use Rattle.tf_outcome.specs.Asked.{op_of}
 use Rattle.tf_graph.specs.Solutions.{seen_by}
-use Rattle.tf_outcome.specs.declared.asking.Asking.{Asking}
-use Rattle.tf_outcome.specs.declared.ended.Ended.{Ended}
-use Rattle.tf_outcome.specs.declared.ended.Faulted.{Faulted}
+use Rattle.tf_outcome.specs.declared.prepared_call.PreparedCall.{PreparedCall}
+use Rattle.tf_outcome.specs.declared.action_result.ActionResult.{ActionResult}
+use Rattle.tf_outcome.specs.declared.action_result.Faulted.{Faulted}
 use Rattle.tf_outcome.specs.Journal.{op_at}
 use Rattle.tf_protocol.specs.Meaning.{asked}
 use Rattle.tf_protocol.specs.declared.request.Op.{Op}
@@ -29,25 +29,25 @@ pub returns-in-Some-clause-ended : goal.returns-in-Some-clause-ended
 returns-in-Some-clause-ended g c = λ requests are.
     let order = c.args.plan.now.order in
     let ms = map (λ b. (goal.Provider-dyn g (b.vtable, b.value)).meaning b.value) c.args.providers.now in
-    let ends = map (option_map done_of) c.args.results.now in
+    let ends = map (option_map action_result_of) c.args.results.now in
     let bad = rw c.action-action.ensures at c.in-Some.ensures in
-    subst (λ (e : Ended). IsEnd ms requests (plan_of c.args.plan.now) c.args.permit (seen_by (done_in ends) (predecessors_of order c.args.permit)) (done_of e)) (sym c.skipped.ensures.ended)
+    subst (λ (e : ActionResult). IsEnd ms requests (plan_of c.args.plan.now) c.args.permit (seen_by (done_in ends) (predecessors_of order c.args.permit)) (action_result_of e)) (sym c.skipped.ensures.ended)
     (ends_skipped ms requests (plan_of c.args.plan.now) c.args.permit (done_in ends) (predecessors_of order c.args.permit) bad)
 
 pub returns-in-Some-look-clause-ended : goal.returns-in-Some-look-clause-ended
 returns-in-Some-look-clause-ended g c = λ requests are.
     let order = c.args.plan.now.order in
     let ms = map (λ b. (goal.Provider-dyn g (b.vtable, b.value)).meaning b.value) c.args.providers.now in
-    let ends = map (option_map done_of) c.args.results.now in
-    subst (λ (e : Ended). IsEnd ms requests (plan_of c.args.plan.now) c.args.permit (seen_by (done_in ends) (predecessors_of order c.args.permit)) (done_of e)) (sym c.left.ensures.ended)
+    let ends = map (option_map action_result_of) c.args.results.now in
+    subst (λ (e : ActionResult). IsEnd ms requests (plan_of c.args.plan.now) c.args.permit (seen_by (done_in ends) (predecessors_of order c.args.permit)) (action_result_of e)) (sym c.left.ensures.ended)
     (ends_run ms requests (plan_of c.args.plan.now) c.args.permit (done_in ends) (predecessors_of order c.args.permit) (excused by_stop) (rw c.action-action.ensures at c.in_default.ensures) tt)
 
 pub returns-in-Err-clause-ended : goal.returns-in-Err-clause-ended
 returns-in-Err-clause-ended g c = λ requests are.
     let order = c.args.plan.now.order in
     let ms = map (λ b. (goal.Provider-dyn g (b.vtable, b.value)).meaning b.value) c.args.providers.now in
-    let ends = map (option_map done_of) c.args.results.now in
-    subst (λ (e : Ended). IsEnd ms requests (plan_of c.args.plan.now) c.args.permit (seen_by (done_in ends) (predecessors_of order c.args.permit)) (done_of e)) (sym c.not_asked.ensures.ended)
+    let ends = map (option_map action_result_of) c.args.results.now in
+    subst (λ (e : ActionResult). IsEnd ms requests (plan_of c.args.plan.now) c.args.permit (seen_by (done_in ends) (predecessors_of order c.args.permit)) (action_result_of e)) (sym c.not_asked.ensures.ended)
     (ends_run ms requests (plan_of c.args.plan.now) c.args.permit (done_in ends) (predecessors_of order c.args.permit) (excused before_call) (rw c.action-action.ensures at c.in_default.ensures) tt)
 
 pub ask-requires-clause-declared : goal.ask-requires-clause-declared
@@ -64,7 +64,7 @@ ask-requires-clause-served g c =
 pub serve-requires-clause-fits : goal.serve-requires-clause-fits
 serve-requires-clause-fits g c =
     let order = c.args.plan.now.order in
-    let ends = map (option_map done_of) c.args.results.now in
+    let ends = map (option_map action_result_of) c.args.results.now in
     let good = rw c.action-action.ensures at c.in_default.ensures in
     let good_here = rw (← c.requires.graph) at good in
     may_record c.args.journal.now ends c.args.permit c.requires.so_far.entered c.requires.free good_here
@@ -74,8 +74,8 @@ returns-in-Ok-Err-clause-ended g c = λ requests are.
     let ms = map (λ b. (goal.Provider-dyn g (b.vtable, b.value)).meaning b.value) c.args.providers.now in
     let read = rw (c.action-action.ensures, c.as_slice-actions.ensures.value) at c.index-actions-action.is in
     let order = c.args.plan.now.order in
-    let ends = map (option_map done_of) c.args.results.now in
-    subst (λ (e : Ended). IsEnd ms requests (plan_of c.args.plan.now) c.args.permit (seen_by (done_in ends) (predecessors_of order c.args.permit)) (done_of e)) (sym c.faulted.ensures.ended)
+    let ends = map (option_map action_result_of) c.args.results.now in
+    subst (λ (e : ActionResult). IsEnd ms requests (plan_of c.args.plan.now) c.args.permit (seen_by (done_in ends) (predecessors_of order c.args.permit)) (action_result_of e)) (sym c.faulted.ensures.ended)
     (ends_asked ms requests (plan_of c.args.plan.now) c.args.permit (names_in c.args.names.now) (map action_of c.as_slice-actions.result.now) c.args.results.now c.predecessors.result.now (action_of c.index-actions-action.result) c.in-Ok-Err.field-0 (Err c.in-Ok-Err.faulted) (faulted (instance_fault_of c.in-Ok-Err.faulted.fault)) c.in-Ok-Err.field-0-is refl
     c.requires.names (ap (map action_of) c.as_slice-actions.ensures.value) (rw (c.graph.ensures.graph, c.action-action.ensures) at c.predecessors.ensures.nodes) (slice_get-map action_of c.args.plan.now.actions.items c.args.permit c.index-actions-action.result c.requires.within read)
     (rw c.action-action.ensures at c.in_default.ensures) (c.in-Ok-Err.ensures.asked requests are))
@@ -84,7 +84,7 @@ pub returns-in-Ok-Ok-clause-ended : goal.returns-in-Ok-Ok-clause-ended
 returns-in-Ok-Ok-clause-ended g c = λ requests are.
     let ms = map (λ b. (goal.Provider-dyn g (b.vtable, b.value)).meaning b.value) c.args.providers.now in
     let read = rw (c.action-action.ensures, c.as_slice-actions.ensures.value) at c.index-actions-action.is in
-    ends_asked ms requests (plan_of c.args.plan.now) c.args.permit (names_in c.args.names.now) (map action_of c.as_slice-actions.result.now) c.args.results.now c.predecessors.result.now (action_of c.index-actions-action.result) c.in-Ok-Ok.field-0 (Ok c.in-Ok-Ok.asking) (done_of c.serve.result.0) c.in-Ok-Ok.field-0-is c.serve.ensures.ended
+    ends_asked ms requests (plan_of c.args.plan.now) c.args.permit (names_in c.args.names.now) (map action_of c.as_slice-actions.result.now) c.args.results.now c.predecessors.result.now (action_of c.index-actions-action.result) c.in-Ok-Ok.field-0 (Ok c.in-Ok-Ok.asking) (action_result_of c.serve.result.0) c.in-Ok-Ok.field-0-is c.serve.ensures.ended
     c.requires.names (ap (map action_of) c.as_slice-actions.ensures.value) (rw (c.graph.ensures.graph, c.action-action.ensures) at c.predecessors.ensures.nodes) (slice_get-map action_of c.args.plan.now.actions.items c.args.permit c.index-actions-action.result c.requires.within read)
     (rw c.action-action.ensures at c.in_default.ensures) (c.in-Ok-Ok.ensures.asked requests are)
 
@@ -93,7 +93,7 @@ returns-in-Ok-Ok-clause-entered g c =
     let actions = c.args.plan.now.actions.items in
     let read = rw (c.action-action.ensures, c.as_slice-actions.ensures.value) at c.index-actions-action.is in
     let there = slice_get-map action_of actions c.args.permit c.index-actions-action.result c.requires.within read in
-    let asks = subst (λ (made : Result Asking Faulted). IfOk made (λ asking. (asked asking.request).op ≡ op_of (action_of c.index-actions-action.result).step)) c.in-Ok-Ok.field-0-is c.in-Ok-Ok.ensures.op in
+    let asks = subst (λ (made : Result PreparedCall Faulted). IfOk made (λ asking. (asked asking.request).op ≡ op_of (action_of c.index-actions-action.result).step)) c.in-Ok-Ok.field-0-is c.in-Ok-Ok.ensures.op in
     let op : op_at (map action_of actions) c.args.permit ≡ Some (asked c.in-Ok-Ok.asking.request).op =
     ap (option_map (λ (a : ActionView). op_of a.step)) there ∙ ap Some (sym asks) in
-    subst (λ (o : Option Op). Enters c.args.permit o (done_of c.serve.result.0) c.args.journal.now.entries c.serve.new.journal.entries) (sym op) c.serve.ensures.entered
+    subst (λ (o : Option Op). Enters c.args.permit o (action_result_of c.serve.result.0) c.args.journal.now.entries c.serve.new.journal.entries) (sym op) c.serve.ensures.entered

@@ -3,14 +3,14 @@ use Rattle.std.proofs.Common.{◌≡◌, cond, map, option_map}
 use Rattle.std.specs.Prelude.{sum_by}
 use Rattle.tf_claim.specs.Ledger.{is_free}
 use Rattle.tf_plan_data.specs.Plan.{plan_of}
-use Rattle.tf_outcome.specs.Ended.{done_of}
+use Rattle.tf_outcome.specs.ResultViews.{action_result_of}
 use Rattle.tf_walk.specs.Ends.{IsSoFar, IsStaged}
 use Rattle.tf_walk.proofs.walk.walk.Given as goal
 
 abbrev pub invariant-loop-permit : goal.invariant-loop-permit
 invariant-loop-permit g l =
     let ms = map (λ b. (goal.Provider-dyn g (b.vtable, b.value)).meaning b.value) l.providers in
-    let ends = map (option_map done_of) l.results in
+    let ends = map (option_map action_result_of) l.results in
     record {
       so_far : IsSoFar ms (plan_of l.plan) ends l.journal.entries;
       staged : IsStaged l.book.stages ends;

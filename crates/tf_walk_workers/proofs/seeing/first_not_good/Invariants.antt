@@ -5,4 +5,4 @@ use Rattle.tf_walk_workers.proofs.seeing.first_not_good.Given as goal
 
 abbrev pub invariant-loop-action : goal.invariant-loop-action
 invariant-loop-action g l =
-    (i : ℕ) → i < l.action-index → IsGoodInEach g.N.Naming.meanings g.N.Naming.plan (get_or l.actions i 0)
+    (i : ℕ) → i < l.action-index → IsGoodInEach g.N.WalkBrand.meanings g.N.WalkBrand.plan (get_or l.actions i 0)

@@ -1,5 +1,5 @@
 use Rattle.std.proofs.Common.{◌≡◌, ◌∙◌, ℕ, List, ap, subst}
-use Rattle.tf_walk_workers.specs.Sight.{AreShown, sight_of}
+use Rattle.tf_walk_workers.specs.SeenResult.{AreShown, seen_result_of}
 use Rattle.tf_graph.specs.Digraph.{Digraph, predecessors_of}
 use Rattle.tf_names.specs.Table.{names_in}
 use Rattle.tf_walk_workers.proofs.seeing.good_before.Goals as goal
@@ -14,5 +14,5 @@ returns-in-Ok-Good g c =
       named = ap names_in (rw c.in-Ok-Good.field-0-is at c.in-Ok-Good.ensures.names);
       prior = rw c.in-Ok-Good.field-0-is at c.in-Ok-Good.ensures.prior;
       actions = (rw c.in-Ok-Good.field-0-is at c.in-Ok-Good.ensures.actions) ∙ c.as_slice-actions.ensures.value;
-      shows = subst (λ (ks : List ℕ). AreShown g.N.Naming.meanings g.N.Naming.plan ks (sight_of c.in-Ok-Good.before)) nodes shows;
+      shows = subst (λ (ks : List ℕ). AreShown g.N.WalkBrand.meanings g.N.WalkBrand.plan ks (seen_result_of c.in-Ok-Good.before)) nodes shows;
     }

@@ -5,4 +5,4 @@ use Rattle.tf_walk_workers.proofs.steps.publish.Given as goal
 abbrev pub invariant-loop : goal.invariant-loop
 invariant-loop g l =
     (goal.iterator-loop g).can_next l.iterator' × (goal.iterator-loop g).is_finite l.iterator'
-    × IsEndOf g.N.Naming.meanings g.N.Naming.plan l.fn.action l.left
+    × IsEndOf g.N.WalkBrand.meanings g.N.WalkBrand.plan l.fn.action l.left

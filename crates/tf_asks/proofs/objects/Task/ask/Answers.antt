@@ -8,8 +8,8 @@ use Rattle.tf_plan_data.specs.Plan.{plan_of}
 use Rattle.tf_asks.proofs.Asking.{if_ok-weaker}
 use Rattle.tf_asks.specs.AskedBy.{asked_by}
 use Rattle.tf_outcome.specs.Asked.{AreRequests, Requests, asked_by_step, asked_for, ignored_by, unless_faulty, update_of}
-use Rattle.tf_outcome.specs.declared.asking.Asking.{Asking}
-use Rattle.tf_outcome.specs.declared.ended.Faulted.{Faulted}
+use Rattle.tf_outcome.specs.declared.prepared_call.PreparedCall.{PreparedCall}
+use Rattle.tf_outcome.specs.declared.action_result.Faulted.{Faulted}
 use Rattle.tf_asks.proofs.objects.Task.ask.Goals as goal
 
 pub returns-in-Update-clause-asked : goal.returns-in-Update-clause-asked
@@ -21,9 +21,9 @@ returns-in-Update-clause-asked g c =
     let ignored = ignored_by (meant_at names a.resource) in
     let prior = prior_of c.in-Update.prior in
     if_ok-weaker
-    (λ (made : Result Asking Faulted). (requests : Requests) → AreRequests plan requests
+    (λ (made : Result PreparedCall Faulted). (requests : Requests) → AreRequests plan requests
     → asked_by made ≡ unless_faulty (λ t. update_of a prior (kept_object c.args.self.now.schema.now ignored prior t)) (requests objects a c.args.self.now.schema.now))
-    (λ (made : Result Asking Faulted). (requests : Requests) → AreRequests plan requests
+    (λ (made : Result PreparedCall Faulted). (requests : Requests) → AreRequests plan requests
     → asked_by made ≡ asked_for names c.args.self.now.schema.now a (requests objects a c.args.self.now.schema.now))
     c.ask_update.result
     (λ made h requests are.

@@ -1,12 +1,12 @@
 use Rattle.std.proofs.Common.{◌≡◌, length, map, string_bytes, arith}
 use Rattle.tf_names.proofs.Rings.{noted-more, noted-cyclic}
-use Rattle.tf_names.specs.Table.{named_view, names_in}
+use Rattle.tf_names.specs.Table.{declaration_of, names_in}
 use Rattle.tf_names.proofs.dependence.Dependence.cyclic.Goals as goal
 
 pub loop-place-preserved : goal.loop-place-preserved
 loop-place-preserved c =
     let l = c.loop-place in
-    noted-more (names_in c.args.names.now) c.args.self.now l.place (map string_bytes l.found.keys) (map string_bytes c.note.new.found.keys) (named_view c.at.result) c.at.ensures.name (rw c.needs.ensures at c.in_ok-note.ensures) l.invariant
+    noted-more (names_in c.args.names.now) c.args.self.now l.place (map string_bytes l.found.keys) (map string_bytes c.note.new.found.keys) (declaration_of c.at.result) c.at.ensures.name (rw c.needs.ensures at c.in_ok-note.ensures) l.invariant
 
 pub returns : goal.returns
 returns c =

@@ -5,13 +5,13 @@ use Rattle.tf_address.specs.ObjectId.{instance_key_of}
 use Rattle.tf_graph.specs.Solutions.{seen_by}
 use Rattle.tf_names.specs.Table.{names_in}
 use Rattle.tf_state_data.specs.State.{state_of}
-use Rattle.tf_outcome.specs.Ended.{dones_of}
+use Rattle.tf_outcome.specs.ResultViews.{action_results_of}
 use Rattle.tf_outcome.specs.Objects.{objects_seen}
 use Rattle.tf_outcome.specs.Outcome.{done_at}
 use Rattle.tf_outcome.proofs.answered.AnsweredResults.object.Given as goal
 
 abbrev pub invariant-loop-action : goal.invariant-loop-action
 invariant-loop-action l =
-    let seen = seen_by (done_at (dones_of l.self.results.now)) in
+    let seen = seen_by (done_at (action_results_of l.self.results.now)) in
     objects_seen (names_in l.self.names.now) (state_of l.self.prior.now) (map action_of l.self.actions.now) (seen (drop l.action-index l.action-items)) l.place (instance_key_of l.key)
     ≡ objects_seen (names_in l.self.names.now) (state_of l.self.prior.now) (map action_of l.self.actions.now) (seen l.self.seen.now) l.place (instance_key_of l.key)

@@ -8,7 +8,7 @@ use Rattle.tf_graph.specs.Lists.{row}
 use Rattle.tf_precedence.proofs.Keeping.{holds-apply, holds-destroy}
 use Rattle.tf_precedence.specs.Near.{AreListed}
 use Rattle.tf_precedence.specs.Order.{action_at}
-use Rattle.tf_precedence.specs.Ties.{ties_of}
+use Rattle.tf_precedence.specs.OrderInput.{order_input_of}
 use Rattle.tf_precedence.proofs.near.Near.before.Goals as goal
 
 pub add_halves-requires : goal.add_halves-requires
@@ -54,7 +54,7 @@ returns c =
     let second = c.add_reached-2.ensures in
     record {
       length = second.grown.long ∙ first.grown.long ∙ c.add_halves.ensures.grown.long ∙ c.in_ok-set.ensures.length;
-      before = holds-destroy (ties_of c.args.ties.now) actions c.args.second own c.add_reached-2.new.set lists c.if-action-own.false
+      before = holds-destroy (order_input_of c.args.ties.now) actions c.args.second own c.add_reached-2.new.set lists c.if-action-own.false
           (λ k h is. second.grown.kept k (first.grown.kept k (c.add_halves.ensures.added k (rw same h) is)))
           c.in_default.not-Apply
           first.inside
@@ -74,7 +74,7 @@ returns-in-Apply-clause-before c =
     let count : length early ≡ length own = rw c.as_slice-own.ensures.value c.requires.kept.count in
     let inside : resource < length early = omega (arith, count, c.if-action-own.false) in
     let read : c.index.result.now ≡ row_of early resource = get_or_read early resource c.index.result.now inside c.index.ensures [] in
-    holds-apply (ties_of c.args.ties.now) actions c.args.second own c.add_all.new.self lists c.if-action-own.false
+    holds-apply (order_input_of c.args.ties.now) actions c.args.second own c.add_all.new.self lists c.if-action-own.false
     (λ k h is. c.add_all.ensures.members k ∙ or_left (has c.add_halves.new.set k) (has c.index.result.now k) (c.add_halves.ensures.added k (rw same h) is))
     early c.requires.kept.sets c.in-Apply.is
     (λ k h. c.add_all.ensures.members k ∙ or_right (has c.add_halves.new.set k) (has c.index.result.now k) (rw read h))

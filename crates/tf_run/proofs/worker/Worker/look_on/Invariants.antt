@@ -5,4 +5,4 @@ use Rattle.tf_run.proofs.worker.Worker.look_on.Given as goal
 abbrev pub invariant-loop : goal.invariant-loop
 invariant-loop g l =
     (goal.iterator-loop g).can_next l.iterator' × (goal.iterator-loop g).is_finite l.iterator'
-    × IsPost g.N.Naming.meanings g.N.Naming.plan (g.B.Ground.planned l.self.ground.now) (g.B.Ground.named l.self.ground.now) l.self.walk.now.claims.now l.post
+    × IsPost g.N.WalkBrand.meanings g.N.WalkBrand.plan (g.B.WalkInput.planned l.self.walk_input.now) (g.B.WalkInput.named l.self.walk_input.now) l.self.walk.now.claims.now l.post

@@ -2,14 +2,14 @@ use Rattle.std.proofs.Common.{rules, ◌≡◌, ◌+◌, ◌++◌, ◌∷◌, []
 use Rattle.std.proofs.lemmas.List.{map_push, take_all}
 use Rattle.tf_outcome.specs.Outcome.{is_good}
 use Rattle.tf_walk_workers.specs.Reading.{done_in, seen_in}
-use Rattle.tf_walk_workers.specs.Sight.{AreShown}
+use Rattle.tf_walk_workers.specs.SeenResult.{AreShown}
 use Rattle.tf_walk_workers.proofs.Showing.{shown-none, shown-more}
 use Rattle.tf_walk_workers.proofs.cells.Cells.look.Goals as goal
 
 pub loop-action-init : goal.loop-action-init
 loop-action-init g c =
     let none : map seen_in c.in_ok-readings.readings.items ≡ [] = ap (map seen_in) c.in_ok-readings.ensures.items in (
-      subst (AreShown g.N.Naming.meanings g.N.Naming.plan []) (sym none) (shown-none g.N.Naming.meanings g.N.Naming.plan),
+      subst (AreShown g.N.WalkBrand.meanings g.N.WalkBrand.plan []) (sym none) (shown-none g.N.WalkBrand.meanings g.N.WalkBrand.plan),
       search rules,
       c.in_ok-readings.ensures.capacity,
     )
@@ -28,14 +28,14 @@ loop-action-preserved g c =
     let items = c.loop-action.readings.items in
     let reading = c.in-Some.reading in
     let good : is_good (done_in reading) ≡ true = sym c.is_good-bad.ensures.value ∙ c.if-bad.false in
-    let more = shown-more g.N.Naming.meanings g.N.Naming.plan nodes i (map seen_in items) reading.action (done_in reading) c.loop-action-test.true c.in-Some.ensures good (c.is_good-bad.ensures.ideal c.if-bad.false) c.loop-action.invariant.0 in
+    let more = shown-more g.N.WalkBrand.meanings g.N.WalkBrand.plan nodes i (map seen_in items) reading.action (done_in reading) c.loop-action-test.true c.in-Some.ensures good (c.is_good-bad.ensures.ideal c.if-bad.false) c.loop-action.invariant.0 in
     let pushed : map seen_in c.push_reserved.new.self.items ≡ map seen_in items ++ seen_in reading ∷ [] = ap (map seen_in) c.push_reserved.ensures.items ∙ map_push seen_in items reading in (
-      subst (AreShown g.N.Naming.meanings g.N.Naming.plan (take (i + 1) nodes)) (sym pushed) more,
+      subst (AreShown g.N.WalkBrand.meanings g.N.WalkBrand.plan (take (i + 1) nodes)) (sym pushed) more,
       search rules,
       search rules,
     )
 
 pub returns-clause-shows : goal.returns-clause-shows
 returns-clause-shows g c =
-    subst (λ (nodes : List ℕ). AreShown g.N.Naming.meanings g.N.Naming.plan nodes (map seen_in c.loop-action.readings.items))
+    subst (λ (nodes : List ℕ). AreShown g.N.WalkBrand.meanings g.N.WalkBrand.plan nodes (map seen_in c.loop-action.readings.items))
     (take_all c.loop-action.action-index c.args.before.now c.loop-action-test.false) c.loop-action.invariant.0

@@ -9,10 +9,10 @@ put-requires g c =
       won.0 refl,
       omega arith,
       refl,
-      subst (λ (n : ℕ). IsEndOf g.N.Naming.meanings g.N.Naming.plan n c.args.ended) (sym own) c.requires.own,
+      subst (λ (n : ℕ). IsEndOf g.N.WalkBrand.meanings g.N.WalkBrand.plan n c.args.ended) (sym own) c.requires.own,
     )
 
 pub returns-in-Some : goal.returns-in-Some
 returns-in-Some g c =
     let own = c.turn-found.ensures.2 ∙ c.cell.ensures in
-    subst (λ (n : ℕ). IsEndOf g.N.Naming.meanings g.N.Naming.plan n c.in-Some.field-0.ended) own c.in-Some.ensures
+    subst (λ (n : ℕ). IsEndOf g.N.WalkBrand.meanings g.N.WalkBrand.plan n c.in-Some.field-0.ended) own c.in-Some.ensures

@@ -7,4 +7,4 @@ use Rattle.tf_walk_workers.proofs.reading.Reading.object.Goals as goal
 
 pub returns-clause-ideal : goal.returns-clause-ideal
 returns-clause-ideal g c =
-    object-is g.N.Naming.meanings g.N.Naming.plan c.args.self.now.action (done_in c.args.self.now) c.ended.ensures.fits c.object_of.result (subst (λ d. IfOk c.object_of.result (λ value. tree_of value ≡ object_of d)) c.ended.ensures.same c.object_of.ensures)
+    object-is g.N.WalkBrand.meanings g.N.WalkBrand.plan c.args.self.now.action (done_in c.args.self.now) c.ended.ensures.fits c.object_of.result (subst (λ d. IfOk c.object_of.result (λ value. tree_of value ≡ object_of d)) c.ended.ensures.same c.object_of.ensures)

@@ -1,0 +1,117 @@
+-- An apply that went well has nothing left to do.
+use Rattle.std.specs.Prelude.{◌≡◌, ℕ, true, false, List, [], map, Some, Ok, Contains}
+use Rattle.std.specs.List.{AllByRecursion}
+use Rattle.std.specs.List.Sorted.{IsStrictlySortedBy}
+use Rattle.tf_plan_data.specs.Action.{ActionView}
+use Rattle.tf_address.specs.Label.{label_cmp}
+use Rattle.tf_address.specs.ObjectId.{InstanceKeyView}
+use Rattle.tf_plan_resources.specs.Order.{AreInAddressOrder}
+use Rattle.tf_change.specs.Instance.{instance_object}
+use Rattle.tf_config_data.specs.Config.{BlockView, ConfigView}
+use Rattle.tf_config_data.specs.Names.{a_block, meant_at}
+use Rattle.tf_environment.specs.InstanceKeys.{instance_keys}
+use Rattle.tf_environment.specs.Stages.{applying}
+use Rattle.tf_environment.specs.Resolved.{ResolvedView, AreResolvedNames, environment}
+use Rattle.tf_plan_resources.specs.Members.{is_among}
+use Rattle.tf_state_next.specs.Laws.{IsInOrder}
+use Rattle.tf_outcome.specs.Outcome.{AreOutcomes, AreRequests, ActionResultView, Requests, is_good}
+use Rattle.tf_outcome.specs.declared.excuse.Excuse.{Excuse}
+use Rattle.tf_outcome.specs.declared.excuse.Outcome.TheVariants.{Judged}
+use Rattle.tf_outputs.specs.Outputs.{OutputResultView, valued}
+use Rattle.tf_plan.specs.Plan.{IsPlan}
+use Rattle.tf_plan.specs.Planned.{IsPlanned, unrefused}
+use Rattle.tf_plan_data.specs.Fits.{is_apply}
+use Rattle.tf_plan_data.specs.Plan.{PlanView, plan_names}
+use Rattle.tf_protocol.specs.Meaning.{Meaning, schema_in}
+use Rattle.tf_protocol.specs.Schema.{SchemaView, IsSchema}
+use Rattle.tf_protocol.specs.declared.verdict.Verdict.TheVariants.{Good}
+use Rattle.tf_walk_report.specs.Report.{AreOutputsOf, IsReport, IsStateOf, objects_after}
+use Rattle.tf_walk_report.specs.declared.report.Report.{Report}
+use Rattle.tf_plan_resources.specs.ResourceIndex.{numbered}
+use Rattle.tf_state.specs.Valid.{IsValid}
+use Rattle.tf_state_data.specs.State.{StateView, state_of}
+use Rattle.tf_value.specs.Known.{known_entries}
+use Rattle.tf_value.specs.Tree.{Tree, Entries}
+use Rattle.tf_laws.specs.Rest.{AreAtRest, EachMeans}
+
+-- What a plan starts from is sound: blocks stand in the order of their addresses, providers have schemas, the values of
+-- variables are known, and the prior state is valid. A schema as `Schema::new` makes it keeps to it, and so do a state, a
+-- configuration and variables that were read.
+pub record IsSound (ms : List Meaning) (config : ConfigView) (variables : Entries) (prior : StateView) : Type 0 where
+  pub blocks : IsStrictlySortedBy label_cmp (map (λ b. b.label) config.blocks)
+  pub schemas : (name : List ℕ) (schema : SchemaView) → schema_in name ms ≡ Some schema → IsSchema schema
+  pub variables_known : known_entries variables ≡ true
+  pub valid : IsValid prior
+
+-- A plan from a prior state was carried out well, and left this state: no name of its configuration needs itself, each action
+-- is good, and the state is the one that comes of that, with whatever outputs.
+pub record IsCarriedOut (ms : List Meaning) (config : ConfigView) (variables : Entries) (prior : StateView) (plan : PlanView) (done : List ActionResultView) (outputs : Entries) (after : StateView) : Type 0 where
+  pub planned : IsPlan ms config variables prior plan
+  pub acyclic : (n : ℕ) → plan.needs n n ≡ false
+  pub requests : Requests
+  pub are_requests : AreRequests plan requests
+  pub excuses : List Excuse
+  pub outcomes : AreOutcomes ms requests plan excuses done
+  pub good : AllByRecursion (λ d. is_good d ≡ true) done
+  pub state : IsStateOf ms plan done outputs after
+  pub in_order : IsInOrder after
+
+-- The state after such an apply is at rest: each record in it is the current one of an instance that a block has, each instance
+-- has one and stands for it, and nothing is done beside it by what its block makes, where resources stand for these objects.
+abbrev pub StateAfterIsAtRest : Type 0
+StateAfterIsAtRest =
+    (ms : List Meaning) (config : ConfigView) (variables : Entries) (prior : StateView) (plan : PlanView) (done : List ActionResultView) (outputs : Entries) (after : StateView)
+    → IsSound ms config variables prior → IsCarriedOut ms config variables prior plan done outputs after
+    → AreAtRest ms plan.variables (plan_names plan) plan.shapes (objects_after plan done) after.resources
+
+-- So the same configuration and variables plan no action over that state: whatever there was before, whether objects were made,
+-- changed, replaced, deposed, destroyed or left alone, with tainted objects, orphans, ignored changes, computed attributes,
+-- `count` and `for_each`.
+-- A plan is one with nothing to refuse. Two things can be refused after an apply that went well: an output that has a fault by
+-- now, and an instance that the apply left alone whose `for_each` or an argument has a fault now that more is known, as an
+-- ignored argument may. What isn't refused isn't planned as anything else.
+abbrev pub Converges : Type 0
+Converges =
+    (ms : List Meaning) (config : ConfigView) (variables : Entries) (prior : StateView) (plan : PlanView) (done : List ActionResultView) (outputs : Entries) (after : StateView) (again : PlanView)
+    → IsSound ms config variables prior → IsCarriedOut ms config variables prior plan done outputs after
+    → IsPlan ms config variables after again → again.actions ≡ []
+
+-- What may be at fault by now isn't, where names stand for what came of the apply: blocks make objects of the instances that no
+-- action made or changed, and outputs have values.
+pub record AreStillMade (ms : List Meaning) (plan : PlanView) (done : List ActionResultView) : Type 0 where
+  pub instances : (resolved_names : ℕ → ResolvedView) → AreResolvedNames (applying plan.shapes (objects_after plan done)) plan.variables (plan_names plan) resolved_names
+      → (n : ℕ) (block : BlockView) (key : InstanceKeyView) (schema : SchemaView) → meant_at (plan_names plan) n ≡ Some (a_block block) → is_among (instance_keys (plan.shapes n)) key ≡ true
+      → schema_in block.label.type_name ms ≡ Some schema
+      → ((a : ActionView) → Contains plan.actions a → is_apply a.step ≡ true → a.resource ≡ n → ¬ (a.key ≡ key))
+      → (t : Tree) × (instance_object schema block key (environment plan.variables (plan_names plan) resolved_names) ≡ Ok t)
+  pub outputs_mean : (resolved_names : ℕ → ResolvedView) → AreResolvedNames (applying plan.shapes (objects_after plan done)) plan.variables (plan_names plan) resolved_names
+      → EachMeans (environment plan.variables (plan_names plan) resolved_names) plan.config.outputs
+
+-- Then there is such a plan: in each address order of the resources nothing is planned and nothing refused.
+abbrev pub NothingIsRefusedAgain : Type 0
+NothingIsRefusedAgain =
+    (ms : List Meaning) (config : ConfigView) (variables : Entries) (prior : StateView) (plan : PlanView) (done : List ActionResultView) (outputs : Entries) (after : StateView) (places : List ℕ)
+    → IsSound ms config variables prior → IsCarriedOut ms config variables prior plan done outputs after → AreStillMade ms plan done
+    → AreInAddressOrder (numbered (plan_names plan) after.resources) places
+    → IsPlanned ms after.resources plan.variables (plan_names plan) plan.config.outputs plan.shapes (unrefused [])
+
+-- it has a value
+abbrev pub IsValued : OutputResultView → Type 0
+IsValued d = (t : Tree) × (d ≡ valued t)
+
+-- Where the apply gave each output a value, outputs have values.
+abbrev pub ValuedOutputsMean : Type 0
+ValuedOutputsMean =
+    (plan : PlanView) (done : List ActionResultView) (outputs : List OutputResultView) (resolved_names : ℕ → ResolvedView)
+    → AreOutputsOf plan done outputs → AllByRecursion IsValued outputs
+    → AreResolvedNames (applying plan.shapes (objects_after plan done)) plan.variables (plan_names plan) resolved_names
+    → EachMeans (environment plan.variables (plan_names plan) resolved_names) plan.config.outputs
+
+-- The same of a report, by however many workers: where each outcome that it tells is a good verdict, the same configuration and
+-- variables plan no action over its state.
+abbrev pub ReportsConverge : Type 0
+ReportsConverge =
+    (ms : List Meaning) (config : ConfigView) (variables : Entries) (prior : StateView) (plan again : PlanView) (requests : Requests) (done : List ActionResultView) (outputs : List OutputResultView) (report : Report)
+    → IsSound ms config variables prior → IsPlan ms config variables prior plan → ((n : ℕ) → plan.needs n n ≡ false) → AreRequests plan requests
+    → IsReport ms requests plan done outputs report → AllByRecursion (λ o. o ≡ Judged Good) report.outcomes.items
+    → IsPlan ms config variables (state_of report.state) again → again.actions ≡ []

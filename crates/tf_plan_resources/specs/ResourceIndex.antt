@@ -1,0 +1,49 @@
+-- The resources of a configuration and of a prior state together, by number.
+use Rattle.std.specs.Prelude.{ℕ, zero, suc, Bool, false, not, if◌then◌else◌, Option, Some, None, option_map, List, [], ◌∷◌, ◌++◌, map, filter}
+use Rattle.std.specs.List.{list_any}
+use Rattle.tf_address.specs.Label.{LabelView}
+use Rattle.tf_address.specs.Same.{same_label}
+use Rattle.tf_config_data.specs.Names.{NameView, Meant, a_local, a_block}
+use Rattle.tf_state_data.specs.Resource.{ResourceView}
+
+-- What has a number: a name of the configuration, or an orphan, which is a resource of the state of which the
+-- configuration has no block.
+pub data ResourceRefView : Type 0 where
+  a_name : NameView → ResourceRefView
+  an_orphan : ResourceView → ResourceRefView
+
+-- the address of a block; a local has none
+abbrev pub block_address : Meant → Option LabelView
+block_address (a_local e) = None
+block_address (a_block b) = Some b.label
+
+-- the address of a resource, which is a block or an orphan. A local is no resource, whatever its name.
+abbrev pub address_of : ResourceRefView → Option LabelView
+address_of (a_name n) = block_address n.meant
+address_of (an_orphan r) = Some r.label
+
+abbrev pub is_address : LabelView → Option LabelView → Bool
+is_address label None = false
+is_address label (Some own) = same_label own label
+
+-- whether it is the resource at an address
+abbrev pub is_at : LabelView → ResourceRefView → Bool
+is_at label n = is_address label (address_of n)
+
+-- whether the configuration has a block at an address
+abbrev pub has_block : List NameView → LabelView → Bool
+has_block names label = list_any (λ n. is_at label (a_name n)) names
+
+-- the resources of a state of which the configuration has no block, in their order, which is that of addresses
+abbrev pub orphans : List NameView → List ResourceView → List ResourceView
+orphans names resources = filter (λ r. not (has_block names r.label)) resources
+
+-- All that has a number: the names of the configuration, and behind them the orphans. Their places in this list number
+-- them, so a name keeps the place that it has among the names alone.
+abbrev pub numbered : List NameView → List ResourceView → List ResourceRefView
+numbered names resources = map a_name names ++ map an_orphan (orphans names resources)
+
+-- the place of the resource at an address; none where there is no such resource
+abbrev pub place_in : List ResourceRefView → LabelView → Option ℕ
+place_in [] label = None
+place_in (n ∷ ns) label = if is_at label n then Some zero else option_map suc (place_in ns label)

@@ -1,0 +1,15 @@
+//! An instance of a resource.
+
+use tf_address::InstanceKey;
+use tf_state_data::Record;
+
+/// An instance of a resource, by its configuration and by what its state has, together.
+#[derive(Drop)]
+pub struct InstanceToPlan<'a> {
+    /// The instance.
+    pub key: InstanceKey,
+    /// Whether the configuration has it.
+    pub is_declared: bool,
+    /// The records of its objects: the current one, if there is one, before the deposed ones by their keys.
+    pub records: &'a [Record],
+}

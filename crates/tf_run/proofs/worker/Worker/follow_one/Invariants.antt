@@ -1,8 +1,0 @@
--- the worker has what is its own
-use Rattle.tf_run.specs.Post.{IsPost}
-use Rattle.tf_run.proofs.worker.Worker.follow_one.Given as goal
-
-abbrev pub invariant-loop : goal.invariant-loop
-invariant-loop g l =
-    (goal.iterator-loop g).can_next l.iterator' × (goal.iterator-loop g).is_finite l.iterator'
-    × IsPost g.N.Naming.meanings g.N.Naming.plan (g.B.Ground.planned l.self.ground.now) (g.B.Ground.named l.self.ground.now) l.self.walk.now.claims.now l.post

@@ -1,0 +1,130 @@
+//! What the state after an apply is made of.
+
+ghost use Rattle.std.specs.Prelude.{◌≡◌, [], ◌∷◌, IfOk, OnOk, map, replicate};
+ghost use Rattle.tf_address.specs.Label.{label_of};
+ghost use Rattle.tf_state_next.specs.StateDraft.{AreAdded, IsStateDraft, HaveRoom, count_of, counts_at};
+ghost use Rattle.tf_state_data.specs.Addresses.{AreByAddress};
+ghost use Rattle.tf_state_data.specs.Resource.{resource_of};
+ghost use Rattle.tf_state_data.specs.State.{state_of};
+
+use crate::recording::search;
+use std::alloc::{AllocError, Global};
+use tf_address::Label;
+use tf_state_data::{Resource, State, provider_address};
+
+/// What the state after an apply is made of, all of which is had before the first call.
+#[derive(Drop)]
+pub struct StateDraft<'a> {
+    pub(crate) prior: &'a State,
+    pub(crate) lineage: String,
+    pub(crate) terraform_version: String,
+    pub(crate) resources: Vec<Resource>,
+}
+
+/// What the state after an apply is made of, by the state before it and by the address of each create and update, as often
+/// as there are such actions at it.
+///
+/// # Errors
+///
+/// Only where memory runs out.
+pub fn draft_state<'a>(
+    alloc: Global,
+    prior: &'a State,
+    labels: &[&Label],
+) -> Result<StateDraft<'a>, AllocError>
+    ensures { IfOk result (IsStateDraft (state_of prior.now) (map (λ l. label_of l.now) labels.now)) }
+{
+    let lineage = String::from_str(alloc, prior.lineage())?;
+    let terraform_version = String::from_str(alloc, prior.terraform_version())?;
+    let mut resources = copies(alloc, prior.resources())?;
+    add_all(alloc, &mut resources, labels)?;
+    make_room(alloc, &mut resources, labels)?;
+    Ok(StateDraft {
+        prior,
+        lineage,
+        terraform_version,
+        resources,
+    })
+}
+
+/// An equal copy of each resource.
+fn copies(alloc: Global, resources: &[Resource]) -> Result<Vec<Resource>, AllocError>
+    ensures { IfOk result (λ copies. map resource_of copies.items ≡ map resource_of resources.now) }
+{
+    let mut copies = Vec::with_capacity(alloc, resources.len())?;
+    for resource in resources {
+        copies.push(resource.clone()?)?;
+    }
+    Ok(copies)
+}
+
+/// Adds an empty resource at each of these addresses at which there is none.
+fn add_all(
+    alloc: Global,
+    resources: &mut Vec<Resource>,
+    labels: &[&Label],
+) -> Result<(), AllocError>
+    requires { AreByAddress (map resource_of resources.old.items) }
+    ensures { OnOk result (AreAdded (map (λ l. label_of l.now) labels.now) (map resource_of resources.old.items) (map resource_of resources.new.items)) }
+{
+    for label in labels {
+        add_missing(alloc, resources, label)?;
+    }
+    Ok(())
+}
+
+/// Adds an empty resource at an address, where there is none.
+fn add_missing(
+    alloc: Global,
+    resources: &mut Vec<Resource>,
+    label: &Label,
+) -> Result<(), AllocError>
+    requires { AreByAddress (map resource_of resources.old.items) }
+    ensures { OnOk result (AreAdded (label_of label.now ∷ []) (map resource_of resources.old.items) (map resource_of resources.new.items)) }
+{
+    if let Err(index) = search(resources, label) {
+        let provider = provider_address(alloc, label.type_name.as_str())?;
+        let resource = Resource::empty(alloc, label.clone()?, provider);
+        resources.insert(index, resource)?;
+    }
+    Ok(())
+}
+
+/// Makes room in each resource for one record for each time that its address is one of these.
+fn make_room(alloc: Global, resources: &mut [Resource], labels: &[&Label]) -> Result<(), AllocError>
+    requires { AreByAddress (map resource_of resources.old) }
+    ensures same { map resource_of resources.new ≡ map resource_of resources.old }
+    ensures room { OnOk result (HaveRoom (count_of (map (λ l. label_of l.now) labels.now)) resources.new) }
+{
+    let counts = counts_of(alloc, resources, labels)?;
+    for index in 0..resources.len() {
+        resources[index].reserve(counts[index])?;
+    }
+    Ok(())
+}
+
+/// How often the address of each resource is one of these.
+fn counts_of(
+    alloc: Global,
+    resources: &[Resource],
+    labels: &[&Label],
+) -> Result<Vec<usize>, AllocError>
+    requires { AreByAddress (map resource_of resources.now) }
+    ensures { IfOk result (λ counts. counts.items ≡ counts_at (map (λ l. label_of l.now) labels.now) (map resource_of resources.now)) }
+{
+    let mut counts = no_counts(alloc, resources.len())?;
+    for label in labels {
+        match search(resources, label) {
+            Ok(index) => counts[index] += 1,
+            Err(_) => {}
+        }
+    }
+    Ok(counts)
+}
+
+/// So many counts, of nothing yet.
+fn no_counts(alloc: Global, count: usize) -> Result<Vec<usize>, AllocError>
+    ensures { IfOk result (λ counts. counts.items ≡ replicate count 0) }
+{
+    vec![in alloc; 0; count]
+}

@@ -1,0 +1,7 @@
+-- the places so far
+use Rattle.std.proofs.Common.{◌≡◌}
+use Rattle.std.specs.List.{range_with_len}
+use Rattle.tf_walk_report.proofs.reserving.places.Given as goal
+
+abbrev pub invariant-loop-place : goal.invariant-loop-place
+invariant-loop-place l = l.places.items ≡ range_with_len 0 l.place

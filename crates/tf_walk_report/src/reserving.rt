@@ -1,0 +1,198 @@
+//! All that the report needs memory for is had before the first call.
+
+ghost use Rattle.std.specs.Prelude.{◌≡◌, ◌+◌, ◌≤◌, ◌++◌, ◌∷◌, [], IfOk, OnOk, if◌then◌else◌, length, map, vec_capacity, vec_len};
+ghost use Rattle.std.specs.List.{range_with_len};
+ghost use Rattle.tf_outcome.specs.Words.{action_of, FitsTogether, is_apply, IsTable, label_of, names_in, outputs_of, plan_names, plan_of};
+ghost use Rattle.tf_state_next.specs.StateDraft.{IsStateDraft};
+ghost use Rattle.tf_outputs.specs.Outputs.{kept_entries};
+ghost use Rattle.tf_outputs.specs.Buffers.{outputs_in};
+ghost use Rattle.tf_walk_report.specs.Reserved.{AreEmptyLists, AreReserved, applied_labels};
+ghost use Rattle.tf_walk_report.specs.Settling.{IsReady};
+
+use crate::good::is_apply;
+use crate::outputs::texts_for;
+use crate::settling::Settling;
+use crate::texts::OutputTexts;
+use crate::updating::metadata_updates_for;
+use std::alloc::{AllocError, Global};
+use tf_additions::{ActionBuffers, Changes, Diagnostic, reserve_actions};
+use tf_address::Label;
+use tf_names::Declarations;
+use tf_outcome::{Excuse, Outcome};
+use tf_outputs::{kept_outputs, reserve_outputs};
+use tf_plan_data::{Action, Plan};
+use tf_state_next::{MetadataUpdate, StateDraft, draft_state};
+
+/// All that the report on a plan needs memory for. What actions change may not be let go, so neither may the lists that are
+/// for it.
+pub struct ReportBuffers<'p> {
+    pub(crate) blank: ReportLists<'p>,
+    pub(crate) rooms: Vec<ActionBuffers<'p>>,
+    pub(crate) draft: StateDraft<'p>,
+    pub(crate) metadata_updates: Vec<MetadataUpdate<'p>>,
+    pub(crate) settling: Settling<'p>,
+    pub(crate) output_texts: Vec<OutputTexts>,
+}
+
+/// Lists with room for what actions change and for what is told.
+pub struct ReportLists<'p> {
+    pub changes: Changes<'p>,
+    pub outcomes: Vec<Outcome>,
+    pub diagnostics: Vec<Diagnostic>,
+    pub excused: Vec<Excuse>,
+}
+
+/// Takes all memory that the report on a plan needs, by the names of the plan's configuration. No provider is handed
+/// in, so none is called.
+///
+/// # Errors
+///
+/// Only where memory runs out.
+pub fn reserve_report<'p>(
+    alloc: Global,
+    plan: &'p Plan,
+    names: &Declarations<'p>,
+) -> Result<ReportBuffers<'p>, AllocError>
+    requires names { names_in names.now ≡ plan_names (plan_of plan.now) }
+    requires fits { FitsTogether plan.now }
+    ensures { IfOk result (AreReserved plan.now) }
+{
+    let rooms = reserve_actions(alloc, plan, names)?;
+    let draft = draft_of(alloc, plan)?;
+    let metadata_updates = metadata_updates_for(alloc, plan, names)?;
+    let settling = settling_for(alloc, plan, names)?;
+    let output_texts = texts_for(alloc, &plan.config.outputs)?;
+    let blank = lists_for(alloc, plan.actions.len(), output_texts.len())?;
+    Ok(ReportBuffers {
+        blank,
+        rooms,
+        draft,
+        metadata_updates,
+        settling,
+        output_texts,
+    })
+}
+
+/// Lists with room for so many actions and outputs.
+fn lists_for<'p>(
+    alloc: Global,
+    actions: usize,
+    outputs: usize,
+) -> Result<ReportLists<'p>, AllocError>
+    ensures { IfOk result (AreEmptyLists actions outputs) }
+{
+    let outcomes = Vec::with_capacity(alloc, actions)?;
+    let diagnostics = with_both(alloc, actions, outputs)?;
+    let excused = with_both(alloc, actions, outputs)?;
+    Ok(ReportLists {
+        changes: changes_for(alloc, actions)?,
+        outcomes,
+        diagnostics,
+        excused,
+    })
+}
+
+/// Lists with room for what so many actions change.
+fn changes_for<'p>(alloc: Global, actions: usize) -> Result<Changes<'p>, AllocError>
+    ensures applies { IfOk result (λ c. c.applies.items ≡ []) }
+    ensures applies_room { IfOk result (λ c. actions ≤ vec_capacity c.applies) }
+    ensures destroys { IfOk result (λ c. c.destroys.items ≡ []) }
+    ensures destroys_room { IfOk result (λ c. actions ≤ vec_capacity c.destroys) }
+{
+    let applies = Vec::with_capacity(alloc, actions)?;
+    match Vec::with_capacity(alloc, actions) {
+        Ok(destroys) => Ok(Changes { applies, destroys }),
+        Err(AllocError) => {
+            applies.destroy_empty();
+            Err(AllocError)
+        }
+    }
+}
+
+/// What the state after the actions of a plan is made of.
+fn draft_of(alloc: Global, plan: &Plan) -> Result<StateDraft<'_>, AllocError>
+    ensures { IfOk result (IsStateDraft (plan_of plan.now).prior (applied_labels (plan_of plan.now).actions)) }
+{
+    let labels = labels_of(alloc, plan.actions.as_slice())?;
+    draft_state(alloc, &plan.prior, &labels)
+}
+
+/// The resources of creates and updates, as often as there are such actions.
+fn labels_of(alloc: Global, actions: &[Action]) -> Result<Vec<&Label>, AllocError>
+    ensures { IfOk result (λ labels. map (λ l. label_of l.now) labels.items ≡ applied_labels (map action_of actions.now)) }
+{
+    let mut labels = Vec::new(alloc);
+    for action in actions {
+        add_label(&mut labels, action)?;
+    }
+    Ok(labels)
+}
+
+/// Adds the resource of an action, where that creates or updates an object.
+fn add_label<'a>(labels: &mut Vec<&'a Label>, action: &'a Action) -> Result<(), AllocError>
+    ensures { OnOk result (map (λ l. label_of l.now) labels.new.items ≡ map (λ l. label_of l.now) labels.old.items
+        ++ (if is_apply (action_of action.now).step then (action_of action.now).label ∷ [] else [])) }
+{
+    if is_apply(&action.step) {
+        labels.push(&action.label)?;
+    }
+    Ok(())
+}
+
+/// Room for what comes of the outputs of a plan.
+fn settling_for<'p>(
+    alloc: Global,
+    plan: &'p Plan,
+    names: &Declarations<'_>,
+) -> Result<Settling<'p>, AllocError>
+    ensures ready { IfOk result (IsReady (names_in names.now)) }
+    ensures kept { IfOk result (λ s. outputs_of s.kept.entries ≡ kept_entries (plan_of plan.now).config.outputs (plan_of plan.now).prior.outputs) }
+    ensures stored { IfOk result (λ s. IsTable (plan_of plan.now).prior.outputs → IsTable (outputs_of s.kept.entries)) }
+    ensures seen { IfOk result (λ s. s.seen.items ≡ range_with_len 0 (vec_len plan.now.actions)) }
+    ensures outputs { IfOk result (λ s. outputs_in s.rooms.items ≡ (plan_of plan.now).config.outputs) }
+{
+    let rooms = reserve_outputs(alloc, names, &plan.config.outputs)?;
+    Ok(Settling {
+        good: unmarked(alloc, names.len())?,
+        settled: unmarked(alloc, names.len())?,
+        seen: places(alloc, plan.actions.len())?,
+        ends: Vec::with_capacity(alloc, rooms.len())?,
+        kept: kept_outputs(alloc, plan.prior.outputs(), &plan.config.outputs)?,
+        rooms,
+    })
+}
+
+/// An empty list with room for two numbers of items together.
+fn with_both<T: Drop>(alloc: Global, first: usize, second: usize) -> Result<Vec<T>, AllocError>
+    ensures none { IfOk result (λ v. v.items ≡ []) }
+    ensures room { IfOk result (λ v. first + second ≤ vec_capacity v) }
+{
+    let mut items = Vec::with_capacity(alloc, first)?;
+    match first.checked_add(second) {
+        Some(both) => items.reserve(both)?,
+        None => return Err(AllocError),
+    }
+    Ok(items)
+}
+
+/// So many places, none of which is marked.
+fn unmarked(alloc: Global, count: usize) -> Result<Vec<bool>, AllocError>
+    ensures { IfOk result (λ v. length v.items ≡ count) }
+{
+    let mut marks = Vec::with_capacity(alloc, count)?;
+    for _ in 0..count {
+        marks.push(false)?;
+    }
+    Ok(marks)
+}
+
+/// The places of so many actions.
+fn places(alloc: Global, count: usize) -> Result<Vec<usize>, AllocError>
+    ensures { IfOk result (λ v. v.items ≡ range_with_len 0 count) }
+{
+    let mut places = Vec::with_capacity(alloc, count)?;
+    for place in 0..count {
+        places.push(place)?;
+    }
+    Ok(places)
+}

@@ -1,8 +1,0 @@
-use Rattle.std.proofs.Common.{ℕ, sym, subst}
-use Rattle.tf_walk_workers.specs.Ideal.{IsEndOf}
-use Rattle.tf_walk_workers.proofs.steps.Workshop.end_action.Goals as goal
-
-pub publish-requires-clause-own : goal.publish-requires-clause-own
-publish-requires-clause-own g c =
-    subst (λ (n : ℕ). IsEndOf g.N.Naming.meanings g.N.Naming.plan n c.come_to_end-ended.result.0) (sym c.action-action.ensures)
-    (c.come_to_end-ended.ensures.action, c.come_to_end-ended.ensures.cause, c.come_to_end-ended.ensures.ended)
