@@ -5,9 +5,12 @@ import re
 import resource
 import shutil
 import subprocess
+import sys
 import time
 
-ROOT = os.path.dirname(os.path.dirname(os.path.dirname(os.path.realpath(__file__))))
+sys.path.append(os.path.dirname(os.path.dirname(os.path.realpath(__file__))))
+from placed import place
+
 # The number of the growth that the compiled program refuses. A run has so many growths before its plan that the one that is
 # meant has this number; with none before its plan, no run comes so far.
 REFUSED = 6000
@@ -38,7 +41,7 @@ def compiled(room):
     os.mkfifo(pipe)
     words = ["rt", "try", "--fail-alloc", str(REFUSED), "--", "one", pipe, "none", "1", "0", "0"]
     how = {"stdin": subprocess.DEVNULL, "stdout": subprocess.PIPE, "stderr": subprocess.STDOUT, "text": True}
-    ran = subprocess.Popen(words, cwd=f"{ROOT}/crates/scarce_memory", env={**os.environ, "TMPDIR": room}, **how)
+    ran = subprocess.Popen(words, cwd=place(room, "scarce_memory"), env={**os.environ, "TMPDIR": room}, **how)
     while ran.poll() is None and end is None:
         try:
             end = os.open(pipe, os.O_WRONLY | os.O_NONBLOCK)

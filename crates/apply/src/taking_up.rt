@@ -6,9 +6,9 @@ use std::io::Write;
 use std::process::ExitCode;
 use std::sync::Wait;
 use std::thread::Threads;
+use tf_cli_program::{Past, Place, ProgramInput, settle};
 use tf_local::LocalFile;
 use tf_log::{Entry, Replayed, split};
-use tf_program::{Past, Place, ProgramInput, settle};
 use tf_provider::Provider;
 use tf_sim::Sim;
 

@@ -1,6 +1,5 @@
 mod cells;
 mod claims;
 mod journal;
-mod options;
 mod provider;
 mod sim;

@@ -6,12 +6,12 @@ use std::io::Write;
 use std::process::ExitCode;
 use std::sync::Wait;
 use std::thread::Threads;
-use tf_local::LocalFile;
-use tf_log::{Entry, Replayed, split};
-use tf_program::{
+use tf_cli_program::{
     GraphForm, Options, Past, Place, Program, ProgramInput, Seen, foresee, print_graph, print_plan,
     run, see,
 };
+use tf_local::LocalFile;
+use tf_log::{Entry, Replayed, split};
 use tf_provider::Provider;
 use tf_sim::Sim;
 

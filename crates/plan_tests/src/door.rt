@@ -4,15 +4,14 @@ ghost use Rattle.std.specs.Prelude.{◌≤◌, ◌<◌, ◌+◌, ◌^◌, IfOk, 
 ghost use Rattle.tf_plan_data.specs.Words.{config_of, IsAcyclic, IsDependence, names_of, state_of};
 
 use std::alloc::{AllocError, Global};
-use tf_config::{Config, read};
-use tf_names::{Declarations, Dependence, check_names};
+use tf_config::{Config, read, read_vars};
+use tf_config_names::{Declarations, Dependence, check_names};
 use tf_plan::{Planned, Refused, plan, plan_text};
 use tf_protocol::Provider;
 use tf_refusal::code::{BAD_STATE, LIMIT};
 use tf_refusal::{Detail, Refusal};
 use tf_sim::Sim;
 use tf_state_data::State;
-use tf_variables::read_vars;
 
 /// The text of the plan of a configuration from a state, none where its text is empty; or a line for each refusal.
 pub(crate) fn text_of(alloc: Global, config: &str, state: &str) -> Result<String, AllocError> {

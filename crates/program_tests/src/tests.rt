@@ -1,5 +1,6 @@
 mod disk;
 mod failing;
 mod kept;
+mod options;
 mod programs;
 mod writers;

@@ -7,11 +7,10 @@ use std::sync::Arc;
 use std::sync::atomic::{AtomicUsize, Ordering};
 use std::test::Fail;
 use test_watching::{Aside, Sided, tell_of};
-use tf_outcome::Stop;
 use tf_provider::{Provider, Reply, Request};
-use tf_run::run;
 use tf_sim::Sim;
-use tf_walk::run_one;
+use tf_walk::{run, run_one};
+use tf_walk_action::Stop;
 use tf_walk_report::Walked;
 
 /// It counts its calls, and has no memory in the second.

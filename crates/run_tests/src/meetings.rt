@@ -8,11 +8,11 @@ use std::sync::{Arc, Wait};
 use std::test::Fail;
 use std::thread::Threads;
 use test_watching::{Aside, Meeting, Sided, is_reached_within, meet, tell_of};
-use tf_outcome::Stop;
 use tf_provider::{Provider, Reply, Request};
-use tf_run::run_and_close;
 use tf_sim::Sim;
 use tf_value::Value;
+use tf_walk::run_and_close;
+use tf_walk_action::Stop;
 
 /// How often a call looks for another, or for all others of its kind.
 const TURNS: usize = 10_000_000;

@@ -8,10 +8,10 @@ use std::sync::Wait;
 use std::test::Fail;
 use std::thread::Threads;
 use test_watching::{Seen, Texts, WORKERS, apply_by, scripted_reply};
-use tf_outcome::Stop;
 use tf_provider::{Provider, Reply, Request, Schema};
 use tf_sim::Sim;
 use tf_value::Value;
+use tf_walk_action::Stop;
 
 /// The provider `sim`, but for its answer to one request: that it failed, where there is a message, else an object, where
 /// there is one, else that there is none.

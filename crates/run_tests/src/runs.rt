@@ -9,14 +9,13 @@ use std::sync::Wait;
 use std::test::Fail;
 use std::thread::Threads;
 use test_watching::{Told, tell_of};
-use tf_inputs::{Inputs, read_texts};
-use tf_outcome::Stop;
+use tf_cli_inputs::{Inputs, read_texts};
 use tf_plan::plan;
 use tf_plan_data::Planned;
 use tf_provider::Provider;
-use tf_run::run_and_close;
 use tf_sim::Sim;
-use tf_walk::run_one;
+use tf_walk::{run_and_close, run_one};
+use tf_walk_action::Stop;
 
 /// Two nets, and a host on each.
 pub(crate) const NETS: &str =

@@ -5,10 +5,10 @@ use std::alloc::Global;
 use std::process::Abort;
 use std::test::Fail;
 use test_watching::tell_of;
-use tf_outcome::Stop;
 use tf_provider::{Journal, Provider};
 use tf_sim::Sim;
 use tf_walk::run_one;
+use tf_walk_action::Stop;
 use tf_walk_report::{Report, settle};
 
 /// Checks whether the report on a configuration that is carried out is whole with a journal in which nothing is, and that all

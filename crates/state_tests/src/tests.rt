@@ -1,4 +1,5 @@
 mod accepted;
+mod afterwards;
 mod data;
 mod memory;
 mod refused;

@@ -7,7 +7,7 @@ use Rattle.tf_plan_text.specs.Text.{plan_text}
 use Rattle.tf_protocol.specs.Meaning.{Meaning}
 use Rattle.tf_walk_report.specs.Report.{IsReported, report_of}
 use Rattle.tf_walk_report.specs.Savable.{HasNames}
-use Rattle.tf_run.specs.Run.{IsRun}
+use Rattle.tf_walk.specs.Run.{IsRun}
 use Rattle.tf_walk_report.specs.declared.report.Walked.{Walked}
 use Rattle.tf_walk_report.specs.declared.report.Walked.TheVariants.{Whole, Torn}
 use Rattle.tf_state_data.specs.Equality.{state_Decides}

@@ -1,14 +1,14 @@
 -- What is refused where a plan may not be carried out by so many workers.
 use Rattle.std.proofs.Common.{◌≡◌, ◌∷◌, [], ◌∙◌, ℕ, Bool, true, false, List, Result, Ok, Err, IfErr, refl, ap, inl, inr}
 use Rattle.std.specs.Prelude.{MatchBool}
-use Rattle.tf_inputs.specs.Texts.{Texts}
+use Rattle.tf_cli_inputs.specs.Texts.{Texts}
 use Rattle.tf_plan.specs.Refused.{Tells}
 use Rattle.tf_plan.specs.declared.refused.Refused.{Refused}
 use Rattle.tf_plan.specs.declared.refused.Refused.TheVariants.{NoMemory, These}
 use Rattle.tf_plan_data.specs.Plan.{PlanView}
 use Rattle.tf_protocol.specs.Meaning.{Meaning}
 use Rattle.tf_refusal.specs.Refusal.{RefusalView, no_memory, workers}
-use Rattle.tf_run.specs.Run.{are_workers}
+use Rattle.tf_walk.specs.Run.{are_workers}
 use Rattle.tf_cli.specs.Applies.{IsPlanOf}
 use Rattle.tf_cli.specs.Refusals.{AreApplyRefusals, AreRefusals, RefusesBy}
 

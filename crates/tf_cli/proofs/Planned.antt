@@ -2,7 +2,7 @@
 use Rattle.std.proofs.Common.{ℕ, List, Ok, Err, Result}
 use Rattle.std.specs.Prelude.{IfOk}
 use Rattle.tf_config_data.specs.Config.{ConfigView}
-use Rattle.tf_inputs.specs.Texts.{ReadAs, Texts}
+use Rattle.tf_cli_inputs.specs.Texts.{ReadAs, Texts}
 use Rattle.tf_plan.specs.Plan.{IsPlan}
 use Rattle.tf_plan.specs.declared.refused.Refused.{Refused}
 use Rattle.tf_plan_data.specs.Plan.{plan_of}

@@ -3,14 +3,14 @@ use Rattle.std.specs.Prelude.{◌≡◌, ◌↔◌, ℕ, false, if◌then◌else
 use Rattle.std.specs.Result.{result_ok}
 use Rattle.tf_cli.specs.declared.applied.Applied.{Applied}
 use Rattle.tf_config_data.specs.Config.{ConfigView}
-use Rattle.tf_inputs.specs.Texts.{Texts, ReadAs}
+use Rattle.tf_cli_inputs.specs.Texts.{Texts, ReadAs}
 use Rattle.tf_plan.specs.declared.refused.Refused.{Refused}
 use Rattle.tf_plan.specs.Plan.{IsPlan}
 use Rattle.tf_plan_data.specs.Plan.{PlanView}
 use Rattle.tf_plan_text.specs.Text.{plan_text}
 use Rattle.tf_protocol.specs.Meaning.{Meaning}
 use Rattle.tf_walk_report.specs.Report.{report_of}
-use Rattle.tf_run.specs.Run.{IsRun}
+use Rattle.tf_walk.specs.Run.{IsRun}
 use Rattle.tf_state_data.specs.State.{StateView, state_of}
 use Rattle.tf_state.specs.Text.{state_text}
 use Rattle.tf_state.specs.Valid.{IsValid}

@@ -8,11 +8,11 @@ use Rattle.tf_protocol.specs.declared.request.Op.TheVariants as op
 use Rattle.tf_plan.specs.declared.refused.Refused.{Refused}
 use Rattle.tf_plan.specs.declared.refused.Refused.TheVariants.{NoMemory, These}
 use Rattle.tf_protocol.specs.Verdict.{is_good_verdict}
-use Rattle.tf_outcome.specs.declared.excuse.Outcome.{Outcome}
-use Rattle.tf_outcome.specs.declared.excuse.Outcome.TheVariants as outcome
-use Rattle.tf_additions.specs.Diagnostics.{DiagnosticView, diagnostic_of}
+use Rattle.tf_walk_action.specs.declared.excuse.Outcome.{Outcome}
+use Rattle.tf_walk_action.specs.declared.excuse.Outcome.TheVariants as outcome
+use Rattle.tf_walk_report.specs.Diagnostics.{DiagnosticView, diagnostic_of}
 use Rattle.tf_walk_report.specs.Report.{report_of}
-use Rattle.tf_additions.specs.declared.diagnostic.Diagnostic.{Diagnostic}
+use Rattle.tf_walk_report.specs.declared.diagnostic.Diagnostic.{Diagnostic}
 use Rattle.tf_walk_report.specs.declared.report.Report.{Report}
 use Rattle.tf_walk_report.specs.declared.report.Walked.{Walked}
 use Rattle.tf_walk_report.specs.declared.report.Walked.TheVariants.{Whole, Torn}

@@ -3,10 +3,10 @@
 ghost use Rattle.std.specs.Prelude.{◌≡◌, ◌==◌, not, true, map, option_map, IfOk, IfErr, string_bytes};
 ghost use Rattle.tf_cli.specs.Applies.{IsApplied};
 ghost use Rattle.tf_cli.specs.Refusals.{AreApplyRefusals};
-ghost use Rattle.tf_inputs.specs.Texts.{the_texts};
+ghost use Rattle.tf_cli_inputs.specs.Texts.{the_texts};
 ghost use Rattle.tf_plan.specs.Refused.{Tells};
 ghost use Rattle.tf_walk_report.specs.Report.{report_of};
-ghost use Rattle.tf_run.specs.Run.{are_workers};
+ghost use Rattle.tf_walk.specs.Run.{are_workers};
 ghost use Rattle.tf_state_data.specs.State.{state_of};
 ghost use Rattle.tf_state.specs.Text.{state_text};
 
@@ -16,12 +16,12 @@ use std::alloc::Global;
 use std::sync::Wait;
 use std::thread::Threads;
 use tf_config::blocks_have_names;
-use tf_outcome::Stop;
 use tf_plan::Refused;
 use tf_plan_text::plan_text;
 use tf_provider::Provider;
-use tf_run::run;
 use tf_state::write;
+use tf_walk::run;
+use tf_walk_action::Stop;
 use tf_walk_report::Walked;
 
 /// Plans a configuration beside a prior state, and carries the plan out by so many workers, 1 to 64, of which the calling

@@ -1,16 +1,16 @@
 //! From the texts that the user gives to a plan.
 
 ghost use Rattle.std.specs.Prelude.{◌≡◌, map, option_map, IfOk, IfErr, string_bytes};
-ghost use Rattle.tf_outcome.specs.Words.{action_of, AreServed, plan_of, state_of};
+ghost use Rattle.tf_walk_action.specs.Words.{action_of, AreServed, plan_of, state_of};
 ghost use Rattle.tf_cli.specs.Applies.{IsPlanOf, IsPlanText};
 ghost use Rattle.tf_cli.specs.Refusals.{AreRefusals, RefusesBy};
-ghost use Rattle.tf_inputs.specs.Texts.{the_texts};
+ghost use Rattle.tf_cli_inputs.specs.Texts.{the_texts};
 ghost use Rattle.tf_plan.specs.Refused.{Tells};
 ghost use Rattle.tf_refusal.specs.Refusal.{refusal_of};
 ghost use Rattle.tf_state.specs.Valid.{IsValid};
 
 use std::alloc::Global;
-use tf_inputs::{Inputs, read_texts};
+use tf_cli_inputs::{Inputs, read_texts};
 use tf_plan::{Refused, plan};
 use tf_plan_data::Planned;
 use tf_plan_text::plan_text as text_of_plan;

@@ -5,7 +5,7 @@ ghost use Rattle.std.specs.List.{list_all};
 ghost use Rattle.std.specs.Prelude.{◌≡◌, IsErr, MatchResult, OnOk};
 ghost use Rattle.tf_cli.specs.Saved.{AppendsStart};
 ghost use Rattle.tf_cli.specs.Shown.{all_good, applied_errors, applied_output, applied_status, cant_write, counts, diagnostic_line, diagnostic_lines, error_line, errors_of, is_good_outcome, is_torn, output_of, refused_errors, report_summary, status_of, summary_opening, torn_warning, unwritten_error, warnings};
-ghost use Rattle.tf_additions.specs.Diagnostics.{diagnostic_of};
+ghost use Rattle.tf_walk_report.specs.Diagnostics.{diagnostic_of};
 
 use crate::applied::Applied;
 use crate::lines::verb_text;
@@ -13,9 +13,9 @@ use crate::refusing::print_refusals;
 use crate::saving::{SaveFault, save, save_all};
 use itoa::Buffer;
 use std::io::Write;
-use tf_outcome::Outcome;
 use tf_plan::Refused;
 use tf_provider::Verdict;
+use tf_walk_action::Outcome;
 use tf_walk_report::{Diagnostic, Report, Walked};
 
 /// Whether something was printed.

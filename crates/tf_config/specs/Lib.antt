@@ -4,4 +4,8 @@ pub mod Demand
 pub mod Laws
 pub mod Parts
 pub mod Reading
+pub mod Types
+pub mod Values
+pub mod VariableLaws
+pub mod VariablesRead
 pub mod Words

@@ -21,7 +21,7 @@ use tf_refusal::{Detail, Refusal};
 pub(crate) const CONFIGURATION: &str = "configuration";
 
 /// A fault at a place, or that there is no memory to write the place out.
-pub fn fault_at(alloc: Global, path: &Path<'_>, code: u8, detail: Detail) -> Refusal
+pub(crate) fn fault_at(alloc: Global, path: &Path<'_>, code: u8, detail: Detail) -> Refusal
     ensures { TellsAt (dotted (place_of path.now)) (code, detail_of detail) (refusal_of result) }
 {
     match path.text(alloc) {
@@ -35,7 +35,7 @@ pub fn fault_at(alloc: Global, path: &Path<'_>, code: u8, detail: Detail) -> Ref
 }
 
 /// A fault of a whole file, by what it is called, which has nothing behind its name.
-pub fn file_fault(alloc: Global, file: &str, code: u8) -> Refusal
+pub(crate) fn file_fault(alloc: Global, file: &str, code: u8) -> Refusal
     ensures { TellsAt (dotted (file.now ∷ [])) (code, bare) (refusal_of result) }
 {
     let path = Path::Member(&Path::Root, file);

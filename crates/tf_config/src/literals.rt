@@ -71,7 +71,11 @@ pub(crate) fn read_type(part: &Part<'_>) -> Result<VariableType, Refusal>
 ///
 /// 2 at the first number, in walk order, that isn't held as a whole number of 64 bits with a sign; else at the
 /// value itself, where it is beyond the limits; or `OutOfMemory`.
-pub fn read_literal<'a>(alloc: Global, path: &'a Path<'a>, json: &'a Json) -> Result<Value, Refusal>
+pub(crate) fn read_literal<'a>(
+    alloc: Global,
+    path: &'a Path<'a>,
+    json: &'a Json,
+) -> Result<Value, Refusal>
     ensures ok { IfOk result (λ value. IsLiteral (view json.now) (values.tree_of value)) }
     ensures fault { IfErr result (λ refusal.
         Refuses (literal_checks (place_of path.now) (view json.now)) (refusal_of refusal)) }

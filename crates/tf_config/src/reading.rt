@@ -94,7 +94,7 @@ fn demand_count(alloc: Global, count: usize) -> Result<(), Refusal>
 /// # Errors
 ///
 /// 1 at the file where the text is no JSON as `serde_json` reads it, which takes UTF-8 alone, or `OutOfMemory`.
-pub fn read_tree(alloc: Global, bytes: &[u8], file: &str) -> Result<Value, Refusal>
+pub(crate) fn read_tree(alloc: Global, bytes: &[u8], file: &str) -> Result<Value, Refusal>
     ensures ok { IfOk result (λ tree. IsTree bytes.now (view tree)) }
     ensures fault { IfErr result (λ refusal. TellsNotJson (file.now ∷ []) bytes.now (refusal_of refusal)) }
 {

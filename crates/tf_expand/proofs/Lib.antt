@@ -1,3 +1,13 @@
+pub mod Growing
+pub mod Keeping
+pub mod Laying
+pub mod Locals
+pub mod Marking
 pub mod Needing
+mod NoneRefused
+pub mod Places
+pub mod Refining
+pub mod Seen
 pub mod Shaping
-mod Standing
+pub mod Stages
+pub mod TooMany

@@ -6,16 +6,16 @@ use Rattle.std.specs.declared.alloc.AllocError.{AllocError}
 use Rattle.std.specs.List.{AllByRecursion}
 use Rattle.std.specs.Prelude.{◌↔◌}
 use Rattle.tf_config_data.specs.Names.{NameView, meant_at, directly_before}
-use Rattle.tf_environment.specs.Kept.{AreClosed, AreResolved, OnlyWanted}
-use Rattle.tf_environment.specs.Stages.{expansion}
-use Rattle.tf_environment.specs.Resolved.{ResolvedView}
+use Rattle.tf_expand.specs.Kept.{AreClosed, AreResolved, OnlyWanted}
+use Rattle.tf_expand.specs.Stages.{expansion}
+use Rattle.tf_expand.specs.Resolved.{ResolvedView}
 use Rattle.tf_expand.specs.Needed.{is_resource, IsNeeded, IsNeededBy}
 use Rattle.tf_expand.specs.Told.{AreNeededNamesResolved}
 use Rattle.tf_graph.proofs.Edges.{all_by_contained}
 use Rattle.tf_graph.specs.NodeSet.{has}
-use Rattle.tf_names.proofs.Edging.{before-past, place_of-below}
-use Rattle.tf_names.specs.Needs.{order_in, needs_in, IsAcyclic, IsDependence}
-use Rattle.tf_names.specs.declared.dependence.Dependence.{Dependence}
+use Rattle.tf_config_names.proofs.Edging.{before-past, place_of-below}
+use Rattle.tf_config_names.specs.Needs.{order_in, needs_in, IsAcyclic, IsDependence}
+use Rattle.tf_config_names.specs.declared.dependence.Dependence.{Dependence}
 use Rattle.tf_value.specs.Tree.{Entries}
 
 -- what is needed is a name

@@ -8,18 +8,18 @@ use Rattle.tf_config_data.specs.Names.{NameView, Meant, a_local, a_block, meant_
 use Rattle.tf_graph.specs.Solutions.{seen_by}
 use Rattle.tf_graph.proofs.Edges.{all_by_contained}
 use Rattle.tf_graph.proofs.Solving.{seen_by-same}
-use Rattle.tf_names.specs.Needs.{IsDependence}
-use Rattle.tf_names.specs.declared.dependence.Dependence.{Dependence}
+use Rattle.tf_config_names.specs.Needs.{IsDependence}
+use Rattle.tf_config_names.specs.declared.dependence.Dependence.{Dependence}
 use Rattle.tf_syntax.specs.ExprNames.{named_below}
 use Rattle.tf_value.specs.Tree.{Entries}
 use Rattle.tf_eval.proofs.Locality.{both_halves, expressions_local}
-use Rattle.tf_environment.specs.InstanceKeys.{InstanceKeysView, one}
-use Rattle.tf_environment.specs.Resolved.{ResolvedView, all_stand, environment}
-use Rattle.tf_environment.specs.Views.{shape_of, shapes_of}
-use Rattle.tf_environment.specs.declared.repetition.RepetitionFault.{RepetitionFault}
-use Rattle.tf_environment.specs.declared.shape.InstanceKeys.{InstanceKeys}
-use Rattle.tf_environment.proofs.Locals.{instances_local}
-use Rattle.tf_environment.proofs.Seen.{agree_on}
+use Rattle.tf_expand.specs.InstanceKeys.{InstanceKeysView, one}
+use Rattle.tf_expand.specs.Resolved.{ResolvedView, all_stand, environment}
+use Rattle.tf_expand.specs.Views.{shape_of, shapes_of}
+use Rattle.tf_expand.specs.declared.repetition.RepetitionFault.{RepetitionFault}
+use Rattle.tf_expand.specs.declared.shape.InstanceKeys.{InstanceKeys}
+use Rattle.tf_expand.proofs.Locals.{instances_local}
+use Rattle.tf_expand.proofs.Seen.{agree_on}
 use Rattle.tf_expand.specs.Expanding.{max_instances, shape_in, expanded, instances_before, AreExpanded, IsFirstRefused, AreTooMany}
 use Rattle.tf_expand.specs.Needed.{is_resource, IsNeeded}
 use Rattle.tf_expand.specs.Told.{HaveShapes, Shapes, Refuses}

@@ -4,10 +4,10 @@ use Rattle.tf_config_data.specs.Names.{NameView, Meant, a_local, a_block, meant_
 use Rattle.tf_graph.specs.Solutions.{seen_by}
 use Rattle.tf_value.specs.Tree.{Entries}
 use Rattle.tf_eval.specs.Environment.{Environment}
-use Rattle.tf_environment.specs.Repetition.{instances}
-use Rattle.tf_environment.specs.InstanceKeys.{InstanceKeysView, one, many, named}
-use Rattle.tf_environment.specs.Resolved.{ResolvedView, all_stand, environment}
-use Rattle.tf_environment.specs.declared.repetition.RepetitionFault.{RepetitionFault}
+use Rattle.tf_expand.specs.Repetition.{instances}
+use Rattle.tf_expand.specs.InstanceKeys.{InstanceKeysView, one, many, named}
+use Rattle.tf_expand.specs.Resolved.{ResolvedView, all_stand, environment}
+use Rattle.tf_expand.specs.declared.repetition.RepetitionFault.{RepetitionFault}
 
 -- the most instances that a configuration may have
 abbrev pub max_instances : ℕ

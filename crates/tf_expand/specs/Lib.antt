@@ -1,4 +1,13 @@
 pub mod Expanding
-pub mod Laws
+pub mod ExpansionLaws
+pub mod Instance
+pub mod InstanceKeys
+pub mod Kept
 pub mod Needed
+pub mod Repetition
+pub mod Resolved
+pub mod Stages
+pub mod StandingLaws
 pub mod Told
+pub mod Views
+pub mod Words

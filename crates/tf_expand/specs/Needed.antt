@@ -1,8 +1,8 @@
 -- Which names are needed.
 use Rattle.std.specs.Prelude.{◌≡◌, ℕ, Bool, true, false, List, Option, Some}
 use Rattle.tf_config_data.specs.Names.{NameView, Meant, a_block, meant_at}
-use Rattle.tf_names.specs.Needs.{needs_in}
-use Rattle.tf_names.specs.declared.dependence.Dependence.{Dependence}
+use Rattle.tf_config_names.specs.Needs.{needs_in}
+use Rattle.tf_config_names.specs.declared.dependence.Dependence.{Dependence}
 
 -- whether what stands at a place is a resource
 abbrev pub is_resource : Option Meant → Bool

@@ -2,11 +2,11 @@
 use Rattle.std.specs.Prelude.{◌≡◌, ◌<◌, ℕ, List, length, None, Result, Ok, Err}
 use Rattle.tf_config_data.specs.Names.{NameView}
 use Rattle.tf_value.specs.Tree.{Entries}
-use Rattle.tf_names.specs.declared.dependence.Dependence.{Dependence}
-use Rattle.tf_environment.specs.Stages.{expansion}
-use Rattle.tf_environment.specs.Resolved.{ResolvedView, AreResolvedNames}
-use Rattle.tf_environment.specs.Views.{shapes_of}
-use Rattle.tf_environment.specs.declared.shape.InstanceKeys.{InstanceKeys}
+use Rattle.tf_config_names.specs.declared.dependence.Dependence.{Dependence}
+use Rattle.tf_expand.specs.Stages.{expansion}
+use Rattle.tf_expand.specs.Resolved.{ResolvedView, AreResolvedNames}
+use Rattle.tf_expand.specs.Views.{shapes_of}
+use Rattle.tf_expand.specs.declared.shape.InstanceKeys.{InstanceKeys}
 use Rattle.tf_expand.specs.Expanding.{expanded, AreExpanded, IsFirstRefused, AreTooMany}
 use Rattle.tf_expand.specs.Needed.{IsNeeded}
 use Rattle.tf_expand.specs.declared.expansion.ExpansionFault.{ExpansionFault}

@@ -1,18 +1,20 @@
 //! The expansion of a configuration.
 
 ghost use Rattle.std.specs.Prelude.{◌≡◌, ◌<◌, ℕ, IfOk, Some, length, min};
-ghost use Rattle.tf_environment.specs.Words.{AreResolvedNames, directly_before, entries_view, expansion, IsAcyclic, IsDependence, meant_at, declaration_of, names_in, shape_of, shapes_of, resolved_names_of, ResolvedView, worked_out};
+ghost use Rattle.tf_expand.specs.Words.{AreResolvedNames, directly_before, entries_view, expansion, IsAcyclic, IsDependence, meant_at, declaration_of, names_in, shape_of, shapes_of, resolved_names_of, ResolvedView, worked_out};
 ghost use Rattle.tf_expand.specs.Expanding.{expanded, instance_count, instances_before};
 ghost use Rattle.tf_expand.specs.Told.{AreNeededNamesResolved, Shapes, Tells};
 ghost use Rattle.tf_expand.specs.declared.expansion.ExpansionFault.TheVariants.{OutOfMemory};
 
 use crate::needed::needed_by_resources;
+use crate::repetition::{RepetitionFault, instances};
+use crate::resolved::Resolved;
+use crate::scope::NamesScope;
+use crate::shape::InstanceKeys;
+use crate::stage::Expansion;
+use crate::table::{Module, all_stand, resolved_names};
 use std::alloc::{AllocError, AllocFailed, Global};
-use tf_environment::{
-    Expansion, InstanceKeys, Module, NamesScope, RepetitionFault, Resolved, all_stand, instances,
-    resolved_names,
-};
-use tf_names::{Declaration, Declarations};
+use tf_config_names::{Declaration, Declarations};
 
 /// The most instances that a configuration may have.
 pub const MAX_INSTANCES: u64 = 2000;

@@ -1,12 +1,12 @@
 //! Which names are needed.
 
 ghost use Rattle.std.specs.Prelude.{◌≡◌, ◌<◌, ◌↔◌, ℕ, IfOk, Some, true, length};
-ghost use Rattle.tf_environment.specs.Words.{has, IsDependence, meant_at, declaration_of, names_in};
+ghost use Rattle.tf_expand.specs.Words.{has, IsDependence, meant_at, declaration_of, names_in};
 ghost use Rattle.tf_expand.specs.Needed.{is_resource, IsNeeded, IsNeededBy};
 
+use crate::table::Module;
 use std::alloc::{AllocError, Global};
-use tf_environment::Module;
-use tf_names::{Declaration, Declarations, Dependence};
+use tf_config_names::{Declaration, Declarations, Dependence};
 
 /// For each place, whether a resource needs the name there.
 ///

@@ -8,24 +8,24 @@ use Rattle.std.specs.Option.{option_eq, option_map_or, option_or}
 use Rattle.std.specs.Prelude.{Contains, slice_get}
 use Rattle.std.specs.Str.{bytes_eq}
 use Rattle.tf_plan_data.specs.Action.{ActionView, StepView, create, update, replacement, replaced, deposed_destroyed}
-use Rattle.tf_additions.specs.Change.{applies_in, changes_in, destroys_in}
-use Rattle.tf_additions.specs.Head.{IsKeyFor, given_with, is_replacement}
+use Rattle.tf_walk_report.specs.Change.{applies_in, changes_in, destroys_in}
+use Rattle.tf_walk_report.specs.Head.{IsKeyFor, given_with, is_replacement}
 use Rattle.tf_address.specs.Label.{LabelView}
 use Rattle.tf_address.specs.ObjectId.{InstanceKeyView, ObjectIdView}
 use Rattle.tf_config_data.specs.Config.{BlockView}
 use Rattle.tf_config_data.specs.Names.{a_block, meant_at}
-use Rattle.tf_deciding.specs.Stage.{records_at}
-use Rattle.tf_deciding.specs.Steps.{current_steps, decided_steps, deposed_step, destroy_if_deposed}
-use Rattle.tf_decision.specs.Decision as decision
-use Rattle.tf_decision.specs.Decision.{DecisionView, change, current}
-use Rattle.tf_environment.proofs.Refining.{followed}
+use Rattle.tf_plan_decision.specs.Stage.{records_at}
+use Rattle.tf_plan_decision.specs.Steps.{current_steps, decided_steps, deposed_step, destroy_if_deposed}
+use Rattle.tf_plan_decision.specs.Decision as decision
+use Rattle.tf_plan_decision.specs.Decision.{DecisionView, change, current}
+use Rattle.tf_expand.proofs.Refining.{followed}
 use Rattle.tf_graph.specs.Digraph.{predecessors_of}
 use Rattle.tf_graph.specs.Solutions.{seen_by}
-use Rattle.tf_plan_resources.specs.Members.{is_among, is_of, records_of}
+use Rattle.tf_plan_order.specs.Members.{is_among, is_of, records_of}
 use Rattle.tf_state_next.proofs.Changing.{found_label}
 use Rattle.tf_state_next.specs.Events.{ApplyView, apply_of_instance, as_apply, left_of_deposed, left_of_object, nothing_given}
-use Rattle.tf_outcome.specs.Objects.{object_of}
-use Rattle.tf_outcome.specs.Outcome.{ActionResultView, done_at, is_good, objects_by}
+use Rattle.tf_walk_action.specs.Objects.{object_of}
+use Rattle.tf_walk_action.specs.Outcome.{ActionResultView, done_at, is_good, objects_by}
 use Rattle.tf_plan.proofs.Distinct.{at-contained, in_flat_map}
 use Rattle.tf_plan_data.specs.Fits.{deposed_key, is_apply}
 use Rattle.tf_plan_data.specs.Plan.{plan_names}

@@ -4,26 +4,26 @@ use Rattle.std.specs.List.{AllByRecursion}
 use Rattle.std.specs.Option.{option_or}
 use Rattle.std.specs.Prelude.{MatchBool, is_none}
 use Rattle.tf_address.specs.ObjectId.{InstanceKeyView}
-use Rattle.tf_change.specs.Instance.{instance_object}
+use Rattle.tf_plan_object.specs.Instance.{instance_object}
 use Rattle.tf_config_data.specs.Config.{BlockView}
 use Rattle.tf_config_data.specs.Names.{NameView, a_block, meant_at}
-use Rattle.tf_deciding.specs.Deciding.{version_of}
-use Rattle.tf_decision.proofs.Fitting.{good_fit}
-use Rattle.tf_decision.specs.Prior.{PriorFaultView, first_unfit, prior_fault, record_fault}
-use Rattle.tf_environment.specs.InstanceKeys.{InstanceKeysView}
-use Rattle.tf_environment.specs.Stages.{applying}
-use Rattle.tf_environment.specs.Resolved.{ResolvedView, AreResolvedNames, environment}
+use Rattle.tf_plan_decision.specs.Deciding.{version_of}
+use Rattle.tf_plan_decision.proofs.Fitting.{good_fit}
+use Rattle.tf_plan_decision.specs.Prior.{PriorFaultView, first_unfit, prior_fault, record_fault}
+use Rattle.tf_expand.specs.InstanceKeys.{InstanceKeysView}
+use Rattle.tf_expand.specs.Stages.{applying}
+use Rattle.tf_expand.specs.Resolved.{ResolvedView, AreResolvedNames, environment}
 use Rattle.tf_eval.specs.ExprMeaning.{meaning}
-use Rattle.tf_plan_resources.specs.Members.{is_among}
+use Rattle.tf_plan_order.specs.Members.{is_among}
 use Rattle.tf_operators.specs.Answer.{Answer}
-use Rattle.tf_outcome.specs.Objects.{object_of}
-use Rattle.tf_outcome.specs.Outcome.{done_at}
-use Rattle.tf_outputs.specs.Outputs.{AreOutputsDone, IsOutputDone, OutputResultView, done_with, not_evaluated, valued}
-use Rattle.tf_outputs.specs.Settled.{names_are_settled}
+use Rattle.tf_walk_action.specs.Objects.{object_of}
+use Rattle.tf_walk_action.specs.Outcome.{done_at}
+use Rattle.tf_walk_report.specs.Outputs.{AreOutputsDone, IsOutputDone, OutputResultView, done_with, not_evaluated, valued}
+use Rattle.tf_walk_report.specs.Settled.{names_are_settled}
 use Rattle.tf_plan.proofs.Distinct.{at-contained}
 use Rattle.tf_plan_data.specs.Plan.{plan_names}
 use Rattle.tf_walk_report.specs.Report.{objects_after}
-use Rattle.tf_request.specs.Requests.{without_sets}
+use Rattle.tf_walk_action.specs.Requests.{without_sets}
 use Rattle.tf_syntax.specs.ExprTree as expr
 use Rattle.tf_value.specs.Tree.{Tree, Entries}
 use Rattle.tf_laws.proofs.After.{IsKept, at_index, kept_at}
@@ -35,8 +35,8 @@ use Rattle.tf_laws.proofs.Grown.{made_requested}
 use Rattle.tf_laws.proofs.Rests.{records_are}
 use Rattle.tf_laws.proofs.Stands.{label_of}
 use Rattle.tf_laws.proofs.Stored.{each_fits}
-use Rattle.tf_change.specs.Laws.{InstancesGrow}
-use Rattle.tf_environment.specs.Laws.{ResolvedNamesGrow}
+use Rattle.tf_plan_object.specs.Laws.{InstancesGrow}
+use Rattle.tf_expand.specs.StandingLaws.{ResolvedNamesGrow}
 use Rattle.tf_laws.specs.Known.{ExpressionsStayKnown}
 use Rattle.tf_laws.specs.Reapply.{AreStillMade, IsValued, ValuedOutputsMean}
 use Rattle.tf_laws.specs.Rest.{AreUnrefused, EachMeans}

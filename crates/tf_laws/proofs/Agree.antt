@@ -12,23 +12,23 @@ use Rattle.tf_config_data.specs.Names.{NameView, meant_at}
 use Rattle.tf_graph.proofs.Edges.{contains_cases, contains_head, contains_tail, source-from_edge}
 use Rattle.tf_graph.specs.Digraph.{Digraph, predecessors_of}
 use Rattle.tf_graph.specs.Solutions.{seen_by}
-use Rattle.tf_outcome.specs.Objects.{is_of, object_of, objects_seen, prior_object}
-use Rattle.tf_outcome.specs.Outcome.{ActionResultView}
+use Rattle.tf_walk_action.specs.Objects.{is_of, object_of, objects_seen, prior_object}
+use Rattle.tf_walk_action.specs.Outcome.{ActionResultView}
 use Rattle.tf_plan.proofs.Distinct.{at-contained}
 use Rattle.tf_plan.proofs.Fitting.{AreFit}
 use Rattle.tf_plan.proofs.Objects.{one_key}
 use Rattle.tf_plan.specs.Ordered.{IsOrdered}
 use Rattle.tf_plan_data.specs.Fits.{IsPlaced, deposed_key, is_apply}
-use Rattle.tf_precedence.proofs.Listed.{pairs-those}
-use Rattle.tf_precedence.specs.Before.{Before, needed_first}
-use Rattle.tf_precedence.specs.Order.{action_at, no_action}
-use Rattle.tf_precedence.specs.OrderInput.{OrderInputView}
-use Rattle.tf_precedence.specs.declared.action.OrderedAction.{OrderedAction as Ordered}
-use Rattle.tf_precedence.specs.declared.action.ActionKind.TheVariants.{Apply}
+use Rattle.tf_plan_order.proofs.Listed.{pairs-those}
+use Rattle.tf_plan_order.specs.Before.{Before, needed_first}
+use Rattle.tf_plan_order.specs.Order.{action_at, no_action}
+use Rattle.tf_plan_order.specs.OrderInput.{OrderInputView}
+use Rattle.tf_plan_order.specs.declared.action.OrderedAction.{OrderedAction as Ordered}
+use Rattle.tf_plan_order.specs.declared.action.ActionKind.TheVariants.{Apply}
 use Rattle.tf_protocol.specs.Meaning.{Meaning}
 use Rattle.tf_walk_report.proofs.Apart.{apply_is_current}
-use Rattle.tf_plan_resources.proofs.Standing.{places-differ}
-use Rattle.tf_plan_resources.specs.ResourceIndex.{numbered}
+use Rattle.tf_plan_order.proofs.Standing.{places-differ}
+use Rattle.tf_plan_order.specs.ResourceIndex.{numbered}
 use Rattle.tf_state_data.specs.Resource.{ResourceView}
 use Rattle.tf_state_data.specs.State.{StateView}
 use Rattle.tf_value.proofs.Conjunction.{and-both, and-first, and-second}

@@ -4,27 +4,27 @@ use Rattle.std.proofs.lemmas.Bool.{ltb-true}
 use Rattle.std.specs.List.{AllByRecursion, flat_map, range_with_len}
 use Rattle.std.specs.Prelude.{nat_lt}
 use Rattle.tf_plan_data.specs.Action.{ActionView}
-use Rattle.tf_additions.specs.Dependencies.{address_of, dependencies, with_address}
-use Rattle.tf_additions.specs.Head.{AreHeads, Head, IsHeadOf, IsKeyFor, Target, an_instance, an_object, key_in, target_with}
+use Rattle.tf_walk_report.specs.Dependencies.{address_of, dependencies, with_address}
+use Rattle.tf_walk_report.specs.Head.{AreHeads, Head, IsHeadOf, IsKeyFor, Target, an_instance, an_object, key_in, target_with}
 use Rattle.tf_address.specs.Label.{LabelView}
 use Rattle.tf_address.specs.ObjectId.{InstanceKeyView}
 use Rattle.tf_config_data.specs.Config.{BlockView}
 use Rattle.tf_config_data.specs.Names.{Meant, NameView, a_block, a_local, directly_before, label_pair, meant_at, place_of}
 use Rattle.tf_laws.proofs.Declared.{has_stands}
 use Rattle.tf_laws.proofs.Renewals.{block_place}
-use Rattle.tf_environment.specs.InstanceKeys.{InstanceKeysView}
-use Rattle.tf_environment.specs.Stages.{applying}
-use Rattle.tf_environment.specs.Resolved.{AreResolvedNames, ResolvedView, all_stand, environment, result_in, stands_at, together, where_all}
+use Rattle.tf_expand.specs.InstanceKeys.{InstanceKeysView}
+use Rattle.tf_expand.specs.Stages.{applying}
+use Rattle.tf_expand.specs.Resolved.{AreResolvedNames, ResolvedView, all_stand, environment, result_in, stands_at, together, where_all}
 use Rattle.tf_eval.specs.Environment.{Environment}
 use Rattle.tf_graph.specs.Solutions.{seen_by}
 use Rattle.tf_laws.specs.Plans.{AreOne, AreOrderly}
 use Rattle.tf_state_next.specs.Events.{EventsView, MetadataUpdateView, ends_in, given_in}
 use Rattle.tf_state_next.specs.StateAfter.{IsStateAfter}
-use Rattle.tf_outcome.specs.Outcome.{AreOutcomes, AreRequests, ActionResultView, Requests}
-use Rattle.tf_outcome.specs.declared.excuse.Excuse.{Excuse}
-use Rattle.tf_outputs.specs.Outputs as outputs
-use Rattle.tf_outputs.specs.Outputs.{AreOutputsDone, IsEvaluated, IsMeant, OutputResultView, outputs_after}
-use Rattle.tf_outputs.specs.Settled.{names_are_settled}
+use Rattle.tf_walk_action.specs.Outcome.{AreOutcomes, AreRequests, ActionResultView, Requests}
+use Rattle.tf_walk_action.specs.declared.excuse.Excuse.{Excuse}
+use Rattle.tf_walk_report.specs.Outputs as outputs
+use Rattle.tf_walk_report.specs.Outputs.{AreOutputsDone, IsEvaluated, IsMeant, OutputResultView, outputs_after}
+use Rattle.tf_walk_report.specs.Settled.{names_are_settled}
 use Rattle.tf_plan.proofs.Blocks.{names-apart}
 use Rattle.tf_plan.proofs.Tied.{block_found}
 use Rattle.tf_plan_data.specs.Fits.{IsDeclared, deposed_key, is_apply}
@@ -33,9 +33,9 @@ use Rattle.tf_protocol.specs.Meaning.{Meaning}
 use Rattle.tf_walk_report.specs.Events.{events, metadata_update_of_record, metadata_updates, metadata_updates_at, metadata_updates_of, stays}
 use Rattle.tf_walk_report.specs.Report.{IsReported, IsStateOf, IsTold, objects_after}
 use Rattle.tf_walk_report.specs.declared.report.Report.{Report}
-use Rattle.tf_plan_resources.proofs.Standing.{blocks-first, resources-apart}
-use Rattle.tf_plan_resources.specs.Laws as resources_laws
-use Rattle.tf_plan_resources.specs.ResourceIndex.{a_name, numbered, place_in}
+use Rattle.tf_plan_order.proofs.Standing.{blocks-first, resources-apart}
+use Rattle.tf_plan_order.specs.ResourceLaws as resources_laws
+use Rattle.tf_plan_order.specs.ResourceIndex.{a_name, numbered, place_in}
 use Rattle.tf_state_next.specs.After.{object_at}
 use Rattle.tf_state_next.specs.Ends.{RecordInputView}
 use Rattle.tf_state_data.specs.Record.{RecordView}

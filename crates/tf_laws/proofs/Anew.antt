@@ -4,24 +4,24 @@ use Rattle.std.proofs.Common.{◌≡◌, ◌∙◌, ℕ, Bool, List, [], Option,
 use Rattle.std.specs.Option.{option_map_or}
 use Rattle.std.specs.Prelude.{Contains}
 use Rattle.tf_plan_data.specs.Action.{ActionView}
-use Rattle.tf_additions.specs.Dependencies.{dependencies}
-use Rattle.tf_additions.specs.Head.{AreHeads, Head}
+use Rattle.tf_walk_report.specs.Dependencies.{dependencies}
+use Rattle.tf_walk_report.specs.Head.{AreHeads, Head}
 use Rattle.tf_address.specs.Label.{LabelView}
 use Rattle.tf_address.specs.ObjectId.{InstanceKeyView, ObjectIdView}
 use Rattle.tf_config_data.specs.Config.{BlockView}
 use Rattle.tf_config_data.specs.Names.{a_block, meant_at}
-use Rattle.tf_environment.proofs.Refining.{followed}
+use Rattle.tf_expand.proofs.Refining.{followed}
 use Rattle.tf_state_next.proofs.Changing.{found_label}
 use Rattle.tf_state_next.specs.Events.{ApplyView, apply_of_instance, as_apply, ends_in, given_in, nothing_given}
 use Rattle.tf_state_next.specs.StateAfter.{IsStateAfter}
-use Rattle.tf_outcome.specs.Outcome.{ActionResultView}
+use Rattle.tf_walk_action.specs.Outcome.{ActionResultView}
 use Rattle.tf_plan_data.specs.Plan.{PlanView, plan_names}
 use Rattle.tf_protocol.specs.Meaning.{Meaning}
 use Rattle.tf_walk_report.specs.Events.{events, metadata_updates}
 use Rattle.tf_walk_report.specs.Report.{IsStateOf}
-use Rattle.tf_plan_resources.proofs.Standing.{each-placed, resources-apart}
-use Rattle.tf_plan_resources.specs.Laws as resources_laws
-use Rattle.tf_plan_resources.specs.ResourceIndex.{a_name, numbered, place_in}
+use Rattle.tf_plan_order.proofs.Standing.{each-placed, resources-apart}
+use Rattle.tf_plan_order.specs.ResourceLaws as resources_laws
+use Rattle.tf_plan_order.specs.ResourceIndex.{a_name, numbered, place_in}
 use Rattle.tf_state_next.proofs.Places.{found_id}
 use Rattle.tf_state_next.specs.After.{current_after, object_at, renewed}
 use Rattle.tf_state_next.specs.Ends.{ApplyResultView, unwanted}

@@ -6,27 +6,27 @@ use Rattle.std.specs.List.{AllByRecursion, flat_map}
 use Rattle.std.specs.Option.{option_and_then, option_map_or, unwrap_or}
 use Rattle.tf_plan_data.specs.Action.{ActionView, StepView, create, update, replacement}
 use Rattle.tf_address.specs.ObjectId.{InstanceKeyView}
-use Rattle.tf_asks.specs.Laws.{IsAnsweredPlan, planned_object}
-use Rattle.tf_change.proofs.Locals.{instances_local}
-use Rattle.tf_change.specs.Instance.{InstanceFaultView, instance_object}
+use Rattle.tf_walk_action.specs.AskingLaws.{IsAnsweredPlan, planned_object}
+use Rattle.tf_plan_object.proofs.Locals.{instances_local}
+use Rattle.tf_plan_object.specs.Instance.{InstanceFaultView, instance_object}
 use Rattle.tf_config_data.specs.Config.{BlockView}
 use Rattle.tf_config_data.specs.Names.{Meant, a_block, block_refers, directly_before, meant_at, places, refers_at}
 use Rattle.tf_laws.proofs.After.{nothing_deposed}
 use Rattle.tf_laws.proofs.Declared.{IsPlannedAt, planned_at, records_in}
 use Rattle.tf_laws.proofs.Lists.{all_contained}
 use Rattle.tf_laws.proofs.OneRecord.{current_known}
-use Rattle.tf_deciding.specs.Stage.{decided_object, object_beside, object_of, object_unless_refused}
-use Rattle.tf_deciding.specs.Steps.{current_steps, decided_steps, deposed_step}
-use Rattle.tf_decision.specs.Decision as decision
-use Rattle.tf_decision.specs.Decision.{DecisionView, change, current}
-use Rattle.tf_environment.proofs.Seen.{agree_on, same_seen}
-use Rattle.tf_environment.specs.InstanceKeys.{instance_keys}
-use Rattle.tf_environment.specs.Resolved.{environment, environment_at, result_in}
+use Rattle.tf_plan_decision.specs.Stage.{decided_object, object_beside, object_of, object_unless_refused}
+use Rattle.tf_plan_decision.specs.Steps.{current_steps, decided_steps, deposed_step}
+use Rattle.tf_plan_decision.specs.Decision as decision
+use Rattle.tf_plan_decision.specs.Decision.{DecisionView, change, current}
+use Rattle.tf_expand.proofs.Seen.{agree_on, same_seen}
+use Rattle.tf_expand.specs.InstanceKeys.{instance_keys}
+use Rattle.tf_expand.specs.Resolved.{environment, environment_at, result_in}
 use Rattle.tf_eval.proofs.Locality.{expressions_local}
 use Rattle.tf_eval.specs.Locality.{AgreeOn}
 use Rattle.tf_graph.specs.Solutions.{seen_by}
-use Rattle.tf_plan_resources.specs.Members.{is_among}
-use Rattle.tf_outcome.specs.Objects.{prior_object}
+use Rattle.tf_plan_order.specs.Members.{is_among}
+use Rattle.tf_walk_action.specs.Objects.{prior_object}
 use Rattle.tf_plan_data.specs.Fits.{IsDeclared, is_apply}
 use Rattle.tf_plan_data.specs.Plan.{plan_names}
 use Rattle.tf_protocol.specs.Schema.{SchemaView}

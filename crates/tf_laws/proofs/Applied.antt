@@ -1,17 +1,17 @@
 -- An apply that went well, and what it starts from.
 use Rattle.std.proofs.Common.{◌≡◌, ℕ, true, List, Some, map}
 use Rattle.std.specs.List.{AllByRecursion}
-use Rattle.tf_additions.specs.Head.{AreHeads, Head}
+use Rattle.tf_walk_report.specs.Head.{AreHeads, Head}
 use Rattle.tf_config_data.specs.Names.{directly_before}
-use Rattle.tf_deciding.specs.Stage.{deciding}
-use Rattle.tf_environment.specs.Resolved.{ResolvedView, AreResolvedNames}
+use Rattle.tf_plan_decision.specs.Stage.{deciding}
+use Rattle.tf_expand.specs.Resolved.{ResolvedView, AreResolvedNames}
 use Rattle.tf_graph.specs.Solutions.{Ranked}
 use Rattle.tf_state_next.specs.Events.{ends_in, given_in}
 use Rattle.tf_state_next.specs.Laws.{IsInOrder}
 use Rattle.tf_state_next.specs.StateAfter.{IsStateAfter}
-use Rattle.tf_outcome.specs.Asked.{AreRequests, Requests}
-use Rattle.tf_outcome.specs.Outcome.{AreOutcomes, ActionResultView, is_good}
-use Rattle.tf_outcome.specs.declared.excuse.Excuse.{Excuse}
+use Rattle.tf_walk_action.specs.Asked.{AreRequests, Requests}
+use Rattle.tf_walk_action.specs.Outcome.{AreOutcomes, ActionResultView, is_good}
+use Rattle.tf_walk_action.specs.declared.excuse.Excuse.{Excuse}
 use Rattle.tf_plan.proofs.Fitting.{AreFit}
 use Rattle.tf_plan.specs.Ordered.{IsOrdered}
 use Rattle.tf_plan.specs.Planned.{IsPlanned, unrefused}
@@ -19,8 +19,8 @@ use Rattle.tf_plan_data.specs.Plan.{PlanView, plan_names}
 use Rattle.tf_protocol.specs.Meaning.{Meaning, schema_in}
 use Rattle.tf_protocol.specs.Schema.{SchemaView, IsSchema}
 use Rattle.tf_walk_report.specs.Events.{events}
-use Rattle.tf_plan_resources.specs.Laws as resources_laws
-use Rattle.tf_plan_resources.specs.ResourceIndex.{a_name}
+use Rattle.tf_plan_order.specs.ResourceLaws as resources_laws
+use Rattle.tf_plan_order.specs.ResourceIndex.{a_name}
 use Rattle.tf_state.specs.Valid.{IsValid}
 use Rattle.tf_state_data.specs.Addresses.{AreByAddress}
 use Rattle.tf_state_data.specs.Ids.{AreById}

@@ -3,8 +3,8 @@ use Rattle.std.proofs.Common.{◌≡◌, ◌∙◌, ◌<◌, ◌+◌, inl, inr, 
 use Rattle.std.specs.List.{AllByRecursion, range_with_len}
 use Rattle.std.specs.Prelude.{slice_get}
 use Rattle.tf_plan_data.specs.Action.{ActionView}
-use Rattle.tf_asks.specs.Laws.{RefinesWhere, planned_object}
-use Rattle.tf_change.proofs.Named.{instances_named}
+use Rattle.tf_walk_action.specs.AskingLaws.{RefinesWhere, planned_object}
+use Rattle.tf_plan_object.proofs.Named.{instances_named}
 use Rattle.tf_config_data.specs.Names.{a_block, directly_before, meant_at}
 use Rattle.tf_laws.proofs.After.{at_index}
 use Rattle.tf_laws.proofs.Agree.{IsApplyOf, needed_before, one_apply, seen_of}
@@ -13,17 +13,17 @@ use Rattle.tf_laws.proofs.Grown.{was_made}
 use Rattle.tf_laws.proofs.Lists.{all_from, got_within, in_range, nothing_in, to_filter}
 use Rattle.tf_laws.proofs.Places.{meant_within}
 use Rattle.tf_laws.proofs.Well.{IsGoodCall, good_call, good_object}
-use Rattle.tf_environment.proofs.Places.{along}
-use Rattle.tf_environment.specs.Stages.{applying}
-use Rattle.tf_environment.specs.Resolved.{rule}
+use Rattle.tf_expand.proofs.Places.{along}
+use Rattle.tf_expand.specs.Stages.{applying}
+use Rattle.tf_expand.specs.Resolved.{rule}
 use Rattle.tf_graph.proofs.Edges.{contains_cases}
 use Rattle.tf_graph.proofs.Solving.{all_by_at, ranked-by_order, solution-exists}
 use Rattle.tf_graph.specs.Digraph.{predecessors_of}
 use Rattle.tf_graph.specs.Solutions.{IsOrderOf, seen_by}
-use Rattle.tf_outcome.specs.Asked.{AreRequests, Requests, asked_by_step, ignored_by}
-use Rattle.tf_outcome.specs.Objects.{object_of}
-use Rattle.tf_outcome.specs.Outcome.{AreOutcomes, ActionResultView, called, done_at, is_good, objects_by}
-use Rattle.tf_outcome.specs.declared.excuse.Excuse.{Excuse}
+use Rattle.tf_walk_action.specs.Asked.{AreRequests, Requests, asked_by_step, ignored_by}
+use Rattle.tf_walk_action.specs.Objects.{object_of}
+use Rattle.tf_walk_action.specs.Outcome.{AreOutcomes, ActionResultView, called, done_at, is_good, objects_by}
+use Rattle.tf_walk_action.specs.declared.excuse.Excuse.{Excuse}
 use Rattle.tf_plan.proofs.Distinct.{at-contained, in_filter}
 use Rattle.tf_plan_data.specs.Fits.{is_apply}
 use Rattle.tf_plan_data.specs.Plan.{plan_names}

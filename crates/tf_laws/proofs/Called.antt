@@ -4,13 +4,13 @@ use Rattle.std.specs.Option.{option_map_or}
 use Rattle.std.specs.Prelude.{slice_get}
 use Rattle.tf_plan_data.specs.Action.{ActionView}
 use Rattle.tf_address.specs.ObjectId.{InstanceKeyView}
-use Rattle.tf_change.specs.Instance.{InstanceFaultView}
+use Rattle.tf_plan_object.specs.Instance.{InstanceFaultView}
 use Rattle.tf_graph.specs.Digraph.{predecessors_of}
 use Rattle.tf_graph.specs.Solutions.{seen_by}
-use Rattle.tf_outcome.specs.Asked.{Requests, asked_for}
-use Rattle.tf_outcome.specs.Excuse.{Moment, excuse_of}
-use Rattle.tf_outcome.specs.Outcome.{AreOutcomes, ActionResultView, all_good, call_at, call_of_provider, call_with, called, comes_of, done_at, is_good, objects_by, or_excused, skipped}
-use Rattle.tf_outcome.specs.declared.excuse.Excuse.{Excuse}
+use Rattle.tf_walk_action.specs.Asked.{Requests, asked_for}
+use Rattle.tf_walk_action.specs.Excuse.{Moment, excuse_of}
+use Rattle.tf_walk_action.specs.Outcome.{AreOutcomes, ActionResultView, all_good, call_at, call_of_provider, call_with, called, comes_of, done_at, is_good, objects_by, or_excused, skipped}
+use Rattle.tf_walk_action.specs.declared.excuse.Excuse.{Excuse}
 use Rattle.tf_plan_data.specs.Plan.{PlanView, plan_names}
 use Rattle.tf_protocol.specs.Meaning.{Answer, Asked, Meaning, first_with, schema_in}
 use Rattle.tf_protocol.specs.Schema.{SchemaView}

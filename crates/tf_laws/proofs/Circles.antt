@@ -6,10 +6,10 @@ use Rattle.std.specs.List.Sorted.{IsStrictlySortedBy}
 use Rattle.tf_config_data.specs.Names.{NameView}
 use Rattle.tf_graph.specs.Path.{Reaches}
 use Rattle.tf_laws.proofs.Telling.{decided_reaches, graph_before, graph_of}
-use Rattle.tf_names.proofs.Edging.{place_of-below}
-use Rattle.tf_names.proofs.Needing.{needs-declared, needs-from_reaches, reaches-from_needs, reaching-named}
-use Rattle.tf_names.proofs.Rings.{name_at-place}
-use Rattle.tf_names.specs.Needs.{AreCyclic, name_at, pair_text}
+use Rattle.tf_config_names.proofs.Edging.{place_of-below}
+use Rattle.tf_config_names.proofs.Needing.{needs-declared, needs-from_reaches, reaches-from_needs, reaching-named}
+use Rattle.tf_config_names.proofs.Rings.{name_at-place}
+use Rattle.tf_config_names.specs.Needs.{AreCyclic, name_at, pair_text}
 use Rattle.tf_state.proofs.Permuted.{contains_nothing, put_text-has, put_text-keeps, put_text-only, put_text-sorted}
 use Rattle.tf_state.specs.Reading.{put_text}
 

@@ -3,22 +3,22 @@ use Rattle.std.proofs.Common.{◌≡◌, ◌∙◌, ◌<◌, ℕ, zero, suc, Boo
 use Rattle.std.specs.List.{AllByRecursion, list_all}
 use Rattle.std.specs.Prelude.{MatchBool}
 use Rattle.tf_plan_data.specs.Action.{ActionView}
-use Rattle.tf_additions.specs.Diagnostics.{action_diagnostics, diagnostic_of}
-use Rattle.tf_additions.specs.declared.diagnostic.Diagnostic.{Diagnostic}
+use Rattle.tf_walk_report.specs.Diagnostics.{action_diagnostics, diagnostic_of}
+use Rattle.tf_walk_report.specs.declared.diagnostic.Diagnostic.{Diagnostic}
 use Rattle.tf_address.specs.ObjectId.{InstanceKeyView}
 use Rattle.tf_laws.proofs.TextsAgain.{good_outcomes, success}
 use Rattle.tf_laws.proofs.PlannedOverTexts.{plan_ranked}
 use Rattle.tf_cli.specs.Shown.{all_good, cant_write, is_empty, is_good_outcome, is_torn}
 use Rattle.tf_config_data.specs.Names.{Meant, NameView, a_block, a_local, directly_before, meant_at, places}
 use Rattle.tf_laws.specs.Reapply.{IsValued}
-use Rattle.tf_environment.proofs.Places.{all_places, along, names_stay}
-use Rattle.tf_environment.specs.InstanceKeys.{InstanceKeysView}
+use Rattle.tf_expand.proofs.Places.{all_places, along, names_stay}
+use Rattle.tf_expand.specs.InstanceKeys.{InstanceKeysView}
 use Rattle.tf_graph.specs.Solutions.{Ranked, seen_by}
-use Rattle.tf_outcome.specs.Outcome.{ActionResultView, called, excused, faulted, is_good, skipped}
-use Rattle.tf_outcome.specs.declared.excuse.Outcome.{Outcome}
-use Rattle.tf_outputs.specs.Outputs as outputs
-use Rattle.tf_outputs.specs.Outputs.{AreOutputsDone, IsEvaluated, OutputResultView, end_of}
-use Rattle.tf_outputs.specs.Settled.{AreSettled, all_settled, names_are_settled, settled_as}
+use Rattle.tf_walk_action.specs.Outcome.{ActionResultView, called, excused, faulted, is_good, skipped}
+use Rattle.tf_walk_action.specs.declared.excuse.Outcome.{Outcome}
+use Rattle.tf_walk_report.specs.Outputs as outputs
+use Rattle.tf_walk_report.specs.Outputs.{AreOutputsDone, IsEvaluated, OutputResultView, end_of}
+use Rattle.tf_walk_report.specs.Settled.{AreSettled, all_settled, names_are_settled, settled_as}
 use Rattle.tf_plan_data.specs.Plan.{PlanView, plan_names}
 use Rattle.tf_protocol.specs.Meaning.{Meaning}
 use Rattle.tf_walk_report.specs.Good.{are_good_at, is_apply_of}

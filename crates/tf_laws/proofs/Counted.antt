@@ -15,8 +15,8 @@ use Rattle.tf_laws.proofs.Declared.{has_stands}
 use Rattle.tf_laws.proofs.Places.{meant_within}
 use Rattle.tf_graph.proofs.Edges.{contains_cases}
 use Rattle.tf_graph.proofs.Orders.{IsApart, pigeonhole}
-use Rattle.tf_names.proofs.Needing.{none_contained}
-use Rattle.tf_plan_resources.specs.ResourceIndex.{has_block}
+use Rattle.tf_config_names.proofs.Needing.{none_contained}
+use Rattle.tf_plan_order.specs.ResourceIndex.{has_block}
 use Rattle.tf_state_data.specs.Addresses.{AreByAddress}
 use Rattle.tf_state_data.specs.Resource.{ResourceView}
 use Rattle.tf_state.specs.Table.{IsBeyond, last_serial}

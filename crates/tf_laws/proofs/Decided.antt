@@ -4,26 +4,26 @@ use Rattle.std.specs.List.{AllByRecursion}
 use Rattle.std.specs.Prelude.{slice_get}
 use Rattle.tf_plan_data.specs.Action.{StepView}
 use Rattle.tf_address.specs.ObjectId.{InstanceKeyView}
-use Rattle.tf_change.specs.Instance.{InstanceFaultView, for_each_fault, argument_fault, instance_object}
+use Rattle.tf_plan_object.specs.Instance.{InstanceFaultView, for_each_fault, argument_fault, instance_object}
 use Rattle.tf_config_data.specs.Config.{BlockView, LifecycleView}
 use Rattle.tf_config_data.specs.Names.{NameView, Meant, a_local, a_block, directly_before}
-use Rattle.tf_deciding.specs.Deciding.{DecidedView, OfView, version_of, with_block, with_members, with_outcome}
-use Rattle.tf_deciding.specs.Outcome.{OutcomeView, by_decision, declared_outcome, member_outcome, no_provider, orphan_outcome, removal_outcome}
-use Rattle.tf_deciding.specs.Stage.{block_members}
-use Rattle.tf_deciding.specs.Steps.{decided_steps}
-use Rattle.tf_deciding.specs.Whole.{with_meant, with_numbered}
-use Rattle.tf_decision.specs.Decision as decision
-use Rattle.tf_decision.specs.Decision.{DecisionView, DecisionFaultView, change, current, decided, unless_prevented, unless_unfit}
-use Rattle.tf_decision.specs.Ignored.{heeding, ignored_fault}
-use Rattle.tf_decision.specs.Prior.{PriorFaultView, first_unfit}
-use Rattle.tf_environment.specs.InstanceKeys.{InstanceKeysView}
-use Rattle.tf_environment.specs.Resolved.{ResolvedView, all_stand, environment}
+use Rattle.tf_plan_decision.specs.Deciding.{DecidedView, OfView, version_of, with_block, with_members, with_outcome}
+use Rattle.tf_plan_decision.specs.Outcome.{OutcomeView, by_decision, declared_outcome, member_outcome, no_provider, orphan_outcome, removal_outcome}
+use Rattle.tf_plan_decision.specs.Stage.{block_members}
+use Rattle.tf_plan_decision.specs.Steps.{decided_steps}
+use Rattle.tf_plan_decision.specs.Whole.{with_meant, with_numbered}
+use Rattle.tf_plan_decision.specs.Decision as decision
+use Rattle.tf_plan_decision.specs.Decision.{DecisionView, DecisionFaultView, change, current, decided, unless_prevented, unless_unfit}
+use Rattle.tf_plan_decision.specs.Ignored.{heeding, ignored_fault}
+use Rattle.tf_plan_decision.specs.Prior.{PriorFaultView, first_unfit}
+use Rattle.tf_expand.specs.InstanceKeys.{InstanceKeysView}
+use Rattle.tf_expand.specs.Resolved.{ResolvedView, all_stand, environment}
 use Rattle.tf_eval.specs.Environment.{Environment}
 use Rattle.tf_graph.specs.Solutions.{seen_by}
-use Rattle.tf_plan_resources.specs.Members.{InstanceToPlanView, is_among, member, members, records_of}
+use Rattle.tf_plan_order.specs.Members.{InstanceToPlanView, is_among, member, members, records_of}
 use Rattle.tf_protocol.specs.Meaning.{Meaning, schema_in}
 use Rattle.tf_protocol.specs.Schema.{SchemaView}
-use Rattle.tf_plan_resources.specs.ResourceIndex.{ResourceRefView, a_name, an_orphan}
+use Rattle.tf_plan_order.specs.ResourceIndex.{ResourceRefView, a_name, an_orphan}
 use Rattle.tf_state_data.specs.Record.{RecordView}
 use Rattle.tf_state_data.specs.Resource.{ResourceView}
 use Rattle.tf_value.specs.Tree.{Tree, Entries}

@@ -9,19 +9,19 @@ use Rattle.tf_address.proofs.Totals.{label_total, object_id_total}
 use Rattle.tf_address.specs.Label.{LabelView, label_cmp}
 use Rattle.tf_address.specs.ObjectId.{InstanceKeyView, ObjectIdView, object_id_cmp}
 use Rattle.tf_address.specs.Same.{label_Decides}
-use Rattle.tf_change.specs.Instance.{instance_object}
+use Rattle.tf_plan_object.specs.Instance.{instance_object}
 use Rattle.tf_config_data.specs.Config.{BlockView}
 use Rattle.tf_config_data.specs.Names.{NameView, Meant, a_local, a_block, meant_at, directly_before}
-use Rattle.tf_deciding.specs.Outcome.{OutcomeView, by_removal, declared_outcome, member_outcome, orphan_outcome, removal_outcome, no_provider}
-use Rattle.tf_deciding.specs.Stage.{deciding, records_at}
-use Rattle.tf_deciding.specs.Steps.{decided_steps, destroy_of, removal_steps}
-use Rattle.tf_decision.specs.Decision as choices
-use Rattle.tf_decision.specs.Decision.{DecisionView, DecisionFaultView, removal_fault}
-use Rattle.tf_environment.specs.InstanceKeys.{InstanceKeysView, instance_keys}
-use Rattle.tf_environment.specs.Resolved.{ResolvedView, AreResolvedNames, environment}
+use Rattle.tf_plan_decision.specs.Outcome.{OutcomeView, by_removal, declared_outcome, member_outcome, orphan_outcome, removal_outcome, no_provider}
+use Rattle.tf_plan_decision.specs.Stage.{deciding, records_at}
+use Rattle.tf_plan_decision.specs.Steps.{decided_steps, destroy_of, removal_steps}
+use Rattle.tf_plan_decision.specs.Decision as choices
+use Rattle.tf_plan_decision.specs.Decision.{DecisionView, DecisionFaultView, removal_fault}
+use Rattle.tf_expand.specs.InstanceKeys.{InstanceKeysView, instance_keys}
+use Rattle.tf_expand.specs.Resolved.{ResolvedView, AreResolvedNames, environment}
 use Rattle.tf_eval.specs.Environment.{Environment}
 use Rattle.tf_graph.specs.Solutions.{Ranked}
-use Rattle.tf_plan_resources.specs.Members.{InstanceToPlanView, is_among, is_of, member, members, records_of}
+use Rattle.tf_plan_order.specs.Members.{InstanceToPlanView, is_among, is_of, member, members, records_of}
 use Rattle.tf_state_next.proofs.Changing.{found_label}
 use Rattle.tf_state_next.proofs.Finding.{all_found, found_holds}
 use Rattle.tf_plan.proofs.Distinct.{to_map}
@@ -32,9 +32,9 @@ use Rattle.tf_plan.specs.Planned.{IsPlanned, unrefused}
 use Rattle.tf_plan_data.specs.Fits.{deposed_key, is_apply}
 use Rattle.tf_protocol.specs.Meaning.{Meaning, schema_in}
 use Rattle.tf_protocol.specs.Schema.{SchemaView}
-use Rattle.tf_plan_resources.proofs.Standing.{each-placed, places-true}
-use Rattle.tf_plan_resources.specs.Laws as resources_laws
-use Rattle.tf_plan_resources.specs.ResourceIndex.{ResourceRefView, a_name, an_orphan, address_of, block_address, has_block, is_address, is_at, numbered}
+use Rattle.tf_plan_order.proofs.Standing.{each-placed, places-true}
+use Rattle.tf_plan_order.specs.ResourceLaws as resources_laws
+use Rattle.tf_plan_order.specs.ResourceIndex.{ResourceRefView, a_name, an_orphan, address_of, block_address, has_block, is_address, is_at, numbered}
 use Rattle.tf_state_next.proofs.Places.{found_id}
 use Rattle.tf_state_data.specs.Addresses.{AreByAddress}
 use Rattle.tf_state_data.specs.Ids.{AreById}

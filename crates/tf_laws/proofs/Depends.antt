@@ -4,27 +4,27 @@ use Rattle.std.proofs.lemmas.Bool.{eqb-true}
 use Rattle.std.specs.Option.{option_map_or}
 use Rattle.std.specs.Prelude.{Contains, slice_get}
 use Rattle.tf_plan_data.specs.Action.{ActionView}
-use Rattle.tf_additions.specs.Dependencies.{dependencies}
-use Rattle.tf_additions.specs.Head.{given_with}
+use Rattle.tf_walk_report.specs.Dependencies.{dependencies}
+use Rattle.tf_walk_report.specs.Head.{given_with}
 use Rattle.tf_address.specs.Label.{LabelView}
 use Rattle.tf_address.specs.ObjectId.{InstanceKeyView, ObjectIdView}
 use Rattle.tf_address.specs.Same.{same_instance_key}
 use Rattle.tf_config_data.specs.Config.{BlockView}
 use Rattle.tf_config_data.specs.Names.{a_block, meant_at}
-use Rattle.tf_deciding.specs.Steps.{decided_steps}
-use Rattle.tf_decision.specs.Decision.{DecisionView}
-use Rattle.tf_environment.proofs.Refining.{followed}
+use Rattle.tf_plan_decision.specs.Steps.{decided_steps}
+use Rattle.tf_plan_decision.specs.Decision.{DecisionView}
+use Rattle.tf_expand.proofs.Refining.{followed}
 use Rattle.tf_state_next.proofs.Changing.{found_label}
 use Rattle.tf_state_next.specs.Events.{ApplyView, apply_of_instance, as_apply, nothing_given}
-use Rattle.tf_outcome.specs.Objects.{object_of}
-use Rattle.tf_outcome.specs.Outcome.{done_at}
+use Rattle.tf_walk_action.specs.Objects.{object_of}
+use Rattle.tf_walk_action.specs.Outcome.{done_at}
 use Rattle.tf_plan.proofs.Distinct.{at-contained}
 use Rattle.tf_plan.proofs.Objects.{one_key}
 use Rattle.tf_plan_data.specs.Fits.{IsPlaced, deposed_key}
 use Rattle.tf_plan_data.specs.Plan.{plan_names}
 use Rattle.tf_walk_report.specs.Events.{is_about, is_none, metadata_updates}
-use Rattle.tf_plan_resources.proofs.Standing.{each-placed, places-differ, resources-apart}
-use Rattle.tf_plan_resources.specs.ResourceIndex.{numbered, place_in}
+use Rattle.tf_plan_order.proofs.Standing.{each-placed, places-differ, resources-apart}
+use Rattle.tf_plan_order.specs.ResourceIndex.{numbered, place_in}
 use Rattle.tf_state_next.proofs.Places.{found_id}
 use Rattle.tf_state_next.specs.After.{current_after, object_at, record_of_saved, renewed}
 use Rattle.tf_state_next.specs.Ends.{ApplyResultView, unwanted}

@@ -5,31 +5,31 @@ use Rattle.std.specs.Option.{option_map_or}
 use Rattle.std.specs.Prelude.{slice_get}
 use Rattle.tf_plan_data.specs.Action.{ActionView, StepView, create, update, replacement, replaced, destroyed, deposed_destroyed}
 use Rattle.tf_address.specs.ObjectId.{InstanceKeyView}
-use Rattle.tf_change.specs.Instance.{InstanceFaultView}
+use Rattle.tf_plan_object.specs.Instance.{InstanceFaultView}
 use Rattle.tf_config_data.specs.Names.{NameView, directly_before, meant_at, places}
-use Rattle.tf_decision.specs.Kept.{kept_object}
-use Rattle.tf_environment.proofs.Places.{all_places}
-use Rattle.tf_environment.specs.InstanceKeys.{InstanceKeysView}
+use Rattle.tf_plan_decision.specs.Kept.{kept_object}
+use Rattle.tf_expand.proofs.Places.{all_places}
+use Rattle.tf_expand.specs.InstanceKeys.{InstanceKeysView}
 use Rattle.tf_graph.proofs.Solving.{seen_by-same, solution-unique}
 use Rattle.tf_graph.specs.Digraph.{predecessors_of}
 use Rattle.tf_graph.specs.Solutions.{Ranked, Solves, seen_by}
-use Rattle.tf_outcome.specs.Asked.{Requests, AreRequests, asked_by_step, asked_for, create_of, ignored_by, unless_faulty, update_of}
-use Rattle.tf_outcome.specs.Excuse.{excuse_of}
-use Rattle.tf_outcome.specs.Laws.{RequestsAreOne}
-use Rattle.tf_outcome.specs.Outcome.{AreOutcomes, ActionResultView, all_good, call_at, call_with, comes_of, done_at, objects_by, or_excused, rule, skipped}
-use Rattle.tf_outcome.specs.declared.excuse.Excuse.{Excuse}
-use Rattle.tf_outcome.specs.declared.excuse.Excuse.TheVariants.{Output}
-use Rattle.tf_outputs.specs.Laws.{OutputsAreOne}
-use Rattle.tf_outputs.specs.Outputs.{OutputResultView, not_evaluated, excused, valued, faulted, AreOutputsDone, IsEvaluated, IsOutputDone, end_of}
-use Rattle.tf_outputs.specs.Settled.{all_settled, names_are_settled}
-use Rattle.tf_outputs.specs.declared.ends.OutputResult.{OutputResult}
-use Rattle.tf_outputs.specs.declared.ends.OutputResult.TheVariants.{NotEvaluated, NoMemory, Faulted, Valued}
+use Rattle.tf_walk_action.specs.Asked.{Requests, AreRequests, asked_by_step, asked_for, create_of, ignored_by, unless_faulty, update_of}
+use Rattle.tf_walk_action.specs.Excuse.{excuse_of}
+use Rattle.tf_walk_action.specs.Laws.{RequestsAreOne}
+use Rattle.tf_walk_action.specs.Outcome.{AreOutcomes, ActionResultView, all_good, call_at, call_with, comes_of, done_at, objects_by, or_excused, rule, skipped}
+use Rattle.tf_walk_action.specs.declared.excuse.Excuse.{Excuse}
+use Rattle.tf_walk_action.specs.declared.excuse.Excuse.TheVariants.{Output}
+use Rattle.tf_walk_report.specs.OutputLaws.{OutputsAreOne}
+use Rattle.tf_walk_report.specs.Outputs.{OutputResultView, not_evaluated, excused, valued, faulted, AreOutputsDone, IsEvaluated, IsOutputDone, end_of}
+use Rattle.tf_walk_report.specs.Settled.{all_settled, names_are_settled}
+use Rattle.tf_walk_report.specs.declared.ends.OutputResult.{OutputResult}
+use Rattle.tf_walk_report.specs.declared.ends.OutputResult.TheVariants.{NotEvaluated, NoMemory, Faulted, Valued}
 use Rattle.tf_plan_data.specs.Fits.{IsDeclared, is_apply}
 use Rattle.tf_plan_data.specs.Plan.{PlanView, plan_names}
 use Rattle.tf_protocol.specs.Meaning.{Meaning, schema_in}
 use Rattle.tf_protocol.specs.Schema.{SchemaView}
 use Rattle.tf_walk_report.specs.OutputsTold.{output_excuses, output_excuses_at}
-use Rattle.tf_request.specs.Requests.{is_resource}
+use Rattle.tf_walk_action.specs.Requests.{is_resource}
 use Rattle.tf_syntax.specs.ExprNames.{named_by}
 use Rattle.tf_syntax.specs.ExprTree as expr
 use Rattle.tf_value.specs.Tree.{Entries, Tree}

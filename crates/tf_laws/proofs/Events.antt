@@ -5,16 +5,16 @@ use Rattle.std.specs.Option.{option_eq, option_or}
 use Rattle.std.specs.Prelude.{Contains, slice_get}
 use Rattle.std.specs.Str.{bytes_eq}
 use Rattle.tf_plan_data.specs.Action.{ActionView}
-use Rattle.tf_additions.specs.Change.{ChangeView, applied_of_done, applies_in, change_by, changes_in, destroys_in, left_of_done}
-use Rattle.tf_additions.specs.Head.{AreHeads, Head, IsHeadOf, IsKeyFor, Target, an_instance, an_object, given_with, key_in}
+use Rattle.tf_walk_report.specs.Change.{ChangeView, applied_of_done, applies_in, change_by, changes_in, destroys_in, left_of_done}
+use Rattle.tf_walk_report.specs.Head.{AreHeads, Head, IsHeadOf, IsKeyFor, Target, an_instance, an_object, given_with, key_in}
 use Rattle.tf_address.specs.Label.{LabelView}
 use Rattle.tf_address.specs.ObjectId.{InstanceKeyView, ObjectIdView}
 use Rattle.tf_address.specs.Same.{label_Decides, object_id_Decides, same_instance_key, same_label, same_object_id}
 use Rattle.tf_graph.proofs.Edges.{contains_cases, contains_head, contains_tail}
 use Rattle.tf_state_next.proofs.Finding.{found_holds, found_joined}
 use Rattle.tf_state_next.specs.Events.{ApplyView, DestroyView, MetadataUpdateView, apply_of_instance, as_apply, is_instance, left_of_deposed, left_of_object}
-use Rattle.tf_outcome.specs.Objects.{object_of}
-use Rattle.tf_outcome.specs.Outcome.{ActionResultView, done_at}
+use Rattle.tf_walk_action.specs.Objects.{object_of}
+use Rattle.tf_walk_action.specs.Outcome.{ActionResultView, done_at}
 use Rattle.tf_plan.proofs.Objects.{one_key}
 use Rattle.tf_plan_data.specs.Fits.{deposed_key, is_apply}
 use Rattle.tf_plan_data.specs.Plan.{PlanView}

@@ -4,15 +4,15 @@ use Rattle.std.proofs.lemmas.Bool.{cases_eq, cases_lt}
 use Rattle.tf_plan_data.specs.Action.{ActionView}
 use Rattle.tf_config_data.specs.Config.{ConfigView}
 use Rattle.tf_config_data.specs.Names.{NameView, directly_before, meant_at, names_of}
-use Rattle.tf_deciding.specs.Stage.{deciding}
-use Rattle.tf_environment.specs.InstanceKeys.{InstanceKeysView, one}
-use Rattle.tf_environment.specs.Stages.{expansion}
-use Rattle.tf_environment.specs.Resolved.{ResolvedView, all_stand, environment}
-use Rattle.tf_environment.specs.declared.repetition.RepetitionFault.{RepetitionFault}
+use Rattle.tf_plan_decision.specs.Stage.{deciding}
+use Rattle.tf_expand.specs.InstanceKeys.{InstanceKeysView, one}
+use Rattle.tf_expand.specs.Stages.{expansion}
+use Rattle.tf_expand.specs.Resolved.{ResolvedView, all_stand, environment}
+use Rattle.tf_expand.specs.declared.repetition.RepetitionFault.{RepetitionFault}
 use Rattle.tf_expand.specs.Expanding.{expanded, instances_before, max_instances}
 use Rattle.tf_graph.specs.Solutions.{seen_by}
-use Rattle.tf_names.specs.Needs.{IsAcyclic, IsDependence, needs_in}
-use Rattle.tf_names.specs.declared.dependence.Dependence.{Dependence}
+use Rattle.tf_config_names.specs.Needs.{IsAcyclic, IsDependence, needs_in}
+use Rattle.tf_config_names.specs.declared.dependence.Dependence.{Dependence}
 use Rattle.tf_plan.proofs.Existing.{some_standings}
 use Rattle.tf_plan.proofs.Refusing.{refused_block}
 use Rattle.tf_plan.specs.Ordered.{AreTied, action_pairs, max_pairs, stored_graph}
@@ -20,14 +20,14 @@ use Rattle.tf_plan.specs.Plan.{IsPlan, max_actions}
 use Rattle.tf_plan.specs.Planned.{AreInstances, IsPlanned, PlannedView, planned_in, unrefused}
 use Rattle.tf_plan.specs.Refused.{AreRefused, beyond_limit, instances_refusal}
 use Rattle.tf_plan_data.specs.Plan.{PlanView}
-use Rattle.tf_precedence.specs.Late.{IsLate}
-use Rattle.tf_precedence.specs.Stored.{Needed}
-use Rattle.tf_precedence.specs.OrderInput.{OrderInputView}
+use Rattle.tf_plan_order.specs.Late.{IsLate}
+use Rattle.tf_plan_order.specs.Stored.{Needed}
+use Rattle.tf_plan_order.specs.OrderInput.{OrderInputView}
 use Rattle.tf_protocol.specs.Meaning.{Meaning}
 use Rattle.tf_refusal.specs.Refusal.{RefusalView}
-use Rattle.tf_plan_resources.specs.Dependencies.{dependencies}
-use Rattle.tf_plan_resources.specs.Marks.{is_marked}
-use Rattle.tf_plan_resources.specs.ResourceIndex.{numbered}
+use Rattle.tf_plan_order.specs.Dependencies.{dependencies}
+use Rattle.tf_plan_order.specs.Marks.{is_marked}
+use Rattle.tf_plan_order.specs.ResourceIndex.{numbered}
 use Rattle.tf_state_data.specs.Resource.{ResourceView}
 use Rattle.tf_state_data.specs.State.{StateView}
 use Rattle.tf_value.specs.Tree.{Entries}

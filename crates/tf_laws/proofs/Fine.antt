@@ -5,20 +5,20 @@ use Rattle.std.specs.Prelude.{Contains, slice_get}
 use Rattle.tf_plan_data.specs.Action.{ActionView}
 use Rattle.tf_config_data.specs.Config.{BlockView}
 use Rattle.tf_config_data.specs.Names.{NameView, a_block, directly_before, meant_at}
-use Rattle.tf_deciding.specs.Outcome.{orphan_outcome}
-use Rattle.tf_deciding.specs.Stage.{deciding}
-use Rattle.tf_deciding.specs.Whole.{decided, nothing_decided}
-use Rattle.tf_environment.specs.InstanceKeys.{InstanceKeysView}
-use Rattle.tf_environment.specs.Resolved.{ResolvedView, AreResolvedNames}
+use Rattle.tf_plan_decision.specs.Outcome.{orphan_outcome}
+use Rattle.tf_plan_decision.specs.Stage.{deciding}
+use Rattle.tf_plan_decision.specs.Whole.{decided, nothing_decided}
+use Rattle.tf_expand.specs.InstanceKeys.{InstanceKeysView}
+use Rattle.tf_expand.specs.Resolved.{ResolvedView, AreResolvedNames}
 use Rattle.tf_graph.specs.Solutions.{Ranked}
-use Rattle.tf_plan_resources.specs.Members.{members}
+use Rattle.tf_plan_order.specs.Members.{members}
 use Rattle.tf_plan.proofs.Listing.{decided-actions, place_actions}
 use Rattle.tf_plan.proofs.Solved.{planned-by}
 use Rattle.tf_plan.specs.Outputs.{output_refusals}
 use Rattle.tf_plan.specs.Planned.{IsPlanned, PlannedView, planned_in, unrefused}
 use Rattle.tf_plan.specs.Told.{instance_told}
 use Rattle.tf_protocol.specs.Meaning.{Meaning, schema_in}
-use Rattle.tf_plan_resources.specs.ResourceIndex.{ResourceRefView, a_name, an_orphan, numbered}
+use Rattle.tf_plan_order.specs.ResourceIndex.{ResourceRefView, a_name, an_orphan, numbered}
 use Rattle.tf_state_data.specs.Resource.{ResourceView}
 use Rattle.tf_syntax.specs.ExprTree as expr
 use Rattle.tf_value.specs.Tree.{Entries}

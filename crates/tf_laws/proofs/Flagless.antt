@@ -5,15 +5,15 @@ use Rattle.std.specs.Option.{option_map_or}
 use Rattle.tf_address.proofs.Totals.{label_total, object_id_total}
 use Rattle.tf_address.specs.Label.{LabelView, label_cmp}
 use Rattle.tf_address.specs.ObjectId.{InstanceKeyView, ObjectIdView, object_id_cmp}
-use Rattle.tf_deciding.specs.Stage.{records_at}
-use Rattle.tf_plan_resources.specs.Members.{is_of, records_of}
+use Rattle.tf_plan_decision.specs.Stage.{records_at}
+use Rattle.tf_plan_order.specs.Members.{is_of, records_of}
 use Rattle.tf_state_next.proofs.Changing.{found_label}
 use Rattle.tf_state_next.proofs.Finding.{found_holds, same_lists}
 use Rattle.tf_state_next.proofs.One.{id_one, known_by, label_one, some_known}
 use Rattle.tf_state_next.specs.Laws.{IsInOrder}
 use Rattle.tf_state_next.specs.StateAfter.{has_records}
-use Rattle.tf_plan_resources.specs.Dependencies.{dependencies, pairs_from, record_pairs, resource_pairs}
-use Rattle.tf_plan_resources.specs.ResourceIndex.{ResourceRefView, place_in}
+use Rattle.tf_plan_order.specs.Dependencies.{dependencies, pairs_from, record_pairs, resource_pairs}
+use Rattle.tf_plan_order.specs.ResourceIndex.{ResourceRefView, place_in}
 use Rattle.tf_state_data.specs.Addresses.{AreByAddress, addresses_of}
 use Rattle.tf_state_data.specs.Ids.{AreById, ids_of}
 use Rattle.tf_state_data.specs.Record.{RecordView}

@@ -7,35 +7,35 @@ use Rattle.std.specs.Prelude.{Contains}
 use Rattle.tf_plan_data.specs.Action.{ActionView, StepView, create, update, replacement, replaced, destroyed, deposed_destroyed}
 use Rattle.tf_address.specs.Label.{LabelView}
 use Rattle.tf_address.specs.ObjectId.{InstanceKeyView}
-use Rattle.tf_change.proofs.Locals.{instances_local}
-use Rattle.tf_change.proofs.Named.{instances_named}
-use Rattle.tf_change.specs.Instance.{InstanceFaultView, instance_object}
-use Rattle.tf_change.specs.Laws.{InstancesGrow}
+use Rattle.tf_plan_object.proofs.Locals.{instances_local}
+use Rattle.tf_plan_object.proofs.Named.{instances_named}
+use Rattle.tf_plan_object.specs.Instance.{InstanceFaultView, instance_object}
+use Rattle.tf_plan_object.specs.Laws.{InstancesGrow}
 use Rattle.tf_config_data.specs.Config.{BlockView}
 use Rattle.tf_config_data.specs.Names.{Meant, a_block, block_refers, directly_before, meant_at, places, refers_at}
-use Rattle.tf_deciding.specs.Stage.{all_can_go, decided_object, deciding, object_beside, object_of, object_unless_refused}
-use Rattle.tf_deciding.specs.Steps.{current_steps, decided_steps, deposed_step}
-use Rattle.tf_decision.proofs.Causes.{creates_first, replaces_caused, updates_differ}
-use Rattle.tf_decision.proofs.Growing.{updates_grow}
-use Rattle.tf_decision.proofs.Keeping.{updates_named}
-use Rattle.tf_decision.specs.Decision as decision
-use Rattle.tf_decision.specs.Decision.{DecisionView, change, current}
-use Rattle.tf_decision.specs.Kept.{kept_object}
-use Rattle.tf_environment.proofs.Refining.{together_grows}
-use Rattle.tf_environment.proofs.Seen.{agree_on, same_seen}
-use Rattle.tf_environment.specs.Laws.{Grows, HaveGrown, ResolvedNamesGrow}
-use Rattle.tf_environment.specs.InstanceKeys.{InstanceKeysView, instance_keys}
-use Rattle.tf_environment.specs.Stages.{applying}
-use Rattle.tf_environment.specs.Resolved.{ResolvedView, AreResolvedNames, environment, environment_at, result_in, together}
+use Rattle.tf_plan_decision.specs.Stage.{all_can_go, decided_object, deciding, object_beside, object_of, object_unless_refused}
+use Rattle.tf_plan_decision.specs.Steps.{current_steps, decided_steps, deposed_step}
+use Rattle.tf_plan_decision.proofs.Causes.{creates_first, replaces_caused, updates_differ}
+use Rattle.tf_plan_decision.proofs.Growing.{updates_grow}
+use Rattle.tf_plan_decision.proofs.Keeping.{updates_named}
+use Rattle.tf_plan_decision.specs.Decision as decision
+use Rattle.tf_plan_decision.specs.Decision.{DecisionView, change, current}
+use Rattle.tf_plan_decision.specs.Kept.{kept_object}
+use Rattle.tf_expand.proofs.Refining.{together_grows}
+use Rattle.tf_expand.proofs.Seen.{agree_on, same_seen}
+use Rattle.tf_expand.specs.StandingLaws.{Grows, HaveGrown, ResolvedNamesGrow}
+use Rattle.tf_expand.specs.InstanceKeys.{InstanceKeysView, instance_keys}
+use Rattle.tf_expand.specs.Stages.{applying}
+use Rattle.tf_expand.specs.Resolved.{ResolvedView, AreResolvedNames, environment, environment_at, result_in, together}
 use Rattle.tf_eval.proofs.Locality.{expressions_local}
 use Rattle.tf_eval.specs.Environment.{RefinesTo}
 use Rattle.tf_eval.specs.Locality.{AgreeOn}
 use Rattle.tf_graph.specs.Digraph.{predecessors_of}
 use Rattle.tf_graph.specs.Solutions.{seen_by}
-use Rattle.tf_plan_resources.specs.Members.{is_among}
-use Rattle.tf_outcome.specs.Asked.{asked_by_step, create_of, ignored_by, update_of}
-use Rattle.tf_outcome.specs.Objects.{object_of as answered_of}
-use Rattle.tf_outcome.specs.Outcome.{done_at, objects_by}
+use Rattle.tf_plan_order.specs.Members.{is_among}
+use Rattle.tf_walk_action.specs.Asked.{asked_by_step, create_of, ignored_by, update_of}
+use Rattle.tf_walk_action.specs.Objects.{object_of as answered_of}
+use Rattle.tf_walk_action.specs.Outcome.{done_at, objects_by}
 use Rattle.tf_plan.proofs.Distinct.{at-contained, in_flat_map}
 use Rattle.tf_plan_data.specs.Fits.{is_apply}
 use Rattle.tf_plan_data.specs.Plan.{plan_names}

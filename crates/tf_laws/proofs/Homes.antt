@@ -3,26 +3,26 @@ use Rattle.std.proofs.Common.{◌≡◌, ◌∙◌, ℕ, Bool, true, List, [], �
 use Rattle.std.specs.List.{AllByRecursion}
 use Rattle.std.specs.Option.{option_map_or}
 use Rattle.std.specs.Prelude.{Contains}
-use Rattle.tf_additions.specs.Dependencies.{dependencies}
+use Rattle.tf_walk_report.specs.Dependencies.{dependencies}
 use Rattle.tf_address.specs.Label.{LabelView}
 use Rattle.tf_address.specs.ObjectId.{InstanceKeyView, ObjectIdView}
-use Rattle.tf_change.specs.Laws.{InstancesGrow}
+use Rattle.tf_plan_object.specs.Laws.{InstancesGrow}
 use Rattle.tf_config_data.specs.Config.{BlockView, ConfigView}
 use Rattle.tf_config_data.specs.Names.{a_block, directly_before, label_pair, meant_at, names_of}
-use Rattle.tf_deciding.specs.Stage.{records_at}
-use Rattle.tf_environment.proofs.Refining.{followed}
-use Rattle.tf_environment.specs.Laws.{ResolvedNamesGrow}
-use Rattle.tf_environment.specs.InstanceKeys.{InstanceKeysView, instance_keys}
-use Rattle.tf_environment.specs.Stages.{applying}
-use Rattle.tf_environment.specs.Resolved.{rule}
+use Rattle.tf_plan_decision.specs.Stage.{records_at}
+use Rattle.tf_expand.proofs.Refining.{followed}
+use Rattle.tf_expand.specs.StandingLaws.{ResolvedNamesGrow}
+use Rattle.tf_expand.specs.InstanceKeys.{InstanceKeysView, instance_keys}
+use Rattle.tf_expand.specs.Stages.{applying}
+use Rattle.tf_expand.specs.Resolved.{rule}
 use Rattle.tf_graph.proofs.Edges.{contains_cases}
 use Rattle.tf_graph.proofs.Solving.{solution-exists}
 use Rattle.tf_graph.specs.Solutions.{Ranked}
-use Rattle.tf_plan_resources.specs.Members.{is_among, is_of, records_of}
+use Rattle.tf_plan_order.specs.Members.{is_among, is_of, records_of}
 use Rattle.tf_state_next.proofs.Changing.{found_label}
 use Rattle.tf_state_next.specs.Laws.{IsInOrder}
 use Rattle.tf_state_next.specs.StateAfter.{has_records}
-use Rattle.tf_outcome.specs.Outcome.{ActionResultView}
+use Rattle.tf_walk_action.specs.Outcome.{ActionResultView}
 use Rattle.tf_plan.proofs.Blocks.{names-apart}
 use Rattle.tf_plan.specs.Ordered.{AreTied}
 use Rattle.tf_plan.specs.Plan.{IsPlan}
@@ -30,11 +30,11 @@ use Rattle.tf_plan.proofs.Solved.{same_shapes}
 use Rattle.tf_plan.proofs.Tied.{block_found}
 use Rattle.tf_plan.specs.Planned.{AreInstances}
 use Rattle.tf_plan_data.specs.Plan.{PlanView}
-use Rattle.tf_precedence.specs.OrderInput.{OrderInputView}
+use Rattle.tf_plan_order.specs.OrderInput.{OrderInputView}
 use Rattle.tf_protocol.specs.Meaning.{Meaning}
 use Rattle.tf_walk_report.specs.Report.{objects_after}
-use Rattle.tf_plan_resources.specs.Laws as resources_laws
-use Rattle.tf_plan_resources.specs.ResourceIndex.{a_name, has_block}
+use Rattle.tf_plan_order.specs.ResourceLaws as resources_laws
+use Rattle.tf_plan_order.specs.ResourceIndex.{a_name, has_block}
 use Rattle.tf_state_next.proofs.Places.{found_id}
 use Rattle.tf_state_next.specs.After.{object_at, renewed}
 use Rattle.tf_state_data.specs.Record.{RecordView}

@@ -4,8 +4,8 @@ use Rattle.tf_plan_data.specs.Action.{ActionView}
 use Rattle.tf_config_data.specs.Config.{BlockView}
 use Rattle.tf_config_data.specs.Names.{a_block, meant_at}
 use Rattle.tf_laws.proofs.Declared.{IsPlannedAt, apply_declared, keys_at, planned_at, records_in}
-use Rattle.tf_deciding.specs.Steps.{decided_steps}
-use Rattle.tf_plan_resources.specs.Members.{is_among}
+use Rattle.tf_plan_decision.specs.Steps.{decided_steps}
+use Rattle.tf_plan_order.specs.Members.{is_among}
 use Rattle.tf_plan_data.specs.Fits.{is_apply}
 use Rattle.tf_plan_data.specs.Plan.{plan_names}
 use Rattle.tf_laws.proofs.PlannedParts.{Made, setting}

@@ -4,8 +4,8 @@ use Rattle.std.proofs.lemmas.Bool.{cases_eq}
 use Rattle.std.specs.List.{AllByRecursion}
 use Rattle.std.specs.Prelude.{Contains, slice_get, slice_index}
 use Rattle.tf_plan_data.specs.Action.{ActionView}
-use Rattle.tf_outcome.specs.Journal.{IsOfAction, entered_verdict, op_at, verdict_in}
-use Rattle.tf_outcome.specs.Outcome.{ActionResultView, done_at}
+use Rattle.tf_walk_action.specs.Journal.{IsOfAction, entered_verdict, op_at, verdict_in}
+use Rattle.tf_walk_action.specs.Outcome.{ActionResultView, done_at}
 use Rattle.tf_protocol.specs.declared.verdict.Verdict.{Verdict}
 use Rattle.tf_provider.specs.Entries.{actions_of}
 use Rattle.tf_provider.specs.declared.journal.Entry.{Entry}

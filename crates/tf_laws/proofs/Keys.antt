@@ -4,25 +4,25 @@ use Rattle.std.specs.List.{AllByRecursion}
 use Rattle.tf_plan_data.specs.Action.{ActionView}
 use Rattle.tf_address.specs.ObjectId as keys
 use Rattle.tf_address.specs.ObjectId.{InstanceKeyView}
-use Rattle.tf_change.specs.Instance.{instance_object, object_in}
+use Rattle.tf_plan_object.specs.Instance.{instance_object, object_in}
 use Rattle.tf_config_data.specs.Config.{BlockView, RepetitionView, for_each}
 use Rattle.tf_config_data.specs.Names.{Meant, a_block, block_refers, directly_before, label_pair, meant_at, named_in_repetition, places, refers_at}
 use Rattle.tf_laws.proofs.Grown.{was_made}
 use Rattle.tf_laws.proofs.Members.{among_holds}
 use Rattle.tf_laws.proofs.Places.{meant_within}
 use Rattle.tf_laws.proofs.Still.{all_there}
-use Rattle.tf_deciding.specs.Stage.{all_can_go, decided_object, deciding}
-use Rattle.tf_environment.proofs.Locals.{instances_local}
-use Rattle.tf_environment.proofs.Places.{all_places, names_stay}
-use Rattle.tf_environment.proofs.Refining.{same_keys, together_grows}
-use Rattle.tf_environment.proofs.Seen.{agree_on, same_seen}
-use Rattle.tf_environment.specs.Instance.{instance_environment}
-use Rattle.tf_environment.specs.Laws.{Grows, HaveGrown, InstancesStay, ResolvedNamesAreOne, ResolvedNamesGrow}
-use Rattle.tf_environment.specs.Repetition.{instances, keyed, or_bad_for_each}
-use Rattle.tf_environment.specs.InstanceKeys.{InstanceKeysView, instance_keys, named}
-use Rattle.tf_environment.specs.Stages.{applying, expansion, fine}
-use Rattle.tf_environment.specs.Resolved.{ResolvedView, AreResolvedNames, all_stand, environment, environment_at, result_in, together}
-use Rattle.tf_environment.specs.declared.repetition.RepetitionFault.{RepetitionFault}
+use Rattle.tf_plan_decision.specs.Stage.{all_can_go, decided_object, deciding}
+use Rattle.tf_expand.proofs.Locals.{instances_local}
+use Rattle.tf_expand.proofs.Places.{all_places, names_stay}
+use Rattle.tf_expand.proofs.Refining.{same_keys, together_grows}
+use Rattle.tf_expand.proofs.Seen.{agree_on, same_seen}
+use Rattle.tf_expand.specs.Instance.{instance_environment}
+use Rattle.tf_expand.specs.StandingLaws.{Grows, HaveGrown, InstancesStay, ResolvedNamesAreOne, ResolvedNamesGrow}
+use Rattle.tf_expand.specs.Repetition.{instances, keyed, or_bad_for_each}
+use Rattle.tf_expand.specs.InstanceKeys.{InstanceKeysView, instance_keys, named}
+use Rattle.tf_expand.specs.Stages.{applying, expansion, fine}
+use Rattle.tf_expand.specs.Resolved.{ResolvedView, AreResolvedNames, all_stand, environment, environment_at, result_in, together}
+use Rattle.tf_expand.specs.declared.repetition.RepetitionFault.{RepetitionFault}
 use Rattle.tf_eval.proofs.Locality.{both_halves, expressions_local}
 use Rattle.tf_eval.specs.Constants.{ConstantView}
 use Rattle.tf_eval.specs.Environment.{Environment}
@@ -31,14 +31,14 @@ use Rattle.tf_eval.specs.Growth.{ExprKnowledgeGrows}
 use Rattle.tf_eval.specs.Locality.{AgreeOn}
 use Rattle.tf_eval.specs.Meaning.{and_then}
 use Rattle.tf_expand.specs.Expanding.{shape_in}
-use Rattle.tf_expand.specs.Laws.{AllStandWhereNoneIsRefused}
+use Rattle.tf_expand.specs.ExpansionLaws.{AllStandWhereNoneIsRefused}
 use Rattle.tf_graph.proofs.Edges.{all_by_contained}
 use Rattle.tf_graph.proofs.Solving.{all_by_at}
 use Rattle.tf_graph.specs.Solutions.{seen_by}
-use Rattle.tf_plan_resources.specs.Members.{is_among}
+use Rattle.tf_plan_order.specs.Members.{is_among}
 use Rattle.tf_operators.specs.Answer.{Answer}
 use Rattle.tf_operators.specs.declared.fault.EvalFault.{EvalFault}
-use Rattle.tf_outcome.specs.Asked.{AreRequests, Requests, asked_for, ignored_by}
+use Rattle.tf_walk_action.specs.Asked.{AreRequests, Requests, asked_for, ignored_by}
 use Rattle.tf_plan_data.specs.Fits.{is_apply}
 use Rattle.tf_plan_data.specs.Plan.{plan_names}
 use Rattle.tf_protocol.specs.Meaning.{Asked}

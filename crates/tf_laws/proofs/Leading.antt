@@ -9,8 +9,8 @@ use Rattle.tf_graph.specs.NodeSet.{has}
 use Rattle.tf_graph.specs.Path.{Path, direct, joined, onward}
 use Rattle.tf_plan.proofs.Distinct.{in_map, to_map}
 use Rattle.tf_plan.proofs.Tied.{path_too}
-use Rattle.tf_precedence.specs.Late.{IsLate, Leads}
-use Rattle.tf_precedence.specs.Stored.{DependsOn, turned}
+use Rattle.tf_plan_order.specs.Late.{IsLate, Leads}
+use Rattle.tf_plan_order.specs.Stored.{DependsOn, turned}
 
 -- it holds, or it doesn't
 abbrev pub IsDecided : Type 0 → Type 0

@@ -4,15 +4,15 @@ use Rattle.std.proofs.lemmas.List.Elements.{Contains-append_left, Contains-appen
 use Rattle.std.proofs.lemmas.Option.{slice_get-map}
 use Rattle.std.specs.List.{AllByRecursion}
 use Rattle.std.specs.Prelude.{Contains, slice_get, ⊤}
-use Rattle.tf_outcome.specs.Excuse.{Moment, before_call, during_call, by_stop}
-use Rattle.tf_outcome.specs.Outcome.{ActionResultView, skipped, excused, faulted, called}
-use Rattle.tf_outcome.specs.declared.excuse.Excuse.{Excuse}
-use Rattle.tf_outcome.specs.declared.excuse.Excuse.TheVariants.{Before, During, Left, Output}
-use Rattle.tf_outcome.specs.declared.excuse.Outcome.{Outcome}
-use Rattle.tf_outcome.specs.declared.excuse.Outcome.TheVariants as outcome
-use Rattle.tf_outputs.specs.Outputs.{OutputResultView, end_of}
-use Rattle.tf_outputs.specs.declared.ends.OutputResult.{OutputResult}
-use Rattle.tf_outputs.specs.declared.ends.OutputResult.TheVariants.{NotEvaluated, NoMemory, Faulted, Valued}
+use Rattle.tf_walk_action.specs.Excuse.{Moment, before_call, during_call, by_stop}
+use Rattle.tf_walk_action.specs.Outcome.{ActionResultView, skipped, excused, faulted, called}
+use Rattle.tf_walk_action.specs.declared.excuse.Excuse.{Excuse}
+use Rattle.tf_walk_action.specs.declared.excuse.Excuse.TheVariants.{Before, During, Left, Output}
+use Rattle.tf_walk_action.specs.declared.excuse.Outcome.{Outcome}
+use Rattle.tf_walk_action.specs.declared.excuse.Outcome.TheVariants as outcome
+use Rattle.tf_walk_report.specs.Outputs.{OutputResultView, end_of}
+use Rattle.tf_walk_report.specs.declared.ends.OutputResult.{OutputResult}
+use Rattle.tf_walk_report.specs.declared.ends.OutputResult.TheVariants.{NotEvaluated, NoMemory, Faulted, Valued}
 use Rattle.tf_plan_data.specs.Plan.{PlanView}
 use Rattle.tf_walk_report.specs.Outcomes.{excuses_at, excuses_from, outcome_of}
 use Rattle.tf_walk_report.specs.OutputsTold.{output_excuses}

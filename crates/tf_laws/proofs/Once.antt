@@ -15,14 +15,14 @@ use Rattle.tf_config.specs.Reading as config
 use Rattle.tf_config_data.specs.Config.{ConfigView, VariableView}
 use Rattle.tf_config_data.specs.Names.{NameView, names_of}
 use Rattle.tf_expr.specs.Demand as expr
-use Rattle.tf_inputs.specs.Refusals.{fault_told}
-use Rattle.tf_inputs.specs.Texts.{Texts}
+use Rattle.tf_cli_inputs.specs.Refusals.{fault_told}
+use Rattle.tf_cli_inputs.specs.Texts.{Texts}
 use Rattle.tf_json_path.proofs.Checks.{AllMet-append, IsFirst-same, IsFirst-unmet}
 use Rattle.tf_json_path.specs.Check.{AllMet, IsFirst}
-use Rattle.tf_names.specs.Cyclic.{RefusesCycle}
-use Rattle.tf_names.specs.Judging.{RefusesItsNames}
-use Rattle.tf_names.specs.KnownNames.{Declared, IsKnown, IsUnknown, NameChecks, RefusesNames, config_checks, declared_in}
-use Rattle.tf_names.specs.Needs.{AreCyclic}
+use Rattle.tf_config_names.specs.Cyclic.{RefusesCycle}
+use Rattle.tf_config_names.specs.Judging.{RefusesItsNames}
+use Rattle.tf_config_names.specs.KnownNames.{Declared, IsKnown, IsUnknown, NameChecks, RefusesNames, config_checks, declared_in}
+use Rattle.tf_config_names.specs.Needs.{AreCyclic}
 use Rattle.tf_refusal.specs.OfExpression.{Way, way_of}
 use Rattle.tf_refusal.specs.Refusal as refusals
 use Rattle.tf_refusal.specs.Refusal.{DetailView, RefusalView, fault, no_memory, workers}
@@ -30,8 +30,8 @@ use Rattle.tf_state.proofs.Permuted.{one_order}
 use Rattle.tf_state.specs.Table.{IsUnread}
 use Rattle.tf_state.specs.declared.fault.StateFault.{StateFault}
 use Rattle.tf_state.specs.declared.fault.StateFault.TheVariants.{BadState, Limit, OutOfMemory}
-use Rattle.tf_variables.specs.Reading.{IsFaulty, IsNoFile, IsRefused, IsRefusedAs}
-use Rattle.tf_variables.specs.Values.{HasNone, RefusesValues, file_checks, given, literal_at, value_checks}
+use Rattle.tf_config.specs.VariablesRead.{IsFaulty, IsNoFile, IsRefused, IsRefusedAs}
+use Rattle.tf_config.specs.Values.{HasNone, RefusesValues, file_checks, given, literal_at, value_checks}
 use Rattle.tf_laws.specs.Refusals.{TellTheSameFault}
 
 -- ---- the configuration's text

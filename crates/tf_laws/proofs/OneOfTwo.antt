@@ -2,12 +2,12 @@
 use Rattle.std.proofs.Common.{◌≡◌, ◌⊎◌, ℕ, Bool, true, false, List, [], ◌∷◌, inl, inr, refl, arith}
 use Rattle.tf_config.specs.Demand.{Checks}
 use Rattle.tf_config.specs.Laws.{NamesAreFew}
-use Rattle.tf_inputs.specs.Texts.{Texts}
+use Rattle.tf_cli_inputs.specs.Texts.{Texts}
 use Rattle.tf_json_path.specs.Check.{AllMet}
 use Rattle.tf_laws.specs.Plans.{PlannedOrRefused}
 use Rattle.tf_protocol.specs.Meaning.{Meaning}
 use Rattle.tf_refusal.specs.Refusal.{workers}
-use Rattle.tf_run.specs.Run.{are_workers}
+use Rattle.tf_walk.specs.Run.{are_workers}
 use Rattle.tf_laws.proofs.DecidedChecks.{IsDemandDecided, IsTemplateDecided, all_decided, demand_decided}
 use Rattle.tf_laws.proofs.ToldOf.{Resolved, texts_told}
 use Rattle.tf_laws.specs.OneOfTwo.{AppliesHavePlanOrRefusals, AreRead, AreToldOf, HavePlan, HaveRefusals, PlansAreTold, ReadingsAreTold, TemplatesAreTold, TextsAreReadOrRefused, TextsHavePlanOrRefusals}

@@ -8,9 +8,9 @@ use Rattle.tf_address.proofs.Totals.{object_id_total}
 use Rattle.tf_address.specs.Label.{LabelView}
 use Rattle.tf_address.specs.ObjectId.{InstanceKeyView, ObjectIdView, object_id_cmp}
 use Rattle.tf_address.specs.Same.{same_instance_key}
-use Rattle.tf_deciding.specs.Stage.{records_at}
-use Rattle.tf_decision.specs.Decision.{current}
-use Rattle.tf_plan_resources.specs.Members.{is_of, records_of}
+use Rattle.tf_plan_decision.specs.Stage.{records_at}
+use Rattle.tf_plan_decision.specs.Decision.{current}
+use Rattle.tf_plan_order.specs.Members.{is_of, records_of}
 use Rattle.tf_state_next.proofs.Finding.{filtered_ordered, first, found_filtered, same_lists}
 use Rattle.tf_state_next.proofs.One.{id_one}
 use Rattle.tf_plan.proofs.Objects.{one_key}

@@ -9,12 +9,12 @@ use Rattle.tf_graph.specs.Digraph.{Digraph}
 use Rattle.tf_plan.proofs.Tied.{late_same, needed_same}
 use Rattle.tf_plan.specs.Ordered.{AreTied, IsOrdered, action_pairs}
 use Rattle.tf_plan_data.specs.Fits.{IsDeclared, is_apply}
-use Rattle.tf_precedence.specs.Before.{are_halves, is_before, is_before_by}
-use Rattle.tf_precedence.specs.Order.{action_at, pair, pairs, pairs_into}
-use Rattle.tf_precedence.specs.OrderInput.{OrderInputView}
-use Rattle.tf_precedence.specs.declared.action.OrderedAction.{OrderedAction}
-use Rattle.tf_precedence.specs.declared.action.ActionKind.{ActionKind}
-use Rattle.tf_precedence.specs.declared.action.ActionKind.TheVariants.{Apply, Destroy, DestroyDeposed}
+use Rattle.tf_plan_order.specs.Before.{are_halves, is_before, is_before_by}
+use Rattle.tf_plan_order.specs.Order.{action_at, pair, pairs, pairs_into}
+use Rattle.tf_plan_order.specs.OrderInput.{OrderInputView}
+use Rattle.tf_plan_order.specs.declared.action.OrderedAction.{OrderedAction}
+use Rattle.tf_plan_order.specs.declared.action.ActionKind.{ActionKind}
+use Rattle.tf_plan_order.specs.declared.action.ActionKind.TheVariants.{Apply, Destroy, DestroyDeposed}
 use Rattle.tf_state_data.specs.Resource.{ResourceView}
 
 -- ---- lists

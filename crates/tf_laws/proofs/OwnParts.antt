@@ -2,7 +2,7 @@
 use Rattle.std.proofs.Common.{◌≡◌, ℕ, Bool, List, sym, subst}
 use Rattle.tf_config_data.specs.Config.{ConfigView}
 use Rattle.tf_config_data.specs.Names.{names_of}
-use Rattle.tf_environment.specs.InstanceKeys.{InstanceKeysView}
+use Rattle.tf_expand.specs.InstanceKeys.{InstanceKeysView}
 use Rattle.tf_graph.specs.Digraph.{Digraph}
 use Rattle.tf_plan.specs.Plan.{IsPlan, IsPlannedFrom}
 use Rattle.tf_plan_data.specs.Action.{ActionView}

@@ -4,13 +4,13 @@ use Rattle.std.proofs.lemmas.List.Elements.{Contains-append_cases}
 use Rattle.std.proofs.lemmas.List.Sorted.{Contains-permutation}
 use Rattle.std.specs.List.{AllByRecursion, range_with_len}
 use Rattle.std.specs.Prelude.{Contains, option_and_then, slice_get}
-use Rattle.tf_plan_resources.specs.Order.{AreInAddressOrder, is_resource, resource_places}
+use Rattle.tf_plan_order.specs.AddressOrder.{AreInAddressOrder, is_resource, resource_places}
 use Rattle.tf_config_data.specs.Config.{BlockView}
 use Rattle.tf_config_data.specs.Names.{NameView, Meant, a_block, meant_at}
-use Rattle.tf_deciding.proofs.Standing.{named_within}
+use Rattle.tf_plan_decision.proofs.Standing.{named_within}
 use Rattle.tf_plan.proofs.Distinct.{at-contained, in_filter, in_map}
-use Rattle.tf_plan_resources.proofs.Standing.{numbers-in_order}
-use Rattle.tf_plan_resources.specs.ResourceIndex.{ResourceRefView, a_name, an_orphan, address_of, has_block, numbered, orphans}
+use Rattle.tf_plan_order.proofs.Standing.{numbers-in_order}
+use Rattle.tf_plan_order.specs.ResourceIndex.{ResourceRefView, a_name, an_orphan, address_of, has_block, numbered, orphans}
 use Rattle.tf_state_data.specs.Resource.{ResourceView}
 use Rattle.tf_laws.proofs.Lists.{all_contained, got_within, in_range, to_filter}
 

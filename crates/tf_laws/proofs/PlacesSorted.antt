@@ -10,12 +10,12 @@ use Rattle.std.specs.Ordering.{is_eq, is_lt, nat_cmp, ordering_reverse, ordering
 use Rattle.std.specs.Prelude.{option_and_then, slice_get}
 use Rattle.tf_address.proofs.Totals.{label_total}
 use Rattle.tf_address.specs.Label.{LabelView, label_cmp}
-use Rattle.tf_plan_resources.specs.Order.{AreInAddressOrder, address_at, is_below, is_resource, resource_places}
+use Rattle.tf_plan_order.specs.AddressOrder.{AreInAddressOrder, address_at, is_below, is_resource, resource_places}
 use Rattle.tf_graph.proofs.Edges.{all_by_contained}
 use Rattle.tf_plan.proofs.Distinct.{in_filter}
 use Rattle.tf_plan.proofs.Ranges.{places-distinct}
-use Rattle.tf_plan_resources.specs.Laws.{AreApart}
-use Rattle.tf_plan_resources.specs.ResourceIndex.{ResourceRefView, address_of}
+use Rattle.tf_plan_order.specs.ResourceLaws.{AreApart}
+use Rattle.tf_plan_order.specs.ResourceIndex.{ResourceRefView, address_of}
 use Rattle.tf_laws.proofs.Rising.{IsRising, one_list, rising}
 
 -- a resource stands at the place

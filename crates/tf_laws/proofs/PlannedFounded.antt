@@ -11,22 +11,22 @@ use Rattle.tf_config_data.specs.Names.{directly_before, names_of}
 use Rattle.tf_graph.specs.Digraph.{Digraph, predecessors_of}
 use Rattle.tf_graph.specs.Path.{Path, Reaches, direct, joined, onward}
 use Rattle.tf_graph.specs.Solutions.{Ranked, StaysBelow}
-use Rattle.tf_names.specs.Needs.{IsAcyclic}
+use Rattle.tf_config_names.specs.Needs.{IsAcyclic}
 use Rattle.tf_plan.proofs.Blocks.{names-apart}
 use Rattle.tf_plan.proofs.Fitting.{AreFit, plan-fits}
 use Rattle.tf_plan.specs.Ordered.{IsOrdered, stored_graph}
 use Rattle.tf_plan.specs.Plan.{IsPlan}
 use Rattle.tf_plan_data.specs.Fits.{IsDeclared}
 use Rattle.tf_plan_data.specs.Plan.{PlanView}
-use Rattle.tf_precedence.proofs.Listed.{pairs-order}
-use Rattle.tf_precedence.specs.Late.{IsLate, Leads}
-use Rattle.tf_precedence.specs.Order.{IsOrder}
-use Rattle.tf_precedence.specs.Stored.{Needed, turned}
-use Rattle.tf_precedence.specs.OrderInput.{AreSound, OrderInputView}
+use Rattle.tf_plan_order.proofs.Listed.{pairs-order}
+use Rattle.tf_plan_order.specs.Late.{IsLate, Leads}
+use Rattle.tf_plan_order.specs.Order.{IsOrder}
+use Rattle.tf_plan_order.specs.Stored.{Needed, turned}
+use Rattle.tf_plan_order.specs.OrderInput.{AreSound, OrderInputView}
 use Rattle.tf_protocol.specs.Meaning.{Meaning}
-use Rattle.tf_plan_resources.specs.Dependencies.{dependencies}
-use Rattle.tf_plan_resources.specs.Marks.{is_marked}
-use Rattle.tf_plan_resources.specs.ResourceIndex.{numbered}
+use Rattle.tf_plan_order.specs.Dependencies.{dependencies}
+use Rattle.tf_plan_order.specs.Marks.{is_marked}
+use Rattle.tf_plan_order.specs.ResourceIndex.{numbered}
 use Rattle.tf_state.specs.Valid.{IsPresent, IsValid}
 use Rattle.tf_state_data.specs.Ids.{AreById}
 use Rattle.tf_state_data.specs.State.{StateView}

@@ -11,11 +11,11 @@ use Rattle.tf_config_data.specs.Names.{directly_before, names_of}
 use Rattle.tf_laws.proofs.Read.{read_values_known}
 use Rattle.tf_laws.specs.Reapply.{IsSound, ReportsConverge}
 use Rattle.tf_graph.specs.Solutions.{Ranked}
-use Rattle.tf_inputs.specs.Texts.{AreTheValues, IsRead, ReadAs, Texts}
+use Rattle.tf_cli_inputs.specs.Texts.{AreTheValues, IsRead, ReadAs, Texts}
 use Rattle.tf_provider.specs.declared.journal.Entry.{Entry}
-use Rattle.tf_names.proofs.Rings.{places-acyclic}
-use Rattle.tf_names.specs.Needs.{IsAcyclic}
-use Rattle.tf_outcome.specs.Journal.{IsOfAction}
+use Rattle.tf_config_names.proofs.Rings.{places-acyclic}
+use Rattle.tf_config_names.specs.Needs.{IsAcyclic}
+use Rattle.tf_walk_action.specs.Journal.{IsOfAction}
 use Rattle.tf_plan.specs.Plan.{IsPlan, IsPlannedFrom}
 use Rattle.tf_plan_data.specs.Plan.{PlanView, plan_names}
 use Rattle.tf_plan_text.specs.Text.{plan_text}
@@ -24,12 +24,12 @@ use Rattle.tf_protocol.specs.declared.request.Op.{Op}
 use Rattle.tf_walk_report.specs.Report.{IsReported, report_of}
 use Rattle.tf_walk_report.specs.declared.report.Walked.{Walked}
 use Rattle.tf_walk_report.specs.declared.report.Walked.TheVariants.{Whole, Torn}
-use Rattle.tf_run.specs.Run.{IsRun}
+use Rattle.tf_walk.specs.Run.{IsRun}
 use Rattle.tf_state.specs.Laws.{EmptyIsValid, ReadIsValid}
 use Rattle.tf_state_data.specs.Resource.{ResourceView}
 use Rattle.tf_state_data.specs.State.{StateView}
 use Rattle.tf_value.specs.Tree.{Entries}
-use Rattle.tf_variables.specs.Laws.{ValuesAreOne}
+use Rattle.tf_config.specs.VariableLaws.{ValuesAreOne}
 use Rattle.tf_laws.proofs.Reading.{one_config, one_values, prior_valid, read_in_order}
 use Rattle.tf_laws.proofs.Schemas.{schemas_in}
 use Rattle.tf_laws.specs.ReapplyTexts.{HaveSchemas, WentWell, no_changes}

@@ -9,12 +9,12 @@ use Rattle.tf_config_data.specs.Names.{directly_before}
 use Rattle.tf_laws.proofs.Declared.{Setting}
 use Rattle.tf_laws.proofs.Lists.{all_weaker}
 use Rattle.tf_laws.proofs.OwnParts.{plan_from}
-use Rattle.tf_deciding.specs.Stage.{deciding}
-use Rattle.tf_environment.specs.Stages.{expansion}
-use Rattle.tf_environment.specs.Resolved.{ResolvedView, AreResolvedNames}
+use Rattle.tf_plan_decision.specs.Stage.{deciding}
+use Rattle.tf_expand.specs.Stages.{expansion}
+use Rattle.tf_expand.specs.Resolved.{ResolvedView, AreResolvedNames}
 use Rattle.tf_expand.specs.Expanding.{AreExpanded}
 use Rattle.tf_graph.specs.Solutions.{Ranked}
-use Rattle.tf_names.specs.Needs.{IsAcyclic}
+use Rattle.tf_config_names.specs.Needs.{IsAcyclic}
 use Rattle.tf_plan.proofs.Blocks.{names-apart}
 use Rattle.tf_plan.proofs.Fitting.{AreFit, plan-fits}
 use Rattle.tf_plan.specs.Ordered.{IsOrdered}
@@ -23,8 +23,8 @@ use Rattle.tf_plan.specs.Planned.{IsPlanned, unrefused}
 use Rattle.tf_plan_data.specs.Plan.{PlanView, plan_names}
 use Rattle.tf_protocol.specs.Meaning.{Meaning, schema_in}
 use Rattle.tf_protocol.specs.Schema.{SchemaView, IsSchema}
-use Rattle.tf_plan_resources.specs.Laws as resources_laws
-use Rattle.tf_plan_resources.specs.ResourceIndex.{a_name}
+use Rattle.tf_plan_order.specs.ResourceLaws as resources_laws
+use Rattle.tf_plan_order.specs.ResourceIndex.{a_name}
 use Rattle.tf_state.specs.Valid.{IsPresent, IsValid}
 use Rattle.tf_state_data.specs.Addresses.{AreByAddress}
 use Rattle.tf_state_data.specs.Ids.{AreById}

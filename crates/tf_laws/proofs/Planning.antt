@@ -6,7 +6,7 @@ use Rattle.tf_laws.proofs.Reading.{prior_valid, read_in_order, prior_apart, same
 use Rattle.tf_cli.specs.Applies.{IsPlanOf}
 use Rattle.tf_config_data.specs.Config.{ConfigView}
 use Rattle.tf_config_data.specs.Names.{names_of}
-use Rattle.tf_inputs.specs.Texts.{ReadAs, Texts}
+use Rattle.tf_cli_inputs.specs.Texts.{ReadAs, Texts}
 use Rattle.tf_laws.specs.Plans.{AreOne, AreOrderly, PlanTextsAreOne, PlansAreNotRefused, PlansAreOne, RefusalsAreOne}
 use Rattle.tf_plan.specs.Plan.{IsPlan}
 use Rattle.tf_plan.specs.Refused.{AreRefused, AreRefusedOf}

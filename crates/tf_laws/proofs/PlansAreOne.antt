@@ -4,9 +4,9 @@ use Rattle.std.proofs.lemmas.Bool.{cases_lt}
 use Rattle.tf_plan_data.specs.Action.{ActionView}
 use Rattle.tf_config_data.specs.Config.{ConfigView}
 use Rattle.tf_config_data.specs.Names.{NameView, a_block, directly_before, label_pair, meant_at, names_of, place_of}
-use Rattle.tf_environment.specs.InstanceKeys.{InstanceKeysView}
-use Rattle.tf_environment.specs.Resolved.{ResolvedView}
-use Rattle.tf_environment.specs.declared.repetition.RepetitionFault.{RepetitionFault}
+use Rattle.tf_expand.specs.InstanceKeys.{InstanceKeysView}
+use Rattle.tf_expand.specs.Resolved.{ResolvedView}
+use Rattle.tf_expand.specs.declared.repetition.RepetitionFault.{RepetitionFault}
 use Rattle.tf_expand.specs.Expanding.{IsFirstRefused, expanded}
 use Rattle.tf_graph.specs.Solutions.{Ranked}
 use Rattle.tf_plan.proofs.Blocks.{names-apart}
@@ -20,12 +20,12 @@ use Rattle.tf_plan.specs.Planned.{AreInstances, IsPlanned, PlannedView, unrefuse
 use Rattle.tf_plan.specs.Refused.{AreManyActions, AreManyInstances, AreManyPairs, AreRefused, AreUnexpanded, AreUnplanned, IsUnexpanded, IsUnplanned, beyond_limit, instances_refusal}
 use Rattle.tf_plan_data.specs.Plan.{PlanView}
 use Rattle.tf_plan_text.specs.Text.{plan_text}
-use Rattle.tf_precedence.specs.OrderInput.{OrderInputView}
+use Rattle.tf_plan_order.specs.OrderInput.{OrderInputView}
 use Rattle.tf_protocol.specs.Meaning.{Meaning}
 use Rattle.tf_refusal.specs.Refusal.{RefusalView}
-use Rattle.tf_plan_resources.proofs.Standing.{resources-apart}
-use Rattle.tf_plan_resources.specs.Laws.{AreApart}
-use Rattle.tf_plan_resources.specs.ResourceIndex.{a_name, numbered}
+use Rattle.tf_plan_order.proofs.Standing.{resources-apart}
+use Rattle.tf_plan_order.specs.ResourceLaws.{AreApart}
+use Rattle.tf_plan_order.specs.ResourceIndex.{a_name, numbered}
 use Rattle.tf_state_data.specs.State.{StateView}
 use Rattle.tf_syntax.specs.TemplateNames.{Pair}
 use Rattle.tf_value.specs.Tree.{Entries}

@@ -10,9 +10,9 @@ use Rattle.tf_graph.proofs.Solving.{all_by_at, ranked-by_order}
 use Rattle.tf_graph.specs.Path.{Path, direct, joined, onward}
 use Rattle.tf_graph.specs.Solutions.{Ranked}
 use Rattle.tf_laws.proofs.Leading.{decided_path, nothing_in, tested}
-use Rattle.tf_names.proofs.Edging.{before-past, places-below}
-use Rattle.tf_names.proofs.Needing.{name-from_places, place_of-one, refers-from_before}
-use Rattle.tf_names.specs.Needs.{Needs}
+use Rattle.tf_config_names.proofs.Edging.{before-past, places-below}
+use Rattle.tf_config_names.proofs.Needing.{name-from_places, place_of-one, refers-from_before}
+use Rattle.tf_config_names.specs.Needs.{Needs}
 use Rattle.tf_syntax.specs.TemplateNames.{Pair}
 
 -- ---- what stands before numbers below a count, in pairs

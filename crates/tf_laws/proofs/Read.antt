@@ -25,8 +25,8 @@ use Rattle.tf_value.specs.Known.{known, known_entries, known_items}
 use Rattle.tf_value.specs.Scalar.{scalar_text}
 use Rattle.tf_value.specs.Tree as tree
 use Rattle.tf_value.specs.Tree.{Tree, Items, no_items, item, Entries, no_entries, entry}
-use Rattle.tf_variables.specs.Types.{element_as, entries_as, fits, fitted, items_as, text_or, value_as}
-use Rattle.tf_variables.specs.Values.{AreValues, given, taken_of}
+use Rattle.tf_config.specs.Types.{element_as, entries_as, fits, fitted, items_as, text_or, value_as}
+use Rattle.tf_config.specs.Values.{AreValues, given, taken_of}
 use Rattle.tf_laws.specs.Read.{ReadHasOwnNames, ReadIsSound}
 use Rattle.tf_laws.specs.Twice.{HasOrderedOutputs, HasOwnNames}
 

@@ -9,14 +9,14 @@ use Rattle.tf_config.specs.Configuration.{IsConfiguration}
 use Rattle.tf_config.specs.Laws.{BlocksAreInOrder, StandsForOne}
 use Rattle.tf_config.specs.Reading.{IsTree}
 use Rattle.tf_config_data.specs.Config.{BlockView, ConfigView}
-use Rattle.tf_inputs.specs.Texts.{AreTheValues, IsPrior, IsRead, ReadAs, Texts}
+use Rattle.tf_cli_inputs.specs.Texts.{AreTheValues, IsPrior, IsRead, ReadAs, Texts}
 use Rattle.tf_state.specs.Laws.{EmptyIsValid, ReadIsValid, TextIsOfOne}
 use Rattle.tf_state.specs.Valid.{IsValid}
 use Rattle.tf_state_data.specs.State.{StateView}
 use Rattle.tf_value.specs.Tree.{Entries}
-use Rattle.tf_variables.specs.Laws.{ValuesAreOne}
-use Rattle.tf_variables.specs.Reading.{IsFileOf}
-use Rattle.tf_variables.specs.Values.{AreValues}
+use Rattle.tf_config.specs.VariableLaws.{ValuesAreOne}
+use Rattle.tf_config.specs.VariablesRead.{IsFileOf}
+use Rattle.tf_config.specs.Values.{AreValues}
 use Rattle.tf_laws.specs.Readings.{TextsReadAsOne, TextsReadAsOneApart, without_lineage}
 
 -- ---- the same texts

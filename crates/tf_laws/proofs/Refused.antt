@@ -8,9 +8,9 @@ use Rattle.tf_config_data.specs.Config.{ConfigView}
 use Rattle.tf_config_data.specs.Names.{names_of}
 use Rattle.tf_laws.specs.Reapply.{StateAfterIsAtRest}
 use Rattle.tf_laws.specs.Rest.{NothingIsPlannedAtRest}
-use Rattle.tf_inputs.specs.Refusals.{AreNamesRefused, AreValuesRefused, IsStateRefused, at_state, fault_told}
-use Rattle.tf_inputs.specs.Texts.{AreTheValues, Texts}
-use Rattle.tf_names.specs.Judging.{RefusesItsNames}
+use Rattle.tf_cli_inputs.specs.Refusals.{AreNamesRefused, AreValuesRefused, IsStateRefused, at_state, fault_told}
+use Rattle.tf_cli_inputs.specs.Texts.{AreTheValues, Texts}
+use Rattle.tf_config_names.specs.Judging.{RefusesItsNames}
 use Rattle.tf_plan.specs.Refused.{AreRefused, AreRefusedOf}
 use Rattle.tf_protocol.specs.Meaning.{Meaning}
 use Rattle.tf_refusal.specs.Code.{limit}
@@ -21,8 +21,8 @@ use Rattle.tf_state.specs.declared.fault.StateFault.{StateFault}
 use Rattle.tf_state.specs.declared.fault.StateFault.TheVariants.{BadState, Limit, OutOfMemory}
 use Rattle.tf_state_data.specs.State.{StateView}
 use Rattle.tf_value.specs.Tree.{Entries}
-use Rattle.tf_variables.specs.Laws.{ValuesAreFaultless}
-use Rattle.tf_variables.specs.Reading as variables
+use Rattle.tf_config.specs.VariableLaws.{ValuesAreFaultless}
+use Rattle.tf_config.specs.VariablesRead as variables
 use Rattle.tf_laws.proofs.TextsAgain.{saved_reads}
 use Rattle.tf_laws.proofs.Faultless.{config_read, names_good, values_good}
 use Rattle.tf_laws.proofs.PlannedOverTexts.{Laws}

@@ -3,12 +3,12 @@ use Rattle.std.proofs.Common.{◌≡◌, ◌⊎◌, ◌∙◌, ℕ, List, [], �
 use Rattle.tf_laws.proofs.Reading.{one_config}
 use Rattle.tf_cli.specs.Refusals.{IsPlanRefused, IsRefusedAlone}
 use Rattle.tf_config_data.specs.Config.{ConfigView}
-use Rattle.tf_inputs.specs.Refusals.{AreNamesRefused, AreValuesRefused, IsStateRefused, IsToldOf, IsToldOfState}
-use Rattle.tf_inputs.specs.Texts.{AreNamesGood, IsRead, Texts}
-use Rattle.tf_names.specs.Judging.{RefusesItsNames}
+use Rattle.tf_cli_inputs.specs.Refusals.{AreNamesRefused, AreValuesRefused, IsStateRefused, IsToldOf, IsToldOfState}
+use Rattle.tf_cli_inputs.specs.Texts.{AreNamesGood, IsRead, Texts}
+use Rattle.tf_config_names.specs.Judging.{RefusesItsNames}
 use Rattle.tf_protocol.specs.Meaning.{Meaning}
 use Rattle.tf_refusal.specs.Refusal.{RefusalView, no_memory}
-use Rattle.tf_variables.specs.Reading as variables
+use Rattle.tf_config.specs.VariablesRead as variables
 use Rattle.tf_laws.proofs.Faultless.{config_read}
 use Rattle.tf_laws.proofs.Once.{config_once, names_once, state_once, variables_once}
 use Rattle.tf_laws.proofs.UnrefusedTexts.{names_stand, none_told, values_stand}

@@ -4,11 +4,11 @@ use Rattle.std.specs.Prelude.{option_and_then}
 use Rattle.tf_plan_data.specs.Action.{ActionView}
 use Rattle.tf_address.specs.Label.{LabelView}
 use Rattle.tf_address.specs.ObjectId.{InstanceKeyView}
-use Rattle.tf_asks.specs.Laws.{KnownAttributesStay, PlannedObjectsAreAsked, RefinesWhere, RequestsRefine, asked_in_plan, planned_object}
-use Rattle.tf_change.specs.Instance.{InstanceFaultView}
+use Rattle.tf_walk_action.specs.AskingLaws.{KnownAttributesStay, PlannedObjectsAreAsked, RefinesWhere, RequestsRefine, asked_in_plan, planned_object}
+use Rattle.tf_plan_object.specs.Instance.{InstanceFaultView}
 use Rattle.tf_config_data.specs.Names.{NameView, meant_at}
 use Rattle.tf_laws.proofs.Declared.{records_in}
-use Rattle.tf_outcome.specs.Asked.{AreRequests, Requests, asked_by_step, asked_for, ignored_by}
+use Rattle.tf_walk_action.specs.Asked.{AreRequests, Requests, asked_by_step, asked_for, ignored_by}
 use Rattle.tf_plan_data.specs.Fits.{is_apply}
 use Rattle.tf_plan_data.specs.Plan.{plan_names}
 use Rattle.tf_protocol.specs.Meaning.{Asked, schema_in}

@@ -6,17 +6,17 @@ use Rattle.std.specs.Option.{option_map_or, unwrap_or}
 use Rattle.std.specs.Str.{bytes_eq}
 use Rattle.std.proofs.lemmas.Slice.Eq.{bytes_eq-Decides}
 use Rattle.tf_plan_data.specs.Action.{ActionView, StepView, create, update, replacement, replaced, destroyed, deposed_destroyed}
-use Rattle.tf_change.specs.Instance.{InstanceFaultView}
-use Rattle.tf_decision.proofs.Aligned.{same_name}
-use Rattle.tf_decision.proofs.Equal.{beside_equal_nothing, none_names, nothing_beside_equal, nothing_where_none_differs}
-use Rattle.tf_decision.proofs.Growing.{updates_grow}
-use Rattle.tf_decision.proofs.Keeping.{updates_argue, updates_named}
-use Rattle.tf_decision.proofs.Replies.{good_is, replies_stay}
-use Rattle.tf_decision.specs.Decision.{beside, change, nothing, replace}
-use Rattle.tf_decision.specs.Differing.{differing}
-use Rattle.tf_decision.specs.Kept.{is_kept, kept_entries, kept_object}
-use Rattle.tf_decision.specs.Laws.{is_settled}
-use Rattle.tf_outcome.specs.Asked.{asked_by_step, create_of, update_of}
+use Rattle.tf_plan_object.specs.Instance.{InstanceFaultView}
+use Rattle.tf_plan_decision.proofs.Aligned.{same_name}
+use Rattle.tf_plan_decision.proofs.Equal.{beside_equal_nothing, none_names, nothing_beside_equal, nothing_where_none_differs}
+use Rattle.tf_plan_decision.proofs.Growing.{updates_grow}
+use Rattle.tf_plan_decision.proofs.Keeping.{updates_argue, updates_named}
+use Rattle.tf_plan_decision.proofs.Replies.{good_is, replies_stay}
+use Rattle.tf_plan_decision.specs.Decision.{beside, change, nothing, replace}
+use Rattle.tf_plan_decision.specs.Differing.{differing}
+use Rattle.tf_plan_decision.specs.Kept.{is_kept, kept_entries, kept_object}
+use Rattle.tf_plan_decision.specs.Laws.{is_settled}
+use Rattle.tf_walk_action.specs.Asked.{asked_by_step, create_of, update_of}
 use Rattle.tf_plan_data.specs.Fits.{is_apply}
 use Rattle.tf_protocol.specs.Meaning.{Asked}
 use Rattle.tf_protocol.specs.Schema.{AttributeView, SchemaView, IsSchema}

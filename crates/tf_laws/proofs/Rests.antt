@@ -4,27 +4,27 @@ use Rattle.std.specs.List.{AllByRecursion}
 use Rattle.std.specs.Option.{option_map_or}
 use Rattle.std.specs.Prelude.{Contains, option_and_then}
 use Rattle.tf_address.specs.ObjectId.{InstanceKeyView, ObjectIdView}
-use Rattle.tf_change.proofs.Named.{instances_named}
-use Rattle.tf_change.specs.Instance.{InstanceFaultView, instance_object}
-use Rattle.tf_change.specs.Laws.{InstancesGrow}
+use Rattle.tf_plan_object.proofs.Named.{instances_named}
+use Rattle.tf_plan_object.specs.Instance.{InstanceFaultView, instance_object}
+use Rattle.tf_plan_object.specs.Laws.{InstancesGrow}
 use Rattle.tf_config_data.specs.Config.{BlockView}
 use Rattle.tf_config_data.specs.Names.{a_block, meant_at}
-use Rattle.tf_deciding.specs.Stage.{records_at}
-use Rattle.tf_decision.specs.Decision.{change, nothing}
-use Rattle.tf_environment.proofs.Refining.{followed}
-use Rattle.tf_environment.specs.Laws.{ResolvedNamesGrow}
-use Rattle.tf_environment.specs.Stages.{applying}
-use Rattle.tf_environment.specs.Resolved.{ResolvedView, AreResolvedNames, environment}
-use Rattle.tf_plan_resources.specs.Members.{is_among, records_of}
+use Rattle.tf_plan_decision.specs.Stage.{records_at}
+use Rattle.tf_plan_decision.specs.Decision.{change, nothing}
+use Rattle.tf_expand.proofs.Refining.{followed}
+use Rattle.tf_expand.specs.StandingLaws.{ResolvedNamesGrow}
+use Rattle.tf_expand.specs.Stages.{applying}
+use Rattle.tf_expand.specs.Resolved.{ResolvedView, AreResolvedNames, environment}
+use Rattle.tf_plan_order.specs.Members.{is_among, records_of}
 use Rattle.tf_state_next.proofs.One.{some_known}
 use Rattle.tf_state_next.specs.StateAfter.{has_records}
-use Rattle.tf_outcome.specs.Asked.{asked_by_step}
+use Rattle.tf_walk_action.specs.Asked.{asked_by_step}
 use Rattle.tf_plan_data.specs.Plan.{plan_names}
 use Rattle.tf_protocol.specs.Meaning.{schema_in}
 use Rattle.tf_protocol.specs.Schema.{SchemaView}
 use Rattle.tf_protocol.specs.Verdict.{is_good_verdict, verdict_on_object}
 use Rattle.tf_walk_report.specs.Report.{objects_after}
-use Rattle.tf_plan_resources.specs.ResourceIndex.{has_block}
+use Rattle.tf_plan_order.specs.ResourceIndex.{has_block}
 use Rattle.tf_state_next.proofs.Places.{found_id}
 use Rattle.tf_state_next.specs.After.{object_at}
 use Rattle.tf_state_data.specs.Ids.{AreById}

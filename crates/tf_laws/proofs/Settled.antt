@@ -8,16 +8,16 @@ use Rattle.std.specs.Str.{bytes_eq}
 use Rattle.std.proofs.lemmas.Slice.Eq.{bytes_eq-Decides}
 use Rattle.tf_address.specs.ObjectId as keys
 use Rattle.tf_address.specs.ObjectId.{InstanceKeyView}
-use Rattle.tf_change.proofs.Named.{all_named, both_empty, faultless, object_is, instance_is}
-use Rattle.tf_change.specs.Argument.{attribute_value, converted, evaluated, given_value, or_bad_argument, result_then, set_value, unset_value}
-use Rattle.tf_change.specs.Planned.{attribute_faults, fault_at, planned_entries, with_value}
-use Rattle.tf_change.specs.declared.argument.ArgumentFault.{ArgumentFault}
+use Rattle.tf_plan_object.proofs.Named.{all_named, both_empty, faultless, object_is, instance_is}
+use Rattle.tf_plan_object.specs.Argument.{attribute_value, converted, evaluated, given_value, or_bad_argument, result_then, set_value, unset_value}
+use Rattle.tf_plan_object.specs.Planned.{attribute_faults, fault_at, planned_entries, with_value}
+use Rattle.tf_plan_object.specs.declared.argument.ArgumentFault.{ArgumentFault}
 use Rattle.tf_config_data.specs.Config.{RepetitionView, single, count, for_each}
-use Rattle.tf_decision.proofs.Aligned.{apart, same_name}
-use Rattle.tf_decision.proofs.Equal.{known_at}
-use Rattle.tf_decision.specs.Kept.{is_computed, is_ignored}
-use Rattle.tf_decision.specs.Laws.{is_settled}
-use Rattle.tf_environment.specs.Instance.{bound, count_index, each_key, each_value, instance_constants, instance_environment, value_under}
+use Rattle.tf_plan_decision.proofs.Aligned.{apart, same_name}
+use Rattle.tf_plan_decision.proofs.Equal.{known_at}
+use Rattle.tf_plan_decision.specs.Kept.{is_computed, is_ignored}
+use Rattle.tf_plan_decision.specs.Laws.{is_settled}
+use Rattle.tf_expand.specs.Instance.{bound, count_index, each_key, each_value, instance_constants, instance_environment, value_under}
 use Rattle.tf_eval.proofs.Alone.{split}
 use Rattle.tf_eval.specs.Constants.{ConstantView}
 use Rattle.tf_eval.specs.Environment.{Environment}

@@ -2,19 +2,19 @@
 use Rattle.std.proofs.Common.{◌≡◌, ◌∙◌, ◌<◌, ℕ, if◌then◌else◌, List, [], ◌∷◌, Option, None, Some, fold, length, refl, sym, ap}
 use Rattle.std.specs.Prelude.{slice_get}
 use Rattle.tf_config_data.specs.Names.{NameView, Meant, a_local, a_block, directly_before, meant_at}
-use Rattle.tf_deciding.proofs.Standing.{named_within}
-use Rattle.tf_deciding.specs.Deciding.{DecidedView, with_block}
-use Rattle.tf_deciding.specs.Stage.{all_can_go, decided_object, deciding}
-use Rattle.tf_deciding.specs.Whole.{nothing_decided, with_meant, with_numbered}
-use Rattle.tf_environment.specs.InstanceKeys.{InstanceKeysView}
-use Rattle.tf_environment.specs.Resolved.{ResolvedView, AreResolvedNames, all_stand, environment, result_in, stands_at, together, where_all}
+use Rattle.tf_plan_decision.proofs.Standing.{named_within}
+use Rattle.tf_plan_decision.specs.Deciding.{DecidedView, with_block}
+use Rattle.tf_plan_decision.specs.Stage.{all_can_go, decided_object, deciding}
+use Rattle.tf_plan_decision.specs.Whole.{nothing_decided, with_meant, with_numbered}
+use Rattle.tf_expand.specs.InstanceKeys.{InstanceKeysView}
+use Rattle.tf_expand.specs.Resolved.{ResolvedView, AreResolvedNames, all_stand, environment, result_in, stands_at, together, where_all}
 use Rattle.tf_eval.specs.Environment.{Environment}
 use Rattle.tf_graph.specs.Solutions.{Ranked, seen_by}
 use Rattle.tf_plan.proofs.Solved.{planned-by}
 use Rattle.tf_plan.specs.Planned.{IsPlanned, PlannedView, planned_in, with_outputs}
 use Rattle.tf_protocol.specs.Meaning.{Meaning}
-use Rattle.tf_plan_resources.specs.Laws.{AreApart}
-use Rattle.tf_plan_resources.specs.ResourceIndex.{ResourceRefView, a_name, an_orphan, numbered}
+use Rattle.tf_plan_order.specs.ResourceLaws.{AreApart}
+use Rattle.tf_plan_order.specs.ResourceIndex.{ResourceRefView, a_name, an_orphan, numbered}
 use Rattle.tf_state_data.specs.Resource.{ResourceView}
 use Rattle.tf_syntax.specs.ExprTree as expr
 use Rattle.tf_value.specs.Tree.{Entries}

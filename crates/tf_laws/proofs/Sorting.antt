@@ -6,8 +6,8 @@ use Rattle.std.specs.Cmp.Lexicographic.{options_total}
 use Rattle.std.specs.List.{AllByRecursion}
 use Rattle.std.specs.List.Sorted.{IsPermutation, IsSortedBy}
 use Rattle.tf_address.proofs.Totals.{label_total}
-use Rattle.tf_plan_resources.specs.Order.{AreInAddressOrder, address_at, is_below, resource_places}
-use Rattle.tf_plan_resources.specs.ResourceIndex.{ResourceRefView}
+use Rattle.tf_plan_order.specs.AddressOrder.{AreInAddressOrder, address_at, is_below, resource_places}
+use Rattle.tf_plan_order.specs.ResourceIndex.{ResourceRefView}
 
 abbrev insert_by : (ℕ → ℕ → Bool) → ℕ → List ℕ → List ℕ
 insert_by lt x [] = x ∷ []

@@ -5,22 +5,22 @@ use Rattle.std.specs.Option.{option_and_then}
 use Rattle.std.specs.Prelude.{is_none}
 use Rattle.tf_plan_data.specs.Action.{ActionView, StepView}
 use Rattle.tf_address.specs.ObjectId.{InstanceKeyView}
-use Rattle.tf_change.specs.Instance.{instance_object}
+use Rattle.tf_plan_object.specs.Instance.{instance_object}
 use Rattle.tf_config_data.specs.Config.{BlockView, LifecycleView}
 use Rattle.tf_config_data.specs.Names.{NameView, Meant, a_local, a_block, meant_at, directly_before}
-use Rattle.tf_deciding.proofs.Local.{stage_local}
-use Rattle.tf_deciding.specs.Outcome.{OutcomeView, by_removal, declared_outcome, member_outcome, removal_outcome}
-use Rattle.tf_deciding.specs.Stage.{all_can_go, can_go, decided_object, deciding, object_beside, object_of, object_unless_refused, records_at, stays_or_goes}
-use Rattle.tf_decision.specs.Decision as decision
-use Rattle.tf_decision.specs.Decision.{DecisionView, DecisionFaultView, change, current, removal_fault}
-use Rattle.tf_environment.proofs.Locals.{all_seen}
-use Rattle.tf_environment.proofs.Places.{along, names_stay}
-use Rattle.tf_environment.specs.InstanceKeys.{InstanceKeysView, one, many, named, instance_keys, collected, objects_at}
-use Rattle.tf_environment.specs.Resolved.{ResolvedView, AreResolvedNames, all_stand, environment, stands_at, together}
+use Rattle.tf_plan_decision.proofs.Local.{stage_local}
+use Rattle.tf_plan_decision.specs.Outcome.{OutcomeView, by_removal, declared_outcome, member_outcome, removal_outcome}
+use Rattle.tf_plan_decision.specs.Stage.{all_can_go, can_go, decided_object, deciding, object_beside, object_of, object_unless_refused, records_at, stays_or_goes}
+use Rattle.tf_plan_decision.specs.Decision as decision
+use Rattle.tf_plan_decision.specs.Decision.{DecisionView, DecisionFaultView, change, current, removal_fault}
+use Rattle.tf_expand.proofs.Locals.{all_seen}
+use Rattle.tf_expand.proofs.Places.{along, names_stay}
+use Rattle.tf_expand.specs.InstanceKeys.{InstanceKeysView, one, many, named, instance_keys, collected, objects_at}
+use Rattle.tf_expand.specs.Resolved.{ResolvedView, AreResolvedNames, all_stand, environment, stands_at, together}
 use Rattle.tf_eval.proofs.Locality.{expressions_local}
 use Rattle.tf_eval.specs.Environment.{Environment}
 use Rattle.tf_graph.specs.Solutions.{Ranked, seen_by}
-use Rattle.tf_plan_resources.specs.Members.{InstanceToPlanView, is_among, member, members, records_of}
+use Rattle.tf_plan_order.specs.Members.{InstanceToPlanView, is_among, member, members, records_of}
 use Rattle.tf_operators.specs.Answer.{limited}
 use Rattle.tf_plan.specs.Planned.{IsPlanned, unrefused}
 use Rattle.tf_protocol.specs.Meaning.{Meaning, schema_in}

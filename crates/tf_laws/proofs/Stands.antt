@@ -5,12 +5,12 @@ use Rattle.std.specs.Option.{option_map_or}
 use Rattle.tf_address.specs.ObjectId.{InstanceKeyView}
 use Rattle.tf_config_data.specs.Config.{BlockView}
 use Rattle.tf_config_data.specs.Names.{a_block, meant_at}
-use Rattle.tf_decision.specs.Decision.{DecisionView}
+use Rattle.tf_plan_decision.specs.Decision.{DecisionView}
 use Rattle.tf_graph.specs.Digraph.{predecessors_of}
 use Rattle.tf_graph.specs.Solutions.{seen_by}
-use Rattle.tf_plan_resources.specs.Members.{is_among}
-use Rattle.tf_outcome.specs.Objects.{object_of, prior_object}
-use Rattle.tf_outcome.specs.Outcome.{done_at, objects_by}
+use Rattle.tf_plan_order.specs.Members.{is_among}
+use Rattle.tf_walk_action.specs.Objects.{object_of, prior_object}
+use Rattle.tf_walk_action.specs.Outcome.{done_at, objects_by}
 use Rattle.tf_plan.proofs.Distinct.{at-contained}
 use Rattle.tf_plan_data.specs.Fits.{IsDeclared}
 use Rattle.tf_plan_data.specs.Plan.{plan_names}

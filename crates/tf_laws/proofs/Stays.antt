@@ -4,13 +4,13 @@ use Rattle.std.specs.List.{AllByRecursion}
 use Rattle.tf_address.specs.ObjectId.{InstanceKeyView}
 use Rattle.tf_config_data.specs.Config.{BlockView}
 use Rattle.tf_config_data.specs.Names.{NameView}
-use Rattle.tf_deciding.specs.Stage.{records_at}
-use Rattle.tf_decision.specs.Decision.{change}
-use Rattle.tf_environment.specs.InstanceKeys.{InstanceKeysView, instance_keys}
+use Rattle.tf_plan_decision.specs.Stage.{records_at}
+use Rattle.tf_plan_decision.specs.Decision.{change}
+use Rattle.tf_expand.specs.InstanceKeys.{InstanceKeysView, instance_keys}
 use Rattle.tf_eval.specs.Environment.{Environment}
-use Rattle.tf_plan_resources.specs.Members.{is_among, records_of}
+use Rattle.tf_plan_order.specs.Members.{is_among, records_of}
 use Rattle.tf_protocol.specs.Meaning.{Meaning}
-use Rattle.tf_plan_resources.specs.ResourceIndex.{has_block}
+use Rattle.tf_plan_order.specs.ResourceIndex.{has_block}
 use Rattle.tf_state_data.specs.Record.{RecordView}
 use Rattle.tf_state_data.specs.Resource.{ResourceView}
 use Rattle.tf_value.specs.Tree.{Tree, Entries}

@@ -4,35 +4,35 @@ use Rattle.std.specs.List.{AllByRecursion, list_all}
 use Rattle.std.specs.Option.{option_and_then}
 use Rattle.std.specs.Prelude.{is_none, slice_get}
 use Rattle.tf_address.specs.ObjectId.{InstanceKeyView}
-use Rattle.tf_change.proofs.Locals.{instances_local}
-use Rattle.tf_change.specs.Instance.{instance_object}
+use Rattle.tf_plan_object.proofs.Locals.{instances_local}
+use Rattle.tf_plan_object.specs.Instance.{instance_object}
 use Rattle.tf_config_data.specs.Config.{BlockView, LifecycleView}
 use Rattle.tf_config_data.specs.Names.{NameView, Meant, a_local, a_block, meant_at, refers_at, directly_before, block_refers}
-use Rattle.tf_deciding.proofs.Local.{stage_local}
-use Rattle.tf_deciding.specs.Deciding.{OfView}
-use Rattle.tf_deciding.specs.Outcome.{OutcomeView, by_decision, declared_outcome, member_outcome, removal_outcome}
-use Rattle.tf_deciding.specs.Stage.{all_can_go, block_members, decided_object, deciding, object_of, object_beside, object_unless_refused, records_at, stays_or_goes}
-use Rattle.tf_deciding.specs.Steps.{decided_steps, destroy_if_deposed}
-use Rattle.tf_decision.specs.Decision as decision
-use Rattle.tf_decision.specs.Decision.{DecisionView, DecisionFaultView, change, current, nothing}
-use Rattle.tf_environment.proofs.Locals.{all_seen}
-use Rattle.tf_environment.proofs.Places.{along, names_stay}
-use Rattle.tf_environment.proofs.Seen.{agree_on}
-use Rattle.tf_environment.specs.InstanceKeys.{InstanceKeysView, one, many, named, instance_keys, collected, list_of, map_under, objects_at}
-use Rattle.tf_environment.specs.Stages.{applying}
-use Rattle.tf_environment.specs.Resolved.{ResolvedView, AreResolvedNames, all_stand, environment, rule, stands_at, together}
+use Rattle.tf_plan_decision.proofs.Local.{stage_local}
+use Rattle.tf_plan_decision.specs.Deciding.{OfView}
+use Rattle.tf_plan_decision.specs.Outcome.{OutcomeView, by_decision, declared_outcome, member_outcome, removal_outcome}
+use Rattle.tf_plan_decision.specs.Stage.{all_can_go, block_members, decided_object, deciding, object_of, object_beside, object_unless_refused, records_at, stays_or_goes}
+use Rattle.tf_plan_decision.specs.Steps.{decided_steps, destroy_if_deposed}
+use Rattle.tf_plan_decision.specs.Decision as decision
+use Rattle.tf_plan_decision.specs.Decision.{DecisionView, DecisionFaultView, change, current, nothing}
+use Rattle.tf_expand.proofs.Locals.{all_seen}
+use Rattle.tf_expand.proofs.Places.{along, names_stay}
+use Rattle.tf_expand.proofs.Seen.{agree_on}
+use Rattle.tf_expand.specs.InstanceKeys.{InstanceKeysView, one, many, named, instance_keys, collected, list_of, map_under, objects_at}
+use Rattle.tf_expand.specs.Stages.{applying}
+use Rattle.tf_expand.specs.Resolved.{ResolvedView, AreResolvedNames, all_stand, environment, rule, stands_at, together}
 use Rattle.tf_eval.proofs.Locality.{expressions_local}
 use Rattle.tf_eval.specs.Environment.{Environment}
 use Rattle.tf_eval.specs.Locality.{AgreeOn}
 use Rattle.tf_graph.proofs.Solving.{all_by_weaker, solution-exists}
 use Rattle.tf_graph.specs.Solutions.{Ranked, seen_by}
-use Rattle.tf_plan_resources.specs.Members.{InstanceToPlanView, is_among, member, members, records_of}
+use Rattle.tf_plan_order.specs.Members.{InstanceToPlanView, is_among, member, members, records_of}
 use Rattle.tf_operators.specs.Answer.{limited}
 use Rattle.tf_plan.proofs.Listing.{member_actions, meant_actions, of_at, place_actions}
 use Rattle.tf_protocol.specs.Meaning.{Meaning, schema_in}
 use Rattle.tf_protocol.specs.Schema.{SchemaView}
-use Rattle.tf_request.proofs.Answering.{next_is}
-use Rattle.tf_plan_resources.specs.ResourceIndex.{ResourceRefView, a_name, an_orphan, numbered}
+use Rattle.tf_walk_action.proofs.Answering.{next_is}
+use Rattle.tf_plan_order.specs.ResourceIndex.{ResourceRefView, a_name, an_orphan, numbered}
 use Rattle.tf_state_data.specs.Record.{RecordView}
 use Rattle.tf_state_data.specs.Resource.{ResourceView}
 use Rattle.tf_value.proofs.Conjunction.{and-both}

@@ -5,11 +5,11 @@ use Rattle.std.specs.Option.{option_map_or, option_or}
 use Rattle.std.specs.Prelude.{Contains, is_none}
 use Rattle.tf_address.specs.Label.{LabelView}
 use Rattle.tf_address.specs.ObjectId.{ObjectIdView}
-use Rattle.tf_decision.proofs.Aligned.{each_entry, passes}
-use Rattle.tf_decision.proofs.Exact.{fits_exactly}
-use Rattle.tf_decision.specs.Decision.{current}
-use Rattle.tf_decision.specs.Prior.{PriorFaultView, first_unfit, record_fault}
-use Rattle.tf_environment.proofs.Refining.{followed}
+use Rattle.tf_plan_decision.proofs.Aligned.{each_entry, passes}
+use Rattle.tf_plan_decision.proofs.Exact.{fits_exactly}
+use Rattle.tf_plan_decision.specs.Decision.{current}
+use Rattle.tf_plan_decision.specs.Prior.{PriorFaultView, first_unfit, record_fault}
+use Rattle.tf_expand.proofs.Refining.{followed}
 use Rattle.tf_graph.proofs.Edges.{contains_cases}
 use Rattle.tf_protocol.specs.Schema.{AttributeView, SchemaView, IsSchema}
 use Rattle.tf_protocol.specs.Verdict.{fits, fits_in, has_attributes, is_allowed, well_formed}

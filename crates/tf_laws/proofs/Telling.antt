@@ -7,12 +7,12 @@ use Rattle.tf_graph.proofs.GraphLaws.{acyclic-ranked}
 use Rattle.tf_graph.specs.Closure.{reaches}
 use Rattle.tf_graph.specs.Digraph.{Digraph, IsWithin, predecessors_of}
 use Rattle.tf_graph.specs.Path.{Reaches}
-use Rattle.tf_names.proofs.Dependences.{dependence}
-use Rattle.tf_names.proofs.Edging.{AreEdges, are-within, edges-all, edges-more, edges-none}
-use Rattle.tf_names.proofs.Needing.{needs-from_reaches, reaching-named}
-use Rattle.tf_names.specs.Edges.{edges_into}
-use Rattle.tf_names.specs.Needs.{IsAcyclic, IsDependence, Needs}
-use Rattle.tf_names.specs.declared.dependence.Dependence.{Dependence}
+use Rattle.tf_config_names.proofs.Dependences.{dependence}
+use Rattle.tf_config_names.proofs.Edging.{AreEdges, are-within, edges-all, edges-more, edges-none}
+use Rattle.tf_config_names.proofs.Needing.{needs-from_reaches, reaching-named}
+use Rattle.tf_config_names.specs.Edges.{edges_into}
+use Rattle.tf_config_names.specs.Needs.{IsAcyclic, IsDependence, Needs}
+use Rattle.tf_config_names.specs.declared.dependence.Dependence.{Dependence}
 use Rattle.tf_syntax.specs.TemplateNames.{Pair}
 use Rattle.tf_laws.proofs.Graphs.{is_closure, order_is_short, table_of, whole_order}
 use Rattle.tf_laws.proofs.Leading.{IsDecided, decided_path}

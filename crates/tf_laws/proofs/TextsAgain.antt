@@ -9,11 +9,11 @@ use Rattle.tf_cli.specs.Applies.{IsApplied, IsPlanOf, IsPlanText, state_in}
 use Rattle.tf_cli.specs.Shown.{all_good, cant_write, is_empty, is_good_outcome, is_torn}
 use Rattle.tf_cli.specs.declared.applied.Applied.{Applied}
 use Rattle.tf_laws.specs.Quiet.{IsRenewed, QuietAppliesKeepObjects}
-use Rattle.tf_inputs.specs.Texts.{Texts}
-use Rattle.tf_outcome.specs.Outcome.{ActionResultView}
-use Rattle.tf_outcome.specs.declared.excuse.Outcome.{Outcome}
-use Rattle.tf_outcome.specs.declared.excuse.Outcome.TheVariants as outcome
-use Rattle.tf_outputs.specs.Outputs.{outputs_after}
+use Rattle.tf_cli_inputs.specs.Texts.{Texts}
+use Rattle.tf_walk_action.specs.Outcome.{ActionResultView}
+use Rattle.tf_walk_action.specs.declared.excuse.Outcome.{Outcome}
+use Rattle.tf_walk_action.specs.declared.excuse.Outcome.TheVariants as outcome
+use Rattle.tf_walk_report.specs.Outputs.{outputs_after}
 use Rattle.tf_plan_data.specs.Plan.{PlanView}
 use Rattle.tf_protocol.specs.Meaning.{Meaning}
 use Rattle.tf_protocol.specs.declared.verdict.Verdict.{Verdict}

@@ -1,11 +1,11 @@
 -- What a second and a third apply change after one that went well: their states whole, and their reports.
 use Rattle.std.proofs.Common.{◌≡◌, ◌∙◌, ◌+◌, inl, inr, ℕ, Bool, true, false, cond, List, map, refl, sym, ap, subst}
-use Rattle.tf_change.specs.Laws.{InstancesGrow}
+use Rattle.tf_plan_object.specs.Laws.{InstancesGrow}
 use Rattle.tf_config_data.specs.Config.{ConfigView}
-use Rattle.tf_environment.specs.Laws.{ResolvedNamesGrow}
+use Rattle.tf_expand.specs.StandingLaws.{ResolvedNamesGrow}
 use Rattle.tf_state_next.proofs.Composed.{state_is}
-use Rattle.tf_outputs.specs.Outputs.{OutputResultView, outputs_after}
-use Rattle.tf_outcome.specs.Outcome.{ActionResultView}
+use Rattle.tf_walk_report.specs.Outputs.{OutputResultView, outputs_after}
+use Rattle.tf_walk_action.specs.Outcome.{ActionResultView}
 use Rattle.tf_plan.proofs.Fitting.{all-by_id}
 use Rattle.tf_plan.specs.Plan.{IsPlan}
 use Rattle.tf_plan_data.specs.Plan.{PlanView}

@@ -1,10 +1,10 @@
 -- Two plans of one configuration: records are given the same dependencies by both.
 use Rattle.std.proofs.Common.{◌≡◌, ◌∙◌, ℕ, Bool, true, false, cond, List, [], ◌∷◌, Some, filter, fold, length, refl, sym, ap}
 use Rattle.std.specs.List.{range_with_len}
-use Rattle.tf_additions.specs.Dependencies as additions
+use Rattle.tf_walk_report.specs.Dependencies as additions
 use Rattle.tf_config_data.specs.Names.{NameView, meant_at, place_of}
-use Rattle.tf_names.specs.Needs.{IsDependence, needs_in}
-use Rattle.tf_names.specs.declared.dependence.Dependence.{Dependence}
+use Rattle.tf_config_names.specs.Needs.{IsDependence, needs_in}
+use Rattle.tf_config_names.specs.declared.dependence.Dependence.{Dependence}
 use Rattle.tf_plan.proofs.Tied.{needs_same}
 use Rattle.tf_syntax.specs.TemplateNames.{Pair}
 

@@ -1,15 +1,15 @@
 -- What two reports tell of the same ends is the same.
 use Rattle.std.proofs.Common.{◌≡◌, ◌∙◌, List, map, sym, subst}
 use Rattle.std.proofs.lemmas.List.{append_cancel_left}
-use Rattle.tf_additions.specs.Head.{Head}
+use Rattle.tf_walk_report.specs.Head.{Head}
 use Rattle.tf_config_data.specs.Names.{directly_before}
 use Rattle.tf_graph.specs.Solutions.{Ranked}
 use Rattle.tf_state_next.specs.Events.{ends_in, given_in}
 use Rattle.tf_state_next.specs.Laws.{IsInOrder, StateAfterIsOne}
 use Rattle.tf_state_next.specs.StateAfter.{IsStateAfter}
-use Rattle.tf_outcome.specs.Outcome.{ActionResultView}
-use Rattle.tf_outputs.specs.Laws.{OutputsAreOne, SettledAreOne}
-use Rattle.tf_outputs.specs.Outputs.{OutputResultView, end_of, outputs_after}
+use Rattle.tf_walk_action.specs.Outcome.{ActionResultView}
+use Rattle.tf_walk_report.specs.OutputLaws.{OutputsAreOne, SettledAreOne}
+use Rattle.tf_walk_report.specs.Outputs.{OutputResultView, end_of, outputs_after}
 use Rattle.tf_plan_data.specs.Plan.{PlanView, plan_names}
 use Rattle.tf_protocol.specs.Meaning.{Meaning}
 use Rattle.tf_walk_report.proofs.Joined.{each_ordered}

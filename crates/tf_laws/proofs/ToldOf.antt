@@ -11,13 +11,13 @@ use Rattle.tf_config.specs.Reading as config
 use Rattle.tf_config.specs.Reading.{IsTree, IsWithinCounts, max_declared}
 use Rattle.tf_config_data.specs.Config.{ConfigView, VariableView}
 use Rattle.tf_config_data.specs.Names.{names_of}
-use Rattle.tf_inputs.specs.Refusals.{HasFault, IsToldOf, IsToldOfState, at_state}
-use Rattle.tf_inputs.specs.Texts.{AreNamesGood, AreTheValues, IsPrior, IsRead, Texts}
+use Rattle.tf_cli_inputs.specs.Refusals.{HasFault, IsToldOf, IsToldOfState, at_state}
+use Rattle.tf_cli_inputs.specs.Texts.{AreNamesGood, AreTheValues, IsPrior, IsRead, Texts}
 use Rattle.tf_json_path.specs.Check.{AllMet}
 use Rattle.tf_json_path.specs.Place.{dotted}
-use Rattle.tf_names.specs.Judging.{AllAreKnown, RefusesItsNames}
-use Rattle.tf_names.specs.KnownNames.{Declared, IsKnown, IsUnknown, NameDemand, config_checks, declared_in, holds, unknown_name}
-use Rattle.tf_names.specs.Needs.{AreCyclic}
+use Rattle.tf_config_names.specs.Judging.{AllAreKnown, RefusesItsNames}
+use Rattle.tf_config_names.specs.KnownNames.{Declared, IsKnown, IsUnknown, NameDemand, config_checks, declared_in, holds, unknown_name}
+use Rattle.tf_config_names.specs.Needs.{AreCyclic}
 use Rattle.tf_refusal.specs.Code as code
 use Rattle.tf_refusal.specs.Refusal as refusals
 use Rattle.tf_refusal.specs.Refusal.{DetailView, RefusalView, bare, fault}
@@ -27,10 +27,10 @@ use Rattle.tf_state.specs.Table.{IsBeyond, Reads, last_serial, max_resources}
 use Rattle.tf_state.specs.declared.fault.StateFault.TheVariants.{BadState, Limit}
 use Rattle.tf_state_data.specs.State.{StateView, empty_state}
 use Rattle.tf_value.specs.Tree.{Entries}
-use Rattle.tf_variables.specs.Laws.{FaultlessHaveValues}
-use Rattle.tf_variables.specs.Reading as variables
-use Rattle.tf_variables.specs.Reading.{IsFaulty, IsFile, IsFileOf, is_object}
-use Rattle.tf_variables.specs.Values.{AreValues, HasNone, file_checks, value_checks}
+use Rattle.tf_config.specs.VariableLaws.{FaultlessHaveValues}
+use Rattle.tf_config.specs.VariablesRead as variables
+use Rattle.tf_config.specs.VariablesRead.{IsFaulty, IsFile, IsFileOf, is_object}
+use Rattle.tf_config.specs.Values.{AreValues, HasNone, file_checks, value_checks}
 use Rattle.tf_laws.proofs.Circles.{some_cyclic}
 use Rattle.tf_laws.proofs.DecidedChecks.{IsDecidedBy, IsDemandDecided, each_decided, first_told, not_memory, tree_told}
 use Rattle.tf_laws.specs.OneOfTwo.{AreRead, AreToldOf}

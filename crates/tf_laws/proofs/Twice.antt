@@ -2,24 +2,24 @@
 use Rattle.std.proofs.Common.{◌≡◌, ◌∙◌, ◌+◌, ℕ, Bool, true, false, not, cond, List, [], ◌∷◌, ◌++◌, Option, Some, None, map, option_map, refl, sym, ap}
 use Rattle.std.specs.List.{AllByRecursion}
 use Rattle.std.specs.Option.{option_map_or}
-use Rattle.tf_additions.specs.Dependencies as additions
+use Rattle.tf_walk_report.specs.Dependencies as additions
 use Rattle.tf_address.specs.Label.{LabelView}
 use Rattle.tf_address.specs.ObjectId.{ObjectIdView}
-use Rattle.tf_change.specs.Laws.{InstancesGrow}
+use Rattle.tf_plan_object.specs.Laws.{InstancesGrow}
 use Rattle.tf_config_data.specs.Config.{BlockView, ConfigView}
 use Rattle.tf_config_data.specs.Names.{NameView, a_block, meant_at, names_of}
-use Rattle.tf_environment.specs.Laws.{ResolvedNamesGrow}
+use Rattle.tf_expand.specs.StandingLaws.{ResolvedNamesGrow}
 use Rattle.tf_state_next.proofs.One.{state_after_one}
 use Rattle.tf_state_next.specs.Events.{ends_in, given_in}
 use Rattle.tf_state_next.specs.StateAfter.{IsStateAfter, next_serial}
-use Rattle.tf_outcome.specs.Outcome.{ActionResultView}
-use Rattle.tf_outputs.specs.Outputs.{outputs_after}
+use Rattle.tf_walk_action.specs.Outcome.{ActionResultView}
+use Rattle.tf_walk_report.specs.Outputs.{outputs_after}
 use Rattle.tf_plan_data.specs.Plan.{PlanView}
-use Rattle.tf_precedence.specs.OrderInput.{OrderInputView}
+use Rattle.tf_plan_order.specs.OrderInput.{OrderInputView}
 use Rattle.tf_protocol.specs.Meaning.{Meaning}
 use Rattle.tf_walk_report.specs.Events.{events}
-use Rattle.tf_plan_resources.specs.Dependencies.{dependencies}
-use Rattle.tf_plan_resources.specs.ResourceIndex.{ResourceRefView, a_name, an_orphan, has_block, numbered, orphans}
+use Rattle.tf_plan_order.specs.Dependencies.{dependencies}
+use Rattle.tf_plan_order.specs.ResourceIndex.{ResourceRefView, a_name, an_orphan, has_block, numbered, orphans}
 use Rattle.tf_state_next.specs.After.{renewed}
 use Rattle.tf_state_data.specs.Equality.{state_Decides}
 use Rattle.tf_state_data.specs.Provider.{provider_text}

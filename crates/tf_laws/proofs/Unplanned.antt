@@ -9,15 +9,15 @@ use Rattle.tf_config_data.specs.Names.{NameView, directly_before, names_of}
 use Rattle.tf_laws.proofs.Whole.{carried_out, rest_same}
 use Rattle.tf_laws.specs.Reapply.{IsCarriedOut, StateAfterIsAtRest}
 use Rattle.tf_laws.specs.Rest.{AreAtRest, NothingIsPlannedAtRest}
-use Rattle.tf_environment.specs.InstanceKeys.{InstanceKeysView}
+use Rattle.tf_expand.specs.InstanceKeys.{InstanceKeysView}
 use Rattle.tf_graph.specs.Solutions.{Ranked}
-use Rattle.tf_outputs.specs.Outputs.{outputs_after}
+use Rattle.tf_walk_report.specs.Outputs.{outputs_after}
 use Rattle.tf_plan.proofs.Excluding.{none_unexpanded, not_many}
 use Rattle.tf_plan.proofs.Solved.{same_shapes}
 use Rattle.tf_plan.specs.Planned.{AreInstances}
 use Rattle.tf_plan.specs.Refused.{AreManyActions, AreManyPairs, AreManyPairsBy, AreRefusedOf, IsUnplanned}
 use Rattle.tf_plan_data.specs.Plan.{plan_names}
-use Rattle.tf_precedence.specs.OrderInput.{OrderInputView}
+use Rattle.tf_plan_order.specs.OrderInput.{OrderInputView}
 use Rattle.tf_protocol.specs.Meaning.{Meaning}
 use Rattle.tf_refusal.specs.Refusal.{RefusalView}
 use Rattle.tf_walk_report.specs.Report.{objects_after, report_of}

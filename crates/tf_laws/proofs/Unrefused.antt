@@ -3,31 +3,31 @@ use Rattle.std.proofs.Common.{◌≡◌, ◌∙◌, ◌+◌, ◌++◌, ℕ, Bool
 use Rattle.std.specs.List.{AllByRecursion}
 use Rattle.std.specs.Prelude.{slice_get}
 use Rattle.tf_address.specs.ObjectId.{InstanceKeyView}
-use Rattle.tf_change.proofs.Locals.{instances_local}
-use Rattle.tf_change.specs.Instance.{InstanceFaultView, instance_object}
+use Rattle.tf_plan_object.proofs.Locals.{instances_local}
+use Rattle.tf_plan_object.specs.Instance.{InstanceFaultView, instance_object}
 use Rattle.tf_config_data.specs.Config.{BlockView, LifecycleView}
 use Rattle.tf_config_data.specs.Names.{NameView, Meant, a_local, a_block, block_refers, directly_before, meant_at, places, refers_at}
-use Rattle.tf_deciding.specs.Deciding.{DecidedView, OfView, version_of, with_block, with_members, with_outcome}
-use Rattle.tf_deciding.specs.Outcome.{OutcomeView, by_decision, declared_outcome, member_outcome, removal_outcome}
-use Rattle.tf_deciding.specs.Stage.{deciding, records_at}
-use Rattle.tf_deciding.specs.Steps.{decided_steps}
-use Rattle.tf_deciding.specs.Whole.{decided, nothing_decided, with_meant, with_numbered}
-use Rattle.tf_decision.specs.Decision as decision
-use Rattle.tf_decision.specs.Decision.{DecisionView, DecisionFaultView, change, current, unless_prevented, unless_unfit}
-use Rattle.tf_decision.specs.Ignored.{heeding, ignored_fault}
-use Rattle.tf_decision.specs.Prior.{PriorFaultView, first_unfit}
-use Rattle.tf_environment.proofs.Places.{all_places}
-use Rattle.tf_environment.proofs.Seen.{agree_on}
-use Rattle.tf_environment.specs.InstanceKeys.{InstanceKeysView, instance_keys}
-use Rattle.tf_environment.specs.Stages.{applying}
-use Rattle.tf_environment.specs.Resolved.{ResolvedView, AreResolvedNames, all_stand, environment, rule}
+use Rattle.tf_plan_decision.specs.Deciding.{DecidedView, OfView, version_of, with_block, with_members, with_outcome}
+use Rattle.tf_plan_decision.specs.Outcome.{OutcomeView, by_decision, declared_outcome, member_outcome, removal_outcome}
+use Rattle.tf_plan_decision.specs.Stage.{deciding, records_at}
+use Rattle.tf_plan_decision.specs.Steps.{decided_steps}
+use Rattle.tf_plan_decision.specs.Whole.{decided, nothing_decided, with_meant, with_numbered}
+use Rattle.tf_plan_decision.specs.Decision as decision
+use Rattle.tf_plan_decision.specs.Decision.{DecisionView, DecisionFaultView, change, current, unless_prevented, unless_unfit}
+use Rattle.tf_plan_decision.specs.Ignored.{heeding, ignored_fault}
+use Rattle.tf_plan_decision.specs.Prior.{PriorFaultView, first_unfit}
+use Rattle.tf_expand.proofs.Places.{all_places}
+use Rattle.tf_expand.proofs.Seen.{agree_on}
+use Rattle.tf_expand.specs.InstanceKeys.{InstanceKeysView, instance_keys}
+use Rattle.tf_expand.specs.Stages.{applying}
+use Rattle.tf_expand.specs.Resolved.{ResolvedView, AreResolvedNames, all_stand, environment, rule}
 use Rattle.tf_eval.proofs.Locality.{expressions_local}
 use Rattle.tf_eval.specs.Environment.{Environment}
 use Rattle.tf_eval.specs.ExprMeaning.{meaning}
 use Rattle.tf_eval.specs.Locality.{AgreeOn}
 use Rattle.tf_graph.proofs.Solving.{all_by_weaker, solution-exists}
 use Rattle.tf_graph.specs.Solutions.{Ranked, seen_by}
-use Rattle.tf_plan_resources.specs.Members.{InstanceToPlanView, member, members, is_among, records_of}
+use Rattle.tf_plan_order.specs.Members.{InstanceToPlanView, member, members, is_among, records_of}
 use Rattle.tf_operators.specs.Answer.{Answer}
 use Rattle.tf_plan.proofs.Listing.{decided-actions, place_actions}
 use Rattle.tf_plan.specs.Outputs.{output_fault, output_refusals}
@@ -36,7 +36,7 @@ use Rattle.tf_plan.specs.Told.{instance_told}
 use Rattle.tf_protocol.specs.Meaning.{Meaning, schema_in}
 use Rattle.tf_protocol.specs.Schema.{SchemaView}
 use Rattle.tf_refusal.specs.Refusal.{RefusalView}
-use Rattle.tf_plan_resources.specs.ResourceIndex.{ResourceRefView, a_name, an_orphan, numbered}
+use Rattle.tf_plan_order.specs.ResourceIndex.{ResourceRefView, a_name, an_orphan, numbered}
 use Rattle.tf_state_data.specs.Record.{RecordView}
 use Rattle.tf_state_data.specs.Resource.{ResourceView}
 use Rattle.tf_syntax.specs.ExprNames.{named_by}

@@ -3,9 +3,9 @@ use Rattle.std.proofs.Common.{◌≡◌, ℕ, List, Option, Some, None, inl, inr
 use Rattle.tf_laws.proofs.Faultless.{config_read, names_good, values_good}
 use Rattle.tf_laws.proofs.Reading.{one_config}
 use Rattle.tf_config_data.specs.Config.{ConfigView}
-use Rattle.tf_inputs.specs.Refusals.{AreNamesRefused, AreValuesRefused, IsToldOf, IsToldOfState, fault_told}
-use Rattle.tf_inputs.specs.Texts.{AreNamesGood, AreTheValues, IsPrior, IsRead, ReadAs, Texts}
-use Rattle.tf_names.specs.Judging.{RefusesItsNames}
+use Rattle.tf_cli_inputs.specs.Refusals.{AreNamesRefused, AreValuesRefused, IsToldOf, IsToldOfState, fault_told}
+use Rattle.tf_cli_inputs.specs.Texts.{AreNamesGood, AreTheValues, IsPrior, IsRead, ReadAs, Texts}
+use Rattle.tf_config_names.specs.Judging.{RefusesItsNames}
 use Rattle.tf_refusal.specs.Refusal.{RefusalView, fault, no_memory, workers}
 use Rattle.tf_state.specs.Laws.{TextIsOfOne}
 use Rattle.tf_state.specs.Table.{IsBeyond, IsPlannable, IsUnread, Reads}
@@ -13,7 +13,7 @@ use Rattle.tf_state.specs.declared.fault.StateFault.{StateFault}
 use Rattle.tf_state.specs.declared.fault.StateFault.TheVariants.{BadState, Limit, OutOfMemory}
 use Rattle.tf_state_data.specs.State.{StateView}
 use Rattle.tf_value.specs.Tree.{Entries}
-use Rattle.tf_variables.specs.Reading as variables
+use Rattle.tf_config.specs.VariablesRead as variables
 use Rattle.tf_laws.specs.ReadingLaws.{Laws}
 use Rattle.tf_laws.specs.TextPlans.{PlannedTextsAreNotRefused}
 use Rattle.tf_laws.specs.Refusals.{PlannedTextsHaveNoRefusals, ReadTextsAreNotRefused}

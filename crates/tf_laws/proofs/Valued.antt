@@ -6,18 +6,18 @@ use Rattle.tf_plan_data.specs.Action.{ActionView}
 use Rattle.tf_address.specs.ObjectId.{InstanceKeyView}
 use Rattle.tf_config_data.specs.Config.{BlockView, ConfigView}
 use Rattle.tf_config_data.specs.Names.{Meant, a_local, a_block, directly_before, meant_at, names_of}
-use Rattle.tf_decision.specs.Decision.{current}
-use Rattle.tf_environment.specs.InstanceKeys.{InstanceKeysView, instance_keys}
-use Rattle.tf_environment.specs.Stages.{applying}
-use Rattle.tf_environment.specs.Resolved.{ResolvedView, AreResolvedNames, all_stand, environment, result_in, rule, stands_at, together, where_all}
+use Rattle.tf_plan_decision.specs.Decision.{current}
+use Rattle.tf_expand.specs.InstanceKeys.{InstanceKeysView, instance_keys}
+use Rattle.tf_expand.specs.Stages.{applying}
+use Rattle.tf_expand.specs.Resolved.{ResolvedView, AreResolvedNames, all_stand, environment, result_in, rule, stands_at, together, where_all}
 use Rattle.tf_eval.specs.Environment.{Environment}
 use Rattle.tf_graph.proofs.Solving.{solution-exists}
 use Rattle.tf_graph.specs.Solutions.{seen_by}
-use Rattle.tf_plan_resources.specs.Members.{is_among}
-use Rattle.tf_outcome.specs.Objects.{objects_seen, prior_object}
-use Rattle.tf_outcome.specs.Outcome.{ActionResultView, done_at}
-use Rattle.tf_outputs.specs.Outputs.{AreOutputsDone, IsOutputDone, OutputResultView, excused, faulted, not_evaluated, valued}
-use Rattle.tf_outputs.specs.Settled.{names_are_settled}
+use Rattle.tf_plan_order.specs.Members.{is_among}
+use Rattle.tf_walk_action.specs.Objects.{objects_seen, prior_object}
+use Rattle.tf_walk_action.specs.Outcome.{ActionResultView, done_at}
+use Rattle.tf_walk_report.specs.Outputs.{AreOutputsDone, IsOutputDone, OutputResultView, excused, faulted, not_evaluated, valued}
+use Rattle.tf_walk_report.specs.Settled.{names_are_settled}
 use Rattle.tf_plan.proofs.Solved.{same_shapes}
 use Rattle.tf_plan.specs.Planned.{AreInstances}
 use Rattle.tf_plan_data.specs.Plan.{PlanView}

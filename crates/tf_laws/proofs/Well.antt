@@ -3,18 +3,18 @@ use Rattle.std.proofs.Common.{◌≡◌, ◌∙◌, ◌<◌, ℕ, Bool, true, fa
 use Rattle.std.specs.Option.{option_map_or}
 use Rattle.std.specs.Prelude.{option_and_then, slice_get}
 use Rattle.tf_plan_data.specs.Action.{ActionView, StepView, create, update, replacement, replaced, destroyed, deposed_destroyed}
-use Rattle.tf_additions.specs.Change.{applied_of_done, as_applied, left_of_done, saved_by}
+use Rattle.tf_walk_report.specs.Change.{applied_of_done, as_applied, left_of_done, saved_by}
 use Rattle.tf_address.specs.ObjectId.{InstanceKeyView}
-use Rattle.tf_change.specs.Instance.{InstanceFaultView}
+use Rattle.tf_plan_object.specs.Instance.{InstanceFaultView}
 use Rattle.tf_config_data.specs.Names.{meant_at}
-use Rattle.tf_decision.specs.Kept.{kept_object}
+use Rattle.tf_plan_decision.specs.Kept.{kept_object}
 use Rattle.tf_graph.specs.Digraph.{predecessors_of}
 use Rattle.tf_graph.specs.Solutions.{seen_by}
-use Rattle.tf_outcome.specs.Asked.{Requests, asked_by_step, asked_for, create_of, destroy_of, ignored_by, op_of, update_of}
-use Rattle.tf_outcome.specs.Excuse.{Moment, excuse_of}
-use Rattle.tf_outcome.specs.Objects.{object_of}
-use Rattle.tf_outcome.specs.Outcome.{AreOutcomes, ActionResultView, all_good, call_at, call_of, call_of_provider, call_with, called, comes_of, done_at, excused, faulted, is_good, objects_by, or_excused, skipped}
-use Rattle.tf_outcome.specs.declared.excuse.Excuse.{Excuse}
+use Rattle.tf_walk_action.specs.Asked.{Requests, asked_by_step, asked_for, create_of, destroy_of, ignored_by, op_of, update_of}
+use Rattle.tf_walk_action.specs.Excuse.{Moment, excuse_of}
+use Rattle.tf_walk_action.specs.Objects.{object_of}
+use Rattle.tf_walk_action.specs.Outcome.{AreOutcomes, ActionResultView, all_good, call_at, call_of, call_of_provider, call_with, called, comes_of, done_at, excused, faulted, is_good, objects_by, or_excused, skipped}
+use Rattle.tf_walk_action.specs.declared.excuse.Excuse.{Excuse}
 use Rattle.tf_plan_data.specs.Fits.{is_apply}
 use Rattle.tf_plan_data.specs.Plan.{PlanView, plan_names}
 use Rattle.tf_protocol.specs.Meaning.{Answer, Asked, Meaning, failed, first_with, gone, object, schema_in}

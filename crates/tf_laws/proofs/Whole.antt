@@ -2,25 +2,25 @@
 use Rattle.std.proofs.Common.{◌≡◌, ◌∙◌, ◌<◌, ℕ, Bool, true, false, List, Option, Some, None, length, map, refl, sym, ap, subst, ◌∷◌, []}
 use Rattle.std.specs.List.{AllByRecursion}
 use Rattle.std.specs.List.Sorted.{IsStrictlySortedBy}
-use Rattle.tf_additions.specs.Dependencies.{dependencies}
+use Rattle.tf_walk_report.specs.Dependencies.{dependencies}
 use Rattle.tf_address.specs.Label.{label_cmp}
 use Rattle.tf_address.specs.ObjectId.{InstanceKeyView}
-use Rattle.tf_change.specs.Laws.{InstancesGrow}
+use Rattle.tf_plan_object.specs.Laws.{InstancesGrow}
 use Rattle.tf_config_data.specs.Config.{BlockView, ConfigView}
 use Rattle.tf_config_data.specs.Names.{NameView, Meant, a_local, a_block, directly_before, meant_at}
-use Rattle.tf_deciding.specs.Stage.{deciding, records_at}
-use Rattle.tf_environment.specs.Laws.{ResolvedNamesGrow}
-use Rattle.tf_environment.specs.InstanceKeys.{InstanceKeysView, instance_keys}
-use Rattle.tf_environment.specs.Stages.{applying}
-use Rattle.tf_environment.specs.Resolved.{all_stand, environment, result_in, rule, stands_at, together, where_all}
+use Rattle.tf_plan_decision.specs.Stage.{deciding, records_at}
+use Rattle.tf_expand.specs.StandingLaws.{ResolvedNamesGrow}
+use Rattle.tf_expand.specs.InstanceKeys.{InstanceKeysView, instance_keys}
+use Rattle.tf_expand.specs.Stages.{applying}
+use Rattle.tf_expand.specs.Resolved.{all_stand, environment, result_in, rule, stands_at, together, where_all}
 use Rattle.tf_eval.specs.Environment.{Environment}
 use Rattle.tf_graph.proofs.Solving.{solution-exists}
 use Rattle.tf_graph.specs.Solutions.{Ranked, seen_by}
-use Rattle.tf_plan_resources.specs.Members.{is_among}
-use Rattle.tf_names.specs.Needs.{IsAcyclic}
-use Rattle.tf_outcome.specs.Outcome.{AreRequests, ActionResultView, Requests, called, excused, faulted, is_good, is_good_verdict, skipped}
-use Rattle.tf_outcome.specs.declared.excuse.Outcome.TheVariants.{Judged}
-use Rattle.tf_outputs.specs.Outputs.{OutputResultView, outputs_after}
+use Rattle.tf_plan_order.specs.Members.{is_among}
+use Rattle.tf_config_names.specs.Needs.{IsAcyclic}
+use Rattle.tf_walk_action.specs.Outcome.{AreRequests, ActionResultView, Requests, called, excused, faulted, is_good, is_good_verdict, skipped}
+use Rattle.tf_walk_action.specs.declared.excuse.Outcome.TheVariants.{Judged}
+use Rattle.tf_walk_report.specs.Outputs.{OutputResultView, outputs_after}
 use Rattle.tf_plan.proofs.Blocks.{names-apart}
 use Rattle.tf_plan.proofs.Fitting.{all-by_id, plan-fits}
 use Rattle.tf_plan.proofs.Solved.{same_shapes}

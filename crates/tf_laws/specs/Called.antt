@@ -2,9 +2,9 @@
 use Rattle.std.specs.Prelude.{◌≡◌, ℕ, List, Some, slice_get, take}
 use Rattle.std.specs.List.{AllByRecursion}
 use Rattle.tf_graph.specs.Digraph.{predecessors_of}
-use Rattle.tf_outcome.specs.Journal.{entered_verdict, verdict_in}
-use Rattle.tf_outcome.specs.Outcome.{done_at}
-use Rattle.tf_outcome.specs.declared.excuse.Outcome.TheVariants.{Judged}
+use Rattle.tf_walk_action.specs.Journal.{entered_verdict, verdict_in}
+use Rattle.tf_walk_action.specs.Outcome.{done_at}
+use Rattle.tf_walk_action.specs.declared.excuse.Outcome.TheVariants.{Judged}
 use Rattle.tf_plan_data.specs.Plan.{PlanView}
 use Rattle.tf_protocol.specs.Meaning.{Meaning}
 use Rattle.tf_protocol.specs.declared.verdict.Verdict.{Verdict}

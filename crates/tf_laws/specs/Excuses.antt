@@ -1,13 +1,13 @@
 -- What the excuses of a report name.
 use Rattle.std.specs.Prelude.{◌≡◌, ◌↔◌, ℕ, zero, suc, Bool, true, List, Option, Some, None, slice_get, Contains}
 use Rattle.std.specs.List.{AllByRecursion}
-use Rattle.tf_outcome.specs.Excuse.{before_call, during_call, by_stop}
-use Rattle.tf_outcome.specs.Outcome.{ActionResultView, excused}
-use Rattle.tf_outcome.specs.declared.excuse.Excuse.{Excuse}
-use Rattle.tf_outcome.specs.declared.excuse.Excuse.TheVariants.{Before, During, Left, Output}
-use Rattle.tf_outcome.specs.declared.excuse.Outcome.TheVariants as outcome
-use Rattle.tf_outputs.specs.Outputs as outputs
-use Rattle.tf_outputs.specs.Settled.{AreSettled, names_are_settled}
+use Rattle.tf_walk_action.specs.Excuse.{before_call, during_call, by_stop}
+use Rattle.tf_walk_action.specs.Outcome.{ActionResultView, excused}
+use Rattle.tf_walk_action.specs.declared.excuse.Excuse.{Excuse}
+use Rattle.tf_walk_action.specs.declared.excuse.Excuse.TheVariants.{Before, During, Left, Output}
+use Rattle.tf_walk_action.specs.declared.excuse.Outcome.TheVariants as outcome
+use Rattle.tf_walk_report.specs.Outputs as outputs
+use Rattle.tf_walk_report.specs.Settled.{AreSettled, names_are_settled}
 use Rattle.tf_plan_data.specs.Plan.{PlanView, plan_names}
 use Rattle.tf_protocol.specs.Meaning.{Meaning}
 use Rattle.tf_walk_report.specs.Good.{are_good_at}

@@ -7,7 +7,7 @@ use Rattle.tf_graph.specs.Solutions.{Ranked, StaysBelow}
 use Rattle.tf_plan_data.specs.Fits.{FitsTogether, IsDeclared}
 use Rattle.tf_plan_data.specs.Plan.{PlanView, plan_names, plan_of}
 use Rattle.tf_plan_data.specs.declared.plan.Plan.{Plan}
-use Rattle.tf_precedence.specs.Order.{IsOrder}
+use Rattle.tf_plan_order.specs.Order.{IsOrder}
 
 -- No name of a plan's configuration needs itself; no chain of its actions leads back, and only actions are before actions;
 -- and each create and each update is of a block's instance. So each rule by which a report is made has one solution.

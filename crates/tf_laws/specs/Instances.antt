@@ -4,12 +4,12 @@ use Rattle.tf_plan_data.specs.Action.{ActionView}
 use Rattle.tf_address.specs.ObjectId.{InstanceKeyView}
 use Rattle.tf_config_data.specs.Config.{BlockView, ConfigView, for_each}
 use Rattle.tf_config_data.specs.Names.{a_block, meant_at}
-use Rattle.tf_deciding.specs.Stage.{deciding}
-use Rattle.tf_environment.specs.Repetition.{instances}
-use Rattle.tf_environment.specs.InstanceKeys.{InstanceKeysView}
-use Rattle.tf_environment.specs.Stages.{applying, expansion}
-use Rattle.tf_environment.specs.Resolved.{ResolvedView, AreResolvedNames, environment}
-use Rattle.tf_outcome.specs.Asked.{AreRequests, Requests, asked_for}
+use Rattle.tf_plan_decision.specs.Stage.{deciding}
+use Rattle.tf_expand.specs.Repetition.{instances}
+use Rattle.tf_expand.specs.InstanceKeys.{InstanceKeysView}
+use Rattle.tf_expand.specs.Stages.{applying, expansion}
+use Rattle.tf_expand.specs.Resolved.{ResolvedView, AreResolvedNames, environment}
+use Rattle.tf_walk_action.specs.Asked.{AreRequests, Requests, asked_for}
 use Rattle.tf_plan_data.specs.Fits.{is_apply}
 use Rattle.tf_plan_data.specs.Plan.{PlanView, plan_names}
 use Rattle.tf_protocol.specs.Meaning.{Asked, Meaning}

@@ -1,6 +1,6 @@
 -- The journals of two reports of one plan.
 use Rattle.std.specs.Prelude.{◌≡◌, ℕ, List, IsPermutation}
-use Rattle.tf_outcome.specs.Journal.{verdict_in}
+use Rattle.tf_walk_action.specs.Journal.{verdict_in}
 use Rattle.tf_plan_data.specs.Plan.{PlanView}
 use Rattle.tf_protocol.specs.Meaning.{Meaning}
 use Rattle.tf_provider.specs.declared.journal.Entry.{Entry}

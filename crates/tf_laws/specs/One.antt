@@ -1,6 +1,6 @@
 -- What a report tells is determined by the plan, the providers and the excuses.
 use Rattle.std.specs.Prelude.{◌≡◌, List, map}
-use Rattle.tf_additions.specs.Diagnostics.{diagnostic_of}
+use Rattle.tf_walk_report.specs.Diagnostics.{diagnostic_of}
 use Rattle.tf_plan_data.specs.Plan.{PlanView}
 use Rattle.tf_protocol.specs.Meaning.{Meaning}
 use Rattle.tf_walk_report.specs.Report.{IsReported}

@@ -4,12 +4,12 @@ use Rattle.tf_cli.specs.Applies.{IsPlanOf}
 use Rattle.tf_cli.specs.Refusals.{AreApplyRefusals, AreRefusals}
 use Rattle.tf_config_data.specs.Config.{ConfigView}
 use Rattle.tf_expr.specs.Demand.{IsTemplate}
-use Rattle.tf_inputs.specs.Refusals.{IsToldOf}
-use Rattle.tf_inputs.specs.Texts.{ReadAs, Texts}
+use Rattle.tf_cli_inputs.specs.Refusals.{IsToldOf}
+use Rattle.tf_cli_inputs.specs.Texts.{ReadAs, Texts}
 use Rattle.tf_plan_data.specs.Plan.{PlanView}
 use Rattle.tf_protocol.specs.Meaning.{Meaning}
 use Rattle.tf_refusal.specs.Refusal.{RefusalView, no_memory}
-use Rattle.tf_run.specs.Run.{are_workers}
+use Rattle.tf_walk.specs.Run.{are_workers}
 use Rattle.tf_state_data.specs.State.{StateView}
 use Rattle.tf_syntax.specs.TemplateTree.{Woven}
 use Rattle.tf_value.specs.Tree.{Entries}

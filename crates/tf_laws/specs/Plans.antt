@@ -6,7 +6,7 @@ use Rattle.tf_address.specs.Label.{label_cmp}
 use Rattle.tf_config_data.specs.Config.{ConfigView}
 use Rattle.tf_config_data.specs.Names.{directly_before, names_of, place_of}
 use Rattle.tf_graph.specs.Solutions.{Ranked}
-use Rattle.tf_names.specs.Needs.{Needs}
+use Rattle.tf_config_names.specs.Needs.{Needs}
 use Rattle.tf_plan.specs.Plan.{IsPlan}
 use Rattle.tf_plan.specs.Refused.{AreRefused}
 use Rattle.tf_plan_data.specs.Plan.{PlanView, plan_names}

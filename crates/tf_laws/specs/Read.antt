@@ -8,7 +8,7 @@ use Rattle.tf_protocol.specs.Schema.{SchemaView, IsSchema}
 use Rattle.tf_state.specs.Valid.{IsValid}
 use Rattle.tf_state_data.specs.State.{StateView}
 use Rattle.tf_value.specs.Tree.{Entries}
-use Rattle.tf_variables.specs.Values.{AreValues}
+use Rattle.tf_config.specs.Values.{AreValues}
 use Rattle.tf_laws.specs.Reapply.{IsSound}
 use Rattle.tf_laws.specs.Twice.{HasOrderedOutputs, HasOwnNames}
 

@@ -2,7 +2,7 @@
 use Rattle.tf_config.specs.Laws.{BlocksAreInOrder, RefusedIsNotRead, RefusedOnce, StandsForOne}
 use Rattle.tf_laws.specs.Read.{ReadHasOwnNames}
 use Rattle.tf_state.specs.Laws.{EmptyIsValid, ReadIsValid, TextIsOfOne}
-use Rattle.tf_variables.specs.Laws.{ValuesAreFaultless, ValuesAreOne}
+use Rattle.tf_config.specs.VariableLaws.{ValuesAreFaultless, ValuesAreOne}
 
 -- The laws of what reading answers: of configurations, of what is refused of them, of values, and of states and their texts.
 pub record Laws : Type 0 where

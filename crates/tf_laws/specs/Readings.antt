@@ -1,7 +1,7 @@
 -- For what the texts that a user gives stand, where they are read more than once.
 use Rattle.std.specs.Prelude.{◌≡◌, ℕ, List, []}
 use Rattle.tf_config_data.specs.Config.{ConfigView}
-use Rattle.tf_inputs.specs.Texts.{ReadAs, Texts}
+use Rattle.tf_cli_inputs.specs.Texts.{ReadAs, Texts}
 use Rattle.tf_state_data.specs.State.{StateView}
 use Rattle.tf_value.specs.Tree.{Entries}
 

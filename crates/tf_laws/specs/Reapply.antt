@@ -5,19 +5,19 @@ use Rattle.std.specs.List.Sorted.{IsStrictlySortedBy}
 use Rattle.tf_plan_data.specs.Action.{ActionView}
 use Rattle.tf_address.specs.Label.{label_cmp}
 use Rattle.tf_address.specs.ObjectId.{InstanceKeyView}
-use Rattle.tf_plan_resources.specs.Order.{AreInAddressOrder}
-use Rattle.tf_change.specs.Instance.{instance_object}
+use Rattle.tf_plan_order.specs.AddressOrder.{AreInAddressOrder}
+use Rattle.tf_plan_object.specs.Instance.{instance_object}
 use Rattle.tf_config_data.specs.Config.{BlockView, ConfigView}
 use Rattle.tf_config_data.specs.Names.{a_block, meant_at}
-use Rattle.tf_environment.specs.InstanceKeys.{instance_keys}
-use Rattle.tf_environment.specs.Stages.{applying}
-use Rattle.tf_environment.specs.Resolved.{ResolvedView, AreResolvedNames, environment}
-use Rattle.tf_plan_resources.specs.Members.{is_among}
+use Rattle.tf_expand.specs.InstanceKeys.{instance_keys}
+use Rattle.tf_expand.specs.Stages.{applying}
+use Rattle.tf_expand.specs.Resolved.{ResolvedView, AreResolvedNames, environment}
+use Rattle.tf_plan_order.specs.Members.{is_among}
 use Rattle.tf_state_next.specs.Laws.{IsInOrder}
-use Rattle.tf_outcome.specs.Outcome.{AreOutcomes, AreRequests, ActionResultView, Requests, is_good}
-use Rattle.tf_outcome.specs.declared.excuse.Excuse.{Excuse}
-use Rattle.tf_outcome.specs.declared.excuse.Outcome.TheVariants.{Judged}
-use Rattle.tf_outputs.specs.Outputs.{OutputResultView, valued}
+use Rattle.tf_walk_action.specs.Outcome.{AreOutcomes, AreRequests, ActionResultView, Requests, is_good}
+use Rattle.tf_walk_action.specs.declared.excuse.Excuse.{Excuse}
+use Rattle.tf_walk_action.specs.declared.excuse.Outcome.TheVariants.{Judged}
+use Rattle.tf_walk_report.specs.Outputs.{OutputResultView, valued}
 use Rattle.tf_plan.specs.Plan.{IsPlan}
 use Rattle.tf_plan.specs.Planned.{IsPlanned, unrefused}
 use Rattle.tf_plan_data.specs.Fits.{is_apply}
@@ -27,7 +27,7 @@ use Rattle.tf_protocol.specs.Schema.{SchemaView, IsSchema}
 use Rattle.tf_protocol.specs.declared.verdict.Verdict.TheVariants.{Good}
 use Rattle.tf_walk_report.specs.Report.{AreOutputsOf, IsReport, IsStateOf, objects_after}
 use Rattle.tf_walk_report.specs.declared.report.Report.{Report}
-use Rattle.tf_plan_resources.specs.ResourceIndex.{numbered}
+use Rattle.tf_plan_order.specs.ResourceIndex.{numbered}
 use Rattle.tf_state.specs.Valid.{IsValid}
 use Rattle.tf_state_data.specs.State.{StateView, state_of}
 use Rattle.tf_value.specs.Known.{known_entries}

@@ -12,9 +12,9 @@ use Rattle.tf_cli.specs.declared.applied.Applied.{Applied}
 use Rattle.tf_config_data.specs.Config.{ConfigView}
 use Rattle.tf_config_data.specs.Names.{names_of}
 use Rattle.tf_laws.specs.Quiet.{IsRenewed}
-use Rattle.tf_inputs.specs.Refusals.{at_state}
-use Rattle.tf_inputs.specs.Texts.{AreTheValues, IsRead, Texts, the_texts}
-use Rattle.tf_outcome.specs.declared.excuse.Outcome.TheVariants.{Judged}
+use Rattle.tf_cli_inputs.specs.Refusals.{at_state}
+use Rattle.tf_cli_inputs.specs.Texts.{AreTheValues, IsRead, Texts, the_texts}
+use Rattle.tf_walk_action.specs.declared.excuse.Outcome.TheVariants.{Judged}
 use Rattle.tf_plan.specs.Refused.{IsUnplanned}
 use Rattle.tf_protocol.specs.Meaning.{Meaning}
 use Rattle.tf_protocol.specs.Schema.{SchemaView, IsSchema}

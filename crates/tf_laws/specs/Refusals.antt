@@ -4,8 +4,8 @@ use Rattle.tf_cli.specs.Applies.{IsPlanOf}
 use Rattle.tf_cli.specs.Refusals.{AreApplyRefusals, AreRefusals}
 use Rattle.tf_config.specs.Laws.{IsTemplateWay, IsUnspelled}
 use Rattle.tf_config_data.specs.Config.{ConfigView}
-use Rattle.tf_inputs.specs.Refusals.{IsToldOf}
-use Rattle.tf_inputs.specs.Texts.{ReadAs, Texts}
+use Rattle.tf_cli_inputs.specs.Refusals.{IsToldOf}
+use Rattle.tf_cli_inputs.specs.Texts.{ReadAs, Texts}
 use Rattle.tf_plan_data.specs.Plan.{PlanView}
 use Rattle.tf_protocol.specs.Meaning.{Meaning}
 use Rattle.tf_refusal.specs.OfExpression.{Way}

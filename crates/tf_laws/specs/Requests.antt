@@ -2,14 +2,14 @@
 use Rattle.std.specs.Prelude.{◌≡◌, ℕ, true, false, List, Option, Some, None, option_and_then, slice_get, Ok, Contains}
 use Rattle.tf_plan_data.specs.Action.{ActionView, StepView, update, replaced, destroyed, deposed_destroyed}
 use Rattle.tf_address.specs.ObjectId.{InstanceKeyView}
-use Rattle.tf_asks.specs.Laws.{RefinesWhere, planned_object}
+use Rattle.tf_walk_action.specs.AskingLaws.{RefinesWhere, planned_object}
 use Rattle.tf_config_data.specs.Config.{ConfigView}
 use Rattle.tf_config_data.specs.Names.{meant_at}
 use Rattle.tf_laws.specs.Reapply.{IsSound}
-use Rattle.tf_outcome.specs.Asked.{AreRequests, Requests, asked_for, op_of}
-use Rattle.tf_outcome.specs.Objects.{prior_object}
-use Rattle.tf_outcome.specs.Outcome.{AreOutcomes, ActionResultView, called, done_at}
-use Rattle.tf_outcome.specs.declared.excuse.Excuse.{Excuse}
+use Rattle.tf_walk_action.specs.Asked.{AreRequests, Requests, asked_for, op_of}
+use Rattle.tf_walk_action.specs.Objects.{prior_object}
+use Rattle.tf_walk_action.specs.Outcome.{AreOutcomes, ActionResultView, called, done_at}
+use Rattle.tf_walk_action.specs.declared.excuse.Excuse.{Excuse}
 use Rattle.tf_plan.specs.Plan.{IsPlan}
 use Rattle.tf_plan_data.specs.Address.{address_text}
 use Rattle.tf_plan_data.specs.Fits.{deposed_key, is_apply}

@@ -3,25 +3,25 @@ use Rattle.std.specs.Prelude.{◌≡◌, ℕ, true, List, [], ◌∷◌, Some, N
 use Rattle.std.specs.List.{AllByRecursion}
 use Rattle.tf_plan_data.specs.Action.{ActionView}
 use Rattle.tf_address.specs.ObjectId.{InstanceKeyView}
-use Rattle.tf_plan_resources.specs.Order.{AreInAddressOrder}
-use Rattle.tf_change.specs.Instance.{instance_object}
+use Rattle.tf_plan_order.specs.AddressOrder.{AreInAddressOrder}
+use Rattle.tf_plan_object.specs.Instance.{instance_object}
 use Rattle.tf_config_data.specs.Config.{BlockView}
 use Rattle.tf_config_data.specs.Names.{NameView, a_block, meant_at, directly_before}
-use Rattle.tf_deciding.specs.Stage.{records_at}
-use Rattle.tf_decision.specs.Decision.{change, nothing}
-use Rattle.tf_decision.specs.Ignored.{ignored_fault}
-use Rattle.tf_decision.specs.Prior.{first_unfit}
-use Rattle.tf_environment.specs.InstanceKeys.{InstanceKeysView, instance_keys}
-use Rattle.tf_environment.specs.Stages.{applying}
-use Rattle.tf_environment.specs.Resolved.{ResolvedView, AreResolvedNames, environment}
+use Rattle.tf_plan_decision.specs.Stage.{records_at}
+use Rattle.tf_plan_decision.specs.Decision.{change, nothing}
+use Rattle.tf_plan_decision.specs.Ignored.{ignored_fault}
+use Rattle.tf_plan_decision.specs.Prior.{first_unfit}
+use Rattle.tf_expand.specs.InstanceKeys.{InstanceKeysView, instance_keys}
+use Rattle.tf_expand.specs.Stages.{applying}
+use Rattle.tf_expand.specs.Resolved.{ResolvedView, AreResolvedNames, environment}
 use Rattle.tf_eval.specs.Environment.{Environment}
 use Rattle.tf_eval.specs.ExprMeaning.{meaning}
 use Rattle.tf_graph.specs.Solutions.{Ranked}
-use Rattle.tf_plan_resources.specs.Members.{is_among, records_of}
+use Rattle.tf_plan_order.specs.Members.{is_among, records_of}
 use Rattle.tf_plan.specs.Planned.{IsPlanned, unrefused}
 use Rattle.tf_protocol.specs.Meaning.{Meaning, schema_in}
 use Rattle.tf_protocol.specs.Schema.{SchemaView}
-use Rattle.tf_plan_resources.specs.ResourceIndex.{has_block, numbered}
+use Rattle.tf_plan_order.specs.ResourceIndex.{has_block, numbered}
 use Rattle.tf_state_data.specs.Record.{RecordView}
 use Rattle.tf_state_data.specs.Resource.{ResourceView}
 use Rattle.tf_syntax.specs.ExprTree as expr

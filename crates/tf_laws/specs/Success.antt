@@ -8,7 +8,7 @@ use Rattle.tf_cli.specs.Shown.{applied_status, is_torn}
 use Rattle.tf_cli.specs.declared.applied.Applied.{Applied}
 use Rattle.tf_laws.specs.Reapply.{IsValued}
 use Rattle.tf_laws.specs.Twice.{HasToldSerial, without_flags}
-use Rattle.tf_inputs.specs.Texts.{Texts}
+use Rattle.tf_cli_inputs.specs.Texts.{Texts}
 use Rattle.tf_plan_data.specs.Plan.{PlanView}
 use Rattle.tf_protocol.specs.Meaning.{Meaning}
 use Rattle.tf_walk_report.specs.Report.{IsReported, report_of}

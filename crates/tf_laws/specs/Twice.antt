@@ -7,9 +7,9 @@ use Rattle.std.specs.Ordering.{nat_cmp}
 use Rattle.tf_config.specs.Config.{names_in}
 use Rattle.tf_config_data.specs.Config.{ConfigView}
 use Rattle.tf_state_next.specs.Laws.{IsInOrder}
-use Rattle.tf_outcome.specs.Outcome.{AreRequests, ActionResultView, Requests}
-use Rattle.tf_outcome.specs.declared.excuse.Outcome.TheVariants.{Judged}
-use Rattle.tf_outputs.specs.Outputs.{OutputResultView, outputs_after}
+use Rattle.tf_walk_action.specs.Outcome.{AreRequests, ActionResultView, Requests}
+use Rattle.tf_walk_action.specs.declared.excuse.Outcome.TheVariants.{Judged}
+use Rattle.tf_walk_report.specs.Outputs.{OutputResultView, outputs_after}
 use Rattle.tf_plan.specs.Plan.{IsPlan}
 use Rattle.tf_plan_data.specs.Plan.{PlanView}
 use Rattle.tf_protocol.specs.Meaning.{Meaning}

@@ -8,9 +8,9 @@ ghost use Rattle.tf_laws.specs.Read.{ReadHasOwnNames, ReadIsSound};
 ghost use Rattle.tf_laws.specs.Rest.{NothingIsPlannedAtRest, NothingIsRefusedAtRest};
 ghost use Rattle.tf_laws.specs.Twice.{ReportsSettle, SecondAppliesChangeFlags, SecondAppliesKeepObjects, SecondSerialsTell, ThirdAppliesChangeNothing, ThirdAppliesKeepRecords};
 
-use tf_change::laws::objects_grow;
-use tf_environment::laws::resolved_names_grow;
+use tf_expand::standing_laws::resolved_names_grow;
 use tf_operators::laws::known_stays_known;
+use tf_plan_object::laws::objects_grow;
 
 /// Where all that names stand for is known, so is what an expression means, and what a block makes of an instance but for
 /// what the provider makes.

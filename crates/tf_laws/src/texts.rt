@@ -17,9 +17,8 @@ use crate::convergence::{
 };
 use crate::plans::{planned_or_refused, plans_are_not_refused, plans_are_one, refusals_are_one};
 use crate::reports::{plans_are_founded, reports_are_one};
-use tf_config::{blocks_are_in_order, faultless_trees_stand, names_are_few};
+use tf_config::{blocks_are_in_order, faultless_trees_stand, names_are_few, values_are_one};
 use tf_state::{new_states_are_valid, read_states_are_valid, texts_are_of_one, texts_read_back};
-use tf_variables::values_are_one;
 
 /// What reading answers has the laws that all those of texts rest on.
 fn laws_of_reading()

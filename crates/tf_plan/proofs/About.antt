@@ -6,9 +6,9 @@ use Rattle.std.specs.Prelude.{Contains}
 use Rattle.tf_plan_data.specs.Action.{StepView}
 use Rattle.tf_address.specs.Label.{LabelView}
 use Rattle.tf_address.specs.ObjectId.{InstanceKeyView}
-use Rattle.tf_deciding.specs.Deciding.{OfView, action}
-use Rattle.tf_deciding.specs.Outcome.{OutcomeView}
-use Rattle.tf_plan_resources.specs.Members.{InstanceToPlanView, all_keys, member, members}
+use Rattle.tf_plan_decision.specs.Deciding.{OfView, action}
+use Rattle.tf_plan_decision.specs.Outcome.{OutcomeView}
+use Rattle.tf_plan_order.specs.Members.{InstanceToPlanView, all_keys, member, members}
 use Rattle.tf_plan.proofs.Distinct.{AreDistinct, distinct-flat, distinct-told, in_flat_map, in_map}
 use Rattle.tf_plan.proofs.Listing.{member_actions, outcome_actions}
 use Rattle.tf_plan.proofs.Objects.{keys-distinct}

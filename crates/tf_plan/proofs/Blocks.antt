@@ -16,9 +16,9 @@ use Rattle.tf_config_data.specs.declared.config.Block.{Block}
 use Rattle.tf_config_data.specs.Names.{block_name, local_names, names_of}
 use Rattle.tf_graph.proofs.Edges.{contains_head, contains_tail}
 use Rattle.tf_plan.proofs.Distinct.{AreDistinct, distinct-sorted}
-use Rattle.tf_plan_resources.proofs.Standing.{places-true}
-use Rattle.tf_plan_resources.specs.Laws.{AreApart}
-use Rattle.tf_plan_resources.specs.ResourceIndex.{ResourceRefView, a_name, address_of, is_address, is_at, place_in}
+use Rattle.tf_plan_order.proofs.Standing.{places-true}
+use Rattle.tf_plan_order.specs.ResourceLaws.{AreApart}
+use Rattle.tf_plan_order.specs.ResourceIndex.{ResourceRefView, a_name, address_of, is_address, is_at, place_in}
 use Rattle.tf_syntax.specs.ExprTree as expr
 
 -- ---- addresses that are distinct are at one place each

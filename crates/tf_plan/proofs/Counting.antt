@@ -5,7 +5,7 @@ use Rattle.std.specs.List.{AllByRecursion, range_with_len}
 use Rattle.tf_address.specs.ObjectId.{number, name}
 use Rattle.tf_config_data.specs.Config.{BlockView}
 use Rattle.tf_config_data.specs.Names.{NameView, a_block, meant_at}
-use Rattle.tf_environment.specs.InstanceKeys.{InstanceKeysView, one, many, named, instance_keys}
+use Rattle.tf_expand.specs.InstanceKeys.{InstanceKeysView, one, many, named, instance_keys}
 use Rattle.tf_expand.specs.Expanding.{instance_count, instances_before}
 use Rattle.tf_plan_data.specs.Fits.{IsNumbered}
 

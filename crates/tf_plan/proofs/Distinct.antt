@@ -7,7 +7,7 @@ use Rattle.std.specs.Prelude.{Contains, slice_get}
 use Rattle.std.proofs.lemmas.List.Elements.{Contains-append_cases}
 use Rattle.std.proofs.lemmas.Option.{same_Some}
 use Rattle.tf_graph.proofs.Edges.{contains_cases, contains_head, contains_tail}
-pub use Rattle.tf_plan_resources.proofs.Naming.{in_map, to_map}
+pub use Rattle.tf_plan_order.proofs.Naming.{in_map, to_map}
 
 -- no element is one of those behind it
 abbrev pub AreDistinct : {A : Type 0} → List A → Type 0

@@ -1,8 +1,8 @@
 -- Where the instances of all resources can be told, and aren't too many, nothing is refused of them.
 use Rattle.std.proofs.Common.{◌≡◌, ◌∙◌, ◌<◌, ◌+◌, ℕ, zero, suc, List, length, Result, Ok, Err, refl, sym, ap, ap₂, arith}
 use Rattle.tf_config_data.specs.Names.{NameView, directly_before, meant_at}
-use Rattle.tf_environment.specs.InstanceKeys.{InstanceKeysView}
-use Rattle.tf_environment.specs.declared.repetition.RepetitionFault.{RepetitionFault}
+use Rattle.tf_expand.specs.InstanceKeys.{InstanceKeysView}
+use Rattle.tf_expand.specs.declared.repetition.RepetitionFault.{RepetitionFault}
 use Rattle.tf_expand.specs.Expanding.{expanded, instance_count, instances_before}
 use Rattle.tf_graph.specs.Solutions.{Ranked}
 use Rattle.tf_plan.proofs.Solved.{instances-by, one_shape}

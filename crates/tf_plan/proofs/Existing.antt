@@ -1,10 +1,10 @@
 -- Names resolve at each stage, and so what holds of all of them holds of some.
 use Rattle.std.proofs.Common.{ℕ, List, length}
 use Rattle.tf_config_data.specs.Names.{NameView, directly_before}
-use Rattle.tf_environment.specs.Resolved.{ResolvedView, ResourceValuesView, AreResolvedNames, rule}
+use Rattle.tf_expand.specs.Resolved.{ResolvedView, ResourceValuesView, AreResolvedNames, rule}
 use Rattle.tf_graph.proofs.Solving.{solution-exists}
-use Rattle.tf_names.specs.Needs.{IsAcyclic, IsDependence}
-use Rattle.tf_names.specs.declared.dependence.Dependence.{Dependence}
+use Rattle.tf_config_names.specs.Needs.{IsAcyclic, IsDependence}
+use Rattle.tf_config_names.specs.declared.dependence.Dependence.{Dependence}
 use Rattle.tf_value.specs.Tree.{Entries}
 
 pub some_standings : (stage : ResourceValuesView) (variables : Entries) (names : List NameView) (d : Dependence) → IsDependence names d → IsAcyclic d → (resolved_names : ℕ → ResolvedView) × AreResolvedNames stage variables names resolved_names

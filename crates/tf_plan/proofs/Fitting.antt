@@ -10,18 +10,18 @@ use Rattle.std.specs.Option.{option_map_or}
 use Rattle.std.specs.Prelude.{Contains, find, option_and_then, slice_get}
 use Rattle.tf_plan_data.specs.Action.{ActionView}
 use Rattle.tf_address.specs.Label.{LabelView, label_cmp}
-use Rattle.tf_plan_resources.specs.Order.{is_resource}
+use Rattle.tf_plan_order.specs.AddressOrder.{is_resource}
 use Rattle.tf_config_data.specs.Names.{NameView, Meant, a_local, a_block, meant_at, directly_before}
-use Rattle.tf_deciding.proofs.Standing.{named_within}
-use Rattle.tf_deciding.specs.Outcome.{member_outcome, orphan_outcome}
-use Rattle.tf_deciding.specs.Stage.{block_members, records_at}
-use Rattle.tf_deciding.specs.Whole.{decided}
-use Rattle.tf_environment.specs.InstanceKeys.{InstanceKeysView, instance_keys}
-use Rattle.tf_environment.specs.Resolved.{ResolvedView, all_stand, environment}
+use Rattle.tf_plan_decision.proofs.Standing.{named_within}
+use Rattle.tf_plan_decision.specs.Outcome.{member_outcome, orphan_outcome}
+use Rattle.tf_plan_decision.specs.Stage.{block_members, records_at}
+use Rattle.tf_plan_decision.specs.Whole.{decided}
+use Rattle.tf_expand.specs.InstanceKeys.{InstanceKeysView, instance_keys}
+use Rattle.tf_expand.specs.Resolved.{ResolvedView, all_stand, environment}
 use Rattle.tf_expand.specs.Expanding.{instances_before}
 use Rattle.tf_graph.specs.Digraph.{Digraph}
 use Rattle.tf_graph.specs.Solutions.{seen_by}
-use Rattle.tf_plan_resources.specs.Members.{member, members}
+use Rattle.tf_plan_order.specs.Members.{member, members}
 use Rattle.tf_plan.proofs.About.{resource-about, resource-distinct}
 use Rattle.tf_plan.proofs.Blocks.{placed-at}
 use Rattle.tf_plan.proofs.Counting.{instances-numbered}
@@ -35,9 +35,9 @@ use Rattle.tf_plan.specs.Planned.{AreInstances, IsPlanned, PlannedView, unrefuse
 use Rattle.tf_plan_data.specs.Fits.{AboutView, about, AreApart, IsDeclared, IsPlaced}
 use Rattle.tf_plan_data.specs.Served.{AreServed, IsServedBy}
 use Rattle.tf_protocol.specs.Meaning.{Meaning, schema_in}
-use Rattle.tf_plan_resources.proofs.Standing.{numbers-in_order, resources-apart}
-use Rattle.tf_plan_resources.specs.Laws as resources_laws
-use Rattle.tf_plan_resources.specs.ResourceIndex.{ResourceRefView, a_name, an_orphan, address_of, block_address, has_block, numbered, orphans, place_in}
+use Rattle.tf_plan_order.proofs.Standing.{numbers-in_order, resources-apart}
+use Rattle.tf_plan_order.specs.ResourceLaws as resources_laws
+use Rattle.tf_plan_order.specs.ResourceIndex.{ResourceRefView, a_name, an_orphan, address_of, block_address, has_block, numbered, orphans, place_in}
 use Rattle.tf_state_data.specs.Addresses.{AreByAddress}
 use Rattle.tf_state_data.specs.Ids.{AreById}
 use Rattle.tf_state_data.specs.Resource.{ResourceView, resource_of}

@@ -7,17 +7,17 @@ use Rattle.tf_address.specs.Label.{LabelView}
 use Rattle.tf_address.specs.ObjectId.{InstanceKeyView}
 use Rattle.tf_config_data.specs.Config.{BlockView}
 use Rattle.tf_config_data.specs.Names.{NameView, Meant, a_local, a_block, directly_before}
-use Rattle.tf_deciding.specs.Deciding.{DecidedView, OfView, action, version_of, with_block, with_members, with_outcome}
-use Rattle.tf_deciding.specs.Outcome.{OutcomeView, member_outcome, orphan_outcome}
-use Rattle.tf_deciding.specs.Stage.{block_members}
-use Rattle.tf_deciding.specs.Whole.{decided, nothing_decided, with_meant, with_numbered}
-use Rattle.tf_environment.specs.InstanceKeys.{InstanceKeysView}
-use Rattle.tf_environment.specs.Resolved.{ResolvedView, all_stand, environment}
+use Rattle.tf_plan_decision.specs.Deciding.{DecidedView, OfView, action, version_of, with_block, with_members, with_outcome}
+use Rattle.tf_plan_decision.specs.Outcome.{OutcomeView, member_outcome, orphan_outcome}
+use Rattle.tf_plan_decision.specs.Stage.{block_members}
+use Rattle.tf_plan_decision.specs.Whole.{decided, nothing_decided, with_meant, with_numbered}
+use Rattle.tf_expand.specs.InstanceKeys.{InstanceKeysView}
+use Rattle.tf_expand.specs.Resolved.{ResolvedView, all_stand, environment}
 use Rattle.tf_eval.specs.Environment.{Environment}
 use Rattle.tf_graph.specs.Solutions.{seen_by}
-use Rattle.tf_plan_resources.specs.Members.{InstanceToPlanView, members}
+use Rattle.tf_plan_order.specs.Members.{InstanceToPlanView, members}
 use Rattle.tf_protocol.specs.Meaning.{Meaning, schema_in}
-use Rattle.tf_plan_resources.specs.ResourceIndex.{ResourceRefView, a_name, an_orphan}
+use Rattle.tf_plan_order.specs.ResourceIndex.{ResourceRefView, a_name, an_orphan}
 use Rattle.tf_state_data.specs.Resource.{ResourceView}
 use Rattle.tf_value.specs.Tree.{Entries}
 

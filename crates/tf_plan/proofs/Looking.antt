@@ -3,23 +3,23 @@ use Rattle.std.proofs.Common.{◌≡◌, ◌≢◌, ◌∙◌, ◌++◌, ◌∷�
 use Rattle.std.specs.List.{AllByRecursion}
 use Rattle.std.specs.Prelude.{Contains, slice_get}
 use Rattle.std.specs.declared.alloc.AllocError.{AllocError}
-use Rattle.tf_plan_resources.specs.Order.{AreInAddressOrder, is_resource}
+use Rattle.tf_plan_order.specs.AddressOrder.{AreInAddressOrder, is_resource}
 use Rattle.tf_config_data.specs.Names.{NameView, places}
-use Rattle.tf_deciding.proofs.Appending.{gathered_is}
-use Rattle.tf_deciding.specs.Deciding.{DecidedView}
-use Rattle.tf_deciding.specs.Rows.{AreDecided, AreOnce, gathered, row}
-use Rattle.tf_deciding.specs.Stage.{deciding}
-use Rattle.tf_environment.proofs.Seen.{agree_on}
-use Rattle.tf_environment.specs.InstanceKeys.{InstanceKeysView}
-use Rattle.tf_environment.specs.Resolved.{ResolvedView, AreResolvedNames, all_stand, environment}
+use Rattle.tf_plan_decision.proofs.Appending.{gathered_is}
+use Rattle.tf_plan_decision.specs.Deciding.{DecidedView}
+use Rattle.tf_plan_decision.specs.Rows.{AreDecided, AreOnce, gathered, row}
+use Rattle.tf_plan_decision.specs.Stage.{deciding}
+use Rattle.tf_expand.proofs.Seen.{agree_on}
+use Rattle.tf_expand.specs.InstanceKeys.{InstanceKeysView}
+use Rattle.tf_expand.specs.Resolved.{ResolvedView, AreResolvedNames, all_stand, environment}
 use Rattle.tf_eval.proofs.Locality.{both_halves, expressions_local}
 use Rattle.tf_eval.specs.ExprMeaning.{meaning}
 use Rattle.tf_graph.proofs.Edges.{all_by_contained}
 use Rattle.tf_graph.proofs.Solving.{seen_by-same}
 use Rattle.tf_graph.specs.Solutions.{seen_by}
-use Rattle.tf_names.proofs.Tables.{places-append}
-use Rattle.tf_names.specs.Needs.{IsAcyclic, IsDependence, order_in}
-use Rattle.tf_names.specs.declared.dependence.Dependence.{Dependence}
+use Rattle.tf_config_names.proofs.Tables.{places-append}
+use Rattle.tf_config_names.specs.Needs.{IsAcyclic, IsDependence, order_in}
+use Rattle.tf_config_names.specs.declared.dependence.Dependence.{Dependence}
 use Rattle.tf_plan.proofs.Existing.{some_standings}
 use Rattle.tf_plan.proofs.Distinct.{AreDistinct}
 use Rattle.tf_plan.proofs.Fitting.{name-stands}
@@ -30,7 +30,7 @@ use Rattle.tf_plan.specs.Told.{instance_told}
 use Rattle.tf_plan.specs.Wanted.{IsWanted}
 use Rattle.tf_plan.specs.declared.deciding.PlannedInstances.{PlannedInstances}
 use Rattle.tf_protocol.specs.Meaning.{Meaning}
-use Rattle.tf_plan_resources.specs.ResourceIndex.{ResourceRefView, a_name, numbered}
+use Rattle.tf_plan_order.specs.ResourceIndex.{ResourceRefView, a_name, numbered}
 use Rattle.tf_state_data.specs.Resource.{ResourceView}
 use Rattle.tf_syntax.specs.ExprNames.{named_below, named_by}
 use Rattle.tf_syntax.specs.ExprTree as expr

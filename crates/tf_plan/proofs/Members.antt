@@ -7,15 +7,15 @@ use Rattle.tf_plan_data.specs.Action.{ActionView, StepView}
 use Rattle.tf_address.specs.Label.{LabelView}
 use Rattle.tf_address.specs.ObjectId.{InstanceKeyView}
 use Rattle.tf_address.specs.Same.{same_instance_key}
-use Rattle.tf_change.specs.Instance.{instance_object}
+use Rattle.tf_plan_object.specs.Instance.{instance_object}
 use Rattle.tf_config_data.specs.Config.{BlockView}
 use Rattle.tf_config_data.specs.Names.{NameView, a_block, meant_at}
-use Rattle.tf_deciding.specs.Deciding.{action}
-use Rattle.tf_deciding.specs.Outcome.{by_decision, by_removal, declared_outcome, member_outcome, orphan_outcome, removal_outcome}
-use Rattle.tf_deciding.specs.Steps.{decided_steps, removal_steps}
-use Rattle.tf_decision.specs.Decision.{DecisionView, DecisionFaultView, decision, removal_fault}
+use Rattle.tf_plan_decision.specs.Deciding.{action}
+use Rattle.tf_plan_decision.specs.Outcome.{by_decision, by_removal, declared_outcome, member_outcome, orphan_outcome, removal_outcome}
+use Rattle.tf_plan_decision.specs.Steps.{decided_steps, removal_steps}
+use Rattle.tf_plan_decision.specs.Decision.{DecisionView, DecisionFaultView, decision, removal_fault}
 use Rattle.tf_eval.specs.Environment.{Environment}
-use Rattle.tf_plan_resources.specs.Members.{InstanceToPlanView, is_among, member, members, all_keys}
+use Rattle.tf_plan_order.specs.Members.{InstanceToPlanView, is_among, member, members, all_keys}
 use Rattle.tf_plan.proofs.Distinct.{AreDistinct}
 use Rattle.tf_plan.proofs.Listing.{member_actions, of_at, outcome_actions}
 use Rattle.tf_plan.proofs.Objects.{one_key}

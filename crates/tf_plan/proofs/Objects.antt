@@ -4,9 +4,9 @@ use Rattle.std.specs.Prelude.{Contains}
 use Rattle.tf_address.proofs.Totals.{object_id_total}
 use Rattle.tf_address.specs.ObjectId.{InstanceKeyView, ObjectIdView, object_id_cmp, instance_key_cmp}
 use Rattle.tf_address.specs.Same.{object_id_Decides, same_instance_key}
-use Rattle.tf_plan_resources.proofs.Known.{nothing-sorted, sorted-with}
-use Rattle.tf_plan_resources.proofs.InstanceOrder.{key_total}
-use Rattle.tf_plan_resources.specs.Members.{all_keys, is_of, records_of, recorded_keys, with_keys}
+use Rattle.tf_plan_order.proofs.Known.{nothing-sorted, sorted-with}
+use Rattle.tf_plan_order.proofs.InstanceOrder.{key_total}
+use Rattle.tf_plan_order.specs.Members.{all_keys, is_of, records_of, recorded_keys, with_keys}
 use Rattle.tf_state_data.specs.Ids.{AreById}
 use Rattle.tf_state_data.specs.Record.{RecordView}
 use Rattle.tf_plan.proofs.Distinct.{AreDistinct, distinct-filter, distinct-sorted, distinct-told, in_filter}

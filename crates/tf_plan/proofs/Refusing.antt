@@ -2,18 +2,18 @@
 use Rattle.std.proofs.Common.{◌≡◌, inl, inr, ℕ, true, false, Bool, if◌then◌else◌, List, [], ◌∷◌, map, Option, None, Some, Ok, Err, refl, ap, ◌∙◌}
 use Rattle.tf_config_data.specs.Config.{BlockView}
 use Rattle.tf_config_data.specs.Names.{NameView, Meant, a_local, a_block, meant_at, directly_before}
-use Rattle.tf_environment.specs.Stages.{expansion}
-use Rattle.tf_environment.specs.Resolved.{ResolvedView, AreResolvedNames, all_stand, environment}
-use Rattle.tf_environment.specs.InstanceKeys.{InstanceKeysView, one}
-use Rattle.tf_environment.specs.declared.repetition.RepetitionFault.{RepetitionFault}
+use Rattle.tf_expand.specs.Stages.{expansion}
+use Rattle.tf_expand.specs.Resolved.{ResolvedView, AreResolvedNames, all_stand, environment}
+use Rattle.tf_expand.specs.InstanceKeys.{InstanceKeysView, one}
+use Rattle.tf_expand.specs.declared.repetition.RepetitionFault.{RepetitionFault}
 use Rattle.tf_eval.specs.Environment.{Environment}
 use Rattle.tf_expand.specs.Expanding.{AreExpanded, shape_in}
 use Rattle.tf_expand.specs.Told.{Refuses}
 use Rattle.tf_expand.specs.declared.expansion.ExpansionFault.{ExpansionFault}
 use Rattle.tf_expand.specs.declared.expansion.ExpansionFault.TheVariants.{OutOfMemory, Resource, TooMany}
 use Rattle.tf_graph.specs.Solutions.{seen_by}
-use Rattle.tf_names.specs.Needs.{IsAcyclic, IsDependence}
-use Rattle.tf_names.specs.declared.dependence.Dependence.{Dependence}
+use Rattle.tf_config_names.specs.Needs.{IsAcyclic, IsDependence}
+use Rattle.tf_config_names.specs.declared.dependence.Dependence.{Dependence}
 use Rattle.tf_refusal.specs.Refusal.{RefusalView, refusal_of}
 use Rattle.tf_value.specs.Tree.{Entries}
 use Rattle.tf_plan.proofs.Existing.{some_standings}

@@ -4,11 +4,11 @@ use Rattle.std.specs.List.{AllByRecursion}
 use Rattle.std.specs.Prelude.{codes, fold, slice_get}
 use Rattle.std.specs.Str.{bytes_eq}
 use Rattle.tf_config_data.specs.Names.{NameView, Meant, a_local, a_block, meant_at, refers_at, directly_before, place_before, place_of, places}
-use Rattle.tf_deciding.specs.Deciding.{DecidedView, with_block}
-use Rattle.tf_deciding.specs.Whole.{decided, nothing_decided, with_meant, with_numbered}
-use Rattle.tf_environment.proofs.Places.{all_places}
-use Rattle.tf_environment.specs.InstanceKeys.{InstanceKeysView}
-use Rattle.tf_environment.specs.Resolved.{ResolvedView, all_stand, answer_at, environment, or_missing}
+use Rattle.tf_plan_decision.specs.Deciding.{DecidedView, with_block}
+use Rattle.tf_plan_decision.specs.Whole.{decided, nothing_decided, with_meant, with_numbered}
+use Rattle.tf_expand.proofs.Places.{all_places}
+use Rattle.tf_expand.specs.InstanceKeys.{InstanceKeysView}
+use Rattle.tf_expand.specs.Resolved.{ResolvedView, all_stand, answer_at, environment, or_missing}
 use Rattle.tf_eval.specs.ExprMeaning.{meaning}
 use Rattle.tf_graph.proofs.Solving.{seen_by-same}
 use Rattle.tf_graph.specs.Solutions.{seen_by}
@@ -17,7 +17,7 @@ use Rattle.tf_plan.specs.Outputs.{output_fault, output_refusal, output_refusals}
 use Rattle.tf_plan.specs.Planned.{planned_in}
 use Rattle.tf_plan.specs.Told.{instance_told}
 use Rattle.tf_protocol.specs.Meaning.{Meaning}
-use Rattle.tf_plan_resources.specs.ResourceIndex.{ResourceRefView, a_name, an_orphan, numbered}
+use Rattle.tf_plan_order.specs.ResourceIndex.{ResourceRefView, a_name, an_orphan, numbered}
 use Rattle.tf_state_data.specs.Resource.{ResourceView}
 use Rattle.tf_syntax.specs.ExprNames.{named_by}
 use Rattle.tf_syntax.specs.ExprTree as expr

@@ -1,12 +1,12 @@
 -- What the definitions say by some resolved names holds by all that solve, where no name needs itself: there resolved names are one.
 use Rattle.std.proofs.Common.{◌≡◌, ◌∙◌, ◌<◌, ℕ, Result, Ok, List, length, if◌then◌else◌, sym}
 use Rattle.tf_config_data.specs.Names.{NameView, directly_before, meant_at}
-use Rattle.tf_deciding.specs.Stage.{deciding}
-use Rattle.tf_environment.proofs.Places.{names_stay}
-use Rattle.tf_environment.specs.InstanceKeys.{InstanceKeysView, one}
-use Rattle.tf_environment.specs.Stages.{expansion}
-use Rattle.tf_environment.specs.Resolved.{ResolvedView, ResourceValuesView, AreResolvedNames, all_stand, rule}
-use Rattle.tf_environment.specs.declared.repetition.RepetitionFault.{RepetitionFault}
+use Rattle.tf_plan_decision.specs.Stage.{deciding}
+use Rattle.tf_expand.proofs.Places.{names_stay}
+use Rattle.tf_expand.specs.InstanceKeys.{InstanceKeysView, one}
+use Rattle.tf_expand.specs.Stages.{expansion}
+use Rattle.tf_expand.specs.Resolved.{ResolvedView, ResourceValuesView, AreResolvedNames, all_stand, rule}
+use Rattle.tf_expand.specs.declared.repetition.RepetitionFault.{RepetitionFault}
 use Rattle.tf_expand.specs.Expanding.{AreExpanded, AreTooMany, IsFirstRefused, expanded, shape_in}
 use Rattle.tf_graph.proofs.Solving.{solution-unique}
 use Rattle.tf_graph.specs.Solutions.{Ranked}

@@ -4,9 +4,9 @@ use Rattle.std.proofs.lemmas.List.{map-append}
 use Rattle.std.specs.List.{AllByRecursion, flat_map}
 use Rattle.std.specs.Prelude.{Contains}
 use Rattle.tf_plan_data.specs.Action.{StepView, replacement, replaced}
-use Rattle.tf_deciding.specs.Steps.{current_steps, decided_steps, deposed_step, destroy_if_deposed, destroy_of, removal_steps}
-use Rattle.tf_decision.specs.Decision as decision
-use Rattle.tf_decision.specs.Decision.{DecisionView, current}
+use Rattle.tf_plan_decision.specs.Steps.{current_steps, decided_steps, deposed_step, destroy_if_deposed, destroy_of, removal_steps}
+use Rattle.tf_plan_decision.specs.Decision as decision
+use Rattle.tf_plan_decision.specs.Decision.{DecisionView, current}
 use Rattle.tf_graph.proofs.Edges.{contains_cases, contains_head, contains_tail}
 use Rattle.tf_plan.proofs.Distinct.{AreDistinct, all-contained, distinct-append}
 use Rattle.tf_plan_data.specs.Fits.{is_apply, deposed_key}

@@ -10,17 +10,17 @@ use Rattle.tf_config_data.specs.Names.{NameView, a_local, a_block, block_name, l
 use Rattle.tf_graph.proofs.Edges.{edge-from_source, source-from_edge}
 use Rattle.tf_graph.specs.Digraph.{Digraph, predecessors_of}
 use Rattle.tf_graph.specs.Path.{HasEdge, Path, direct, onward}
-use Rattle.tf_names.proofs.Needing.{same_pair-same}
-use Rattle.tf_names.specs.Needs.{IsDependence, needs_in}
-use Rattle.tf_names.specs.declared.dependence.Dependence.{Dependence}
+use Rattle.tf_config_names.proofs.Needing.{same_pair-same}
+use Rattle.tf_config_names.specs.Needs.{IsDependence, needs_in}
+use Rattle.tf_config_names.specs.declared.dependence.Dependence.{Dependence}
 use Rattle.tf_plan.specs.Ordered.{AreTied, stored_graph}
-use Rattle.tf_precedence.specs.Late.{IsLate, Leads}
-use Rattle.tf_precedence.specs.Stored.{turned}
-use Rattle.tf_precedence.specs.OrderInput.{OrderInputView}
-use Rattle.tf_plan_resources.specs.Dependencies.{dependencies}
-use Rattle.tf_plan_resources.specs.Marks.{is_marked}
-use Rattle.tf_plan_resources.specs.Laws.{AreApart}
-use Rattle.tf_plan_resources.specs.ResourceIndex.{ResourceRefView, a_name, address_of, block_address, numbered}
+use Rattle.tf_plan_order.specs.Late.{IsLate, Leads}
+use Rattle.tf_plan_order.specs.Stored.{turned}
+use Rattle.tf_plan_order.specs.OrderInput.{OrderInputView}
+use Rattle.tf_plan_order.specs.Dependencies.{dependencies}
+use Rattle.tf_plan_order.specs.Marks.{is_marked}
+use Rattle.tf_plan_order.specs.ResourceLaws.{AreApart}
+use Rattle.tf_plan_order.specs.ResourceIndex.{ResourceRefView, a_name, address_of, block_address, numbered}
 use Rattle.tf_state_data.specs.Resource.{ResourceView}
 use Rattle.tf_syntax.specs.ExprTree as expr
 use Rattle.tf_syntax.specs.TemplateNames.{Pair}

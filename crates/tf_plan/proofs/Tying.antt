@@ -5,19 +5,19 @@ use Rattle.tf_config_data.specs.Names.{NameView}
 use Rattle.tf_graph.specs.Closure.{reaches}
 use Rattle.tf_graph.specs.Digraph.{Digraph}
 use Rattle.tf_graph.specs.Path.{Path, direct, joined}
-use Rattle.tf_names.specs.Needs.{IsAcyclic, IsDependence, needs_in}
-use Rattle.tf_names.specs.declared.dependence.Dependence.{Dependence}
+use Rattle.tf_config_names.specs.Needs.{IsAcyclic, IsDependence, needs_in}
+use Rattle.tf_config_names.specs.declared.dependence.Dependence.{Dependence}
 use Rattle.tf_plan.proofs.Refusing.{tells-weaker}
 use Rattle.tf_plan.specs.Ordered.{AreTied, IsOrdered, action_pairs, max_pairs, stored_graph, ties_by}
 use Rattle.tf_plan.specs.Refused.{AreManyPairsBy, HasManyPairs, Tells}
 use Rattle.tf_plan.specs.declared.refused.Refused.{Refused}
-use Rattle.tf_precedence.specs.Late.{AreLate, IsLate, Leads}
-use Rattle.tf_precedence.specs.Stored.{IsStored, Needed}
-use Rattle.tf_precedence.specs.OrderInput.{AreSound}
-use Rattle.tf_precedence.specs.declared.stored.StoredDependencies.{StoredDependencies}
-use Rattle.tf_plan_resources.specs.Dependencies.{dependencies}
-use Rattle.tf_plan_resources.specs.Marks.{is_marked}
-use Rattle.tf_plan_resources.specs.ResourceIndex.{ResourceRefView, numbered}
+use Rattle.tf_plan_order.specs.Late.{AreLate, IsLate, Leads}
+use Rattle.tf_plan_order.specs.Stored.{IsStored, Needed}
+use Rattle.tf_plan_order.specs.OrderInput.{AreSound}
+use Rattle.tf_plan_order.specs.declared.stored.StoredDependencies.{StoredDependencies}
+use Rattle.tf_plan_order.specs.Dependencies.{dependencies}
+use Rattle.tf_plan_order.specs.Marks.{is_marked}
+use Rattle.tf_plan_order.specs.ResourceIndex.{ResourceRefView, numbered}
 use Rattle.tf_state_data.specs.Resource.{ResourceView}
 
 late-onward : (needs needed : Digraph) (marked : List Bool) (a b : ℕ) → IsLate needs needed marked a → Leads needs needed a b → IsLate needs needed marked b

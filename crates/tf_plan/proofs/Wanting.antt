@@ -4,18 +4,18 @@ use Rattle.std.proofs.lemmas.Bool.{cases_lt}
 use Rattle.std.specs.declared.alloc.AllocError.{AllocError}
 use Rattle.std.specs.Prelude.{◌↔◌, ◌⊎◌}
 use Rattle.tf_config_data.specs.Names.{NameView, directly_before, places}
-use Rattle.tf_deciding.specs.Rows.{NeedsAreWanted}
-use Rattle.tf_environment.proofs.Places.{all_places}
-use Rattle.tf_environment.specs.Kept.{AreClosed, AreResolved}
-use Rattle.tf_environment.specs.Resolved.{ResolvedView, ResourceValuesView, AreResolvedNames}
+use Rattle.tf_plan_decision.specs.Rows.{NeedsAreWanted}
+use Rattle.tf_expand.proofs.Places.{all_places}
+use Rattle.tf_expand.specs.Kept.{AreClosed, AreResolved}
+use Rattle.tf_expand.specs.Resolved.{ResolvedView, ResourceValuesView, AreResolvedNames}
 use Rattle.tf_expand.proofs.Needing.{needed_below, needed_same}
 use Rattle.tf_expand.specs.Needed.{IsNeeded, IsNeededBy, is_resource}
 use Rattle.tf_graph.proofs.Edges.{all_by_contained}
 use Rattle.tf_graph.proofs.Solving.{all_by_at}
 use Rattle.tf_graph.specs.NodeSet.{has}
-use Rattle.tf_names.proofs.Edging.{before-past}
-use Rattle.tf_names.specs.Needs.{order_in, IsAcyclic, IsDependence}
-use Rattle.tf_names.specs.declared.dependence.Dependence.{Dependence}
+use Rattle.tf_config_names.proofs.Edging.{before-past}
+use Rattle.tf_config_names.specs.Needs.{order_in, IsAcyclic, IsDependence}
+use Rattle.tf_config_names.specs.declared.dependence.Dependence.{Dependence}
 use Rattle.tf_plan.specs.Wanted.{IsNamed, IsWanted}
 use Rattle.tf_syntax.specs.ExprNames.{named_below}
 use Rattle.tf_syntax.specs.ExprTree as expr

@@ -1,11 +1,11 @@
 -- What is planned, without where it lies in memory.
 use Rattle.std.specs.Prelude.{◌≡◌, List}
 use Rattle.tf_config_data.specs.Names.{NameView}
-use Rattle.tf_names.specs.Needs.{IsAcyclic, IsDependence}
-use Rattle.tf_names.specs.Table.{names_in}
+use Rattle.tf_config_names.specs.Needs.{IsAcyclic, IsDependence}
+use Rattle.tf_config_names.specs.Table.{names_in}
 use Rattle.tf_plan.specs.declared.deciding.PlanInput.{PlanInput}
-use Rattle.tf_plan_resources.specs.ResourceIndex.{numbered}
-use Rattle.tf_plan_resources.specs.Table.{numbered_in, resources_in}
+use Rattle.tf_plan_order.specs.ResourceIndex.{numbered}
+use Rattle.tf_plan_order.specs.Table.{numbered_in, resources_in}
 use Rattle.tf_state_data.specs.Resource.{ResourceView}
 use Rattle.tf_state_data.specs.State.{state_of}
 use Rattle.tf_syntax.specs.ExprTree as expr

@@ -5,16 +5,16 @@ use Rattle.tf_plan_data.specs.Precedence.{ordered}
 use Rattle.tf_config_data.specs.Names.{NameView}
 use Rattle.tf_graph.specs.Closure.{reaches}
 use Rattle.tf_graph.specs.Digraph.{Digraph}
-use Rattle.tf_names.specs.Needs.{IsDependence, needs_in}
-use Rattle.tf_names.specs.declared.dependence.Dependence.{Dependence}
-use Rattle.tf_precedence.specs.Late.{IsLate}
-use Rattle.tf_precedence.specs.Order.{pairs}
-use Rattle.tf_precedence.specs.Stored.{Needed, turned}
-use Rattle.tf_precedence.specs.OrderInput.{OrderInputView}
-use Rattle.tf_precedence.specs.declared.stored.StoredDependencies.{StoredDependencies}
-use Rattle.tf_plan_resources.specs.Dependencies.{dependencies}
-use Rattle.tf_plan_resources.specs.Marks.{is_marked}
-use Rattle.tf_plan_resources.specs.ResourceIndex.{ResourceRefView, numbered}
+use Rattle.tf_config_names.specs.Needs.{IsDependence, needs_in}
+use Rattle.tf_config_names.specs.declared.dependence.Dependence.{Dependence}
+use Rattle.tf_plan_order.specs.Late.{IsLate}
+use Rattle.tf_plan_order.specs.Order.{pairs}
+use Rattle.tf_plan_order.specs.Stored.{Needed, turned}
+use Rattle.tf_plan_order.specs.OrderInput.{OrderInputView}
+use Rattle.tf_plan_order.specs.declared.stored.StoredDependencies.{StoredDependencies}
+use Rattle.tf_plan_order.specs.Dependencies.{dependencies}
+use Rattle.tf_plan_order.specs.Marks.{is_marked}
+use Rattle.tf_plan_order.specs.ResourceIndex.{ResourceRefView, numbered}
 use Rattle.tf_state_data.specs.Resource.{ResourceView}
 
 -- the most pairs of actions of which one is before the other that a plan may have

@@ -9,7 +9,7 @@ use Rattle.tf_syntax.specs.ExprNames.{named_by}
 use Rattle.tf_syntax.specs.ExprTree as expr
 use Rattle.tf_value.specs.Tree.{Entries}
 use Rattle.tf_eval.specs.ExprMeaning.{meaning}
-use Rattle.tf_environment.specs.Resolved.{ResolvedView, all_stand, environment}
+use Rattle.tf_expand.specs.Resolved.{ResolvedView, all_stand, environment}
 
 -- an output whose value can't be evaluated is refused with 9
 abbrev pub output_fault : List ℕ → Answer → List RefusalView

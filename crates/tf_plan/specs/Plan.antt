@@ -3,7 +3,7 @@ use Rattle.std.specs.Prelude.{◌≡◌, ◌≤◌, ℕ, Bool, List, length}
 use Rattle.tf_plan_data.specs.Action.{ActionView}
 use Rattle.tf_config_data.specs.Config.{ConfigView}
 use Rattle.tf_config_data.specs.Names.{NameView, names_of}
-use Rattle.tf_environment.specs.InstanceKeys.{InstanceKeysView}
+use Rattle.tf_expand.specs.InstanceKeys.{InstanceKeysView}
 use Rattle.tf_graph.specs.Digraph.{Digraph}
 use Rattle.tf_plan.specs.Ordered.{IsOrdered}
 use Rattle.tf_plan.specs.Planned.{AreInstances, IsPlanned, unrefused}

@@ -1,21 +1,21 @@
 -- What is planned of a configuration beside a prior state, and what is refused.
 use Rattle.std.specs.Prelude.{◌≡◌, ℕ, List, [], ◌++◌, map}
 use Rattle.tf_plan_data.specs.Action.{ActionView, action_of}
-use Rattle.tf_plan_resources.specs.Order.{AreInAddressOrder}
+use Rattle.tf_plan_order.specs.AddressOrder.{AreInAddressOrder}
 use Rattle.tf_config_data.specs.Names.{NameView}
-use Rattle.tf_deciding.specs.Deciding.{DecidedView}
-use Rattle.tf_deciding.specs.Stage.{deciding}
-use Rattle.tf_deciding.specs.Whole.{decided}
-use Rattle.tf_environment.specs.InstanceKeys.{InstanceKeysView}
-use Rattle.tf_environment.specs.Stages.{expansion}
-use Rattle.tf_environment.specs.Resolved.{ResolvedView, AreResolvedNames}
+use Rattle.tf_plan_decision.specs.Deciding.{DecidedView}
+use Rattle.tf_plan_decision.specs.Stage.{deciding}
+use Rattle.tf_plan_decision.specs.Whole.{decided}
+use Rattle.tf_expand.specs.InstanceKeys.{InstanceKeysView}
+use Rattle.tf_expand.specs.Stages.{expansion}
+use Rattle.tf_expand.specs.Resolved.{ResolvedView, AreResolvedNames}
 use Rattle.tf_expand.specs.Expanding.{AreExpanded}
 use Rattle.tf_plan.specs.Outputs.{output_refusals}
 use Rattle.tf_plan.specs.Told.{instance_told}
 use Rattle.tf_plan.specs.declared.deciding.PlannedInstances.{PlannedInstances}
 use Rattle.tf_protocol.specs.Meaning.{Meaning}
 use Rattle.tf_refusal.specs.Refusal.{RefusalView, refusal_of}
-use Rattle.tf_plan_resources.specs.ResourceIndex.{numbered}
+use Rattle.tf_plan_order.specs.ResourceIndex.{numbered}
 use Rattle.tf_state_data.specs.Resource.{ResourceView}
 use Rattle.tf_syntax.specs.ExprTree as expr
 use Rattle.tf_value.specs.Tree.{Entries}

@@ -4,11 +4,11 @@ use Rattle.tf_plan_data.specs.Action.{ActionView}
 use Rattle.tf_address.specs.Label.{LabelView, label_text}
 use Rattle.tf_config_data.specs.Config.{BlockView, ConfigView}
 use Rattle.tf_config_data.specs.Names.{NameView, a_block, meant_at, names_of}
-use Rattle.tf_environment.specs.InstanceKeys.{InstanceKeysView}
-use Rattle.tf_environment.specs.Stages.{expansion}
-use Rattle.tf_environment.specs.Resolved.{ResolvedView, AreResolvedNames}
-use Rattle.tf_environment.specs.declared.repetition.RepetitionFault.{RepetitionFault}
-use Rattle.tf_environment.specs.declared.repetition.RepetitionFault.TheVariants.{BadCount, BadForEach, UnknownInstances, Evaluation}
+use Rattle.tf_expand.specs.InstanceKeys.{InstanceKeysView}
+use Rattle.tf_expand.specs.Stages.{expansion}
+use Rattle.tf_expand.specs.Resolved.{ResolvedView, AreResolvedNames}
+use Rattle.tf_expand.specs.declared.repetition.RepetitionFault.{RepetitionFault}
+use Rattle.tf_expand.specs.declared.repetition.RepetitionFault.TheVariants.{BadCount, BadForEach, UnknownInstances, Evaluation}
 use Rattle.tf_expand.specs.Expanding.{IsFirstRefused, AreTooMany}
 use Rattle.tf_expand.specs.declared.expansion.ExpansionFault.{ExpansionFault}
 use Rattle.tf_expand.specs.declared.expansion.ExpansionFault.TheVariants.{OutOfMemory, Resource, TooMany}
@@ -17,7 +17,7 @@ use Rattle.tf_plan.specs.Plan.{max_actions}
 use Rattle.tf_plan.specs.Planned.{AreInstances, IsPlanned, PlannedView, unrefused}
 use Rattle.tf_plan.specs.declared.refused.Refused.{Refused}
 use Rattle.tf_plan.specs.declared.refused.Refused.TheVariants.{NoMemory, These}
-use Rattle.tf_precedence.specs.OrderInput.{OrderInputView}
+use Rattle.tf_plan_order.specs.OrderInput.{OrderInputView}
 use Rattle.tf_protocol.specs.Meaning.{Meaning}
 use Rattle.tf_refusal.specs.Code.{bad_count, bad_for_each, unknown_instances, evaluate, limit}
 use Rattle.tf_refusal.specs.Refusal.{RefusalView, fault, bare, kind, refusal_of}

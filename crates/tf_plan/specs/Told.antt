@@ -1,12 +1,12 @@
 -- What is told of an instance that is refused.
 use Rattle.std.specs.Prelude.{ℕ, List, ◌∷◌, ◌++◌}
-use Rattle.tf_change.specs.Instance.{InstanceFaultView, for_each_fault, argument_fault}
-use Rattle.tf_change.specs.declared.argument.ArgumentFault.{ArgumentFault}
-use Rattle.tf_change.specs.declared.argument.ArgumentFault.TheVariants.{Evaluation, BadArgument}
-use Rattle.tf_deciding.specs.Deciding.{RefusedInstanceView}
-use Rattle.tf_deciding.specs.Outcome.{WhyView, no_provider, refused}
-use Rattle.tf_decision.specs.Decision.{unfit, faulty, prevented}
-use Rattle.tf_decision.specs.Prior.{PriorFaultView, as_a_whole, at_attribute}
+use Rattle.tf_plan_object.specs.Instance.{InstanceFaultView, for_each_fault, argument_fault}
+use Rattle.tf_plan_object.specs.declared.argument.ArgumentFault.{ArgumentFault}
+use Rattle.tf_plan_object.specs.declared.argument.ArgumentFault.TheVariants.{Evaluation, BadArgument}
+use Rattle.tf_plan_decision.specs.Deciding.{RefusedInstanceView}
+use Rattle.tf_plan_decision.specs.Outcome.{WhyView, no_provider, refused}
+use Rattle.tf_plan_decision.specs.Decision.{unfit, faulty, prevented}
+use Rattle.tf_plan_decision.specs.Prior.{PriorFaultView, as_a_whole, at_attribute}
 use Rattle.tf_plan_data.specs.Address.{address_text}
 use Rattle.tf_refusal.specs.Code as code
 use Rattle.tf_refusal.specs.Refusal.{RefusalView, fault, bare, kind}

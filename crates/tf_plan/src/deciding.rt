@@ -1,10 +1,10 @@
 //! What is planned of the instances of a configuration and a prior state together.
 
 ghost use Rattle.std.specs.Prelude.{◌≡◌, ℕ, IfOk, map};
-ghost use Rattle.tf_deciding.specs.Rows.{AreDecided, AreOnce, gathered, rows_of};
-ghost use Rattle.tf_deciding.specs.Stage.{deciding};
-ghost use Rattle.tf_names.specs.Needs.{order_in};
-ghost use Rattle.tf_plan_resources.specs.ResourceIndex.{numbered};
+ghost use Rattle.tf_plan_decision.specs.Rows.{AreDecided, AreOnce, gathered, rows_of};
+ghost use Rattle.tf_plan_decision.specs.Stage.{deciding};
+ghost use Rattle.tf_config_names.specs.Needs.{order_in};
+ghost use Rattle.tf_plan_order.specs.ResourceIndex.{numbered};
 ghost use Rattle.tf_plan_data.specs.Words.{AreResolvedNames, shapes_of, resolved_names_of, ResolvedView};
 ghost use Rattle.tf_plan.specs.Input.{IsGiven, names_given, outputs_given, resources_given, variables_given};
 ghost use Rattle.tf_plan.specs.Planned.{IsPlanned, planned_of, with_outputs};
@@ -15,10 +15,10 @@ use crate::telling::refusals_of;
 use crate::wanted::wanted_names;
 use std::alloc::{AllocError, Global};
 use std::collections::BTreeMap;
-use tf_deciding::{Decided, InOrder, PlannedValues, decide_in_order, gather};
-use tf_environment::{InstanceKeys, Module};
+use tf_expand::{InstanceKeys, Module};
 use tf_plan_data::Action;
-use tf_plan_resources::{ResourceIndex, address_order};
+use tf_plan_decision::{Decided, InOrder, PlannedValues, decide_in_order, gather};
+use tf_plan_order::{ResourceIndex, address_order};
 use tf_protocol::Provider;
 use tf_refusal::Refusal;
 use tf_state_data::State;

@@ -2,7 +2,7 @@
 
 ghost use Rattle.std.specs.Prelude.{◌≡◌, ◌<◌, ◌∷◌, [], IfOk, length, string_bytes};
 ghost use Rattle.tf_address.specs.Label.{label_of};
-ghost use Rattle.tf_names.specs.Table.{names_in};
+ghost use Rattle.tf_config_names.specs.Table.{names_in};
 ghost use Rattle.tf_plan.specs.Refused.{IsPlaced, Tells, TellsFault, beyond_limit, instances_refusal};
 ghost use Rattle.tf_refusal.specs.Refusal.{bare, fault, kind, refusal_of};
 ghost use Rattle.tf_refusal.specs.Code.{evaluate};
@@ -10,10 +10,9 @@ ghost use Rattle.tf_refusal.specs.Code.{evaluate};
 use crate::refused::Refused;
 use std::alloc::{AllocError, Global};
 use tf_address::Label;
-use tf_environment::RepetitionFault;
+use tf_config_names::{Declaration, Declarations};
 use tf_eval::EvalFault;
-use tf_expand::ExpansionFault;
-use tf_names::{Declaration, Declarations};
+use tf_expand::{ExpansionFault, RepetitionFault};
 use tf_refusal::code::{BAD_COUNT, BAD_FOR_EACH, EVALUATE, LIMIT, UNKNOWN_INSTANCES};
 use tf_refusal::{Detail, Refusal};
 

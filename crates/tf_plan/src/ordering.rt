@@ -8,12 +8,11 @@ ghost use Rattle.tf_plan.specs.Refused.{AreManyPairsBy, HasManyPairs, Tells};
 use crate::faults::{alone, limit_refusal};
 use crate::refused::Refused;
 use std::alloc::{AllocError, Global};
-use tf_environment::Module;
+use tf_config_names::Dependence;
+use tf_expand::Module;
 use tf_graph::MAX_NODES;
-use tf_names::Dependence;
 use tf_plan_data::Action;
-use tf_plan_resources::ResourceIndex;
-use tf_precedence::{Order, OrderFault, OrderInput, StoredDependencies, lateness};
+use tf_plan_order::{Order, OrderFault, OrderInput, ResourceIndex, StoredDependencies, lateness};
 
 /// The order of a plan's actions.
 #[derive(Drop)]
@@ -89,7 +88,7 @@ fn order_by(
 fn ordered_of(
     alloc: Global,
     actions: &[Action],
-) -> Result<Vec<tf_precedence::OrderedAction>, AllocError>
+) -> Result<Vec<tf_plan_order::OrderedAction>, AllocError>
     ensures { IfOk result (λ seen. seen.items ≡ map ordered (map action_of actions.now)) }
 {
     let mut seen = Vec::with_capacity(alloc, actions.len())?;

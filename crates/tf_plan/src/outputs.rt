@@ -9,8 +9,8 @@ ghost use Rattle.tf_syntax.specs.ExprTree.{entries_view as expressions_view, tre
 use crate::faults::evaluation;
 use std::alloc::{AllocError, Global};
 use std::collections::BTreeMap;
-use tf_environment::{Module, NamesScope, Resolved, all_stand};
 use tf_eval::{EvalFault, find_expr};
+use tf_expand::{Module, NamesScope, Resolved, all_stand};
 use tf_refusal::Refusal;
 use tf_syntax::Expr;
 

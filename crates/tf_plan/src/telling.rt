@@ -1,18 +1,19 @@
 //! The refusals of instances.
 
 ghost use Rattle.std.specs.Prelude.{◌≡◌, ◌++◌, ◌∷◌, IfOk, map, string_bytes};
-ghost use Rattle.tf_change.specs.Instance.{instance_fault_of};
-ghost use Rattle.tf_deciding.specs.Deciding.{refused_of};
-ghost use Rattle.tf_decision.specs.Answer.{prior_fault_of};
+ghost use Rattle.tf_plan_object.specs.Instance.{instance_fault_of};
+ghost use Rattle.tf_plan_decision.specs.Deciding.{refused_of};
+ghost use Rattle.tf_plan_decision.specs.Answer.{prior_fault_of};
 ghost use Rattle.tf_plan.specs.Told.{argument_told, fault_told, instance_told, unfit_told};
 ghost use Rattle.tf_refusal.specs.Refusal.{refusal_of};
 
 use crate::faults::{bare, evaluation};
 use std::alloc::{AllocError, Global};
-use tf_change::{ArgumentFault, InstanceFault};
-use tf_deciding::{RefusedInstance as RefusedInstance, Why};
-use tf_decision::{DecisionFault as Cause, PriorFault};
 use tf_plan_data::address_text;
+use tf_plan_decision::{
+    DecisionFault as Cause, PriorFault, RefusedInstance as RefusedInstance, Why,
+};
+use tf_plan_object::{ArgumentFault, InstanceFault};
 use tf_refusal::Refusal;
 use tf_refusal::code::{BAD_ARGUMENT, BAD_STATE, NO_PROVIDER, PREVENT_DESTROY};
 

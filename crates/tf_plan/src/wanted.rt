@@ -11,9 +11,8 @@ ghost use Rattle.tf_syntax.specs.ExprTree.{entries_view};
 
 use std::alloc::{AllocError, Global};
 use std::collections::BTreeMap;
-use tf_environment::{Module, is_marked, mark, none_marked};
-use tf_expand::{needed_by, needed_by_resources};
-use tf_names::Declarations;
+use tf_config_names::Declarations;
+use tf_expand::{Module, is_marked, mark, needed_by, needed_by_resources, none_marked};
 use tf_syntax::Expr;
 
 /// For each place, whether the name there is wanted: a resource or an output needs it.

@@ -6,8 +6,8 @@ use Rattle.tf_address.specs.Label.{LabelView}
 use Rattle.tf_address.specs.ObjectId.{InstanceKeyView, single, number, name}
 use Rattle.tf_config_data.specs.Config.{BlockView, config_of}
 use Rattle.tf_config_data.specs.Names.{NameView, a_block, meant_at, names_of}
-use Rattle.tf_names.specs.Needs.{IsAcyclic, IsDependence}
-use Rattle.tf_plan_resources.specs.ResourceIndex.{ResourceRefView, numbered, place_in}
+use Rattle.tf_config_names.specs.Needs.{IsAcyclic, IsDependence}
+use Rattle.tf_plan_order.specs.ResourceIndex.{ResourceRefView, numbered, place_in}
 use Rattle.tf_state_data.specs.State.{state_of}
 use Rattle.tf_plan_data.specs.declared.plan.Plan.{Plan}
 

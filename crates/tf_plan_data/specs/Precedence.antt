@@ -1,9 +1,9 @@
 -- What the order of actions sees of an action.
 use Rattle.std.specs.Prelude.{Bool, true, false}
 use Rattle.tf_plan_data.specs.Action.{ActionView, StepView, replacement, replaced, destroyed, deposed_destroyed}
-use Rattle.tf_precedence.specs.declared.action.OrderedAction.{OrderedAction as Ordered}
-use Rattle.tf_precedence.specs.declared.action.ActionKind.{ActionKind}
-use Rattle.tf_precedence.specs.declared.action.ActionKind.TheVariants.{Apply, Destroy, DestroyDeposed}
+use Rattle.tf_plan_order.specs.declared.action.OrderedAction.{OrderedAction as Ordered}
+use Rattle.tf_plan_order.specs.declared.action.ActionKind.{ActionKind}
+use Rattle.tf_plan_order.specs.declared.action.ActionKind.TheVariants.{Apply, Destroy, DestroyDeposed}
 
 -- it creates or updates the current object, or destroys it, or a deposed one
 abbrev pub kind_of : StepView → ActionKind

@@ -10,9 +10,9 @@ use tf_address::{InstanceKey, Label};
 /// An action of a plan from any prior state.
 #[derive(Debug, Drop)]
 pub struct Action {
-    /// The number of its resource, over configuration and state together (`tf_plan_resources`).
+    /// The number of its resource, over configuration and state together (`tf_plan_order`).
     pub resource: usize,
-    /// The number of its instance, among the members of the resource (`tf_plan_resources`).
+    /// The number of its instance, among the members of the resource (`tf_plan_order`).
     pub instance: usize,
     /// The resource.
     pub label: Label,
@@ -26,10 +26,10 @@ pub struct Action {
 
 impl Action {
     /// The action as the order of actions sees it.
-    pub fn ordered(&self) -> tf_precedence::OrderedAction
+    pub fn ordered(&self) -> tf_plan_order::OrderedAction
         ensures { result ≡ ordered (action_of self.now) }
     {
-        tf_precedence::OrderedAction {
+        tf_plan_order::OrderedAction {
             resource: self.resource,
             instance: self.instance,
             kind: self.step.kind(),

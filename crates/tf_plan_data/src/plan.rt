@@ -5,9 +5,9 @@ ghost use Rattle.std.specs.Prelude.{◌≡◌, vec_len};
 use crate::action::Action;
 use std::collections::BTreeMap;
 use tf_config_data::Config;
-use tf_environment::InstanceKeys;
-use tf_names::Dependence;
-use tf_precedence::Order;
+use tf_config_names::Dependence;
+use tf_expand::InstanceKeys;
+use tf_plan_order::Order;
 use tf_state_data::State;
 use tf_value::Value;
 
@@ -25,7 +25,7 @@ pub struct Plan {
     pub dependence: Dependence,
     /// How the instances of each resource stand together, by the place of its name.
     pub shapes: Vec<InstanceKeys>,
-    /// For each resource of configuration and prior state together, by its number (`tf_plan_resources`), whether it is late:
+    /// For each resource of configuration and prior state together, by its number (`tf_plan_order`), whether it is late:
     /// what replaces an object of it is created before that object is destroyed.
     pub late: Vec<bool>,
     /// The actions, in address order.

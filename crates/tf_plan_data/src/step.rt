@@ -4,7 +4,7 @@ ghost use Rattle.std.specs.Prelude.{◌≡◌};
 ghost use Rattle.tf_plan_data.specs.Action.{step_of};
 ghost use Rattle.tf_plan_data.specs.Precedence.{is_half, kind_of};
 
-use tf_precedence::ActionKind;
+use tf_plan_order::ActionKind;
 use tf_state_data::Object;
 use tf_value::Value;
 

@@ -1,2 +1,6 @@
+pub mod Beyond
+pub mod Dot
+pub mod Quoted
+pub mod Reduction
 pub mod Shown
 pub mod Text

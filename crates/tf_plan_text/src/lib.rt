@@ -1,7 +1,14 @@
-//! The text of a plan from any prior state.
+//! What a plan is shown as: its text, from any prior state, and its order as a graph for Graphviz. The graph leaves out the
+//! edges that follow from others: it is the transitive reduction of the order.
 #![tactic(auto)]
 
+mod drawing;
+mod quoting;
+mod reducing;
+mod rows;
 mod shown;
 mod text;
 
+pub use drawing::dot_text;
+pub use reducing::reduction;
 pub use text::plan_text;

@@ -77,7 +77,7 @@ fn show_step(
 }
 
 /// What stands before the address of an object that is replaced.
-fn replace_symbol(is_late: bool) -> &'static str
+pub(crate) fn replace_symbol(is_late: bool) -> &'static str
     ensures { result.now ≡ replace_symbol is_late }
 {
     if is_late { "+/- " } else { "-/+ " }

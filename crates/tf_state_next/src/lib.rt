@@ -17,8 +17,6 @@ pub mod object_laws;
 mod record_ends;
 mod recording;
 mod saved;
-#[cfg(test)]
-mod tests;
 mod whole;
 
 pub use draft::{StateDraft, draft_state};

@@ -2,8 +2,8 @@
 use Rattle.std.proofs.Common.{◌≡◌, ◌∙◌, ℕ, List, [], ◌∷◌, ◌++◌, Option, None, option_map, replicate, length, map, take, drop, refl, sym, ap, subst}
 use Rattle.std.proofs.lemmas.List.{length-map, length-replicate}
 use Rattle.tf_plan_data.specs.Action.{ActionView}
-use Rattle.tf_outcome.specs.ResultViews.{action_result_of}
-use Rattle.tf_outcome.specs.declared.action_result.ActionResult.{ActionResult}
+use Rattle.tf_walk_action.specs.ResultViews.{action_result_of}
+use Rattle.tf_walk_action.specs.declared.action_result.ActionResult.{ActionResult}
 
 first_part : {A : Type 0} (xs ys : List A) → take (length xs) (xs ++ ys) ≡ xs
 first_part [] ys = refl

@@ -6,8 +6,8 @@ use Rattle.tf_graph.specs.Digraph.{predecessors_of}
 use Rattle.tf_provider.specs.declared.journal.Entry.{Entry}
 use Rattle.tf_provider.specs.Entries.{Log, is_entered, fault_of}
 use Rattle.tf_walk.specs.Ends.{end_at, done_in}
-use Rattle.tf_outcome.specs.Outcome.{ActionResultView, skipped, excused, faulted, called, is_good}
-use Rattle.tf_outcome.specs.Journal.{verdict_in, entered_verdict}
+use Rattle.tf_walk_action.specs.Outcome.{ActionResultView, skipped, excused, faulted, called, is_good}
+use Rattle.tf_walk_action.specs.Journal.{verdict_in, entered_verdict}
 use Rattle.tf_walk.proofs.Seen.{list_all-weaker}
 use Rattle.std.proofs.lemmas.Bool.Decides.{nat_tests}
 use Rattle.std.proofs.Common.{arith}

@@ -1,15 +1,15 @@
 -- What was judged is what comes of the call of the provider that has the type, to a request of the action's kind.
 use Rattle.std.proofs.Common.{◌≡◌, ℕ, Bool, true, false, List, Option, Some}
 use Rattle.std.specs.Prelude.{MatchBool}
-use Rattle.tf_additions.specs.ActionReport.{IsJudged}
+use Rattle.tf_walk_report.specs.ActionReport.{IsJudged}
 use Rattle.tf_plan_data.specs.Plan.{PlanView}
 use Rattle.tf_protocol.specs.Meaning.{Asked, Answer, Meaning}
 use Rattle.tf_protocol.specs.declared.request.Op.{Op}
 use Rattle.tf_protocol.specs.declared.verdict.Verdict.{Verdict}
-use Rattle.tf_outcome.specs.Journal.{op_at}
-use Rattle.tf_outcome.specs.Outcome.{ActionResultView, skipped, excused, faulted, called, Requests, all_good, call_at}
-use Rattle.tf_outcome.specs.Run.{IsRun}
-use Rattle.tf_walk_report.proofs.Judged.{call-judged}
+use Rattle.tf_walk_action.specs.Journal.{op_at}
+use Rattle.tf_walk_action.specs.Outcome.{ActionResultView, skipped, excused, faulted, called, Requests, all_good, call_at}
+use Rattle.tf_walk_action.specs.Run.{IsRun}
+use Rattle.tf_walk_report.proofs.JudgedAsAsked.{call-judged}
 use Rattle.tf_walk.specs.Ends.{IsEnd}
 
 judged_where : (ms : List Meaning) (requests : Requests) (plan : PlanView) (n : ℕ) (seen : List (ℕ × ActionResultView)) (op : Op) (b : Bool) (q : Asked) (a : Option Answer) (v : Verdict)

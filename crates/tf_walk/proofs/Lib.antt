@@ -1,8 +1,13 @@
 pub mod Carried
-pub mod Ending
+pub mod EndedAction
 pub mod Entered
+pub mod GoodSeen
 pub mod Judged
+pub mod Judging
 pub mod Reported
 pub mod Seen
+pub mod Settling
+pub mod SharedPlan
 pub mod SoFar
 pub mod Stages
+pub mod Taking

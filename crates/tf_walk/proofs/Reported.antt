@@ -11,15 +11,15 @@ use Rattle.tf_provider.specs.declared.journal.Entry.{Entry}
 use Rattle.tf_plan_data.specs.Plan.{PlanView}
 use Rattle.tf_protocol.specs.Meaning.{Meaning}
 use Rattle.tf_protocol.specs.declared.request.Op.{Op}
-use Rattle.tf_outcome.specs.ResultViews.{action_result_of}
-use Rattle.tf_outcome.specs.Excuse.{Moment, before_call, during_call, by_stop, excuse_of}
-use Rattle.tf_outcome.specs.Journal.{op_at, verdict_in, entered_verdict}
-use Rattle.tf_outcome.specs.Outcome.{ActionResultView, skipped, excused, faulted, called, Requests, AreRequests, all_good, call_at, excuse_in, is_faulted, op_of, or_excused, rule, done_at, AreOutcomes}
-use Rattle.tf_outcome.specs.declared.excuse.Excuse.{Excuse}
-use Rattle.tf_additions.specs.ActionReport.{AreJudged, IsJudged}
-use Rattle.tf_outcome.specs.Run.{IsRun}
+use Rattle.tf_walk_action.specs.ResultViews.{action_result_of}
+use Rattle.tf_walk_action.specs.Excuse.{Moment, before_call, during_call, by_stop, excuse_of}
+use Rattle.tf_walk_action.specs.Journal.{op_at, verdict_in, entered_verdict}
+use Rattle.tf_walk_action.specs.Outcome.{ActionResultView, skipped, excused, faulted, called, Requests, AreRequests, all_good, call_at, excuse_in, is_faulted, op_of, or_excused, rule, done_at, AreOutcomes}
+use Rattle.tf_walk_action.specs.declared.excuse.Excuse.{Excuse}
+use Rattle.tf_walk_report.specs.ActionReport.{AreJudged, IsJudged}
+use Rattle.tf_walk_action.specs.Run.{IsRun}
 use Rattle.tf_walk.specs.Ends.{IsSoFar, IsStaged, AllHaveEnded, end_at, done_in, stage_of}
-use Rattle.tf_walk_report.proofs.Judged.{all-judged, ops-read}
+use Rattle.tf_walk_report.proofs.JudgedAsAsked.{all-judged, ops-read}
 use Rattle.tf_walk.proofs.Judged.{ended-judged}
 use Rattle.tf_walk.proofs.Seen.{all_of}
 

@@ -5,9 +5,9 @@ use Rattle.std.specs.List.{list_all, AllByRecursion}
 use Rattle.tf_graph.proofs.Solving.{seen_by-same}
 use Rattle.tf_graph.specs.Solutions.{seen_by}
 use Rattle.tf_value.proofs.Conjunction.{and-first, and-second, and-both}
-use Rattle.tf_outcome.specs.ResultViews.{action_result_of, result_or_skipped, action_results_of}
-use Rattle.tf_outcome.specs.Outcome.{ActionResultView, skipped, is_good, all_good, done_at}
-use Rattle.tf_outcome.specs.declared.action_result.ActionResult.{ActionResult}
+use Rattle.tf_walk_action.specs.ResultViews.{action_result_of, result_or_skipped, action_results_of}
+use Rattle.tf_walk_action.specs.Outcome.{ActionResultView, skipped, is_good, all_good, done_at}
+use Rattle.tf_walk_action.specs.declared.action_result.ActionResult.{ActionResult}
 use Rattle.tf_walk.specs.Ends.{done_in}
 
 -- all that is seen is good where each node's result is

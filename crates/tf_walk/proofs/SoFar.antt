@@ -19,8 +19,8 @@ use Rattle.tf_protocol.specs.declared.request.Op.{Op}
 use Rattle.tf_protocol.specs.declared.verdict.Verdict.{Verdict}
 use Rattle.tf_value.proofs.Conjunction.{and-first, and-second}
 use Rattle.tf_walk.specs.Ends.{IsEnd, IsSoFar, IsStaged, Enters, AllHaveEnded, end_at, done_in, stage_of}
-use Rattle.tf_outcome.specs.Outcome.{ActionResultView, skipped, Requests, AreRequests}
-use Rattle.tf_outcome.specs.Journal.{IsOfAction, op_at, verdict_in, entered_verdict}
+use Rattle.tf_walk_action.specs.Outcome.{ActionResultView, skipped, Requests, AreRequests}
+use Rattle.tf_walk_action.specs.Journal.{IsOfAction, op_at, verdict_in, entered_verdict}
 use Rattle.tf_walk.proofs.Entered.{verdict_in-push}
 use Rattle.tf_walk.proofs.Seen.{list_all-same, list_all-weaker, all_by_test}
 

@@ -10,9 +10,9 @@ use Rattle.tf_provider.specs.declared.journal.Entry.{Entry}
 use Rattle.tf_plan_data.specs.Plan.{PlanView}
 use Rattle.tf_protocol.specs.declared.request.Op.{Op}
 use Rattle.tf_protocol.specs.Meaning.{Meaning}
-use Rattle.tf_outcome.specs.Journal.{IsOfAction, verdict_in, entered_verdict}
-use Rattle.tf_outcome.specs.Outcome.{ActionResultView, skipped, Requests, AreRequests, all_good, call_at}
-use Rattle.tf_outcome.specs.Run.{IsRun}
+use Rattle.tf_walk_action.specs.Journal.{IsOfAction, verdict_in, entered_verdict}
+use Rattle.tf_walk_action.specs.Outcome.{ActionResultView, skipped, Requests, AreRequests, all_good, call_at}
+use Rattle.tf_walk_action.specs.Run.{IsRun}
 
 -- An action is skipped where one directly before it isn't good, and else it is called, faulted or excused.
 abbrev pub IsEnd : List Meaning → Requests → PlanView → ℕ → List (ℕ × ActionResultView) → ActionResultView → Type 0

@@ -1,2 +1,8 @@
 pub mod Ends
+pub mod Fitting
+pub mod Post
 pub mod Prepared
+pub mod PreparedMany
+pub mod Run
+pub mod Sharing
+pub mod Walk

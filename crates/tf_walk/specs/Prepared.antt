@@ -1,7 +1,7 @@
 -- What carrying out a plan begins with.
 use Rattle.std.specs.Prelude.{◌≡◌, [], None, replicate}
 use Rattle.tf_claim.specs.declared.book.Stage.TheVariants as stage
-use Rattle.tf_names.specs.Table.{names_in}
+use Rattle.tf_config_names.specs.Table.{names_in}
 use Rattle.tf_plan_data.specs.Plan.{plan_names, plan_of}
 use Rattle.tf_plan_data.specs.declared.plan.Plan.{Plan}
 use Rattle.tf_walk_report.specs.Reserved.{AreReserved}

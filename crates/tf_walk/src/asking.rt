@@ -1,17 +1,15 @@
 //! What is asked for an action by itself.
 
 ghost use Rattle.std.specs.Prelude.{◌≡◌, map, IfOk, IsSomeAnd, IsTrue};
-ghost use Rattle.tf_asks.specs.AskedBy.{asked_by};
-ghost use Rattle.tf_outcome.specs.Asked.{op_of};
-ghost use Rattle.tf_outcome.specs.Words.{action_of, AreRequests, asked, asks_fully, call_with, comes_of, config_of, FitsTogether, IsDeclared, IsServedBy, names_in, names_of, plan_of, Requests, schema_in};
+ghost use Rattle.tf_walk_action.specs.AskedBy.{asked_by};
+ghost use Rattle.tf_walk_action.specs.Asked.{op_of};
+ghost use Rattle.tf_walk_action.specs.Words.{action_of, AreRequests, asked, asks_fully, call_with, comes_of, config_of, FitsTogether, IsDeclared, IsServedBy, names_in, names_of, plan_of, Requests, schema_in};
 
 use std::alloc::{AllocError, Global};
-use tf_asks::ask_provider;
-use tf_names::Declarations;
-use tf_outcome::{Faulted, PreparedCall};
+use tf_config_names::Declarations;
 use tf_plan_data::{Action, Plan};
 use tf_provider::Provider;
-use tf_request::Results;
+use tf_walk_action::{Faulted, PreparedCall, Results, ask_provider};
 
 /// What is asked for an action of a plan, or what is wrong with it, where instances stand for these results. Nothing that
 /// is worked out for it is kept for another.

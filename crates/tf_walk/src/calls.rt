@@ -2,13 +2,13 @@
 
 ghost use Rattle.std.specs.List.{list_all};
 ghost use Rattle.std.specs.Prelude.{◌≡◌, ◌<◌, ◌++◌, ◌∷◌, [], None, Some, All, is_none, is_some, length, map, option_map, true};
-ghost use Rattle.tf_outcome.specs.Words.{asked, call_of_provider, action_result_of, result_or_skipped, ended_action, entered_verdict, fault_of, is_good, IsRun, IsServed};
+ghost use Rattle.tf_walk_action.specs.Words.{asked, call_of_provider, action_result_of, result_or_skipped, ended_action, entered_verdict, fault_of, is_good, IsRun, IsServed};
 ghost use Rattle.tf_provider.specs.declared.journal.Entry.{Entry};
 ghost use Rattle.tf_walk.specs.Ends.{done_in, end_at};
 
 use tf_claim::{Finished, Permit};
-use tf_outcome::{ActionResult, NotGood, PreparedCall, ended_by};
 use tf_provider::{Journal, Provider, call};
+use tf_walk_action::{ActionResult, NotGood, PreparedCall, ended_by};
 
 /// Calls a provider with a request, and records the call.
 pub fn make_call(

@@ -1,15 +1,30 @@
-//! Carrying out a plan: each action is called once, when all that it depends on is good, and what came of it
-//! is recorded and reported.
+//! Carrying out a plan: each action is called once, when all that it depends on is good, and what came of it is recorded and
+//! reported.
+//!
+//! One thread does so (`run_one`), or many workers (`run`), which share claims, result cells and hints. What many workers did
+//! is compared and reported once they are joined.
 #![tactic(auto)]
 
 mod asking;
+mod bound;
 mod calls;
 mod claims;
+mod ending;
+mod fitting;
+mod hinting;
+mod many;
 mod prepared;
+mod prepared_many;
+mod progress;
+mod result_cells;
+mod shared;
+mod sharing;
 mod single;
 mod steps;
 mod walk;
+mod worker;
 
+pub use many::{MOST_WORKERS, run, run_and_close};
 pub use single::run_one;
-pub use tf_outcome::{Excuse, Outcome};
+pub use tf_walk_action::{Excuse, Outcome};
 pub use tf_walk_report::{Diagnostic, Report, Walked};

@@ -6,10 +6,10 @@ ghost use Rattle.tf_walk.specs.Prepared.{IsPrepared};
 
 use std::alloc::{AllocError, Global};
 use tf_claim::Book;
-use tf_names::Declarations;
-use tf_outcome::{ActionResult, not_ended};
+use tf_config_names::Declarations;
 use tf_plan_data::Plan;
 use tf_provider::Journal;
+use tf_walk_action::{ActionResult, not_ended};
 use tf_walk_report::{ReportBuffers, reserve_report};
 
 /// All that the report on a plan needs memory for, the names of its configuration, and the claims on its actions. The

@@ -1,7 +1,7 @@
 //! Carrying out a plan by one thread.
 
 ghost use Rattle.std.specs.Prelude.{◌≡◌, map, IfOk, IfErr};
-ghost use Rattle.tf_outcome.specs.Words.{action_of, AreServed, FitsTogether, plan_of};
+ghost use Rattle.tf_walk_action.specs.Words.{action_of, AreServed, FitsTogether, plan_of};
 ghost use Rattle.tf_refusal.specs.Refusal.{no_memory, refusal_of};
 ghost use Rattle.tf_walk_report.specs.Report.{IsWalked, IsWhole};
 ghost use Rattle.tf_walk.specs.Prepared.{IsPrepared};
@@ -9,11 +9,11 @@ ghost use Rattle.tf_walk.specs.Prepared.{IsPrepared};
 use crate::prepared::{Prepared, prepare};
 use crate::walk::walk;
 use std::alloc::{AllocError, Global};
-use tf_environment::Module;
-use tf_outcome::Stop;
+use tf_expand::Module;
 use tf_plan_data::{Plan, Planned};
 use tf_provider::Provider;
 use tf_refusal::Refusal;
+use tf_walk_action::Stop;
 use tf_walk_report::{Report, Walked, report_of};
 
 /// Carries out a plan by one thread, without waiting: every action is ended once, after all that stand before

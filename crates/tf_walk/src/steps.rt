@@ -2,18 +2,18 @@
 
 ghost use Rattle.std.specs.List.{list_all};
 ghost use Rattle.std.specs.Prelude.{◌≡◌, ◌<◌, None, Some, is_some, length, map, option_map, slice_get, false, true, IsSomeAnd, IsTrue, MatchOption};
-ghost use Rattle.tf_outcome.specs.Words.{action_of, AreServed, asked, asks_fully, call_of, config_of, action_result_of, ended_action, fault_of, FitsTogether, is_good, IsRun, names_in, names_of, op_at, plan_of, predecessors_of, schema_in, seen_by};
-ghost use Rattle.tf_outcome.specs.Outcome.{Requests, AreRequests};
+ghost use Rattle.tf_walk_action.specs.Words.{action_of, AreServed, asked, asks_fully, call_of, config_of, action_result_of, ended_action, fault_of, FitsTogether, is_good, IsRun, names_in, names_of, op_at, plan_of, predecessors_of, schema_in, seen_by};
+ghost use Rattle.tf_walk_action.specs.Outcome.{Requests, AreRequests};
 ghost use Rattle.tf_walk.specs.Ends.{Enters, IsEnd, IsSoFar, done_in, end_at};
 
 use crate::asking::ask;
 use crate::calls::{first_not_good, make_call};
 use std::alloc::{AllocError, Global};
 use tf_claim::{Finished, Permit};
-use tf_names::Declarations;
-use tf_outcome::{ActionResult, Answered, NotGood, PreparedCall, Stop};
+use tf_config_names::Declarations;
 use tf_plan_data::Plan;
 use tf_provider::{Journal, Provider, first_provider};
+use tf_walk_action::{ActionResult, Answered, NotGood, PreparedCall, Stop};
 
 /// Ends a claimed action: skips it where an action directly before it isn't good; leaves it where the walk is to stop by
 /// then; excuses it where memory for its request is refused; tells what is wrong where its request has a fault; and else

@@ -1,7 +1,7 @@
 //! The walk of one thread.
 
 ghost use Rattle.std.specs.Prelude.{◌≡◌, ◌<◌, None, Some, map, option_map, length, slice_set};
-ghost use Rattle.tf_outcome.specs.Words.{action_of, AreServed, config_of, action_result_of, ended_action, FitsTogether, names_in, names_of, plan_of};
+ghost use Rattle.tf_walk_action.specs.Words.{action_of, AreServed, config_of, action_result_of, ended_action, FitsTogether, names_in, names_of, plan_of};
 ghost use Rattle.tf_walk.specs.Ends.{AllHaveEnded, IsSoFar, IsStaged, end_at};
 
 use crate::claims::{close, next_permit};
@@ -9,10 +9,10 @@ use crate::steps::end_action;
 use std::alloc::Global;
 use std::mem;
 use tf_claim::Book;
-use tf_names::Declarations;
-use tf_outcome::{ActionResult, Stop};
+use tf_config_names::Declarations;
 use tf_plan_data::Plan;
 use tf_provider::{Journal, Provider};
+use tf_walk_action::{ActionResult, Stop};
 
 /// Takes every action of a plan to its end; once the walk is to stop, no further provider is called.
 pub fn walk(

@@ -8,18 +8,18 @@ use Rattle.std.specs.Ordering.{ordering_reverse}
 use Rattle.std.specs.Cmp.{IsTotalOrder}
 use Rattle.std.specs.Prelude.{Option, Some, None, if◌then◌else◌, nat_lt, slice_get}
 use Rattle.tf_plan_data.specs.Action.{ActionView, StepView, create, update, replacement, replaced, destroyed, deposed_destroyed}
-use Rattle.tf_additions.specs.Change.{ChangeView, applies_in, change_by, changes_in, destroys_in, applied_of_done, left_of_done}
-use Rattle.tf_additions.specs.Head.{AreHeads, Head, Target, an_instance, an_object, given_with, key_in}
+use Rattle.tf_walk_report.specs.Change.{ChangeView, applies_in, change_by, changes_in, destroys_in, applied_of_done, left_of_done}
+use Rattle.tf_walk_report.specs.Head.{AreHeads, Head, Target, an_instance, an_object, given_with, key_in}
 use Rattle.tf_address.proofs.Totals.{label_total, object_id_total}
 use Rattle.tf_address.specs.Label.{LabelView, label_cmp}
 use Rattle.tf_address.specs.ObjectId.{InstanceKeyView, single, number, name, ObjectIdView, object_id_cmp}
 use Rattle.tf_address.specs.Same.{same_instance_key}
 use Rattle.tf_state_next.specs.Events.{AreApart as AreAllApart, AreEachAboutOne, MetadataUpdateView, as_apply, instance_of, object_of}
-use Rattle.tf_outcome.specs.Outcome.{ActionResultView}
+use Rattle.tf_walk_action.specs.Outcome.{ActionResultView}
 use Rattle.tf_plan_data.specs.Fits.{AreApart, IsPlaced, about, is_apply, deposed_key}
 use Rattle.tf_plan_data.specs.Plan.{PlanView, plan_names}
 use Rattle.tf_protocol.specs.Meaning.{Meaning}
-use Rattle.tf_plan_resources.specs.ResourceIndex.{ResourceRefView, numbered, place_in}
+use Rattle.tf_plan_order.specs.ResourceIndex.{ResourceRefView, numbered, place_in}
 use Rattle.tf_state_next.specs.After.{object_at}
 use Rattle.tf_state_next.specs.Ends.{ApplyResultView, LeftView, RecordInputView}
 use Rattle.tf_state_data.specs.Addresses.{AreByAddress}

@@ -3,10 +3,10 @@ use Rattle.std.proofs.Common.{◌≡◌, ◌∙◌, ℕ, suc, Bool, List, [], �
 use Rattle.std.proofs.lemmas.List.{length-map}
 use Rattle.tf_address.specs.ObjectId.{InstanceKeyView}
 use Rattle.tf_config_data.specs.Names.{NameView}
-use Rattle.tf_environment.specs.InstanceKeys.{InstanceKeysView}
-use Rattle.tf_outcome.specs.Outcome.{ActionResultView}
-use Rattle.tf_outputs.specs.Outputs.{AreOutputsDone, AreOutputsEnded, OutputResultView, end_of}
-use Rattle.tf_outputs.specs.declared.ends.OutputResult.{OutputResult}
+use Rattle.tf_expand.specs.InstanceKeys.{InstanceKeysView}
+use Rattle.tf_walk_action.specs.Outcome.{ActionResultView}
+use Rattle.tf_walk_report.specs.Outputs.{AreOutputsDone, AreOutputsEnded, OutputResultView, end_of}
+use Rattle.tf_walk_report.specs.declared.ends.OutputResult.{OutputResult}
 use Rattle.tf_plan_data.specs.Action.{ActionView}
 use Rattle.tf_state_data.specs.State.{StateView}
 use Rattle.tf_syntax.specs.ExprTree as expr

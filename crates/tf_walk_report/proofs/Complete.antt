@@ -1,13 +1,13 @@
 -- A report is put together of its parts.
 use Rattle.std.proofs.Common.{◌≡◌, ◌∙◌, ◌<◌, ◌++◌, ℕ, suc, Bool, List, [], ◌∷◌, length, map, refl, ap, ap₂}
 use Rattle.tf_plan_data.specs.Action.{ActionView}
-use Rattle.tf_additions.specs.ActionReport.{told_in}
-use Rattle.tf_additions.specs.Diagnostics.{action_diagnostics, diagnostics_at}
-use Rattle.tf_additions.specs.Head.{AreHeads, Head}
+use Rattle.tf_walk_report.specs.ActionReport.{told_in}
+use Rattle.tf_walk_report.specs.Diagnostics.{action_diagnostics, diagnostics_at}
+use Rattle.tf_walk_report.specs.Head.{AreHeads, Head}
 use Rattle.tf_config_data.specs.Names.{NameView, directly_before, meant_at}
 use Rattle.tf_graph.specs.Solutions.{seen_by}
-use Rattle.tf_outcome.specs.Outcome.{ActionResultView, op_of}
-use Rattle.tf_outputs.specs.Settled.{AreSettled, all_settled, settled_as}
+use Rattle.tf_walk_action.specs.Outcome.{ActionResultView, op_of}
+use Rattle.tf_walk_report.specs.Settled.{AreSettled, all_settled, settled_as}
 use Rattle.tf_plan_data.specs.Plan.{PlanView}
 
 -- what is told of actions is told by what was known of each

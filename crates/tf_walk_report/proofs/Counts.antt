@@ -4,9 +4,9 @@ use Rattle.std.specs.Prelude.{is_some, nat_eq, slice_get}
 use Rattle.std.proofs.lemmas.Bool.Decides.{nat_tests}
 use Rattle.tf_claim.specs.Claims.{how_many}
 use Rattle.tf_provider.specs.declared.journal.Entry.{Entry}
-use Rattle.tf_outcome.specs.Excuse.{excuse_of}
-use Rattle.tf_outcome.specs.declared.excuse.Excuse.{Excuse}
-use Rattle.tf_outcome.specs.declared.excuse.Outcome.{Outcome}
+use Rattle.tf_walk_action.specs.Excuse.{excuse_of}
+use Rattle.tf_walk_action.specs.declared.excuse.Excuse.{Excuse}
+use Rattle.tf_walk_action.specs.declared.excuse.Outcome.{Outcome}
 use Rattle.tf_walk_report.specs.Told.{is_during, verdict_of, verdict_told}
 
 below : (outcomes : List Outcome) (b : Bool) (n : ℕ) → is_some (verdict_of (slice_get outcomes n) b) ≡ true → n < length outcomes

@@ -1,13 +1,13 @@
 -- The excuses of the excused actions excuse exactly those.
 use Rattle.std.proofs.Common.{◌≡◌, ◌<◌, ℕ, zero, suc, ◌+◌, Bool, true, false, cond, eqb, List, [], ◌∷◌, ◌++◌, Option, Some, None, refl, ap, ◌∙◌, arith}
 use Rattle.std.proofs.lemmas.Bool.Decides.{nat_tests}
-use Rattle.tf_outcome.specs.Excuse.{Moment, before_call, during_call, by_stop, excuse_of, moment_in, or_else}
-use Rattle.tf_outcome.specs.Outcome.{ActionResultView, skipped, excused, faulted, called, done_at, excuse_in}
-use Rattle.tf_outputs.specs.declared.ends.OutputResult.{OutputResult}
-use Rattle.tf_outputs.specs.declared.ends.OutputResult.TheVariants.{NotEvaluated, NoMemory, Faulted, Valued}
+use Rattle.tf_walk_action.specs.Excuse.{Moment, before_call, during_call, by_stop, excuse_of, moment_in, or_else}
+use Rattle.tf_walk_action.specs.Outcome.{ActionResultView, skipped, excused, faulted, called, done_at, excuse_in}
+use Rattle.tf_walk_report.specs.declared.ends.OutputResult.{OutputResult}
+use Rattle.tf_walk_report.specs.declared.ends.OutputResult.TheVariants.{NotEvaluated, NoMemory, Faulted, Valued}
 use Rattle.tf_walk_report.specs.Outcomes.{excuses_at, excuses_from}
 use Rattle.tf_walk_report.specs.OutputsTold.{output_excuses}
-use Rattle.tf_outcome.specs.declared.excuse.Excuse.{Excuse}
+use Rattle.tf_walk_action.specs.declared.excuse.Excuse.{Excuse}
 
 or_else-or_else : (a b c : Option Moment) → or_else a (or_else b c) ≡ or_else (or_else a b) c
 or_else-or_else None b c = refl

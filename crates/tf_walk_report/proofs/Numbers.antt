@@ -1,7 +1,7 @@
 -- What is asked for is listed.
 use Rattle.std.proofs.Common.{◌≡◌, ◌<◌, ℕ, Bool, true, List, length, Option, arith}
 use Rattle.std.specs.Prelude.{Vec}
-use Rattle.tf_additions.specs.Needed.{AreListedAsked}
+use Rattle.tf_walk_report.specs.Needed.{AreListedAsked}
 use Rattle.tf_graph.specs.NodeSet.{has}
 use Rattle.tf_plan_data.specs.Plan.{PlanView, plan_names}
 use Rattle.tf_walk_report.specs.Asked.{IsNumberAsked, IsNumberListed}

@@ -3,14 +3,14 @@ use Rattle.std.proofs.Common.{◌≡◌, ◌∙◌, ◌+◌, ◌++◌, ℕ, Bool
 use Rattle.std.specs.List.{AllByRecursion}
 use Rattle.std.specs.Prelude.{Option, Some, None, if◌then◌else◌}
 use Rattle.tf_plan_data.specs.Action.{ActionView}
-use Rattle.tf_additions.specs.Change.{ChangeView, an_apply, a_destroy, MayBeLeft, MayBeStored, applied_of_done, applies_in, change_by, changes_in, destroys_in, left_of_done}
-use Rattle.tf_additions.specs.Head.{AreHeads, Head, IsKeyFor, Target, an_instance, an_object, given_with, key_in, records_at}
+use Rattle.tf_walk_report.specs.Change.{ChangeView, an_apply, a_destroy, MayBeLeft, MayBeStored, applied_of_done, applies_in, change_by, changes_in, destroys_in, left_of_done}
+use Rattle.tf_walk_report.specs.Head.{AreHeads, Head, IsKeyFor, Target, an_instance, an_object, given_with, key_in, records_at}
 use Rattle.tf_address.specs.Label.{LabelView}
 use Rattle.tf_address.specs.Name.{is_name}
 use Rattle.tf_address.specs.ObjectId.{ObjectIdView}
 use Rattle.tf_state_next.specs.Events.{MetadataUpdateView, as_apply}
 use Rattle.tf_state_next.specs.Sound.{AreSound, IsSoundApply, IsSoundDestroy, IsSoundLeft}
-use Rattle.tf_outcome.specs.Outcome.{ActionResultView}
+use Rattle.tf_walk_action.specs.Outcome.{ActionResultView}
 use Rattle.tf_plan_data.specs.Fits.{IsDeclared, is_apply, deposed_key}
 use Rattle.tf_plan_data.specs.Plan.{PlanView, plan_names}
 use Rattle.tf_protocol.specs.Meaning.{Meaning}

@@ -1,9 +1,9 @@
 -- The resources whose blocks stand, and what is listed for them.
 use Rattle.std.specs.Prelude.{◌≡◌, ◌<◌, ℕ, Bool, true, List, length, Option, Some, Vec}
-use Rattle.tf_additions.specs.Needed.{IsListed}
+use Rattle.tf_walk_report.specs.Needed.{IsListed}
 use Rattle.tf_graph.specs.NodeSet.{has}
 use Rattle.tf_plan_data.specs.Plan.{PlanView, plan_names}
-use Rattle.tf_plan_resources.specs.ResourceIndex.{ResourceRefView, place_in}
+use Rattle.tf_plan_order.specs.ResourceIndex.{ResourceRefView, place_in}
 use Rattle.tf_state_data.specs.Resource.{ResourceView}
 
 -- a number is asked for, where there is one and it is that of a name

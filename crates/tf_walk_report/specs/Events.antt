@@ -2,18 +2,18 @@
 use Rattle.std.specs.Prelude.{ℕ, ◌==◌, ◌&&◌, Bool, true, false, not, nat_lt, if◌then◌else◌, List, [], map, filter, length, Option, Some, None}
 use Rattle.std.specs.List.{flat_map, list_any}
 use Rattle.tf_plan_data.specs.Action.{ActionView}
-use Rattle.tf_additions.specs.Change.{applies_in, changes_in, destroys_in}
-use Rattle.tf_additions.specs.Dependencies.{dependencies}
-use Rattle.tf_additions.specs.Head.{Head}
+use Rattle.tf_walk_report.specs.Change.{applies_in, changes_in, destroys_in}
+use Rattle.tf_walk_report.specs.Dependencies.{dependencies}
+use Rattle.tf_walk_report.specs.Head.{Head}
 use Rattle.tf_address.specs.Label.{LabelView}
 use Rattle.tf_address.specs.ObjectId.{InstanceKeyView}
 use Rattle.tf_address.specs.Same.{same_instance_key}
 use Rattle.tf_state_next.specs.Events.{EventsView, MetadataUpdateView}
-use Rattle.tf_outcome.specs.Outcome.{ActionResultView}
+use Rattle.tf_walk_action.specs.Outcome.{ActionResultView}
 use Rattle.tf_plan_data.specs.Fits.{deposed_key}
 use Rattle.tf_plan_data.specs.Plan.{PlanView, plan_names}
 use Rattle.tf_protocol.specs.Meaning.{Meaning}
-use Rattle.tf_plan_resources.specs.ResourceIndex.{numbered, place_in}
+use Rattle.tf_plan_order.specs.ResourceIndex.{numbered, place_in}
 use Rattle.tf_state_data.specs.Record.{RecordView}
 use Rattle.tf_state_data.specs.Resource.{ResourceView}
 

@@ -1,7 +1,7 @@
 -- Of which resources all creates and updates are good.
 use Rattle.std.specs.Prelude.{ℕ, ◌==◌, ◌&&◌, ◌||◌, Bool, true, not, List, ◌∷◌}
 use Rattle.tf_plan_data.specs.Action.{ActionView}
-use Rattle.tf_outcome.specs.Outcome.{ActionResultView, is_good}
+use Rattle.tf_walk_action.specs.Outcome.{ActionResultView, is_good}
 use Rattle.tf_plan_data.specs.Fits.{is_apply}
 
 -- whether an action creates or updates an object of the resource of a number

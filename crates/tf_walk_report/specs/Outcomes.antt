@@ -1,12 +1,12 @@
 -- How actions ended, and which of them are excused.
 use Rattle.std.specs.Prelude.{ℕ, ◌+◌, Bool, true, false, List, [], ◌∷◌, ◌++◌}
 use Rattle.tf_plan_data.specs.Action.{ActionView}
-use Rattle.tf_outcome.specs.Excuse.{before_call, during_call, by_stop}
-use Rattle.tf_outcome.specs.Outcome.{ActionResultView, skipped, excused, faulted, called, is_good, op_of}
-use Rattle.tf_outcome.specs.declared.excuse.Excuse.{Excuse}
-use Rattle.tf_outcome.specs.declared.excuse.Excuse.TheVariants.{Before, During, Left}
-use Rattle.tf_outcome.specs.declared.excuse.Outcome.{Outcome}
-use Rattle.tf_outcome.specs.declared.excuse.Outcome.TheVariants as outcome
+use Rattle.tf_walk_action.specs.Excuse.{before_call, during_call, by_stop}
+use Rattle.tf_walk_action.specs.Outcome.{ActionResultView, skipped, excused, faulted, called, is_good, op_of}
+use Rattle.tf_walk_action.specs.declared.excuse.Excuse.{Excuse}
+use Rattle.tf_walk_action.specs.declared.excuse.Excuse.TheVariants.{Before, During, Left}
+use Rattle.tf_walk_action.specs.declared.excuse.Outcome.{Outcome}
+use Rattle.tf_walk_action.specs.declared.excuse.Outcome.TheVariants as outcome
 use Rattle.tf_protocol.specs.declared.request.Op.{Op}
 use Rattle.tf_protocol.specs.declared.request.Op.TheVariants.{Create, Update, Destroy}
 

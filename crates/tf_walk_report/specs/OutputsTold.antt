@@ -1,12 +1,12 @@
 -- What an apply tells of outputs.
 use Rattle.std.specs.Prelude.{ℕ, ◌+◌, List, [], ◌∷◌, ◌++◌, codes, None}
-use Rattle.tf_outcome.specs.Message.{evaluation_text}
-use Rattle.tf_outcome.specs.declared.excuse.Excuse.{Excuse}
-use Rattle.tf_outcome.specs.declared.excuse.Excuse.TheVariants.{Output}
-use Rattle.tf_outputs.specs.declared.ends.OutputResult.{OutputResult}
-use Rattle.tf_outputs.specs.declared.ends.OutputResult.TheVariants.{NotEvaluated, NoMemory, Faulted, Valued}
+use Rattle.tf_walk_action.specs.Message.{evaluation_text}
+use Rattle.tf_walk_action.specs.declared.excuse.Excuse.{Excuse}
+use Rattle.tf_walk_action.specs.declared.excuse.Excuse.TheVariants.{Output}
+use Rattle.tf_walk_report.specs.declared.ends.OutputResult.{OutputResult}
+use Rattle.tf_walk_report.specs.declared.ends.OutputResult.TheVariants.{NotEvaluated, NoMemory, Faulted, Valued}
 use Rattle.tf_syntax.specs.ExprTree.{Entries, entry}
-use Rattle.tf_additions.specs.Diagnostics.{DiagnosticView}
+use Rattle.tf_walk_report.specs.Diagnostics.{DiagnosticView}
 
 -- `output.NAME`
 abbrev pub output_place : List ℕ → List ℕ

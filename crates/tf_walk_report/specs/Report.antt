@@ -1,18 +1,18 @@
 -- What a report says of a plan that was carried out.
 use Rattle.std.specs.Prelude.{◌≡◌, ℕ, Bool, false, List, ◌++◌, length, map}
 use Rattle.std.specs.List.{range_with_len}
-use Rattle.tf_additions.specs.Diagnostics.{action_diagnostics, diagnostic_of}
-use Rattle.tf_additions.specs.Head.{AreHeads, Head}
+use Rattle.tf_walk_report.specs.Diagnostics.{action_diagnostics, diagnostic_of}
+use Rattle.tf_walk_report.specs.Head.{AreHeads, Head}
 use Rattle.tf_address.specs.ObjectId.{InstanceKeyView}
 use Rattle.tf_graph.specs.Digraph.{predecessors_of}
 use Rattle.tf_graph.specs.Solutions.{seen_by}
 use Rattle.tf_state_next.specs.Events.{ends_in, given_in}
 use Rattle.tf_state_next.specs.StateAfter.{IsStateAfter}
-use Rattle.tf_outcome.specs.Excuse.{during_call}
-use Rattle.tf_outcome.specs.Journal.{IsJournal}
-use Rattle.tf_outcome.specs.Outcome.{ActionResultView, Requests, AreOutcomes, AreRequests, call_at, done_at, excused, is_faulted, objects_by}
-use Rattle.tf_outputs.specs.Outputs.{OutputResultView, AreOutputsDone, end_of, outputs_after}
-use Rattle.tf_outputs.specs.Settled.{AreSettled}
+use Rattle.tf_walk_action.specs.Excuse.{during_call}
+use Rattle.tf_walk_action.specs.Journal.{IsJournal}
+use Rattle.tf_walk_action.specs.Outcome.{ActionResultView, Requests, AreOutcomes, AreRequests, call_at, done_at, excused, is_faulted, objects_by}
+use Rattle.tf_walk_report.specs.Outputs.{OutputResultView, AreOutputsDone, end_of, outputs_after}
+use Rattle.tf_walk_report.specs.Settled.{AreSettled}
 use Rattle.tf_plan_data.specs.Plan.{PlanView, plan_names}
 use Rattle.tf_protocol.specs.Meaning.{Meaning}
 use Rattle.tf_state.specs.Valid.{IsValid}

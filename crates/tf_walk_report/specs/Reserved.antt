@@ -2,13 +2,13 @@
 use Rattle.std.specs.Prelude.{◌≡◌, ◌≤◌, ◌+◌, ℕ, List, [], filter, map, vec_len, vec_capacity}
 use Rattle.std.specs.List.{range_with_len}
 use Rattle.tf_plan_data.specs.Action.{ActionView}
-use Rattle.tf_additions.specs.Head.{AreHeads}
-use Rattle.tf_additions.specs.BuffersHead.{buffers_head}
+use Rattle.tf_walk_report.specs.Head.{AreHeads}
+use Rattle.tf_walk_report.specs.BuffersHead.{buffers_head}
 use Rattle.tf_address.specs.Label.{LabelView}
 use Rattle.tf_state_next.specs.Events.{metadata_update_of}
 use Rattle.tf_state_next.specs.StateDraft.{IsStateDraft}
-use Rattle.tf_outputs.specs.Outputs.{kept_entries}
-use Rattle.tf_outputs.specs.Buffers.{outputs_in}
+use Rattle.tf_walk_report.specs.Outputs.{kept_entries}
+use Rattle.tf_walk_report.specs.Buffers.{outputs_in}
 use Rattle.tf_plan_data.specs.Fits.{is_apply}
 use Rattle.tf_plan_data.specs.Plan.{plan_names, plan_of}
 use Rattle.tf_plan_data.specs.declared.plan.Plan.{Plan}

@@ -1,28 +1,33 @@
--- Whether the journal of a report is the one that the report tells of.
-use Rattle.std.specs.Prelude.{◌≡◌, ℕ, List}
-use Rattle.std.specs.List.{AllByRecursion}
-use Rattle.tf_plan_data.specs.Action.{ActionView}
-use Rattle.tf_graph.specs.Digraph.{Digraph, predecessors_of}
-use Rattle.tf_graph.specs.Order.{IsInOrder}
-use Rattle.tf_provider.specs.Entries.{actions_of}
-use Rattle.tf_outcome.specs.Journal.{IsOfAction, verdict_in}
-use Rattle.tf_walk_report.specs.declared.report.Report.{Report}
-use Rattle.tf_walk_report.specs.declared.report.Walked.{Walked}
-use Rattle.tf_walk_report.specs.declared.report.Walked.TheVariants.{Whole, Torn}
-use Rattle.tf_walk_report.specs.Told.{verdict_told}
+-- Which names are settled after an apply, so that an output that names them can be evaluated anew.
+use Rattle.std.specs.Prelude.{◌≡◌, ℕ, Bool, false, List, Option, Some, None, length, Contains}
+use Rattle.std.specs.List.{list_all}
+use Rattle.tf_config_data.specs.Names.{NameView, Meant, a_local, a_block, meant_at, directly_before, places}
+use Rattle.tf_graph.specs.Solutions.{Solves, seen_by}
+use Rattle.tf_syntax.specs.ExprNames.{named_by}
+use Rattle.tf_syntax.specs.ExprTree.{Tree}
 
--- A journal holds exactly the calls that its report tells of, each once with its verdict, none before one that it depends
--- on.
-pub record AreCallsTold (order : Digraph) (report : Report) : Type 0 where
-  pub in_order : IsInOrder (predecessors_of order) (actions_of report.journal.entries)
-  pub verdicts : (n : ℕ) → verdict_in report.journal.entries n ≡ verdict_told report.outcomes.items report.excused.items n
+-- whether all that is seen is settled
+abbrev pub all_settled : List (ℕ × Bool) → Bool
+all_settled seen = list_all (λ s. s.1) seen
 
--- And each says what its action has its provider do, by the actions of the plan.
-pub record IsJournalTold (order : Digraph) (actions : List ActionView) (report : Report) : Type 0 where
-  pub calls : AreCallsTold order report
-  pub ops : AllByRecursion (IsOfAction actions) report.journal.entries
+-- what is settled, by whether all creates and updates of a resource are good, and whether all that a local refers to is settled
+abbrev pub settled_as : Option Meant → Bool → Bool → Bool
+settled_as None good all = false
+settled_as (Some (a_local e)) good all = all
+settled_as (Some (a_block b)) good all = good
 
--- a report is whole where its journal is the one that it tells of, and else it is torn
-abbrev pub IsSettled : Digraph → List ActionView → Report → Walked → Type 0
-IsSettled order actions report (Whole r) = (r ≡ report) × IsJournalTold order actions report
-IsSettled order actions report (Torn r) = (r ≡ report) × (IsJournalTold order actions report → ⊥)
+-- A resource is settled where all its creates and updates are good, and a local where each name that it refers to directly is.
+abbrev pub settled_rule : List NameView → (ℕ → Bool) → ℕ → List (ℕ × Bool) → Bool
+settled_rule names good n seen = settled_as (meant_at names n) (good n) (all_settled seen)
+
+-- The settled names: the solution of the rule.
+abbrev pub AreSettled : List NameView → (ℕ → Bool) → (ℕ → Bool) → Type 0
+AreSettled names good settled = Solves (length names) (directly_before names) (settled_rule names good) settled
+
+-- those of a list are right by each solution
+abbrev pub AreSettledAmong : List NameView → (ℕ → Bool) → List ℕ → (ℕ → Bool) → Type 0
+AreSettledAmong names good order settled = (solution : ℕ → Bool) → AreSettled names good solution → (n : ℕ) → Contains order n → settled n ≡ solution n
+
+-- whether each name that an expression names is settled
+abbrev pub names_are_settled : List NameView → (ℕ → Bool) → Tree → Bool
+names_are_settled names settled e = all_settled (seen_by settled (places names (named_by e)))

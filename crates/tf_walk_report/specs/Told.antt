@@ -1,9 +1,9 @@
 -- What a report tells of the calls that were made, by its outcomes and excuses.
 use Rattle.std.specs.Prelude.{ℕ, Bool, true, false, if◌then◌else◌, List, Option, Some, None, slice_get}
-use Rattle.tf_outcome.specs.Excuse.{Moment, during_call, excuse_of}
-use Rattle.tf_outcome.specs.declared.excuse.Excuse.{Excuse}
-use Rattle.tf_outcome.specs.declared.excuse.Outcome.{Outcome}
-use Rattle.tf_outcome.specs.declared.excuse.Outcome.TheVariants as outcome
+use Rattle.tf_walk_action.specs.Excuse.{Moment, during_call, excuse_of}
+use Rattle.tf_walk_action.specs.declared.excuse.Excuse.{Excuse}
+use Rattle.tf_walk_action.specs.declared.excuse.Outcome.{Outcome}
+use Rattle.tf_walk_action.specs.declared.excuse.Outcome.TheVariants as outcome
 use Rattle.tf_protocol.specs.declared.verdict.Verdict.{Verdict}
 use Rattle.tf_protocol.specs.declared.verdict.Verdict.TheVariants as verdict
 

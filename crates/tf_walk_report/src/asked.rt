@@ -3,13 +3,13 @@
 ghost use Rattle.std.specs.List.{AllByRecursion};
 ghost use Rattle.std.specs.Prelude.{◌≡◌, ℕ, true, IfOk, length, map};
 ghost use Rattle.tf_graph.specs.NodeSet.{has};
-ghost use Rattle.tf_outcome.specs.Words.{resource_of};
-ghost use Rattle.tf_plan_resources.specs.Table.{numbered_in};
+ghost use Rattle.tf_walk_action.specs.Words.{resource_of};
+ghost use Rattle.tf_plan_order.specs.Table.{numbered_in};
 ghost use Rattle.tf_walk_report.specs.Asked.{IsNumberAsked, IsResourceAsked};
 
 use std::alloc::{AllocError, Global};
 use tf_graph::NodeSet;
-use tf_plan_resources::ResourceIndex;
+use tf_plan_order::ResourceIndex;
 use tf_state_data::Resource;
 
 /// The numbers of some resources, as far as they are below a count, which is that of names.

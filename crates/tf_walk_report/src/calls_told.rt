@@ -2,11 +2,11 @@
 
 ghost use Rattle.std.specs.Prelude.{◌≡◌, ◌↔◌, IsTrue, All, Some, false, is_some, length};
 ghost use Rattle.tf_claim.specs.Claims.{how_many};
-ghost use Rattle.tf_outcome.specs.Excuse.{excuse_of};
+ghost use Rattle.tf_walk_action.specs.Excuse.{excuse_of};
 ghost use Rattle.tf_walk_report.specs.Told.{is_during, verdict_told};
 
-use tf_outcome::{Excuse, Outcome};
 use tf_provider::{Entry, Verdict};
+use tf_walk_action::{Excuse, Outcome};
 
 /// Whether each entry has the verdict that is told of its action.
 pub fn are_told(entries: &[Entry], outcomes: &[Outcome], excused: &[Excuse]) -> bool

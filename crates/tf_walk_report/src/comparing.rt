@@ -2,7 +2,7 @@
 
 ghost use Rattle.std.specs.Prelude.{◌≡◌, IsTrue, false, map};
 ghost use Rattle.tf_plan_data.specs.Action.{action_of};
-ghost use Rattle.tf_walk_report.specs.Settled.{AreCallsTold, IsJournalTold, IsSettled};
+ghost use Rattle.tf_walk_report.specs.JournalTold.{AreCallsTold, IsJournalTold, IsSettled};
 
 use crate::calls_told::{are_told, count_told};
 use crate::operations::are_of_actions;

@@ -1,13 +1,13 @@
 //! How actions ended, without taking memory.
 
 ghost use Rattle.std.specs.Prelude.{◌≡◌, ◌-◌, ◌<◌, ◌≤◌, ◌^◌, [], length, map, vec_capacity};
-ghost use Rattle.tf_outcome.specs.Words.{action_of, result_or_skipped, action_results_of, is_good, op_of, step_of};
-ghost use Rattle.tf_additions.specs.ActionReport.{listed};
+ghost use Rattle.tf_walk_action.specs.Words.{action_of, result_or_skipped, action_results_of, is_good, op_of, step_of};
+ghost use Rattle.tf_walk_report.specs.ActionReport.{listed};
 ghost use Rattle.tf_walk_report.specs.Outcomes.{counted_one, excuses_at, excuses_from, good_totals, outcome_of};
 
-use tf_outcome::{ActionResult, Excuse, Outcome};
 use tf_plan_data::{Action, Step};
 use tf_provider::Verdict;
+use tf_walk_action::{ActionResult, Excuse, Outcome};
 
 /// How each action ended, in action order.
 pub fn tell_outcomes(outcomes: &mut Vec<Outcome>, results: &[Option<ActionResult>])

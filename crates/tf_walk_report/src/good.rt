@@ -1,12 +1,12 @@
 //! Of which resources all creates and updates are good.
 
 ghost use Rattle.std.specs.Prelude.{◌≡◌, ◌<◌, ◌&&◌, ◌||◌, ℕ, length, map, not, true};
-ghost use Rattle.tf_outcome.specs.Words.{action_of, result_or_skipped, action_results_of, has, is_apply, is_good, step_of};
+ghost use Rattle.tf_walk_action.specs.Words.{action_of, result_or_skipped, action_results_of, has, is_apply, is_good, step_of};
 ghost use Rattle.tf_walk_report.specs.Good.{are_good_at, is_apply_of};
 
 use crate::gather::is_good;
-use tf_outcome::ActionResult;
 use tf_plan_data::{Action, Step};
+use tf_walk_action::ActionResult;
 
 /// Notes of each resource, by the place of its name, whether all its creates and updates are good.
 pub fn note_good(good: &mut [bool], actions: &[Action], results: &[Option<ActionResult>])

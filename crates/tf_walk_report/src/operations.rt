@@ -2,9 +2,9 @@
 
 ghost use Rattle.std.specs.List.{AllByRecursion};
 ghost use Rattle.std.specs.Prelude.{◌≡◌, ◌↔◌, IsTrue, false, map};
-ghost use Rattle.tf_outcome.specs.Words.{action_of, IsOfAction, op_at};
+ghost use Rattle.tf_walk_action.specs.Words.{action_of, IsOfAction, op_at};
 
-use tf_additions::op_of;
+use crate::reserving_actions::op_of;
 use tf_plan_data::Action;
 use tf_protocol::Op;
 use tf_provider::Entry;

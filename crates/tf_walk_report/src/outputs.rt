@@ -1,21 +1,22 @@
 //! What is told of outputs, without taking memory.
 
 ghost use Rattle.std.specs.Prelude.{◌≡◌, ◌+◌, ◌++◌, ◌≤◌, None, IfOk, length, map, option_map, string_bytes, vec_capacity};
-ghost use Rattle.tf_outcome.specs.Message.{evaluation_text};
+ghost use Rattle.tf_walk_action.specs.Message.{evaluation_text};
 ghost use Rattle.tf_syntax.specs.ExprTree.{entries_view};
-ghost use Rattle.tf_additions.specs.ActionReport.{listed};
-ghost use Rattle.tf_additions.specs.Diagnostics.{diagnostic_of};
+ghost use Rattle.tf_walk_report.specs.ActionReport.{listed};
+ghost use Rattle.tf_walk_report.specs.Diagnostics.{diagnostic_of};
 ghost use Rattle.tf_walk_report.specs.OutputsTold.{diagnostics_of_output, output_excuses, output_excuses_at, output_place};
 ghost use Rattle.tf_walk_report.specs.OutputsBuffers.{places_in, places_of, told_of_texts};
 
+use crate::additions::add;
+use crate::diagnostic::Diagnostic;
+use crate::ends::OutputResult;
 use crate::texts::OutputTexts;
 use std::alloc::{AllocError, Global};
 use std::collections::BTreeMap;
-use tf_additions::{Diagnostic, add};
 use tf_eval::EvalFault;
-use tf_outcome::Excuse;
-use tf_outputs::OutputResult;
 use tf_syntax::Expr;
+use tf_walk_action::Excuse;
 
 /// The texts for each output, in byte order of their names.
 ///

@@ -1,9 +1,9 @@
 //! What an apply reports.
 
-use tf_additions::Diagnostic;
-use tf_outcome::{Excuse, Outcome};
+use crate::diagnostic::Diagnostic;
 use tf_provider::Journal;
 use tf_state_data::State;
+use tf_walk_action::{Excuse, Outcome};
 
 /// What came of carrying out a plan. What was created may be known from here alone, so a report can be neither
 /// copied nor let go: a pattern that names each of its fields takes it apart.

@@ -2,26 +2,30 @@
 
 ghost use Rattle.std.specs.Prelude.{◌≡◌, ◌+◌, ◌≤◌, ◌++◌, ◌∷◌, [], IfOk, OnOk, if◌then◌else◌, length, map, vec_capacity, vec_len};
 ghost use Rattle.std.specs.List.{range_with_len};
-ghost use Rattle.tf_outcome.specs.Words.{action_of, FitsTogether, is_apply, IsTable, label_of, names_in, outputs_of, plan_names, plan_of};
+ghost use Rattle.tf_walk_action.specs.Words.{action_of, FitsTogether, is_apply, IsTable, label_of, names_in, outputs_of, plan_names, plan_of};
 ghost use Rattle.tf_state_next.specs.StateDraft.{IsStateDraft};
-ghost use Rattle.tf_outputs.specs.Outputs.{kept_entries};
-ghost use Rattle.tf_outputs.specs.Buffers.{outputs_in};
+ghost use Rattle.tf_walk_report.specs.Outputs.{kept_entries};
+ghost use Rattle.tf_walk_report.specs.Buffers.{outputs_in};
 ghost use Rattle.tf_walk_report.specs.Reserved.{AreEmptyLists, AreReserved, applied_labels};
 ghost use Rattle.tf_walk_report.specs.Settling.{IsReady};
 
+use crate::additions::Changes;
+use crate::buffers::ActionBuffers;
+use crate::diagnostic::Diagnostic;
 use crate::good::is_apply;
+use crate::keeping::kept_outputs;
+use crate::output_buffers::reserve_outputs;
 use crate::outputs::texts_for;
+use crate::reserving_actions::reserve_actions;
 use crate::settling::Settling;
 use crate::texts::OutputTexts;
 use crate::updating::metadata_updates_for;
 use std::alloc::{AllocError, Global};
-use tf_additions::{ActionBuffers, Changes, Diagnostic, reserve_actions};
 use tf_address::Label;
-use tf_names::Declarations;
-use tf_outcome::{Excuse, Outcome};
-use tf_outputs::{kept_outputs, reserve_outputs};
+use tf_config_names::Declarations;
 use tf_plan_data::{Action, Plan};
 use tf_state_next::{MetadataUpdate, StateDraft, draft_state};
+use tf_walk_action::{Excuse, Outcome};
 
 /// All that the report on a plan needs memory for. What actions change may not be let go, so neither may the lists that are
 /// for it.

@@ -2,19 +2,21 @@
 
 ghost use Rattle.std.specs.Prelude.{◌≡◌, ◌++◌, ◌∷◌, [], None, if◌then◌else◌, IfOk, OnOk, filter, map};
 ghost use Rattle.std.specs.List.{flat_map, list_any};
-ghost use Rattle.tf_outcome.specs.Words.{action_of, deposed_key, instance_key_of, label_of, names_in, plan_names, plan_of, record_of, resource_of, step_of};
-ghost use Rattle.tf_additions.specs.Needed.{IsListed};
+ghost use Rattle.tf_walk_action.specs.Words.{action_of, deposed_key, instance_key_of, label_of, names_in, plan_names, plan_of, record_of, resource_of, step_of};
+ghost use Rattle.tf_walk_report.specs.Needed.{IsListed};
 ghost use Rattle.tf_state_next.specs.Events.{metadata_update_of};
 ghost use Rattle.tf_walk_report.specs.Events.{is_about, is_none, metadata_update_of_record, metadata_updates, metadata_updates_at, stays};
 ghost use Rattle.tf_walk_report.specs.Asked.{IsNumberListed};
 
 use crate::asked::asked_numbers;
+use crate::dependencies::dependencies_listed;
+use crate::needed::needed_lists;
+use crate::reserving_actions::is_late;
 use std::alloc::{AllocError, Global};
-use tf_additions::{dependencies_listed, is_late, needed_lists};
 use tf_address::{InstanceKey, Label};
-use tf_names::Declarations;
+use tf_config_names::Declarations;
 use tf_plan_data::{Action, Plan, Step};
-use tf_plan_resources::ResourceIndex;
+use tf_plan_order::ResourceIndex;
 use tf_state_data::{Record, Resource};
 use tf_state_next::{MetadataUpdate, RecordInput};
 

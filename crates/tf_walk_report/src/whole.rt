@@ -6,12 +6,13 @@ ghost use Rattle.tf_state_next.specs.StateDraft.{IsStateDraft};
 ghost use Rattle.tf_state_next.specs.Sound.{AreSound};
 ghost use Rattle.tf_state_next.specs.StateAfter.{IsStateAfter};
 ghost use Rattle.tf_state.specs.Valid.{IsValid};
-ghost use Rattle.tf_outcome.specs.Words.{action_results_of, entries_view, FitsTogether, IsTable, names_in, op_of, outputs_of, plan_names, plan_of, state_of};
-ghost use Rattle.tf_outputs.specs.Outputs.{OutputResultView};
-ghost use Rattle.tf_additions.specs.ActionReport.{AreJudged};
+ghost use Rattle.tf_walk_action.specs.Words.{action_results_of, entries_view, FitsTogether, IsTable, names_in, op_of, outputs_of, plan_names, plan_of, state_of};
+ghost use Rattle.tf_walk_report.specs.Outputs.{OutputResultView};
+ghost use Rattle.tf_walk_report.specs.ActionReport.{AreJudged};
 ghost use Rattle.tf_walk_report.specs.Reserved.{AreReserved};
 ghost use Rattle.tf_walk_report.specs.Report.{IsTold};
 
+use crate::additions::{Changes, report_actions};
 use crate::gather::{count_good, tell_excuses, tell_outcomes};
 use crate::outputs::{tell_output_excuses, tell_outputs};
 use crate::report::Report;
@@ -19,13 +20,12 @@ use crate::reserving::{ReportBuffers, ReportLists};
 use crate::settling::{OutputValues, outputs_after};
 use std::alloc::Global;
 use std::collections::BTreeMap;
-use tf_additions::{Changes, report_actions};
-use tf_environment::Module;
-use tf_outcome::ActionResult;
+use tf_expand::Module;
 use tf_plan_data::Plan;
 use tf_provider::{Journal, Provider};
 use tf_state_data::{Object, State};
 use tf_state_next::{Events, MetadataUpdate, StateDraft, state_after};
+use tf_walk_action::ActionResult;
 
 /// The report on a plan, by what came of each of its actions, in action order. It has no answer that says that there was
 /// no memory: none is taken, but for the values of outputs, and where that is refused it is told of the output.

@@ -4,8 +4,8 @@ use Rattle.tf_graph.specs.Digraph.{predecessors_of}
 use Rattle.tf_graph.specs.Solutions.{seen_by}
 use Rattle.tf_plan_data.specs.Plan.{PlanView}
 use Rattle.tf_protocol.specs.Meaning.{Meaning}
-use Rattle.tf_outcome.specs.Excuse.{before_call, during_call, by_stop}
-use Rattle.tf_outcome.specs.Outcome.{ActionResultView, skipped, excused, faulted, called, Requests, all_good, call_at, is_faulted, rule}
+use Rattle.tf_walk_action.specs.Excuse.{before_call, during_call, by_stop}
+use Rattle.tf_walk_action.specs.Outcome.{ActionResultView, skipped, excused, faulted, called, Requests, all_good, call_at, is_faulted, rule}
 use Rattle.tf_walk_workers.specs.Ideal.{IsIdeal, AgreesWith}
 use Rattle.tf_walk_workers.specs.Laws.{CallsAreTrue, ExcusesAreTrue}
 use Rattle.tf_walk_workers.specs.SeenResult.{AreShown}

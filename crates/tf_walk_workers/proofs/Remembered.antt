@@ -6,7 +6,7 @@ use Rattle.tf_walk_workers.specs.declared.before.Before.{Before}
 use Rattle.tf_config_data.specs.Names.{NameView}
 use Rattle.tf_graph.specs.Digraph.{predecessors_of}
 use Rattle.tf_graph.specs.Solutions.{seen_by}
-use Rattle.tf_outcome.specs.Outcome.{ActionResultView, all_good, is_good}
+use Rattle.tf_walk_action.specs.Outcome.{ActionResultView, all_good, is_good}
 use Rattle.tf_plan_data.specs.Plan.{PlanView}
 use Rattle.tf_plan_data.specs.declared.plan.Plan.{Plan}
 use Rattle.tf_protocol.specs.Meaning.{Meaning}

@@ -6,7 +6,7 @@ use denote.Enum.Declared as choice
 use Rattle.std.proofs.Crossing.{crosses}
 use Rattle.std.proofs.MapsCrossing as maps
 use Rattle.counted_slot.proofs.Counted.TheSendSync.{the_sync}
-use Rattle.tf_outcome.specs.contracts.action_result.ActionResult as ended
+use Rattle.tf_walk_action.specs.contracts.action_result.ActionResult as ended
 use Rattle.tf_provider.specs.contracts.called.Judged as judged
 use Rattle.tf_value.proofs.value.Value.TheLaws.TheKnot as value
 use Rattle.tf_walk_workers.specs.contracts.cells.Cells.{the_row}

@@ -2,9 +2,9 @@
 use Rattle.std.specs.Prelude.{◌≡◌, ◌≤◌, ◌<◌, ℕ, List, length, Option, None, slice_index_or}
 use Rattle.tf_plan_data.specs.Plan.{PlanView}
 use Rattle.tf_protocol.specs.Meaning.{Meaning}
-use Rattle.tf_outcome.specs.ResultViews.{action_results_of}
-use Rattle.tf_outcome.specs.Outcome.{done_at}
-use Rattle.tf_outcome.specs.declared.action_result.ActionResult.{ActionResult}
+use Rattle.tf_walk_action.specs.ResultViews.{action_results_of}
+use Rattle.tf_walk_action.specs.Outcome.{done_at}
+use Rattle.tf_walk_action.specs.declared.action_result.ActionResult.{ActionResult}
 use Rattle.tf_walk_workers.specs.Ideal.{IsTrueTo, IsNumbered}
 
 -- So far: the cells that are left are those of the first actions, whose places are free; what stands in a place is true

@@ -5,8 +5,8 @@ use Rattle.tf_plan_data.specs.Plan.{PlanView}
 use Rattle.tf_protocol.specs.Meaning.{Meaning}
 use Rattle.tf_value.specs.Tree.{tree_of}
 use Rattle.tf_value.specs.declared.value.Value.{Value}
-use Rattle.tf_outcome.specs.Outcome.{ActionResultView, skipped, excused, faulted, called, is_good}
-use Rattle.tf_outcome.specs.Objects.{object_of}
+use Rattle.tf_walk_action.specs.Outcome.{ActionResultView, skipped, excused, faulted, called, is_good}
+use Rattle.tf_walk_action.specs.Objects.{object_of}
 use Rattle.tf_walk_workers.specs.Ideal.{InEachIdeal, IsGoodInEach, IsTrueTo}
 
 -- a good end is the ideal one

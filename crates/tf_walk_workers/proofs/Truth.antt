@@ -9,10 +9,10 @@ use Rattle.tf_walk_workers.specs.Laws.{OfCall}
 use Rattle.tf_walk_workers.specs.SeenResult.{AreShown}
 use Rattle.tf_config_data.specs.Names.{NameView}
 use Rattle.tf_graph.specs.Digraph.{predecessors_of}
-use Rattle.tf_outcome.proofs.Calling.{run_at, seen_objects}
-use Rattle.tf_outcome.specs.Excuse.{before_call, during_call, by_stop}
-use Rattle.tf_outcome.specs.Outcome.{ActionResultView, skipped, excused, faulted, called, Requests, AreRequests, call_with, objects_by, objects_seen}
-use Rattle.tf_outcome.specs.Run.{IsRun}
+use Rattle.tf_walk_action.proofs.Calling.{run_at, seen_objects}
+use Rattle.tf_walk_action.specs.Excuse.{before_call, during_call, by_stop}
+use Rattle.tf_walk_action.specs.Outcome.{ActionResultView, skipped, excused, faulted, called, Requests, AreRequests, call_with, objects_by, objects_seen}
+use Rattle.tf_walk_action.specs.Run.{IsRun}
 use Rattle.tf_plan_data.specs.Plan.{PlanView, plan_names}
 use Rattle.tf_protocol.specs.Meaning.{Meaning}
 use Rattle.tf_state_data.specs.State.{StateView}

@@ -4,10 +4,10 @@ use Rattle.tf_graph.specs.Digraph.{predecessors_of}
 use Rattle.tf_graph.specs.Solutions.{Solves, seen_by}
 use Rattle.tf_plan_data.specs.Plan.{PlanView}
 use Rattle.tf_protocol.specs.Meaning.{Meaning}
-use Rattle.tf_outcome.specs.ResultViews.{HasCause, action_result_of, ended_action}
-use Rattle.tf_outcome.specs.declared.action_result.ActionResult.{ActionResult}
-use Rattle.tf_outcome.specs.Excuse.{before_call, during_call, by_stop}
-use Rattle.tf_outcome.specs.Outcome.{ActionResultView, skipped, excused, Requests, AreRequests, all_good, is_faulted, is_good, rule}
+use Rattle.tf_walk_action.specs.ResultViews.{HasCause, action_result_of, ended_action}
+use Rattle.tf_walk_action.specs.declared.action_result.ActionResult.{ActionResult}
+use Rattle.tf_walk_action.specs.Excuse.{before_call, during_call, by_stop}
+use Rattle.tf_walk_action.specs.Outcome.{ActionResultView, skipped, excused, Requests, AreRequests, all_good, is_faulted, is_good, rule}
 
 -- Ideal outcomes are those of a plan where nothing is excused.
 abbrev pub IsIdeal : List Meaning → PlanView → Requests → (ℕ → ActionResultView) → Type 0

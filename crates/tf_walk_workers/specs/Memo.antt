@@ -1,11 +1,11 @@
 -- What a worker keeps of the requests that it made.
 use Rattle.std.specs.Prelude.{◌<◌, List, map}
 use Rattle.tf_plan_data.specs.Action.{action_of}
-use Rattle.tf_asks.specs.SoFar.{ResolvedSoFar}
+use Rattle.tf_walk_action.specs.SoFar.{ResolvedSoFar}
 use Rattle.tf_walk_workers.specs.SeenResult.{seen_result_of}
 use Rattle.tf_config_data.specs.Names.{NameView}
-use Rattle.tf_names.specs.Table.{names_in}
-use Rattle.tf_outcome.specs.Objects.{objects_seen}
+use Rattle.tf_config_names.specs.Table.{names_in}
+use Rattle.tf_walk_action.specs.Objects.{objects_seen}
 use Rattle.tf_plan_data.specs.Plan.{PlanView, plan_of}
 use Rattle.tf_plan_data.specs.declared.plan.Plan.{Plan}
 use Rattle.tf_protocol.specs.Meaning.{Meaning}

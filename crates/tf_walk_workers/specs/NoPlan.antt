@@ -1,6 +1,6 @@
 -- A plan in which there is nothing to do.
 use Rattle.std.specs.Prelude.{[], false}
-use Rattle.tf_environment.specs.InstanceKeys as shape
+use Rattle.tf_expand.specs.InstanceKeys as shape
 use Rattle.tf_plan_data.specs.Plan.{PlanView}
 use Rattle.tf_state_data.specs.State.{empty_state}
 use Rattle.tf_syntax.specs.ExprTree as expr

@@ -1,7 +1,7 @@
 -- What is read from a cell.
 use Rattle.std.specs.Prelude.{ℕ, Option, Some}
-use Rattle.tf_outcome.specs.ResultViews.{action_result_of}
-use Rattle.tf_outcome.specs.Outcome.{ActionResultView, skipped}
+use Rattle.tf_walk_action.specs.ResultViews.{action_result_of}
+use Rattle.tf_walk_action.specs.Outcome.{ActionResultView, skipped}
 use Rattle.tf_walk_workers.specs.declared.kept.CellResult.{CellResult}
 use Rattle.tf_walk_workers.specs.declared.reading.Reading.{Reading}
 

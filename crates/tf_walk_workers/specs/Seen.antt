@@ -4,7 +4,7 @@ use Rattle.tf_walk_workers.specs.SeenResult.{Shows}
 use Rattle.tf_walk_workers.specs.declared.before.Before.{Before}
 use Rattle.tf_config_data.specs.Names.{NameView}
 use Rattle.tf_graph.specs.Digraph.{predecessors_of}
-use Rattle.tf_names.specs.Table.{names_in}
+use Rattle.tf_config_names.specs.Table.{names_in}
 use Rattle.tf_plan_data.specs.Plan.{PlanView}
 use Rattle.tf_plan_data.specs.declared.plan.Plan.{Plan}
 use Rattle.tf_protocol.specs.Meaning.{Meaning}

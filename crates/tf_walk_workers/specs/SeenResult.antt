@@ -1,7 +1,7 @@
 -- What is seen of some actions.
 use Rattle.std.specs.Prelude.{◌≡◌, ℕ, true, List, map, ⊤}
 use Rattle.tf_graph.specs.Solutions.{seen_by}
-use Rattle.tf_outcome.specs.Outcome.{ActionResultView, all_good}
+use Rattle.tf_walk_action.specs.Outcome.{ActionResultView, all_good}
 use Rattle.tf_plan_data.specs.Plan.{PlanView}
 use Rattle.tf_protocol.specs.Meaning.{Meaning}
 use Rattle.tf_walk_workers.specs.Ideal.{InEachIdeal}

@@ -1,8 +1,8 @@
 //! What a worker asks for an action.
 
 ghost use Rattle.std.specs.Prelude.{◌≡◌, ◌<◌, All, map, IfOk, IfSome, IsSomeAnd, IsTrue};
-ghost use Rattle.tf_outcome.specs.Words.{asked, asks_fully, comes_of, ActionResultView, IsRun, names_in, predecessors_of, schema_in};
-ghost use Rattle.tf_asks.specs.AskedBy.{asked_by};
+ghost use Rattle.tf_walk_action.specs.Words.{asked, asks_fully, comes_of, ActionResultView, IsRun, names_in, predecessors_of, schema_in};
+ghost use Rattle.tf_walk_action.specs.AskedBy.{asked_by};
 ghost use Rattle.tf_walk_workers.specs.Ideal.{IsGoodInEach, IsTrueTo};
 ghost use Rattle.tf_walk_workers.specs.Memo.{IsTrueMemo};
 ghost use Rattle.tf_walk_workers.specs.Shared.{IsOfWalk};
@@ -12,9 +12,8 @@ use crate::steps::WorkerContext;
 use crate::walk_brand::WalkBrand;
 use std::alloc::AllocError;
 use std::sync::Wait;
-use tf_asks::ask_provider;
-use tf_outcome::{Faulted, PreparedCall};
 use tf_provider::Provider;
+use tf_walk_action::{Faulted, PreparedCall, ask_provider};
 
 impl<'a, N: WalkBrand, R: Wait> WorkerContext<'a, N, R> {
     /// What is asked for an action whose predecessors are all good, or what is wrong with its request, by what came of them.

@@ -1,7 +1,7 @@
 //! What came of the actions before one, for its request.
 
 ghost use Rattle.std.specs.Prelude.{◌≡◌, ◌<◌, All, IfOk, map};
-ghost use Rattle.tf_outcome.specs.Words.{action_of, names_in, objects_seen, state_of};
+ghost use Rattle.tf_walk_action.specs.Words.{action_of, names_in, objects_seen, state_of};
 ghost use Rattle.tf_walk_workers.specs.Reading.{seen_in};
 ghost use Rattle.tf_walk_workers.specs.SeenResult.{IfGood, Shows};
 
@@ -10,12 +10,11 @@ use crate::reading::Reading;
 use crate::walk_brand::WalkBrand;
 use std::alloc::{AllocError, Global};
 use tf_address::InstanceKey;
-use tf_names::Declarations;
-use tf_outcome::{applies_to, prior_object};
+use tf_config_names::Declarations;
 use tf_plan_data::Action;
-use tf_request::Results;
 use tf_state_data::State;
 use tf_value::Value;
+use tf_walk_action::{Results, applies_to, prior_object};
 
 /// What came of some actions of a plan, all of which are good. It stays in their cells while this lives.
 #[derive(Drop)]

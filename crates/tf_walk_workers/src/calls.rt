@@ -1,15 +1,15 @@
 //! Calls of providers, and their records.
 
 ghost use Rattle.std.specs.Prelude.{◌≡◌, ◌<◌, map, IsSomeAnd, IsTrue};
-ghost use Rattle.tf_outcome.specs.Words.{asked, asks_fully, call_of, call_of_provider, action_result_of, ended_action, HasCause, IsRun, IsServed, schema_in};
+ghost use Rattle.tf_walk_action.specs.Words.{asked, asks_fully, call_of, call_of_provider, action_result_of, ended_action, HasCause, IsRun, IsServed, schema_in};
 
 use crate::log::Log;
 use crate::walk_brand::WalkBrand;
 use std::sync::{Mutex, Wait};
 use std::thread;
 use tf_claim::{Finished, Permit};
-use tf_outcome::{ActionResult, PreparedCall, ended_by};
 use tf_provider::{Called, Provider, Recorded, call, first_provider};
+use tf_walk_action::{ActionResult, PreparedCall, ended_by};
 
 /// Calls the first provider that has the type of a request, and records the call.
 pub(crate) fn serve<N: WalkBrand, R: Wait>(

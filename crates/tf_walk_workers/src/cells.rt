@@ -2,8 +2,8 @@
 
 ghost use Rattle.std.specs.Prelude.{◌≡◌, ◌+◌, ◌<◌, ℕ, None, IfOk, IfErr, IfSome, IsTrue, length, replicate, slice_index_or, slice_set, vec_len, Some};
 ghost use Rattle.counted_slot.specs.Counting.{IsTurn};
-ghost use Rattle.tf_outcome.specs.ResultViews.{action_results_of};
-ghost use Rattle.tf_outcome.specs.Outcome.{done_at};
+ghost use Rattle.tf_walk_action.specs.ResultViews.{action_results_of};
+ghost use Rattle.tf_walk_action.specs.Outcome.{done_at};
 ghost use Rattle.tf_walk_workers.specs.Ideal.{IsEndOf, IsTrueTo, IsNumbered};
 
 use crate::kept::CellResult;
@@ -13,7 +13,7 @@ use counted_slot::{Counted, FREE, MOST_READERS, ONE_READER, PRESENT, TAKEN};
 use std::alloc::{AllocError, Global};
 use std::marker::{Model, PhantomData};
 use std::mem;
-use tf_outcome::ActionResult;
+use tf_walk_action::ActionResult;
 
 /// One cell for each action of a plan, into which what came of it is published, and from which it is read, without a
 /// lock. Contracts see how many there are.

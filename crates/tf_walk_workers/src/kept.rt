@@ -5,7 +5,7 @@ ghost use Rattle.tf_walk_workers.specs.Ideal.{IsEndOf};
 use crate::walk_brand::WalkBrand;
 use counted_slot::Fits;
 use std::marker::PhantomData;
-use tf_outcome::ActionResult;
+use tf_walk_action::ActionResult;
 
 /// What came of an action, in its cell.
 pub(crate) struct CellResult<N: WalkBrand> {

@@ -1,7 +1,7 @@
 //! What a worker keeps of the requests that it made, for the next one.
 
 ghost use Rattle.std.specs.Prelude.{◌≡◌, ◌<◌, [], All, IfOk, IfSome, IsTrue, MatchOption, Contains};
-ghost use Rattle.tf_outcome.specs.Words.{names_in, predecessors_of};
+ghost use Rattle.tf_walk_action.specs.Words.{names_in, predecessors_of};
 ghost use Rattle.tf_walk_workers.specs.Ideal.{IsGoodInEach};
 ghost use Rattle.tf_walk_workers.specs.Memo.{IsTrueMemo};
 
@@ -11,9 +11,9 @@ use crate::steps::WorkerContext;
 use crate::walk_brand::WalkBrand;
 use std::alloc::AllocError;
 use std::sync::Wait;
-use tf_environment::Resolved;
-use tf_outcome::NotGood;
+use tf_expand::Resolved;
 use tf_plan_data::Plan;
+use tf_walk_action::NotGood;
 
 /// What a worker saw of the actions before one, and what names stand for by it, as far as that was worked out. It holds for each
 /// action that has the same actions before it, as the instances of a resource mostly have: for all of them each local is evaluated

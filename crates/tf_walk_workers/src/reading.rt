@@ -2,16 +2,16 @@
 
 ghost use Rattle.std.specs.Option.{option_map_or};
 ghost use Rattle.std.specs.Prelude.{◌≡◌, IfOk, IfSome, IsTrue, MatchOption, is_some, true, false};
-ghost use Rattle.tf_outcome.specs.Words.{action_result_of, ended_action, is_good, object_of, tree_of};
+ghost use Rattle.tf_walk_action.specs.Words.{action_result_of, ended_action, is_good, object_of, tree_of};
 ghost use Rattle.tf_walk_workers.specs.Ideal.{InEachIdeal, IsGoodInEach, IsTrueTo};
 
 use crate::kept::CellResult;
 use crate::walk_brand::WalkBrand;
 use counted_slot::Claim;
 use std::alloc::{AllocError, Global};
-use tf_outcome::{ActionResult, NotGood};
 use tf_protocol::Reply;
 use tf_value::{Value, copy};
+use tf_walk_action::{ActionResult, NotGood};
 
 /// What came of an action, which stays in its cell while this lives.
 pub struct Reading<'a, N: WalkBrand> {

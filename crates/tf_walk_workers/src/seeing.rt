@@ -1,7 +1,7 @@
 //! What a worker sees of the actions before one.
 
 ghost use Rattle.std.specs.Prelude.{◌≡◌, ◌<◌, All, Contains, IfOk, MatchOption};
-ghost use Rattle.tf_outcome.specs.Words.{names_in, predecessors_of};
+ghost use Rattle.tf_walk_action.specs.Words.{names_in, predecessors_of};
 ghost use Rattle.tf_walk_workers.specs.Ideal.{IsGoodInEach};
 ghost use Rattle.tf_walk_workers.specs.Seen.{AreSeen};
 
@@ -11,9 +11,9 @@ use crate::walk_brand::WalkBrand;
 use std::alloc::{AllocError, Global};
 use std::sync::Wait;
 use std::thread;
-use tf_names::Declarations;
-use tf_outcome::NotGood;
+use tf_config_names::Declarations;
 use tf_plan_data::Plan;
+use tf_walk_action::NotGood;
 
 /// The evidence that one of some actions isn't good, of the first that isn't, once what came of those up to it can be read;
 /// `None` where all are good, and then they are in every ideal. It takes no memory.

@@ -1,7 +1,7 @@
 //! The end of one action, by a worker.
 
 ghost use Rattle.std.specs.Prelude.{◌≡◌, ◌<◌, IfSome, map};
-ghost use Rattle.tf_outcome.specs.Words.{action_result_of, ended_action, HasCause, names_in};
+ghost use Rattle.tf_walk_action.specs.Words.{action_result_of, ended_action, HasCause, names_in};
 ghost use Rattle.tf_walk_workers.specs.Ideal.{IsEndOf, IsTrueTo};
 ghost use Rattle.tf_walk_workers.specs.Memo.{IsTrueMemo};
 ghost use Rattle.tf_walk_workers.specs.Shared.{IsOfWalk};
@@ -15,10 +15,10 @@ use std::alloc::{AllocError, Global};
 use std::sync::{Mutex, Wait};
 use std::thread;
 use tf_claim::{Finished, Permit};
-use tf_names::Declarations;
-use tf_outcome::{ActionResult, Stop};
+use tf_config_names::Declarations;
 use tf_plan_data::Plan;
 use tf_provider::Provider;
+use tf_walk_action::{ActionResult, Stop};
 
 /// What a worker works with, beside the providers: the plan of a walk, the names of its configuration, the cells of the plan's
 /// actions, the journal that workers share, and whether the walk is to stop.

@@ -10,8 +10,8 @@ use std::thread;
 use std::thread::Threads;
 use tf_claim::Book;
 use tf_graph::Graph;
-use tf_outcome::{ActionResult, Served, Stop};
 use tf_provider::{Waived, waive_for};
+use tf_walk_action::{ActionResult, Served, Stop};
 use tf_walk_workers::{Cells, WalkBrand};
 
 /// How an end is called here.

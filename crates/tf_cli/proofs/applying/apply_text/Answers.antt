@@ -9,7 +9,7 @@ use Rattle.tf_plan_text.specs.Text.{plan_text}
 use Rattle.tf_walk_report.specs.Report.{report_of}
 use Rattle.tf_walk_report.specs.Savable.{IsNamed}
 use Rattle.tf_state_data.specs.State.{state_of}
-use Rattle.tf_inputs.specs.Texts.{the_texts}
+use Rattle.tf_cli_inputs.specs.Texts.{the_texts}
 use Rattle.tf_plan.specs.Refused.{Tells}
 use Rattle.tf_refusal.specs.Refusal.{refusal_of}
 use Rattle.tf_cli.specs.Refusals.{AreRefusals}

@@ -1,6 +1,6 @@
 use Rattle.tf_cli.specs.Shown.{diagnostic_line}
 use Rattle.tf_cli.proofs.Writes.{start_at}
-use Rattle.tf_additions.specs.Diagnostics.{diagnostic_of}
+use Rattle.tf_walk_report.specs.Diagnostics.{diagnostic_of}
 use Rattle.tf_cli.proofs.printing.print_diagnostics.Goals as goal
 
 pub returns-in_err-print_diagnostic-clause-part : goal.returns-in_err-print_diagnostic-clause-part

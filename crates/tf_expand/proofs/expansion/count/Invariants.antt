@@ -1,6 +1,6 @@
 use Rattle.std.proofs.Common.{◌≡◌, min}
-use Rattle.tf_names.specs.Table.{names_in}
-use Rattle.tf_environment.specs.Views.{shapes_of}
+use Rattle.tf_config_names.specs.Table.{names_in}
+use Rattle.tf_expand.specs.Views.{shapes_of}
 use Rattle.tf_expand.specs.Expanding.{instances_before}
 use Rattle.tf_expand.proofs.expansion.count.Given as goal
 

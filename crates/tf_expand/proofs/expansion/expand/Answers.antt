@@ -1,9 +1,9 @@
 use Rattle.std.proofs.lemmas.Result.{err_from_is_err_and}
 use Rattle.std.proofs.Common.{◌≡◌, ℕ, length, min, Vec, Global, ap, ◌∙◌, arith}
-use Rattle.tf_names.specs.Table.{names_in}
+use Rattle.tf_config_names.specs.Table.{names_in}
 use Rattle.tf_value.specs.Tree.{entries_view}
-use Rattle.tf_environment.specs.Views.{shapes_of, resolved_names_of}
-use Rattle.tf_environment.specs.declared.shape.InstanceKeys.{InstanceKeys}
+use Rattle.tf_expand.specs.Views.{shapes_of, resolved_names_of}
+use Rattle.tf_expand.specs.declared.shape.InstanceKeys.{InstanceKeys}
 use Rattle.tf_expand.specs.Expanding.{instances_before}
 use Rattle.tf_expand.specs.Needed.{IsNeeded}
 use Rattle.tf_expand.proofs.Shaping.{all_expanded, too_many, refused_same}

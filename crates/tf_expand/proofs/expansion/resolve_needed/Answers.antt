@@ -1,9 +1,9 @@
 use Rattle.std.proofs.Common.{subst, sym}
-use Rattle.tf_names.specs.Table.{names_in}
+use Rattle.tf_config_names.specs.Table.{names_in}
 use Rattle.tf_value.specs.Tree.{entries_view}
 use Rattle.tf_eval.proofs.Locality.{expressions_local}
-use Rattle.tf_environment.specs.Views.{resolved_names_of}
-use Rattle.tf_environment.proofs.Locals.{expansion_local}
+use Rattle.tf_expand.specs.Views.{resolved_names_of}
+use Rattle.tf_expand.proofs.Locals.{expansion_local}
 use Rattle.tf_expand.proofs.Needing.{AreMarked, needed_closed, needed_kept}
 use Rattle.tf_expand.proofs.expansion.resolve_needed.Goals as goal
 

@@ -1,7 +1,7 @@
 use Rattle.std.proofs.Common.{◌<◌, length, sym, ap, ◌∙◌, arith}
-use Rattle.tf_names.specs.Table.{names_in}
+use Rattle.tf_config_names.specs.Table.{names_in}
 use Rattle.tf_value.specs.Tree.{entries_view}
-use Rattle.tf_environment.specs.Views.{resolved_names_of, worked_out}
+use Rattle.tf_expand.specs.Views.{resolved_names_of, worked_out}
 use Rattle.tf_expand.proofs.Shaping.{first_refused, shapes_more}
 use Rattle.tf_expand.proofs.expansion.shapes_by.Goals as goal
 

@@ -1,6 +1,6 @@
-use Rattle.tf_names.specs.Table.{names_in}
+use Rattle.tf_config_names.specs.Table.{names_in}
 use Rattle.tf_value.specs.Tree.{entries_view}
-use Rattle.tf_environment.specs.Views.{resolved_names_of}
+use Rattle.tf_expand.specs.Views.{resolved_names_of}
 use Rattle.tf_expand.proofs.Shaping.{HaveShapesBefore}
 use Rattle.tf_expand.proofs.expansion.shapes_by.Given as goal
 

@@ -1,4 +1,4 @@
-use Rattle.tf_names.specs.Table.{names_in}
+use Rattle.tf_config_names.specs.Table.{names_in}
 use Rattle.tf_expand.proofs.Needing.{by_resources}
 use Rattle.tf_expand.proofs.needed.needed_by_resources.Goals as goal
 

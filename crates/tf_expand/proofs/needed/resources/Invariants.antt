@@ -1,6 +1,6 @@
 use Rattle.std.proofs.Common.{◌≡◌, ◌<◌, ℕ, length}
 use Rattle.tf_config_data.specs.Names.{meant_at}
-use Rattle.tf_names.specs.Table.{names_in}
+use Rattle.tf_config_names.specs.Table.{names_in}
 use Rattle.tf_expand.specs.Needed.{is_resource}
 use Rattle.tf_graph.specs.NodeSet.{has}
 use Rattle.tf_expand.proofs.needed.resources.Given as goal

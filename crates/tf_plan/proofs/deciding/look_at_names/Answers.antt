@@ -1,6 +1,6 @@
 use Rattle.std.proofs.Common.{map, subst, sym}
-use Rattle.tf_deciding.specs.Stage.{deciding}
-use Rattle.tf_environment.specs.Views.{shapes_of, resolved_names_of}
+use Rattle.tf_plan_decision.specs.Stage.{deciding}
+use Rattle.tf_expand.specs.Views.{shapes_of, resolved_names_of}
 use Rattle.tf_plan.proofs.Wanting.{AreMarked, wanted_closed, wanted_needs, wanted_stand}
 use Rattle.tf_plan.specs.Input.{names_given, outputs_given, resources_given, variables_given}
 use Rattle.tf_plan.proofs.deciding.look_at_names.Goals as goal

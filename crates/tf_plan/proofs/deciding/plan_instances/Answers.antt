@@ -1,11 +1,11 @@
 use Rattle.std.proofs.Common.{map}
-use Rattle.tf_plan_resources.specs.Order.{AreInAddressOrder}
-use Rattle.tf_deciding.specs.Rows.{rows_of}
-use Rattle.tf_environment.specs.Views.{shapes_of, resolved_names_of}
+use Rattle.tf_plan_order.specs.AddressOrder.{AreInAddressOrder}
+use Rattle.tf_plan_decision.specs.Rows.{rows_of}
+use Rattle.tf_expand.specs.Views.{shapes_of, resolved_names_of}
 use Rattle.tf_plan.proofs.Looking.{once-placed, planned-is}
 use Rattle.tf_plan.specs.Input.{names_given, outputs_given, resources_given, variables_given}
-use Rattle.tf_plan_resources.specs.ResourceIndex.{numbered}
-use Rattle.tf_plan_resources.specs.Table.{numbered_in}
+use Rattle.tf_plan_order.specs.ResourceIndex.{numbered}
+use Rattle.tf_plan_order.specs.Table.{numbered_in}
 use Rattle.tf_plan.proofs.deciding.plan_instances.Goals as goal
 
 pub plan_places-requires-clause-once : goal.plan_places-requires-clause-once

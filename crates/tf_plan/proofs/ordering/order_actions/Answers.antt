@@ -2,11 +2,11 @@ use Rattle.std.proofs.Common.{◌∙◌, map, sym}
 use Rattle.std.proofs.lemmas.List.{length-map}
 use Rattle.std.proofs.lemmas.Result.{err_from_is_err_and}
 use Rattle.tf_plan_data.specs.Action.{action_of}
-use Rattle.tf_names.specs.Table.{names_in}
+use Rattle.tf_config_names.specs.Table.{names_in}
 use Rattle.tf_plan.proofs.Tying.{order-is, pairs-refused, ties-sound}
-use Rattle.tf_precedence.specs.Late.{AreLate}
-use Rattle.tf_plan_resources.specs.Marks.{is_marked}
-use Rattle.tf_plan_resources.specs.Table.{numbered_in, resources_in}
+use Rattle.tf_plan_order.specs.Late.{AreLate}
+use Rattle.tf_plan_order.specs.Marks.{is_marked}
+use Rattle.tf_plan_order.specs.Table.{numbered_in, resources_in}
 use Rattle.tf_plan.proofs.ordering.order_actions.Goals as goal
 
 pub order_by-requires-clause-sound : goal.order_by-requires-clause-sound

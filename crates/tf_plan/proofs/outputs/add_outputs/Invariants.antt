@@ -1,7 +1,7 @@
 -- what is refused so far, with what is refused of the outputs that are left
 use Rattle.std.proofs.Common.{◌≡◌, ◌++◌, map}
-use Rattle.tf_environment.specs.Views.{resolved_names_of}
-use Rattle.tf_names.specs.Table.{names_in}
+use Rattle.tf_expand.specs.Views.{resolved_names_of}
+use Rattle.tf_config_names.specs.Table.{names_in}
 use Rattle.tf_refusal.specs.Refusal.{refusal_of}
 use Rattle.tf_syntax.specs.ExprTree.{entries_view as expressions_view}
 use Rattle.tf_value.specs.Tree.{entries_view}

@@ -1,8 +1,8 @@
 use Rattle.std.proofs.Common.{◌≡◌, ◌∷◌, [], List}
-use Rattle.tf_names.specs.Table.{names_in}
+use Rattle.tf_config_names.specs.Table.{names_in}
 use Rattle.tf_refusal.specs.Refusal.{RefusalView, refusal_of}
 use Rattle.tf_value.specs.Tree.{entries_view}
-use Rattle.tf_environment.specs.Views.{shapes_of}
+use Rattle.tf_expand.specs.Views.{shapes_of}
 use Rattle.tf_plan.proofs.Refusing.{fault-placed, fault-told, instances-are, tells-weaker}
 use Rattle.tf_plan.specs.Refused.{AreUnexpanded}
 use Rattle.tf_plan.proofs.planner.expanded.Goals as goal

@@ -2,8 +2,8 @@ use Rattle.std.proofs.Common.{◌≡◌, ◌≤◌, List, map, length, sym, subs
 use Rattle.std.proofs.lemmas.List.{length-map}
 use Rattle.std.proofs.lemmas.Result.{err_from_is_err_and}
 use Rattle.tf_plan_data.specs.Action.{action_of}
-use Rattle.tf_environment.specs.Views.{shapes_of}
-use Rattle.tf_environment.specs.declared.shape.InstanceKeys.{InstanceKeys}
+use Rattle.tf_expand.specs.Views.{shapes_of}
+use Rattle.tf_expand.specs.declared.shape.InstanceKeys.{InstanceKeys}
 use Rattle.tf_plan.proofs.Declaring.{unplanned, many_pairs}
 use Rattle.tf_plan.specs.Input.{names_given, outputs_given, resources_given, variables_given}
 use Rattle.tf_plan.specs.Plan.{max_actions}

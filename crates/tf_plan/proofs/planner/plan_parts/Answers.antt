@@ -1,6 +1,6 @@
 use Rattle.std.proofs.Common.{length, ap, arith}
-use Rattle.tf_names.specs.Table.{names_in}
-use Rattle.tf_plan_resources.proofs.Standing.{numbers-few}
+use Rattle.tf_config_names.specs.Table.{names_in}
+use Rattle.tf_plan_order.proofs.Standing.{numbers-few}
 use Rattle.tf_state_data.specs.State.{state_of}
 use Rattle.tf_plan.proofs.planner.plan_parts.Goals as goal
 

@@ -2,10 +2,10 @@ use Rattle.std.proofs.Common.{◌≡◌, ◌<◌, ℕ, Bool, false, List, length
 use Rattle.std.proofs.lemmas.List.{length-replicate}
 use Rattle.std.specs.List.{AllByRecursion}
 use Rattle.tf_config_data.specs.Names.{places}
-use Rattle.tf_environment.proofs.Places.{all_places}
+use Rattle.tf_expand.proofs.Places.{all_places}
 use Rattle.tf_graph.specs.NodeSet.{has}
-use Rattle.tf_names.specs.Table.{names_in}
-use Rattle.tf_environment.proofs.Marking.{empty_marks, written_back}
+use Rattle.tf_config_names.specs.Table.{names_in}
+use Rattle.tf_expand.proofs.Marking.{empty_marks, written_back}
 use Rattle.tf_plan.proofs.Wanting.{only_new}
 use Rattle.tf_syntax.specs.ExprNames.{named_below}
 use Rattle.tf_syntax.specs.ExprTree.{entries_view}

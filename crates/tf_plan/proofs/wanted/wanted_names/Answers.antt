@@ -4,7 +4,7 @@ use Rattle.std.proofs.lemmas.List.{length_push}
 use Rattle.tf_expand.proofs.Needing.{marked_more}
 use Rattle.tf_expand.specs.Needed.{IsNeededBy}
 use Rattle.tf_graph.specs.NodeSet.{has}
-use Rattle.tf_names.specs.Table.{names_in}
+use Rattle.tf_config_names.specs.Table.{names_in}
 use Rattle.tf_plan.proofs.Wanting.{wanted_by_either}
 use Rattle.tf_syntax.specs.ExprTree.{entries_view}
 use Rattle.tf_plan.proofs.wanted.wanted_names.Goals as goal

@@ -1,5 +1,5 @@
 use Rattle.tf_plan_data.specs.Plan.{plan_names, plan_of}
-use Rattle.tf_request.proofs.Shared.{none_answered}
+use Rattle.tf_walk_action.proofs.Shared.{none_answered}
 use Rattle.tf_walk.proofs.asking.ask.Goals as goal
 
 pub ask_provider-requires-clause-so_far : goal.ask_provider-requires-clause-so_far

@@ -1,9 +1,9 @@
 -- the actions passed are good
 use Rattle.std.proofs.Common.{◌≡◌, map, drop, option_map}
 use Rattle.std.specs.List.{list_all}
-use Rattle.tf_outcome.specs.ResultViews.{action_result_of}
+use Rattle.tf_walk_action.specs.ResultViews.{action_result_of}
 use Rattle.tf_walk.specs.Ends.{done_in}
-use Rattle.tf_outcome.specs.Outcome.{is_good}
+use Rattle.tf_walk_action.specs.Outcome.{is_good}
 use Rattle.tf_walk.proofs.calls.first_not_good.Given as goal
 
 abbrev pub invariant-loop-action : goal.invariant-loop-action

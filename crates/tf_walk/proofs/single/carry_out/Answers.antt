@@ -6,14 +6,14 @@ use Rattle.tf_graph.specs.Order.{IsInOrder}
 use Rattle.tf_provider.specs.Entries.{Log, actions_of}
 use Rattle.tf_plan_data.specs.Action.{action_of}
 use Rattle.tf_plan_data.specs.Plan.{plan_of}
-use Rattle.tf_outcome.specs.ResultViews.{action_result_of, result_or_skipped, action_results_of}
-use Rattle.tf_outcome.specs.Excuse.{excuse_of}
-use Rattle.tf_outcome.specs.Journal.{IsOfAction, verdict_in}
-use Rattle.tf_outcome.specs.Outcome.{done_at, op_of}
-use Rattle.tf_outputs.specs.Outputs.{end_of}
-use Rattle.tf_additions.specs.ActionReport.{AreJudged}
+use Rattle.tf_walk_action.specs.ResultViews.{action_result_of, result_or_skipped, action_results_of}
+use Rattle.tf_walk_action.specs.Excuse.{excuse_of}
+use Rattle.tf_walk_action.specs.Journal.{IsOfAction, verdict_in}
+use Rattle.tf_walk_action.specs.Outcome.{done_at, op_of}
+use Rattle.tf_walk_report.specs.Outputs.{end_of}
+use Rattle.tf_walk_report.specs.ActionReport.{AreJudged}
 use Rattle.tf_walk.specs.Ends.{done_in}
-use Rattle.tf_asks.proofs.Asking.{some_requests}
+use Rattle.tf_walk_action.proofs.AskedRight.{some_requests}
 use Rattle.tf_walk.proofs.Carried.{left_by_walk}
 use Rattle.tf_walk_report.proofs.Excused.{excuses-with_outputs}
 use Rattle.tf_walk.proofs.Reported.{so_far-asked, so_far-entered, so_far-judged, so_far-none, so_far-solves, staged-none}

@@ -6,22 +6,22 @@ use Rattle.tf_plan_data.specs.Action.{ActionView, action_of}
 use Rattle.tf_plan_data.specs.Fits.{IsDeclared}
 use Rattle.tf_plan_data.specs.Plan.{plan_of}
 use Rattle.tf_plan_data.specs.Served.{IsServedBy}
-use Rattle.tf_change.specs.Instance.{instance_fault_of}
-use Rattle.tf_outcome.specs.ResultViews.{action_result_of}
-use Rattle.tf_outcome.specs.Excuse.{before_call, by_stop}
-use Rattle.tf_outcome.specs.Outcome.{excused, faulted}
-use Rattle.tf_outcome.specs.Asked.{op_of}
+use Rattle.tf_plan_object.specs.Instance.{instance_fault_of}
+use Rattle.tf_walk_action.specs.ResultViews.{action_result_of}
+use Rattle.tf_walk_action.specs.Excuse.{before_call, by_stop}
+use Rattle.tf_walk_action.specs.Outcome.{excused, faulted}
+use Rattle.tf_walk_action.specs.Asked.{op_of}
 use Rattle.tf_graph.specs.Solutions.{seen_by}
-use Rattle.tf_outcome.specs.declared.prepared_call.PreparedCall.{PreparedCall}
-use Rattle.tf_outcome.specs.declared.action_result.ActionResult.{ActionResult}
-use Rattle.tf_outcome.specs.declared.action_result.Faulted.{Faulted}
-use Rattle.tf_outcome.specs.Journal.{op_at}
+use Rattle.tf_walk_action.specs.declared.prepared_call.PreparedCall.{PreparedCall}
+use Rattle.tf_walk_action.specs.declared.action_result.ActionResult.{ActionResult}
+use Rattle.tf_walk_action.specs.declared.action_result.Faulted.{Faulted}
+use Rattle.tf_walk_action.specs.Journal.{op_at}
 use Rattle.tf_protocol.specs.Meaning.{asked}
 use Rattle.tf_protocol.specs.declared.request.Op.{Op}
 use Rattle.tf_walk.specs.Ends.{Enters, IsEnd, done_in}
-use Rattle.tf_names.specs.Table.{names_in}
-use Rattle.tf_outcome.proofs.Calling.{read_at, slice_get-map}
-use Rattle.tf_walk.proofs.Ending.{ends_asked, ends_run, ends_skipped}
+use Rattle.tf_config_names.specs.Table.{names_in}
+use Rattle.tf_walk_action.proofs.Calling.{read_at, slice_get-map}
+use Rattle.tf_walk.proofs.EndedAction.{ends_asked, ends_run, ends_skipped}
 use Rattle.tf_walk.proofs.Entered.{may_record}
 use Rattle.tf_walk.proofs.steps.end_action.Goals as goal
 

@@ -2,8 +2,8 @@ use Rattle.std.proofs.Common.{◌≡◌, ◌∙◌, ℕ, Bool, true, false, Opti
 use Rattle.std.specs.List.{list_all}
 use Rattle.std.specs.Prelude.{MatchOption, is_none}
 use Rattle.tf_graph.specs.Digraph.{Digraph, predecessors_of}
-use Rattle.tf_outcome.specs.ResultViews.{action_result_of}
-use Rattle.tf_outcome.specs.Outcome.{is_good}
+use Rattle.tf_walk_action.specs.ResultViews.{action_result_of}
+use Rattle.tf_walk_action.specs.Outcome.{is_good}
 use Rattle.tf_walk.specs.Ends.{done_in}
 use Rattle.tf_walk.proofs.steps.not_good_before.Goals as goal
 

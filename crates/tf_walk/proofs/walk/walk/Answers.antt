@@ -7,7 +7,7 @@ use Rattle.tf_claim.specs.declared.book.Stage.TheVariants as stage
 use Rattle.tf_graph.specs.Digraph.{Digraph}
 use Rattle.tf_plan_data.specs.Action.{action_of}
 use Rattle.tf_plan_data.specs.Plan.{plan_of}
-use Rattle.tf_outcome.specs.ResultViews.{action_result_of}
+use Rattle.tf_walk_action.specs.ResultViews.{action_result_of}
 use Rattle.tf_walk.proofs.SoFar.{so_far-more, staged-more, claimable_is, all_ended}
 use Rattle.tf_walk.proofs.Stages.{taken_there, fewer_free, map-set}
 use Rattle.tf_walk.proofs.walk.walk.Goals as goal

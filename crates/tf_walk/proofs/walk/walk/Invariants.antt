@@ -3,7 +3,7 @@ use Rattle.std.proofs.Common.{◌≡◌, cond, map, option_map}
 use Rattle.std.specs.Prelude.{sum_by}
 use Rattle.tf_claim.specs.Ledger.{is_free}
 use Rattle.tf_plan_data.specs.Plan.{plan_of}
-use Rattle.tf_outcome.specs.ResultViews.{action_result_of}
+use Rattle.tf_walk_action.specs.ResultViews.{action_result_of}
 use Rattle.tf_walk.specs.Ends.{IsSoFar, IsStaged}
 use Rattle.tf_walk.proofs.walk.walk.Given as goal
 

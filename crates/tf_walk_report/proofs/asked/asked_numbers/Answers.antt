@@ -1,11 +1,11 @@
 use Rattle.std.proofs.Common.{◌∙◌, List, map, subst, ap, arith}
 use Rattle.std.proofs.lemmas.List.{take_all}
 use Rattle.std.specs.List.{AllByRecursion}
-use Rattle.tf_plan_resources.specs.ResourceIndex.{place_in}
-use Rattle.tf_plan_resources.specs.Table.{numbered_in}
+use Rattle.tf_plan_order.specs.ResourceIndex.{place_in}
+use Rattle.tf_plan_order.specs.Table.{numbered_in}
 use Rattle.tf_state_data.specs.Resource.{resource_of}
 use Rattle.tf_state_data.specs.declared.resource.Resource.{Resource}
-use Rattle.tf_additions.proofs.Lists.{all-next}
+use Rattle.tf_walk_report.proofs.Lists.{all-next}
 use Rattle.tf_walk_report.proofs.Numbers.{still_asked}
 use Rattle.tf_walk_report.specs.Asked.{IsNumberAsked, IsResourceAsked}
 use Rattle.tf_walk_report.proofs.asked.asked_numbers.Goals as goal

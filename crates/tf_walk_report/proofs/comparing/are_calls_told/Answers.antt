@@ -3,7 +3,7 @@ use Rattle.std.specs.Prelude.{nat_eq}
 use Rattle.std.proofs.lemmas.Bool.{true≢false}
 use Rattle.tf_walk_report.specs.Told.{verdict_told}
 use Rattle.tf_walk_report.proofs.Counts.{told-below, same_told, same_count, nat_eq-is, nat_eq-are}
-use Rattle.tf_walk_report.proofs.Telling.{as-told, told-all, told-many}
+use Rattle.tf_walk_report.proofs.TellingWhatWasCalled.{as-told, told-all, told-many}
 use Rattle.tf_walk_report.proofs.comparing.are_calls_told.Goals as goal
 
 pub returns-then-not-all-clause-torn : goal.returns-then-not-all-clause-torn

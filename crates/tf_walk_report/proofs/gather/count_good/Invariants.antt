@@ -1,7 +1,7 @@
 -- how many of those from this one on are good
 use Rattle.std.proofs.Common.{◌≡◌, ◌≤◌, ◌+◌, length, map, drop}
 use Rattle.tf_plan_data.specs.Action.{action_of}
-use Rattle.tf_outcome.specs.ResultViews.{action_results_of}
+use Rattle.tf_walk_action.specs.ResultViews.{action_results_of}
 use Rattle.tf_walk_report.specs.Outcomes.{good_totals}
 use Rattle.tf_walk_report.proofs.gather.count_good.Given as goal
 

@@ -1,7 +1,7 @@
 -- the excuses so far, with those of the actions that are left
 use Rattle.std.proofs.Common.{◌≡◌, ◌≤◌, ◌++◌, length, drop}
 use Rattle.std.specs.Prelude.{vec_capacity}
-use Rattle.tf_outcome.specs.ResultViews.{action_results_of}
+use Rattle.tf_walk_action.specs.ResultViews.{action_results_of}
 use Rattle.tf_walk_report.specs.Outcomes.{excuses_from}
 use Rattle.tf_walk_report.proofs.gather.tell_excuses.Given as goal
 

@@ -1,7 +1,7 @@
 -- the outcomes so far
 use Rattle.std.proofs.Common.{◌≡◌, ◌≤◌, length, map, take}
 use Rattle.std.specs.Prelude.{vec_capacity}
-use Rattle.tf_outcome.specs.ResultViews.{action_results_of}
+use Rattle.tf_walk_action.specs.ResultViews.{action_results_of}
 use Rattle.tf_walk_report.specs.Outcomes.{outcome_of}
 use Rattle.tf_walk_report.proofs.gather.tell_outcomes.Given as goal
 

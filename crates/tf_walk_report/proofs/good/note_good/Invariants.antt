@@ -1,7 +1,7 @@
 -- the marks and the actions that are left decide
 use Rattle.std.proofs.Common.{◌≡◌, ◌<◌, ◌&&◌, ℕ, length, map}
 use Rattle.tf_graph.specs.NodeSet.{has}
-use Rattle.tf_outcome.specs.ResultViews.{action_results_of}
+use Rattle.tf_walk_action.specs.ResultViews.{action_results_of}
 use Rattle.tf_plan_data.specs.Action.{action_of}
 use Rattle.tf_walk_report.specs.Good.{are_good_at}
 use Rattle.tf_walk_report.proofs.Fine.{rest_good}

@@ -2,7 +2,7 @@
 use Rattle.std.proofs.Common.{map, drop}
 use Rattle.std.specs.List.{AllByRecursion}
 use Rattle.tf_plan_data.specs.Action.{action_of}
-use Rattle.tf_outcome.specs.Journal.{IsOfAction}
+use Rattle.tf_walk_action.specs.Journal.{IsOfAction}
 use Rattle.tf_walk_report.proofs.operations.are_of_actions.Given as goal
 
 abbrev pub invariant-loop-entry : goal.invariant-loop-entry

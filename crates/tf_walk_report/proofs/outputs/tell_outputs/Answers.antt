@@ -1,9 +1,9 @@
 use Rattle.std.proofs.Common.{◌≡◌, ◌++◌, ◌∷◌, ◌∙◌, sym, ap, ap₂, map, string_bytes, arith}
 use Rattle.std.specs.Vec.Iter.{into_iter_items}
-use Rattle.tf_additions.specs.Diagnostics.{diagnostic_of}
+use Rattle.tf_walk_report.specs.Diagnostics.{diagnostic_of}
 use Rattle.tf_walk_report.specs.OutputsBuffers.{places_in, told_of_texts}
 use Rattle.tf_walk_report.specs.OutputsTold.{diagnostics_of_output}
-use Rattle.tf_additions.proofs.Gathered.{told-more, paired-more, one-less, one-more}
+use Rattle.tf_walk_report.proofs.Gathered.{told-more, paired-more, one-less, one-more}
 use Rattle.tf_walk_report.proofs.outputs.tell_outputs.Goals as goal
 
 pub loop-text-preserved : goal.loop-text-preserved

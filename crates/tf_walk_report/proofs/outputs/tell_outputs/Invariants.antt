@@ -2,7 +2,7 @@
 use Rattle.std.proofs.Common.{◌≡◌, ◌≤◌, ◌+◌, ◌++◌, length, map}
 use Rattle.std.specs.Prelude.{vec_capacity}
 use Rattle.std.specs.Vec.Iter.{into_iter_items}
-use Rattle.tf_additions.specs.Diagnostics.{diagnostic_of}
+use Rattle.tf_walk_report.specs.Diagnostics.{diagnostic_of}
 use Rattle.tf_walk_report.specs.OutputsBuffers.{places_in, told_of_texts}
 use Rattle.tf_walk_report.proofs.outputs.tell_outputs.Given as goal
 

@@ -1,16 +1,16 @@
 use Rattle.std.proofs.Common.{◌∙◌, ◌<◌, ℕ, Bool, List, map, sym, ap, subst}
 use Rattle.tf_plan_data.specs.Action.{action_of}
 use Rattle.tf_plan_data.specs.declared.action.Action.{Action}
-use Rattle.tf_environment.specs.Views.{shapes_of}
-use Rattle.tf_environment.specs.declared.shape.InstanceKeys.{InstanceKeys}
+use Rattle.tf_expand.specs.Views.{shapes_of}
+use Rattle.tf_expand.specs.declared.shape.InstanceKeys.{InstanceKeys}
 use Rattle.tf_graph.specs.NodeSet.{has}
 use Rattle.tf_graph.specs.Solutions.{seen_by}
-use Rattle.tf_names.specs.Table.{names_in}
-use Rattle.tf_outcome.specs.ResultViews.{action_results_of}
-use Rattle.tf_outcome.specs.Outcome.{done_at, objects_seen}
-use Rattle.tf_outputs.specs.Outputs.{AreOutputsEnded}
-use Rattle.tf_outputs.specs.Buffers.{outputs_in}
-use Rattle.tf_outputs.specs.Settled.{AreSettled}
+use Rattle.tf_config_names.specs.Table.{names_in}
+use Rattle.tf_walk_action.specs.ResultViews.{action_results_of}
+use Rattle.tf_walk_action.specs.Outcome.{done_at, objects_seen}
+use Rattle.tf_walk_report.specs.Outputs.{AreOutputsEnded}
+use Rattle.tf_walk_report.specs.Buffers.{outputs_in}
+use Rattle.tf_walk_report.specs.Settled.{AreSettled}
 use Rattle.tf_plan_data.specs.Plan.{plan_of}
 use Rattle.tf_state_data.specs.State.{outputs_of}
 use Rattle.tf_value.specs.Tree.{entries_view}

@@ -1,5 +1,5 @@
 use Rattle.std.proofs.Common.{◌≡◌, map, string_bytes, rules}
-use Rattle.tf_additions.specs.Dependencies.{dependencies}
+use Rattle.tf_walk_report.specs.Dependencies.{dependencies}
 use Rattle.tf_plan_data.specs.Plan.{plan_names, plan_of}
 use Rattle.tf_walk_report.proofs.updating.metadata_update_for.Goals as goal
 

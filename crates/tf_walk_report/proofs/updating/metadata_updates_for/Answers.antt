@@ -1,10 +1,10 @@
 use Rattle.std.proofs.Common.{◌∙◌, List, length, ap, subst, sym}
 use Rattle.tf_config_data.specs.Names.{NameView}
 use Rattle.tf_plan_data.specs.Plan.{plan_of}
-use Rattle.tf_plan_resources.specs.ResourceIndex.{place_in}
-use Rattle.tf_plan_resources.specs.Table.{numbered_in}
+use Rattle.tf_plan_order.specs.ResourceIndex.{place_in}
+use Rattle.tf_plan_order.specs.Table.{numbered_in}
 use Rattle.tf_state_data.specs.Resource.{resource_of}
-use Rattle.tf_additions.proofs.Lists.{all-at}
+use Rattle.tf_walk_report.proofs.Lists.{all-at}
 use Rattle.tf_walk_report.proofs.Numbers.{number_listed}
 use Rattle.tf_walk_report.specs.Asked.{IsNumberAsked, IsResourceAsked}
 use Rattle.tf_walk_report.proofs.updating.metadata_updates_for.Goals as goal

@@ -3,18 +3,18 @@ use Rattle.std.proofs.lemmas.List.{length-map}
 use Rattle.std.specs.List.{range_with_len}
 use Rattle.tf_plan_data.specs.Action.{action_of}
 use Rattle.tf_plan_data.specs.declared.action.Action.{Action}
-use Rattle.tf_additions.specs.ActionReport.{AreJudged, told_in}
-use Rattle.tf_additions.specs.Diagnostics.{action_diagnostics, diagnostic_of}
-use Rattle.tf_additions.specs.BuffersHead.{buffers_head}
+use Rattle.tf_walk_report.specs.ActionReport.{AreJudged, told_in}
+use Rattle.tf_walk_report.specs.Diagnostics.{action_diagnostics, diagnostic_of}
+use Rattle.tf_walk_report.specs.BuffersHead.{buffers_head}
 use Rattle.tf_address.specs.Label.{LabelView}
 use Rattle.tf_graph.specs.Solutions.{seen_by}
 use Rattle.tf_state_next.specs.Events.{AreEachAboutOne, ApplyView, EventsView, apply_of, ends_in, given_in}
 use Rattle.tf_state_next.specs.StateDraft.{IsStateDraft}
 use Rattle.tf_state_next.specs.StateAfter.{IsStateAfter}
-use Rattle.tf_outcome.specs.ResultViews.{action_results_of}
-use Rattle.tf_outcome.specs.Outcome.{done_at, objects_seen}
-use Rattle.tf_outputs.specs.Outputs.{AreOutputsDone, end_of, outputs_after, with_outputs}
-use Rattle.tf_outputs.specs.Buffers.{outputs_in}
+use Rattle.tf_walk_action.specs.ResultViews.{action_results_of}
+use Rattle.tf_walk_action.specs.Outcome.{done_at, objects_seen}
+use Rattle.tf_walk_report.specs.Outputs.{AreOutputsDone, end_of, outputs_after, with_outputs}
+use Rattle.tf_walk_report.specs.Buffers.{outputs_in}
 use Rattle.tf_plan_data.specs.Plan.{plan_names, plan_of}
 use Rattle.tf_protocol.specs.declared.request.Op.{Op}
 use Rattle.tf_state.specs.Valid.{IsValid}

@@ -2,10 +2,10 @@ use Rattle.std.proofs.Common.{◌≡◌, ◌∙◌, sym, ap, subst}
 use Rattle.tf_provider.specs.Call.{Call}
 use Rattle.tf_protocol.specs.Meaning.{asked, answered}
 use Rattle.tf_protocol.specs.declared.request.Request.{Request}
-use Rattle.tf_outcome.proofs.Judging.{call-runs}
-use Rattle.tf_outcome.specs.ResultViews.{result_by, action_result_of}
-use Rattle.tf_outcome.specs.Outcome.{ActionResultView, call_of_provider}
-use Rattle.tf_outcome.specs.Run.{IsRun}
+use Rattle.tf_walk_action.proofs.Judging.{call-runs}
+use Rattle.tf_walk_action.specs.ResultViews.{result_by, action_result_of}
+use Rattle.tf_walk_action.specs.Outcome.{ActionResultView, call_of_provider}
+use Rattle.tf_walk_action.specs.Run.{IsRun}
 use Rattle.tf_walk_workers.proofs.calls.make_call.Goals as goal
 
 pub returns-clause-ended : goal.returns-clause-ended

@@ -1,7 +1,7 @@
 use Rattle.std.proofs.Common.{◌≡◌, ◌∙◌, ℕ, List, ap, subst}
 use Rattle.tf_walk_workers.specs.SeenResult.{AreShown, seen_result_of}
 use Rattle.tf_graph.specs.Digraph.{Digraph, predecessors_of}
-use Rattle.tf_names.specs.Table.{names_in}
+use Rattle.tf_config_names.specs.Table.{names_in}
 use Rattle.tf_walk_workers.proofs.seeing.good_before.Goals as goal
 
 pub returns-in-Ok-Good : goal.returns-in-Ok-Good

@@ -3,7 +3,7 @@ use denote.Param.Send.{IsSend, IsSync, sendable}
 use Rattle.std.proofs.Crossing.{crosses}
 use Rattle.tf_walk_workers.proofs.SharedCells.{cells_sync}
 use Rattle.tf_provider.specs.contracts.waived.Waived as waived
-use Rattle.tf_outcome.specs.contracts.stop.Stop as stop
+use Rattle.tf_walk_action.specs.contracts.stop.Stop as stop
 use Rattle.engine_tests.proofs.tests.cells.publish_twice.Goals as goal
 
 waived_send : IsSend waived.the_row

@@ -1,6 +1,6 @@
 use Rattle.std.proofs.Common.{rules, ◌≡◌, ◌+◌, ◌++◌, ◌∷◌, [], ◌∙◌, ℕ, true, List, map, take, sym, ap, subst}
 use Rattle.std.proofs.lemmas.List.{map_push, take_all}
-use Rattle.tf_outcome.specs.Outcome.{is_good}
+use Rattle.tf_walk_action.specs.Outcome.{is_good}
 use Rattle.tf_walk_workers.specs.Reading.{done_in, seen_in}
 use Rattle.tf_walk_workers.specs.SeenResult.{AreShown}
 use Rattle.tf_walk_workers.proofs.Showing.{shown-none, shown-more}

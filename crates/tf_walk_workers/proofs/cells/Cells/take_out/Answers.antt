@@ -1,8 +1,8 @@
 use Rattle.std.proofs.Common.{rules, ◌≡◌, ◌<◌, ◌+◌, ◌∙◌, ℕ, List, Option, Some, length, sym, ap, subst, arith}
 use Rattle.std.proofs.lemmas.List.{length_push}
 use Rattle.std.specs.Prelude.{slice_set}
-use Rattle.tf_outcome.specs.ResultViews.{action_result_of}
-use Rattle.tf_outcome.specs.declared.action_result.ActionResult.{ActionResult}
+use Rattle.tf_walk_action.specs.ResultViews.{action_result_of}
+use Rattle.tf_walk_action.specs.declared.action_result.ActionResult.{ActionResult}
 use Rattle.tf_walk_workers.specs.Ideal.{IsTrueTo}
 use Rattle.tf_walk_workers.proofs.TakingOut.{IsTakenOut}
 use Rattle.tf_walk_workers.proofs.Taking.{none-taken, one-less, last-cell, one-placed}

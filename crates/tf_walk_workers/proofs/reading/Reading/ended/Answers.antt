@@ -1,6 +1,6 @@
 use Rattle.std.proofs.Common.{◌≡◌, ℕ, Some, IfSome, sym, ap, ◌∙◌, subst}
-use Rattle.tf_outcome.specs.ResultViews.{action_result_of}
-use Rattle.tf_outcome.specs.Outcome.{ActionResultView}
+use Rattle.tf_walk_action.specs.ResultViews.{action_result_of}
+use Rattle.tf_walk_action.specs.Outcome.{ActionResultView}
 use Rattle.tf_walk_workers.specs.Ideal.{IsEndOf, IsTrueTo}
 use Rattle.tf_walk_workers.specs.Reading.{done_held}
 use Rattle.tf_walk_workers.proofs.reading.Reading.ended.Goals as goal

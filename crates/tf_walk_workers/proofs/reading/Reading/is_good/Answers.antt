@@ -1,5 +1,5 @@
 use Rattle.std.proofs.Common.{sym, ap, ◌∙◌}
-use Rattle.tf_outcome.specs.Outcome.{is_good}
+use Rattle.tf_walk_action.specs.Outcome.{is_good}
 use Rattle.tf_walk_workers.specs.Reading.{done_in}
 use Rattle.tf_walk_workers.proofs.TrueEnds.{good-is}
 use Rattle.tf_walk_workers.proofs.reading.Reading.is_good.Goals as goal

@@ -1,7 +1,7 @@
 use Rattle.std.proofs.Common.{◌≡◌, subst}
 use Rattle.std.specs.Prelude.{MatchOption, true, false}
-use Rattle.tf_outcome.specs.ResultViews.{ended_action}
-use Rattle.tf_outcome.specs.Outcome.{ActionResultView, is_good}
+use Rattle.tf_walk_action.specs.ResultViews.{ended_action}
+use Rattle.tf_walk_action.specs.Outcome.{ActionResultView, is_good}
 use Rattle.tf_walk_workers.specs.Reading.{done_in}
 use Rattle.tf_walk_workers.proofs.TrueEnds.{evidence-is}
 use Rattle.tf_walk_workers.proofs.reading.Reading.not_good.Goals as goal

@@ -1,5 +1,5 @@
 use Rattle.std.proofs.Common.{◌≡◌, IfOk, subst}
-use Rattle.tf_outcome.specs.Objects.{object_of}
+use Rattle.tf_walk_action.specs.Objects.{object_of}
 use Rattle.tf_value.specs.Tree.{tree_of}
 use Rattle.tf_walk_workers.proofs.TrueEnds.{object-is}
 use Rattle.tf_walk_workers.specs.Reading.{done_in}

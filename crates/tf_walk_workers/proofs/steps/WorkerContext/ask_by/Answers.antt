@@ -2,13 +2,13 @@ use Rattle.std.proofs.Common.{◌≡◌, ◌<◌, ◌∙◌, Some, length, map, 
 use Rattle.std.proofs.lemmas.List.{length-map}
 use Rattle.std.specs.Prelude.{slice_get}
 use Rattle.tf_plan_data.specs.Action.{action_of}
-use Rattle.tf_asks.specs.AskedBy.{asked_by}
+use Rattle.tf_walk_action.specs.AskedBy.{asked_by}
 use Rattle.tf_walk_workers.specs.SeenResult.{seen_result_of}
 use Rattle.tf_config_data.specs.Config.{config_of}
 use Rattle.tf_config_data.specs.Names.{names_of}
-use Rattle.tf_names.specs.Table.{names_in}
-use Rattle.tf_outcome.proofs.Calling.{read_at, slice_get-map}
-use Rattle.tf_outcome.specs.Outcome.{comes_of}
+use Rattle.tf_config_names.specs.Table.{names_in}
+use Rattle.tf_walk_action.proofs.Calling.{read_at, slice_get-map}
+use Rattle.tf_walk_action.specs.Outcome.{comes_of}
 use Rattle.tf_plan_data.specs.Fits.{IsDeclared}
 use Rattle.tf_plan_data.specs.Plan.{plan_of}
 use Rattle.tf_plan_data.specs.Served.{IsServedBy}

@@ -1,13 +1,13 @@
 use Rattle.std.proofs.Common.{ℕ, Result, map, refl, sym, subst}
-use Rattle.tf_asks.specs.AskedBy.{asked_by}
+use Rattle.tf_walk_action.specs.AskedBy.{asked_by}
 use Rattle.tf_walk_workers.specs.Ideal.{IsTrueTo}
-use Rattle.tf_change.specs.Instance.{instance_fault_of}
-use Rattle.tf_outcome.specs.ResultViews.{action_result_of}
-use Rattle.tf_outcome.specs.Outcome.{faulted, comes_of}
-use Rattle.tf_outcome.specs.Run.{IsRun}
-use Rattle.tf_outcome.specs.declared.prepared_call.PreparedCall.{PreparedCall}
-use Rattle.tf_outcome.specs.declared.action_result.ActionResult.{ActionResult}
-use Rattle.tf_outcome.specs.declared.action_result.Faulted.{Faulted}
+use Rattle.tf_plan_object.specs.Instance.{instance_fault_of}
+use Rattle.tf_walk_action.specs.ResultViews.{action_result_of}
+use Rattle.tf_walk_action.specs.Outcome.{faulted, comes_of}
+use Rattle.tf_walk_action.specs.Run.{IsRun}
+use Rattle.tf_walk_action.specs.declared.prepared_call.PreparedCall.{PreparedCall}
+use Rattle.tf_walk_action.specs.declared.action_result.ActionResult.{ActionResult}
+use Rattle.tf_walk_action.specs.declared.action_result.Faulted.{Faulted}
 use Rattle.tf_walk_workers.proofs.steps.WorkerContext.come_to_end.Goals as goal
 
 pub returns-in-Ok-Err-clause-ended : goal.returns-in-Ok-Err-clause-ended

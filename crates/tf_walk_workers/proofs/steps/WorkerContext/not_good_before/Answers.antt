@@ -1,7 +1,7 @@
 use Rattle.std.proofs.Common.{◌≡◌, ◌∙◌, All, Contains, MatchOption, ℕ, List, ap, subst}
 use Rattle.tf_walk_workers.specs.Ideal.{IsGoodInEach}
 use Rattle.tf_graph.specs.Digraph.{Digraph, predecessors_of}
-use Rattle.tf_names.specs.Table.{names_in}
+use Rattle.tf_config_names.specs.Table.{names_in}
 use Rattle.tf_walk_workers.proofs.Remembered.{good_too}
 use Rattle.tf_walk_workers.proofs.steps.WorkerContext.not_good_before.Goals as goal
 

@@ -1,9 +1,0 @@
-pub mod ActionReport
-pub mod Change
-pub mod Dependencies
-pub mod Diagnostics
-pub mod Head
-pub mod Needed
-pub mod Place
-pub mod Replied
-pub mod BuffersHead

@@ -1,3 +1,0 @@
-pub mod AskedBy
-pub mod Laws
-pub mod SoFar

@@ -1,0 +1,62 @@
+-- What is refused of the texts that a user gives.
+use Rattle.std.specs.Prelude.{◌≡◌, ◌⊎◌, ℕ, codes, List, Option, Some, None}
+use Rattle.tf_config.specs.Reading.{IsRefused}
+use Rattle.tf_config_data.specs.Config.{ConfigView}
+use Rattle.tf_config_names.specs.Judging.{RefusesItsNames}
+use Rattle.tf_refusal.specs.Code.{bad_state, limit}
+use Rattle.tf_refusal.specs.Refusal.{RefusalView, no_memory, fault, bare}
+use Rattle.tf_state.specs.Table.{IsUnread}
+use Rattle.tf_state.specs.declared.fault.StateFault.{StateFault}
+use Rattle.tf_state.specs.declared.fault.StateFault.TheVariants.{BadState, Limit, OutOfMemory}
+use Rattle.tf_value.specs.Tree.{Entries}
+use Rattle.tf_config.specs.VariablesRead as variables
+use Rattle.tf_cli_inputs.specs.Texts.{Texts, IsRead, AreNamesGood, AreTheValues}
+
+-- The text is a configuration, and its names are refused.
+pub record AreNamesRefused (texts : Texts) (refusal : RefusalView) : Type 0 where
+  pub config : ConfigView
+  pub read : IsRead texts.config config
+  pub refused : RefusesItsNames config refusal
+
+-- The text is a configuration with good names, and the variables file or a variable is refused.
+pub record AreValuesRefused (texts : Texts) (refusal : RefusalView) : Type 0 where
+  pub config : ConfigView
+  pub read : IsRead texts.config config
+  pub names : AreNamesGood config
+  pub refused : variables.IsRefused texts.vars config.variables refusal
+
+-- a refusal that stands at the state
+abbrev pub at_state : ℕ → RefusalView
+at_state code = fault code (codes "state") bare
+
+-- How a fault of the state's text is refused: 13 where it is no state's, 14 where the state is beyond a limit.
+abbrev pub fault_told : StateFault → RefusalView
+fault_told BadState = at_state bad_state
+fault_told Limit = at_state limit
+fault_told OutOfMemory = no_memory
+
+-- the state's text has a fault, which is refused so
+pub record HasFault (bytes : List ℕ) (refusal : RefusalView) : Type 0 where
+  pub why : StateFault
+  pub unread : IsUnread bytes why
+  pub refused : refusal ≡ fault_told why
+
+-- Where no state is given, there is nothing to refuse but want of memory.
+abbrev pub IsToldOfState : Option (List ℕ) → RefusalView → Type 0
+IsToldOfState None refusal = refusal ≡ no_memory
+IsToldOfState (Some bytes) refusal = HasFault bytes refusal
+
+-- The configuration and its variables are good, and the state is refused.
+pub record IsStateRefused (texts : Texts) (refusal : RefusalView) : Type 0 where
+  pub config : ConfigView
+  pub values : Entries
+  pub read : IsRead texts.config config
+  pub names : AreNamesGood config
+  pub valued : AreTheValues texts.vars config values
+  pub refused : IsToldOfState texts.state refusal
+
+-- What is told of texts that can't be read, in the order of tests: of the configuration's text; of its names; of the
+-- variables; of the state. That there was no memory may be told of any texts.
+abbrev pub IsToldOf : Texts → RefusalView → Type 0
+IsToldOf texts refusal =
+    IsRefused texts.config refusal ⊎ (AreNamesRefused texts refusal ⊎ (AreValuesRefused texts refusal ⊎ IsStateRefused texts refusal))

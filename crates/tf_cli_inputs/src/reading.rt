@@ -1,0 +1,135 @@
+//! From the texts that the user gives to what they stand for.
+
+ghost use Rattle.std.specs.Prelude.{◌≡◌, ◌≤◌, ◌<◌, ◌+◌, ◌^◌, length, option_map, IfOk, IfErr, OnOk};
+ghost use Rattle.tf_config.specs.Reading.{IsRefused, IsWithinCounts};
+ghost use Rattle.tf_config_data.specs.Words.{config_of, names_of};
+ghost use Rattle.tf_config_names.specs.Judging.{RefusesItsNames};
+ghost use Rattle.tf_config_names.specs.Needs.{IsAcyclic, IsDependence};
+ghost use Rattle.tf_refusal.specs.Refusal.{refusal_of};
+ghost use Rattle.tf_state.specs.Valid.{IsValid};
+ghost use Rattle.tf_state_data.specs.State.{state_of};
+ghost use Rattle.tf_value.specs.Tree.{entries_view};
+ghost use Rattle.tf_cli_inputs.specs.Refusals.{IsToldOf, IsToldOfState, at_state, fault_told};
+ghost use Rattle.tf_cli_inputs.specs.Texts.{AreNamesGood, IsPrior, IsRead, ReadAs, the_texts};
+
+use std::alloc::{AllocError, Global};
+use std::collections::BTreeMap;
+use tf_config::{Config, names_are_few, read, read_vars};
+use tf_config_names::{Dependence, check_names};
+use tf_graph::MAX_NODES;
+use tf_refusal::code::{BAD_STATE, LIMIT};
+use tf_refusal::{Detail, Refusal};
+use tf_state::{StateFault, new_states_are_valid, read as read_state, read_states_are_valid};
+use tf_state_data::State;
+use tf_value::Value;
+
+/// What the texts that a user gives stand for.
+#[derive(Drop)]
+pub struct Inputs {
+    /// The configuration.
+    pub config: Config,
+    /// The values of its variables.
+    pub values: BTreeMap<String, Value>,
+    /// Which of its names needs which.
+    pub dependence: Dependence,
+    /// The state that a plan starts from.
+    pub prior: State,
+}
+
+/// Reads the texts that a user gives: the configuration, the values of its variables, and the prior state. Where there
+/// is none, the prior state is the empty one of the lineage that is given.
+///
+/// # Errors
+///
+/// The first of these in the order of tests, or `OutOfMemory`.
+/// - What `tf_config::read` refuses.
+/// - What `tf_config_names::check_names` refuses: 4 and then 5.
+/// - What `tf_config::read_vars` refuses.
+/// - 13 at `state` where the prior state's text is no state's, and 14 there where the state is beyond a limit.
+pub fn read_texts(
+    alloc: Global,
+    config: &[u8],
+    vars: Option<&[u8]>,
+    state: Option<&[u8]>,
+    lineage: &str,
+) -> Result<Inputs, Refusal>
+    ensures stand { IfOk result (λ i. ReadAs (the_texts config.now (option_map (λ s. s.now) vars.entry) (option_map (λ s. s.now) state.entry)) lineage.now
+        (config_of i.config) (entries_view i.values.entries) (state_of i.prior)) }
+    ensures dependence { IfOk result (λ i. IsDependence (names_of (config_of i.config)) i.dependence) }
+    ensures acyclic { IfOk result (λ i. IsAcyclic i.dependence) }
+    ensures valid { IfOk result (λ i. IsValid (state_of i.prior)) }
+    ensures few { IfOk result (λ i. length (names_of (config_of i.config)) + length (state_of i.prior).resources ≤ MAX_NODES) }
+    ensures serial { IfOk result (λ i. (state_of i.prior).serial + 1 < 2 ^ 32) }
+    ensures refused { IfErr result (λ r. IsToldOf (the_texts config.now (option_map (λ s. s.now) vars.entry) (option_map (λ s. s.now) state.entry)) (refusal_of r)) }
+{
+    let config = read_config(alloc, config)?;
+    let dependence = dependence_of(alloc, &config)?;
+    let values = read_vars(alloc, vars, &config)?;
+    let prior = read_prior(alloc, state, lineage)?;
+    Ok(Inputs {
+        config,
+        values,
+        dependence,
+        prior,
+    })
+}
+
+/// The configuration that a text is.
+fn read_config(alloc: Global, text: &[u8]) -> Result<Config, Refusal>
+    ensures read { IfOk result (λ config. IsRead text.now (config_of config)) }
+    ensures refused { IfErr result (λ r. IsRefused text.now (refusal_of r)) }
+{
+    read(alloc, text)
+}
+
+/// Which name of a configuration needs which, where all names are good.
+fn dependence_of(alloc: Global, config: &Config) -> Result<Dependence, Refusal>
+    requires few { IsWithinCounts (config_of config.now) }
+    ensures good { OnOk result (AreNamesGood (config_of config.now)) }
+    ensures dependence { IfOk result (IsDependence (names_of (config_of config.now))) }
+    ensures acyclic { IfOk result IsAcyclic }
+    ensures refused { IfErr result (λ r. RefusesItsNames (config_of config.now) (refusal_of r)) }
+{
+    names_are_few();
+    let (_, dependence) = check_names(alloc, config)?;
+    Ok(dependence)
+}
+
+/// The state that a plan starts from: the one that a text is, or the empty one of a lineage where there is no text.
+fn read_prior(alloc: Global, state: Option<&[u8]>, lineage: &str) -> Result<State, Refusal>
+    ensures prior { IfOk result (λ s. IsPrior (option_map (λ s. s.now) state.entry) lineage.now (state_of s)) }
+    ensures valid { IfOk result (λ s. IsValid (state_of s)) }
+    ensures refused { IfErr result (λ r. IsToldOfState (option_map (λ s. s.now) state.entry) (refusal_of r)) }
+{
+    new_states_are_valid();
+    read_states_are_valid();
+    let Some(text) = state else {
+        return Ok(State::empty(alloc, lineage)?);
+    };
+    match read_state(alloc, text) {
+        Ok(state) => Ok(state),
+        Err(why) => Err(state_refusal(alloc, why)?),
+    }
+}
+
+/// How a fault of the state's text is refused.
+fn state_refusal(alloc: Global, why: StateFault) -> Result<Refusal, AllocError>
+    ensures { IfOk result (λ r. refusal_of r ≡ fault_told why) }
+{
+    match why {
+        StateFault::BadState => at_state(alloc, BAD_STATE),
+        StateFault::Limit => at_state(alloc, LIMIT),
+        StateFault::OutOfMemory => Ok(Refusal::OutOfMemory),
+    }
+}
+
+/// The refusal with a code that stands at the state.
+fn at_state(alloc: Global, code: u8) -> Result<Refusal, AllocError>
+    ensures { IfOk result (λ r. refusal_of r ≡ at_state code) }
+{
+    Ok(Refusal::Fault {
+        code,
+        place: String::from_str(alloc, "state")?,
+        detail: Detail::Bare,
+    })
+}

@@ -1,0 +1,6 @@
+mod Cut
+mod Flags
+mod Settling
+mod Taken
+mod Worked
+mod Workers

@@ -1,0 +1,10 @@
+pub mod Command
+pub mod Kept
+pub mod Laws
+pub mod Past
+pub mod Program
+pub mod Reads
+pub mod Recovered
+pub mod Settled
+pub mod Unrecovered
+pub mod Work

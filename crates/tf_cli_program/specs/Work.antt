@@ -1,0 +1,84 @@
+-- What the programs do with what they were given.
+use Rattle.std.specs.Prelude.{◌≡◌, ◌⊎◌, true, ℕ, List, Option, Some, None, Result, Ok, Err, option_map, string_bytes}
+use Rattle.std.specs.Io.KnownBytes.{Appends}
+use Rattle.std.specs.Process.{exit_status}
+use Rattle.std.specs.declared.alloc.Global.{Global}
+use Rattle.std.specs.declared.process.ExitCode.{ExitCode}
+use Rattle.std.specs.declared.string.String.{String}
+use Rattle.tf_cli_inputs.specs.Texts.{Texts, the_texts}
+use Rattle.tf_plan.specs.Refused.{Tells}
+use Rattle.tf_plan.specs.declared.refused.Refused.{Refused}
+use Rattle.tf_protocol.specs.Meaning.{Meaning}
+use Rattle.tf_walk.specs.Run.{are_workers}
+use Rattle.tf_cli.specs.Applies.{IsApplied, IsPlanOf, IsPlanText, to_write}
+use Rattle.tf_plan_text.specs.Dot.{IsDrawn}
+use Rattle.tf_plan_data.specs.Plan.{PlanView}
+use Rattle.tf_cli_program.specs.Kept.{EndsKept}
+use Rattle.tf_cli.specs.Refusals.{AreApplyRefusals, AreRefusals}
+use Rattle.tf_cli.specs.Saved.{AppendsStart}
+use Rattle.tf_cli.specs.Shown.{errors_of, output_of, refused_errors, status_of}
+use Rattle.tf_cli.specs.declared.applied.Applied.{Applied}
+use Rattle.tf_cli_program.specs.declared.given.ProgramInput.{ProgramInput}
+
+-- the texts that a program was given
+abbrev pub texts_of : ProgramInput → Texts
+texts_of given = the_texts given.config.items (option_map (λ bytes. bytes.items) given.vars) (option_map (λ bytes. bytes.items) given.state)
+
+-- an answer with its text without where it lies in memory
+abbrev pub answer_of : Result (String Global) Refused → Result (List ℕ) Refused
+answer_of (Ok text) = Ok (string_bytes text)
+answer_of (Err refused) = Err refused
+
+-- the answer of a plan of what was given: its text, or what is refused
+abbrev pub IsPlanAnswer : List Meaning → ProgramInput → Result (List ℕ) Refused → Type 0
+IsPlanAnswer ms given (Ok text) = IsPlanText ms (texts_of given) text
+IsPlanAnswer ms given (Err refused) = Tells (AreRefusals ms (texts_of given)) refused
+
+-- the text that draws the plan of such texts
+pub record IsGraphText (ms : List Meaning) (texts : Texts) (text : List ℕ) : Type 0 where
+  pub lineage : List ℕ
+  pub plan : PlanView
+  pub planned : IsPlanOf ms texts lineage plan
+  pub drawn : IsDrawn plan text
+
+-- the answer where the plan of what was given is to be drawn: the text that draws it, or what is refused
+abbrev pub IsGraphAnswer : List Meaning → ProgramInput → Result (List ℕ) Refused → Type 0
+IsGraphAnswer ms given (Ok text) = IsGraphText ms (texts_of given) text
+IsGraphAnswer ms given (Err refused) = Tells (AreRefusals ms (texts_of given)) refused
+
+-- The text, of the plan or the one that draws it, is on standard output, with status 0, or a first part of it, with status 1; or the refusals, or a first part
+-- of them, are on standard error, with status 1. Nothing else is anywhere.
+abbrev pub EndsPlan : Result (List ℕ) Refused → (result : ℕ) (out out_after err err_after : Option (List ℕ)) → Type 0
+EndsPlan (Ok text) result out out_after err err_after =
+    (err_after ≡ err)
+    × (((result ≡ 0) × Appends out out_after text) ⊎ ((result ≡ 1) × AppendsStart out out_after text))
+EndsPlan (Err refused) result out out_after err err_after =
+    (result ≡ 1) × (out_after ≡ out) × AppendsStart err err_after (refused_errors refused)
+
+-- the answer of an apply of what was given
+abbrev pub IsAnswer : List Meaning → ProgramInput → Result Applied Refused → Type 0
+IsAnswer ms given (Ok applied) =
+    IsApplied ms (texts_of given) (string_bytes given.options.lineage) applied × (are_workers given.options.parallelism ≡ true)
+IsAnswer ms given (Err refused) =
+    Tells (AreApplyRefusals ms (texts_of given) (string_bytes given.options.lineage) given.options.parallelism) refused
+
+-- what is shown of an answer, or a first part of it, and nothing else
+abbrev pub IsShown : Result Applied Refused → (out out_after err err_after : Option (List ℕ)) → Type 0
+IsShown answer out out_after err err_after = AppendsStart out out_after (output_of answer) × AppendsStart err err_after (errors_of answer)
+
+-- What was answered is shown, and then the state is kept, where there is one to write.
+abbrev pub EndsWith : Option (List ℕ) → Result Applied Refused → (result : ℕ) (out out_after err err_after : Option (List ℕ)) → Type 0
+EndsWith None answer result out out_after err err_after = (result ≡ status_of answer) × IsShown answer out out_after err err_after
+EndsWith (Some text) answer result out out_after err err_after =
+    (out_shown : Option (List ℕ)) × (err_shown : Option (List ℕ)) × IsShown answer out out_shown err err_shown
+    × EndsKept (status_of answer) result text out_shown out_after err_shown err_after
+
+abbrev pub EndsApply : Result Applied Refused → (result : ℕ) (out out_after err err_after : Option (List ℕ)) → Type 0
+EndsApply answer result out out_after err err_after = EndsWith (to_write answer) answer result out out_after err err_after
+
+-- An apply with a log ends before any call, with status 1 and nothing on standard output; or it ends as the apply that it is,
+-- where more may be told on standard error.
+abbrev pub EndsLogged : List Meaning → ProgramInput → (result : ExitCode) (out out_after err : Option (List ℕ)) → Type 0
+EndsLogged ms given result out out_after err =
+    ((exit_status result ≡ 1) × (out_after ≡ out))
+    ⊎ ((answer : Result Applied Refused) × (status : ℕ) × (err_shown : Option (List ℕ)) × IsAnswer ms given answer × EndsApply answer status out out_after err err_shown × (exit_status result ≡ status))

@@ -1,0 +1,88 @@
+//! What both programs do around their work: they read their words, and tell that there is no memory.
+
+ghost use Rattle.std.specs.IoError.{error_kind};
+ghost use Rattle.std.specs.Prelude.{◌≡◌, ◌≤◌, ◌⊎◌, IfErr, IfOk};
+ghost use Rattle.std.specs.Process.{exit_status};
+ghost use Rattle.tf_cli_program.specs.Program.{Ends, IsEarly, TellsEnd};
+
+use crate::option_reading::options;
+use crate::words::{Options, Program};
+use std::alloc::Global;
+use std::io::{ErrorKind, Write};
+use std::process::ExitCode;
+use std::rt::Env;
+use std::{env, io};
+use tf_cli::{Refused, print_refused};
+
+/// Runs a program: reads its words, by the options that it has, and does its work with what they say. Where the words are refused or help is asked for, that
+/// is told in place of the work, and so is want of memory, whatever had none of it.
+///
+/// # Errors
+///
+/// That a word isn't UTF-8, and those of the work.
+pub fn run<
+    R: Env + AllocGlobal,
+    O: Write,
+    E: Write,
+    W: FnOnce(Options, &mut O, &mut E) -> io::Result<ExitCode>,
+>(rt: &R, program: Program, out: &mut O, err: &mut E, work: W) -> io::Result<ExitCode>
+    requires { W.IsAlwaysCallable work }
+    ensures { (answer : _) × Ends (λ e. error_kind e ≡ ErrorKind.OutOfMemory) answer result × (IsEarly answer ⊎ ((options : _) × (o : _) × (e : _) × (o_after : _) × (e_after : _) × W.post work options o e answer o_after e_after)) }
+{
+    end(answer_of(rt, program, out, err, work), err)
+}
+
+fn answer_of<
+    R: Env + AllocGlobal,
+    O: Write,
+    E: Write,
+    W: FnOnce(Options, &mut O, &mut E) -> io::Result<ExitCode>,
+>(rt: &R, program: Program, out: &mut O, err: &mut E, work: W) -> io::Result<ExitCode>
+    requires { W.IsAlwaysCallable work }
+    ensures { IsEarly result ⊎ ((options : _) × (o : _) × (e : _) × (o_after : _) × (e_after : _) × W.post work options o e result o_after e_after) }
+{
+    let words: Vec<String> = env::args(rt)?.collect(rt.alloc())?;
+    match read_options(rt.alloc(), program, words.as_slice(), out, err) {
+        Ok(options) => work(options, out, err),
+        Err(status) => Ok(status),
+    }
+}
+
+/// The options that words say. Where they are refused, or ask for help, that has been told.
+fn read_options<O: Write, E: Write>(
+    alloc: Global,
+    program: Program,
+    words: &[String],
+    out: &mut O,
+    err: &mut E,
+) -> Result<Options, ExitCode>
+    ensures workers { IfOk result (λ o. (1 ≤ o.parallelism) × (o.parallelism ≤ 64)) }
+    ensures status { IfErr result (λ status. exit_status status ≤ 1) }
+{
+    match options(alloc, program, words) {
+        Ok(options) => Ok(options),
+        Err(error) => {
+            if error.use_stderr() {
+                let _ = write!(err, "{error}");
+                Err(ExitCode::FAILURE)
+            } else {
+                let _ = write!(out, "{error}");
+                Err(ExitCode::SUCCESS)
+            }
+        }
+    }
+}
+
+/// How a program ends. Want of memory is told as the refusal that it is.
+fn end<E: Write>(answer: io::Result<ExitCode>, err: &mut E) -> io::Result<ExitCode>
+    ensures status { Ends (λ e. error_kind e ≡ ErrorKind.OutOfMemory) answer result }
+    ensures told { TellsEnd (λ e. error_kind e ≡ ErrorKind.OutOfMemory) answer (E.contents err.old) (E.contents err.new) }
+{
+    match answer {
+        Err(error) if error.kind() == ErrorKind::OutOfMemory => {
+            let _ = print_refused(&Refused::NoMemory, err);
+            Ok(ExitCode::FAILURE)
+        }
+        answered => answered,
+    }
+}

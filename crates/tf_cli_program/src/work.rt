@@ -1,0 +1,108 @@
+//! What the two programs do with what they were given.
+
+ghost use Rattle.std.specs.Io.KnownBytes.{Appends};
+ghost use Rattle.std.specs.Prelude.{◌≡◌, ◌⊎◌, map};
+ghost use Rattle.tf_cli.specs.Saved.{AppendsStart};
+ghost use Rattle.tf_cli_program.specs.Work.{EndsApply, EndsPlan, IsAnswer, IsGraphAnswer, IsPlanAnswer, answer_of};
+
+use crate::drawing::graph_text;
+use crate::given::ProgramInput;
+use crate::place::Place;
+use crate::replacing::keep_state;
+use std::alloc::Global;
+use std::io::Write;
+use std::rt::Files;
+use std::sync::Wait;
+use std::thread::Threads;
+use tf_cli::{Refused, Stop, apply_text, plan_text, print_refused, save, show, state_to_write};
+use tf_provider::Provider;
+
+/// Prints the plan of what `plan` was given, or what is refused of it. The answer is the status: 1 where something is refused, and
+/// where standard output doesn't take the whole text.
+pub fn print_plan<O: Write, E: Write>(
+    alloc: Global,
+    given: &ProgramInput,
+    providers: &[Box<dyn Provider + Sync>],
+    out: &mut O,
+    err: &mut E,
+) -> u8
+    ensures { (answer : _) × IsPlanAnswer (map meaning providers.now) given.now answer × EndsPlan answer result (O.contents out.old) (O.contents out.new) (E.contents err.old) (E.contents err.new) }
+{
+    let answer = plan_text(
+        alloc,
+        given.config.as_slice(),
+        given.vars_bytes(),
+        given.state_bytes(),
+        providers,
+    );
+    print_answer(answer, out, err)
+}
+
+/// Prints the order of the plan of what `plan` was given, for Graphviz, in place of the plan's text, or what is refused of it. The
+/// answer is the status: 1 where something is refused, and where standard output doesn't take the whole text.
+pub fn print_graph<O: Write, E: Write>(
+    alloc: Global,
+    given: &ProgramInput,
+    providers: &[Box<dyn Provider + Sync>],
+    out: &mut O,
+    err: &mut E,
+) -> u8
+    ensures { (answer : _) × IsGraphAnswer (map meaning providers.now) given.now answer × EndsPlan answer result (O.contents out.old) (O.contents out.new) (E.contents err.old) (E.contents err.new) }
+{
+    print_answer(graph_text(alloc, given, providers), out, err)
+}
+
+/// Prints a text, or what is refused in its place. The answer is the status.
+fn print_answer<O: Write, E: Write>(answer: Result<String, Refused>, out: &mut O, err: &mut E) -> u8
+    ensures { EndsPlan (answer_of answer) result (O.contents out.old) (O.contents out.new) (E.contents err.old) (E.contents err.new) }
+{
+    match answer {
+        Ok(text) => print_text(text.as_str(), out),
+        Err(refused) => {
+            let _ = print_refused(&refused, err);
+            1
+        }
+    }
+}
+
+/// Prints a text. The answer is the status.
+fn print_text<O: Write>(text: &str, out: &mut O) -> u8
+    ensures { ((result ≡ 0) × Appends (O.contents out.old) (O.contents out.new) text.now) ⊎ ((result ≡ 1) × AppendsStart (O.contents out.old) (O.contents out.new) text.now) }
+{
+    match save(out, text) {
+        Ok(()) => 0,
+        Err(_) => 1,
+    }
+}
+
+/// Carries out the plan of what `apply` was given, by threads, shows what came of it, and keeps the state where that has
+/// changed. The answer is the status.
+pub fn carry_out<R: Files + AllocGlobal, T: Threads + Wait + Sync, O: Write, E: Write>(
+    rt: &R,
+    threads: &T,
+    place: &Place,
+    given: &ProgramInput,
+    providers: &[Box<dyn Provider + Sync>],
+    stop: &Stop,
+    out: &mut O,
+    err: &mut E,
+) -> u8
+    ensures { (answer : _) × IsAnswer (map meaning providers.now) given.now answer × EndsApply answer result (O.contents out.old) (O.contents out.new) (E.contents err.old) (E.contents err.new) }
+{
+    let answer = apply_text(
+        threads,
+        rt.alloc(),
+        given.config.as_slice(),
+        given.vars_bytes(),
+        given.state_bytes(),
+        given.options.lineage.as_str(),
+        providers,
+        given.options.parallelism,
+        stop,
+    );
+    let status = show(&answer, out, err);
+    match state_to_write(answer) {
+        Some(text) => keep_state(rt, place, text.as_str(), status, out, err),
+        None => status,
+    }
+}

@@ -1,0 +1,21 @@
+-- How a configuration is refused whose names need themselves.
+use Rattle.std.specs.Prelude.{◌≡◌, ℕ, List, [], MatchResult, Result, codes}
+use Rattle.tf_config_data.specs.Names.{NameView}
+use Rattle.tf_refusal.specs.Code as code
+use Rattle.tf_refusal.specs.Refusal.{DetailView, RefusalView, no_memory, workers, fault, refusal_of}
+use Rattle.tf_refusal.specs.Refusal as refusals
+use Rattle.tf_refusal.specs.declared.refusal.Refusal.{Refusal}
+use Rattle.tf_syntax.specs.TemplateNames.{Pair}
+use Rattle.tf_config_names.specs.Needs.{Needs, AreCyclic}
+
+-- 5, Cycle, of the whole file, with exactly the names that need themselves, one at least; or there was no memory
+abbrev pub RefusesCycle : List NameView → RefusalView → Type 0
+RefusesCycle names no_memory = Unit {0}
+RefusesCycle names workers = ⊥
+RefusesCycle names (fault code' place detail) =
+    (code' ≡ code.cycle) × (place ≡ codes "configuration")
+    × ((texts : List (List ℕ)) × (detail ≡ refusals.names texts) × AreCyclic names texts × (texts ≡ [] → ⊥))
+
+-- no name needs itself, or those that do are told
+abbrev pub JudgesCycles : {T : Type 0} → List NameView → Result T Refusal → Type 0
+JudgesCycles names answer = MatchResult answer (λ _. (pair : Pair) → Needs names pair pair → ⊥) (λ refusal. RefusesCycle names (refusal_of refusal))

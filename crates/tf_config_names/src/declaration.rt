@@ -1,0 +1,29 @@
+//! A name of a configuration.
+
+ghost use Rattle.std.specs.Prelude.{◌≡◌};
+ghost use Rattle.tf_config_names.specs.Declaration.{declaration_of};
+
+use tf_address::Label;
+use tf_config_data::Block;
+use tf_syntax::Expr;
+
+/// A name of a configuration, with what it stands for.
+#[derive(Clone, Copy)]
+pub enum Declaration<'a> {
+    /// `local.NAME`: the name, and the expression that it stands for.
+    Local(&'a String, &'a Expr),
+    /// `TYPE.NAME`: the resource's type and name, and its block.
+    Resource(&'a Label, &'a Block),
+}
+
+impl<'a> Declaration<'a> {
+    /// The two texts around the name's dot.
+    pub(crate) fn texts(self) -> (&'a str, &'a str)
+        ensures { (result.0.now, result.1.now) ≡ (declaration_of self.entry).name }
+    {
+        match self {
+            Declaration::Local(name, _) => ("local", name.as_str()),
+            Declaration::Resource(label, _) => (label.type_name.as_str(), label.name.as_str()),
+        }
+    }
+}

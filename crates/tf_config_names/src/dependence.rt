@@ -1,0 +1,152 @@
+//! Which name of a configuration needs which.
+
+ghost use Rattle.std.specs.List.{AllByRecursion};
+ghost use Rattle.std.specs.Prelude.{◌≡◌, ◌≤◌, ◌<◌, ◌++◌, ℕ, IfOk, OnOk, length, map, slice_index_or, string_bytes, false};
+ghost use Rattle.tf_config_data.specs.Names.{directly_before};
+ghost use Rattle.tf_graph.specs.Digraph.{sources_into};
+ghost use Rattle.tf_config_names.specs.Edges.{edges_into};
+ghost use Rattle.tf_config_names.specs.Needs.{before_in, is_referred_to, needs_in, order_in, IsDependence};
+ghost use Rattle.tf_config_names.specs.Table.{names_in};
+
+use crate::table::Declarations;
+use std::alloc::{AllocError, Global};
+use tf_graph::{Closure, Graph};
+
+/// Which name of a configuration needs which, worked out once. Names stand as their places.
+#[derive(Drop)]
+pub struct Dependence {
+    graph: Graph,
+    order: Vec<usize>,
+    table: Closure,
+}
+
+impl Dependence {
+    /// Works out which name needs which.
+    ///
+    /// # Errors
+    ///
+    /// Only where memory runs out.
+    pub fn new(alloc: Global, names: &Declarations<'_>) -> Result<Dependence, AllocError>
+        requires { length (names_in names.now) ≤ 8000 }
+        ensures { IfOk result (λ d. IsDependence (names_in names.now) d) }
+    {
+        let edges = edges_of(alloc, names)?;
+        let graph = Graph::of(alloc, names.len(), edges.as_slice())?;
+        let order = graph.order(alloc)?;
+        let table = graph.closure(alloc)?;
+        Ok(Dependence {
+            graph,
+            order,
+            table,
+        })
+    }
+
+    /// The graph of what refers directly to what, which leads from what is referred to.
+    pub fn graph(&self) -> &Graph
+        ensures { result.now ≡ self.now.graph }
+    {
+        &self.graph
+    }
+
+    /// What needs what, through others too, as a table that leads from what is needed to what needs it.
+    pub fn table(&self) -> &Closure
+        ensures { result.now ≡ self.now.table }
+    {
+        &self.table
+    }
+
+    /// Whether the name at the first place needs the one at the other.
+    pub fn needs(&self, name: usize, other: usize) -> bool
+        ensures { result ≡ needs_in self.now name other }
+    {
+        self.table.reaches(other, name)
+    }
+
+    /// Places of names, each after all that the name there refers to. Where no name needs itself, the places of all.
+    pub fn order(&self) -> &[usize]
+        ensures { result.now ≡ order_in self.now }
+    {
+        self.order.as_slice()
+    }
+
+    /// The places of what the name at a place refers to directly, as often as it does.
+    pub fn before(&self, name: usize) -> &[usize]
+        requires { name < self.now.graph.nodes }
+        ensures { result.now ≡ before_in self.now name }
+    {
+        self.graph.predecessors(name)
+    }
+
+    /// For each place, whether the name at the given one needs the name there.
+    ///
+    /// # Errors
+    ///
+    /// Only where memory runs out.
+    pub fn needed_by(&self, alloc: Global, name: usize) -> Result<Vec<bool>, AllocError>
+        ensures length { IfOk result (λ needed. length needed.items ≡ self.now.table.nodes) }
+        ensures needed { IfOk result (λ needed. (k : ℕ) → k < self.now.table.nodes
+            → slice_index_or needed.items k false ≡ needs_in self.now name k) }
+    {
+        let mut needed = Vec::with_capacity(alloc, self.table.nodes())?;
+        for other in 0..self.table.nodes() {
+            needed.push(self.needs(name, other))?;
+        }
+        Ok(needed)
+    }
+
+    /// For each place, whether a name refers directly to the one there.
+    ///
+    /// # Errors
+    ///
+    /// Only where memory runs out.
+    pub fn referred_to(&self, alloc: Global) -> Result<Vec<bool>, AllocError>
+        ensures { IfOk result (λ referred. (k : ℕ) → k < self.now.graph.nodes
+            → slice_index_or referred.items k false ≡ is_referred_to self.now k) }
+    {
+        let mut referred = Vec::with_capacity(alloc, self.graph.nodes())?;
+        for name in 0..self.graph.nodes() {
+            referred.push(is_referred_to(self, name))?;
+        }
+        Ok(referred)
+    }
+}
+
+/// Whether a name refers directly to the one at a place.
+fn is_referred_to(dependence: &Dependence, name: usize) -> bool
+    requires { name < dependence.now.graph.nodes }
+    ensures { result ≡ is_referred_to dependence.now name }
+{
+    match dependence.graph.successors(name) {
+        [] => false,
+        [_, ..] => true,
+    }
+}
+
+/// An edge to each name from each that it refers to.
+fn edges_of(alloc: Global, names: &Declarations<'_>) -> Result<Vec<(usize, usize)>, AllocError>
+    ensures within { IfOk result (λ edges. AllByRecursion
+        (λ e. (e.0 < length (names_in names.now)) × (e.1 < length (names_in names.now))) edges.items) }
+    ensures before { IfOk result (λ edges. (n : ℕ)
+        → sources_into edges.items n ≡ directly_before (names_in names.now) n) }
+{
+    let mut edges = Vec::new(alloc);
+    for place in 0..names.len() {
+        let before = names.before(alloc, place)?;
+        add_edges(&mut edges, before.as_slice(), place)?;
+    }
+    Ok(edges)
+}
+
+/// Adds an edge from each node to one.
+fn add_edges(
+    edges: &mut Vec<(usize, usize)>,
+    sources: &[usize],
+    target: usize,
+) -> Result<(), AllocError>
+    ensures { OnOk result (edges.new.items ≡ edges.old.items ++ edges_into target sources.now) }
+{
+    for source in sources {
+        edges.push((*source, target))?;
+    }
+    Ok(())
+}

@@ -1,0 +1,42 @@
+//! The names of a configuration, judged.
+
+ghost use Rattle.std.specs.Prelude.{◌≡◌, ◌≤◌, IfErr, IfOk, OnOk, length};
+ghost use Rattle.tf_config_data.specs.Config.{config_of};
+ghost use Rattle.tf_config_data.specs.Names.{names_of};
+ghost use Rattle.tf_config_names.specs.Judging.{AllAreKnown, RefusesItsNames};
+ghost use Rattle.tf_config_names.specs.Needs.{IsAcyclic, IsDependence};
+ghost use Rattle.tf_config_names.specs.Table.{names_in};
+ghost use Rattle.tf_refusal.specs.Refusal.{refusal_of};
+
+use crate::cycles::demand_acyclic;
+use crate::dependence::Dependence;
+use crate::known_names::demand_known_names;
+use crate::table::Declarations;
+use std::alloc::Global;
+use tf_config_data::Config;
+use tf_refusal::Refusal;
+
+/// The names of a configuration, and which of them needs which, where each reference is to a known name and no name
+/// needs itself.
+///
+/// # Errors
+///
+/// `UnknownName` at the first place in walk order at which something is named or called that isn't known; where there
+/// is none, `Cycle` at `configuration` with exactly the names that need themselves; or there was no memory.
+pub fn check_names(
+    alloc: Global,
+    config: &Config,
+) -> Result<(Declarations<'_>, Dependence), Refusal>
+    requires few { length (names_of (config_of config.now)) ≤ 8000 }
+    ensures names { IfOk result (λ judged. names_in judged.0 ≡ names_of (config_of config.now)) }
+    ensures dependence { IfOk result (λ judged. IsDependence (names_in judged.0) judged.1) }
+    ensures known { OnOk result (AllAreKnown (config_of config.now)) }
+    ensures acyclic { IfOk result (λ judged. IsAcyclic judged.1) }
+    ensures refused { IfErr result (λ refusal. RefusesItsNames (config_of config.now) (refusal_of refusal)) }
+{
+    let names = Declarations::new(alloc, config)?;
+    demand_known_names(alloc, config, &names)?;
+    let dependence = Dependence::new(alloc, &names)?;
+    demand_acyclic(alloc, &names, &dependence)?;
+    Ok((names, dependence))
+}

@@ -1,9 +1,0 @@
-use Rattle.std.proofs.Common.{◌≡◌, map}
-use Rattle.std.specs.Vec.Iter.{into_iter_items}
-use Rattle.tf_deciding.proofs.collecting.Decided.add_settled.Given as goal
-use Rattle.tf_deciding.specs.Deciding.{decided_of, of_view}
-use Rattle.tf_deciding.specs.Settling.{settled_of, with_settled}
-
--- what is decided so far with those to come is what is decided of all
-abbrev pub invariant-loop-one : goal.invariant-loop-one
-invariant-loop-one l = with_settled (of_view l.of) (map settled_of (into_iter_items l.one-iterator)) (decided_of l.self) ≡ with_settled (of_view l.of) (map settled_of l.fn.settled.items) (decided_of l.fn.self)

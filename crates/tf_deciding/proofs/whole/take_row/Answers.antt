@@ -1,5 +1,0 @@
-use Rattle.tf_deciding.proofs.Along.{row_other}
-use Rattle.tf_deciding.proofs.whole.take_row.Goals as goal
-
-pub returns-clause-others : goal.returns-clause-others
-returns-clause-others c = λ n h. row_other c.args.rows.now.items c.args.place n c.replace.new.dest h

@@ -1,9 +1,0 @@
-pub mod Steps
-pub mod Outcome
-pub mod Views
-pub mod Stage
-pub mod Laws
-pub mod Deciding
-pub mod Whole
-pub mod Settling
-pub mod Rows

@@ -1,8 +1,0 @@
-//! What holds of a plan from any prior state.
-
-ghost use Rattle.tf_deciding.specs.Laws.{DecidingIsLocal};
-
-/// What a block refers to decides what it stands for, whatever the state has.
-pub fn deciding_is_local()
-    ensures { DecidingIsLocal }
-{}

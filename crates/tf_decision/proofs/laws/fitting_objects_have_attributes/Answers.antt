@@ -1,5 +1,0 @@
-use Rattle.tf_decision.proofs.Exact.{fits_exactly}
-use Rattle.tf_decision.proofs.laws.fitting_objects_have_attributes.Goals as goal
-
-pub returns : goal.returns
-returns c = fits_exactly

@@ -1,5 +1,0 @@
-use Rattle.tf_decision.proofs.Causes.{prevented_stay}
-use Rattle.tf_decision.proofs.laws.prevented_objects_stay.Goals as goal
-
-pub returns : goal.returns
-returns c = prevented_stay

@@ -1,5 +1,0 @@
-use Rattle.tf_environment.proofs.Laying.{numbers_pushed}
-use Rattle.tf_environment.proofs.shape.numbers.Goals as goal
-
-pub loop-number-preserved : goal.loop-number-preserved
-loop-number-preserved c = numbers_pushed c.loop-number.keys.items c.push.new.self.items c.loop-number.number c.in_ok-push.ensures.items c.loop-number.invariant

@@ -1,9 +1,0 @@
-pub mod Instance
-pub mod Kept
-pub mod Laws
-pub mod Repetition
-pub mod InstanceKeys
-pub mod Stages
-pub mod Resolved
-pub mod Views
-pub mod Words

@@ -1,4 +1,0 @@
-use Rattle.tf_names.proofs.known_names.demand_block.Goals as goal
-
-pub returns : goal.returns
-returns c = λ label. rw (← c.in_ok-properties.ensures label, ← c.as_slice.ensures.value) c.demand_properties.ensures

@@ -1,5 +1,0 @@
-use Rattle.tf_json_path.proofs.Places.{place_of-Root, place_of-Member}
-use Rattle.tf_names.proofs.known_names.demand_output.Goals as goal
-
-pub returns : goal.returns
-returns c = rw (place_of-Member, place_of-Member, place_of-Member, place_of-Root) at c.demand_expr.ensures

@@ -1,6 +1,0 @@
-use Rattle.std.proofs.Common.{arith}
-use Rattle.std.proofs.lemmas.Map.Text.{text_keys}
-use Rattle.tf_names.proofs.places.Places.put.Goals as goal
-
-pub returns : goal.returns
-returns c = λ pair. grind (arith, text_keys)

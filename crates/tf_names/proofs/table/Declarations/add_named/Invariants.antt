@@ -1,8 +1,0 @@
-use Rattle.std.proofs.Common.{drop, map}
-use Rattle.tf_names.proofs.Tables.{Adds}
-use Rattle.tf_names.specs.Table.{names_in}
-use Rattle.tf_syntax.specs.TemplateNames.{reference_of}
-use Rattle.tf_names.proofs.table.Declarations.add_named.Given as goal
-
-abbrev pub invariant-loop-reference : goal.invariant-loop-reference
-invariant-loop-reference l = Adds (names_in l.self) l.fn.found.items (map reference_of l.reference-items) l.found.items (map reference_of (drop l.reference-index l.reference-items))

@@ -1,5 +1,0 @@
-use Rattle.tf_outputs.proofs.Solved.{settled_one, settled_exist}
-use Rattle.tf_outputs.proofs.laws.settled_are_one.Goals as goal
-
-pub returns : goal.returns
-returns c = record { one = settled_one; exist = settled_exist }

@@ -1,0 +1,64 @@
+use Rattle.std.proofs.Common.{rules, ◌≡◌, ◌<◌, ℕ, length, map, slice_index_or, refl, ◌∙◌, arith}
+use Rattle.std.proofs.lemmas.List.{get_or_default}
+use Rattle.tf_plan_decision.proofs.Along.{looked_start, looked_more, rows_all}
+use Rattle.tf_plan_decision.specs.Stage.{deciding}
+use Rattle.tf_expand.proofs.Keeping.{kept_all}
+use Rattle.tf_expand.specs.Views.{shapes_of}
+use Rattle.tf_config_names.specs.Table.{names_in}
+use Rattle.tf_state_data.specs.State.{state_of}
+use Rattle.tf_value.specs.Tree.{entries_view}
+use Rattle.tf_plan_decision.proofs.whole.decide_along.Goals as goal
+
+pub loop-place-init : goal.loop-place-init
+loop-place-init g c =
+    let ms = map (λ b. (goal.Provider-dyn g (b.vtable, b.value)).meaning b.value) c.args.stage.now.providers.now in
+    looked_start ms (state_of c.args.stage.now.state.now).resources (entries_view c.args.declared.now.variables.now.entries) (names_in c.args.declared.now.names.now) (shapes_of c.args.stage.now.shapes.now)
+    c.args.order.now c.args.wanted.now c.in_ok-kept.kept.items c.in_ok-rows.rows.items (c.in_ok-kept.ensures.length ∙ c.len.ensures) c.in_ok-kept.ensures.none (c.in_ok-rows.ensures ∙ c.len-2.ensures)
+
+pub loop-place-preserved : goal.loop-place-preserved
+loop-place-preserved g c =
+    let ms = map (λ b. (goal.Provider-dyn g (b.vtable, b.value)).meaning b.value) c.args.stage.now.providers.now in
+    let names = names_in c.args.declared.now.names.now in
+    let i = c.loop-place.place-index in
+    let p : ℕ = slice_index_or c.args.order.now i 0 in
+    let below : i < length c.args.order.now = c.loop-place-test.true in
+    looked_more ms (state_of c.args.stage.now.state.now).resources (entries_view c.args.declared.now.variables.now.entries) names (shapes_of c.args.stage.now.shapes.now)
+    c.args.order.now c.args.wanted.now i p c.loop-place.kept.items _ c.loop-place.rows.items _ c.in_ok-looked.looked.resolved c.in_ok-looked.looked.decided c.contains-is_wanted.result c.as_slice.result.now
+    c.requires.order c.requires.closed c.requires.needed below refl (c.requires.within p (i, below, get_or_default c.args.order.now i p 0 below)) refl refl
+    c.contains-is_wanted.ensures c.as_slice.ensures.value c.in_ok-looked.ensures.resolved c.in_ok-looked.ensures.decided c.loop-place.invariant
+
+pub returns-clause-resolved_names : goal.returns-clause-resolved_names
+returns-clause-resolved_names g c =
+    let ms = map (λ b. (goal.Provider-dyn g (b.vtable, b.value)).meaning b.value) c.args.stage.now.providers.now in
+    kept_all (deciding ms (state_of c.args.stage.now.state.now).resources (shapes_of c.args.stage.now.shapes.now)) (entries_view c.args.declared.now.variables.now.entries) (names_in c.args.declared.now.names.now)
+    c.args.order.now c.args.wanted.now c.loop-place.place-index c.loop-place.kept.items (omega (arith, c.loop-place-test.false)) c.loop-place.invariant.resolved
+
+pub returns-clause-rows : goal.returns-clause-rows
+returns-clause-rows g c =
+    let ms = map (λ b. (goal.Provider-dyn g (b.vtable, b.value)).meaning b.value) c.args.stage.now.providers.now in
+    rows_all ms (state_of c.args.stage.now.state.now).resources (entries_view c.args.declared.now.variables.now.entries) (names_in c.args.declared.now.names.now) (shapes_of c.args.stage.now.shapes.now)
+    c.args.order.now c.loop-place.place-index c.loop-place.rows.items (omega (arith, c.loop-place-test.false)) c.loop-place.invariant.each
+
+pub look_at-requires-clause-place : goal.look_at-requires-clause-place
+look_at-requires-clause-place g c =
+    let i = c.loop-place.place-index in
+    let p : ℕ = slice_index_or c.args.order.now i 0 in
+    c.requires.within p (i, c.loop-place-test.true, get_or_default c.args.order.now i p 0 c.loop-place-test.true)
+
+pub index_mut-requires : goal.index_mut-requires
+index_mut-requires g c =
+    let i = c.loop-place.place-index in
+    let p : ℕ = slice_index_or c.args.order.now i 0 in
+    let inside : p < length (names_in c.args.declared.now.names.now) = c.requires.within p (i, c.loop-place-test.true, get_or_default c.args.order.now i p 0 c.loop-place-test.true) in
+    let long : length c.loop-place.kept.items ≡ length (names_in c.args.declared.now.names.now) = c.loop-place.invariant.resolved.long in
+    let wide : length c.loop-place.rows.items ≡ length (names_in c.args.declared.now.names.now) = c.loop-place.invariant.long in
+    search rules
+
+pub index_mut-requires-in-loop-place : goal.index_mut-requires-in-loop-place
+index_mut-requires-in-loop-place g c =
+    let i = c.loop-place.place-index in
+    let p : ℕ = slice_index_or c.args.order.now i 0 in
+    let inside : p < length (names_in c.args.declared.now.names.now) = c.requires.within p (i, c.loop-place-test.true, get_or_default c.args.order.now i p 0 c.loop-place-test.true) in
+    let long : length c.loop-place.kept.items ≡ length (names_in c.args.declared.now.names.now) = c.loop-place.invariant.resolved.long in
+    let wide : length c.loop-place.rows.items ≡ length (names_in c.args.declared.now.names.now) = c.loop-place.invariant.long in
+    search rules

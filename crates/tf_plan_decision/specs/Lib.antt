@@ -1,0 +1,17 @@
+pub mod Answer
+pub mod Deciding
+pub mod Decision
+pub mod Differing
+pub mod Ignored
+pub mod Kept
+pub mod Laws
+pub mod Locality
+pub mod Names
+pub mod Outcome
+pub mod Prior
+pub mod Rows
+pub mod Settling
+pub mod Stage
+pub mod Steps
+pub mod Views
+pub mod Whole

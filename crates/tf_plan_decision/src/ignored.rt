@@ -1,0 +1,79 @@
+//! Names in `ignore_changes`, beside what is wrong with arguments.
+
+ghost use Rattle.std.specs.List.{list_any};
+ghost use Rattle.std.specs.Prelude.{◌≡◌, IfOk, map, option_map, string_bytes};
+ghost use Rattle.tf_plan_object.specs.Instance.{argument_fault, instance_fault_of, instance_of};
+ghost use Rattle.tf_plan_object.specs.Object.{named_fault_of};
+ghost use Rattle.tf_plan_object.specs.declared.argument.ArgumentFault.TheVariants.{BadArgument};
+ghost use Rattle.tf_plan_decision.specs.Ignored.{heeding, ignored_fault, sooner_fault};
+ghost use Rattle.tf_plan_decision.specs.Kept.{is_ignored};
+
+use crate::names::sooner;
+use std::alloc::{AllocError, Global};
+use tf_plan_object::{ArgumentFault, InstanceFault, NamedFault};
+use tf_protocol::Schema;
+use tf_value::Value;
+
+/// The first name, in byte order, among those whose changes are ignored, that no attribute of the schema has.
+pub fn ignored_fault<'a>(schema: &Schema, ignored: &'a [String]) -> Option<&'a str>
+    ensures { option_map (λ s. s.now) result ≡ ignored_fault schema.now (map string_bytes ignored.now) }
+{
+    let mut first = None;
+    for name in ignored {
+        if schema.attribute(name.as_str()).is_none() {
+            first = sooner(first, name.as_str());
+        }
+    }
+    first
+}
+
+/// Whether the changes of an attribute are ignored.
+pub(crate) fn is_ignored(ignored: &[String], name: &str) -> bool
+    ensures { result ≡ is_ignored (map string_bytes ignored.now) name.now }
+{
+    for other in ignored {
+        if other.as_str() == name {
+            return true;
+        }
+    }
+    false
+}
+
+/// What is planned for an instance, where the first name in `ignore_changes` that is no attribute's, if there is one, is a
+/// bad argument.
+pub(crate) fn heeding(
+    alloc: Global,
+    name: Option<&str>,
+    planned: Result<Value, InstanceFault>,
+) -> Result<Result<Value, InstanceFault>, AllocError>
+    ensures { IfOk result (λ heeded. instance_of heeded ≡ heeding (option_map (λ s. s.now) name.entry) (instance_of planned)) }
+{
+    match name {
+        None => Ok(planned),
+        Some(name) => match planned {
+            Ok(_) => Ok(Err(bad_argument(alloc, name)?)),
+            Err(InstanceFault::ForEach(why)) => Ok(Err(InstanceFault::ForEach(why))),
+            Err(InstanceFault::Argument(found)) => Ok(Err(sooner_fault(alloc, found, name)?)),
+        },
+    }
+}
+
+/// A fault of an argument, or that of a name whose changes are ignored where this comes first in byte order.
+fn sooner_fault(alloc: Global, found: NamedFault, name: &str) -> Result<InstanceFault, AllocError>
+    ensures { IfOk result (λ fault. instance_fault_of fault ≡ argument_fault (sooner_fault (named_fault_of found) (name.now, BadArgument))) }
+{
+    if name < found.name.as_str() {
+        bad_argument(alloc, name)
+    } else {
+        Ok(InstanceFault::Argument(found))
+    }
+}
+
+fn bad_argument(alloc: Global, name: &str) -> Result<InstanceFault, AllocError>
+    ensures { IfOk result (λ fault. instance_fault_of fault ≡ argument_fault (name.now, BadArgument)) }
+{
+    Ok(InstanceFault::Argument(NamedFault {
+        name: String::from_str(alloc, name)?,
+        fault: ArgumentFault::BadArgument,
+    }))
+}

@@ -1,0 +1,31 @@
+//! What is decided about the instances of a configuration and a prior state.
+//!
+//! From the planned object of an instance, its prior object, the schema of its type and the block's `lifecycle`: nothing, a
+//! create, an update or a replace, or else why it is refused. An instance that the configuration doesn't have is destroyed,
+//! or that is refused. `decide_all` decides about all of them together, in address order.
+#![tactic(auto)]
+
+mod collecting;
+mod decision;
+mod differing;
+mod ignored;
+mod kept;
+pub mod laws;
+pub mod locality;
+mod names;
+mod objects;
+mod outcome;
+mod planned_values;
+mod prior;
+mod settling;
+mod steps;
+mod whole;
+
+pub use collecting::{Decided, RefusedInstance};
+pub use decision::DecisionFault;
+pub use ignored::ignored_fault;
+pub use kept::kept_object;
+pub use outcome::{Why, member_outcome, orphan_outcome};
+pub use planned_values::PlannedValues;
+pub use prior::{PriorFault, prior_fault};
+pub use whole::{InOrder, decide_in_order, gather};

@@ -1,0 +1,88 @@
+//! What is decided of a block, and what it stands for by that.
+
+ghost use Rattle.std.specs.Prelude.{◌≡◌, if◌then◌else◌, IfOk, map, None};
+ghost use Rattle.tf_expand.specs.Words.{block_at, label_of, shape_of, resolved_of};
+ghost use Rattle.tf_plan_decision.specs.Deciding.{decided_of, with_block};
+ghost use Rattle.tf_plan_decision.specs.Stage.{block_members, block_standing};
+ghost use Rattle.tf_plan_decision.specs.Whole.{nothing_decided};
+ghost use Rattle.tf_plan_order.specs.MemberViews.{member_of};
+ghost use Rattle.tf_state_data.specs.State.{state_of};
+
+use crate::collecting::{Decided, OutcomeOf, version_of};
+use crate::objects::{records_at, settled_standing};
+use crate::settling::settle;
+use std::alloc::{AllocError, Global};
+use tf_address::Label;
+use tf_config_data::Block;
+use tf_eval::Scope;
+use tf_expand::{InstanceKeys, Resolved, ResourceInScope};
+use tf_plan_order::{InstanceToPlan, members};
+use tf_protocol::{Provider, schema_for};
+use tf_state_data::State;
+
+/// The plan from a prior state: each resource has the instances that the expansion gave it. Each type's provider is the first in
+/// the list that has it.
+#[derive(Drop)]
+pub struct PlannedValues<'a> {
+    /// How the instances of each resource stand together, by the place of its name.
+    pub shapes: &'a [InstanceKeys],
+    /// The prior state.
+    pub state: &'a State,
+    /// The providers.
+    pub providers: &'a [Box<dyn Provider + Sync>],
+}
+
+/// What a name stands for, and what is decided of it.
+#[derive(Drop)]
+pub(crate) struct Looked {
+    /// What it stands for; nothing where it isn't wanted.
+    pub(crate) resolved: Resolved,
+    /// What is decided of its instances; nothing where it is a local.
+    pub(crate) decided: Decided,
+}
+
+/// Decides the members of a resource whose block stands, each once: those that the configuration has, by the resource's shape,
+/// and those that the state has of it. What the resource stands for is what was decided of them.
+pub(crate) fn decide_block<S: Scope>(
+    alloc: Global,
+    stage: &PlannedValues<'_>,
+    resource: &ResourceInScope<'_, S>,
+    shape: &InstanceKeys,
+    is_wanted: bool,
+) -> Result<Looked, AllocError>
+    ensures resolved { IfOk result (λ looked. resolved_of looked.resolved ≡ (if is_wanted
+        then block_standing (map meaning stage.now.providers.now) (state_of stage.now.state.now).resources resource.now.place (shape_of shape.now)
+        (block_at (label_of resource.now.label.now) resource.now.block.now) (S.environment resource.now.scope.now)
+        else None)) }
+    ensures decided { IfOk result (λ looked. decided_of looked.decided
+        ≡ with_block (map meaning stage.now.providers.now) (state_of stage.now.state.now).resources resource.now.place
+        (block_at (label_of resource.now.label.now) resource.now.block.now) (S.environment resource.now.scope.now) (shape_of shape.now) nothing_decided) }
+{
+    let schema = schema_for(stage.providers, resource.label.type_name.as_str());
+    let members = block_members(alloc, stage.state, shape, resource.label, resource.block)?;
+    let settled = settle(alloc, schema, resource, members.as_slice())?;
+    let resolved = settled_standing(alloc, shape, settled.as_slice(), is_wanted)?;
+    let of = OutcomeOf {
+        resource: resource.place,
+        label: resource.label,
+        version: version_of(schema),
+    };
+    let mut decided = Decided::nothing(alloc);
+    decided.add_settled(&of, settled)?;
+    Ok(Looked { resolved, decided })
+}
+
+/// The members of a resource whose block stands.
+fn block_members<'a>(
+    alloc: Global,
+    state: &'a State,
+    shape: &InstanceKeys,
+    label: &Label,
+    block: &Block,
+) -> Result<Vec<InstanceToPlan<'a>>, AllocError>
+    ensures { IfOk result (λ members. map member_of members.items
+        ≡ block_members (shape_of shape.now) (block_at (label_of label.now) block.now) (state_of state.now).resources) }
+{
+    let keys = shape.keys(alloc)?;
+    members(alloc, keys.as_slice(), records_at(state, label))
+}

@@ -1,7 +1,0 @@
--- those of the edges so far
-use Rattle.std.proofs.Common.{◌≡◌, not, filter, take}
-use Rattle.tf_plan_dot.specs.Beyond.{leads_beyond}
-use Rattle.tf_plan_dot.proofs.reducing.direct_edges.Given as goal
-
-abbrev pub invariant-loop-edge : goal.invariant-loop-edge
-invariant-loop-edge l = l.kept.items ≡ filter (λ e. not (leads_beyond l.beyond e)) (take l.edge-index l.edges)

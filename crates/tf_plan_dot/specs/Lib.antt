@@ -1,4 +1,0 @@
-pub mod Beyond
-pub mod Reduction
-pub mod Dot
-pub mod Quoted

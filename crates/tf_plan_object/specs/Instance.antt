@@ -1,0 +1,45 @@
+-- The object of one instance of a resource.
+use Rattle.std.specs.Prelude.{Result, Ok, Err}
+use Rattle.tf_address.specs.ObjectId.{InstanceKeyView}
+use Rattle.tf_config_data.specs.Config.{BlockView}
+use Rattle.tf_operators.specs.declared.fault.EvalFault.{EvalFault}
+use Rattle.tf_protocol.specs.Schema.{SchemaView}
+use Rattle.tf_syntax.specs.ExprTree as expr
+use Rattle.tf_value.specs.Tree.{Tree, tree_of}
+use Rattle.tf_value.specs.declared.value.Value.{Value}
+use Rattle.tf_eval.specs.Environment.{Environment}
+use Rattle.tf_expand.specs.Instance.{instance_environment}
+use Rattle.tf_plan_object.specs.Object.{named_fault_of}
+use Rattle.tf_plan_object.specs.Planned.{NamedFaultView, planned_object}
+use Rattle.tf_plan_object.specs.declared.instance.InstanceFault.{InstanceFault}
+use Rattle.tf_plan_object.specs.declared.instance.InstanceFault.TheVariants.{ForEach, Argument}
+
+-- What is wrong with an instance: `for_each` gives it no value, or an argument is bad.
+pub data InstanceFaultView : Type 0 where
+  for_each_fault : EvalFault → InstanceFaultView
+  argument_fault : NamedFaultView → InstanceFaultView
+
+abbrev pub instance_fault_of : InstanceFault → InstanceFaultView
+instance_fault_of (ForEach why) = for_each_fault why
+instance_fault_of (Argument n) = argument_fault (named_fault_of n)
+
+-- an instance's object, or the fault in its place
+abbrev pub instance_of : Result Value InstanceFault → Result Tree InstanceFaultView
+instance_of (Ok v) = Ok (tree_of v)
+instance_of (Err why) = Err (instance_fault_of why)
+
+-- an object, or what is wrong with an argument of the instance
+abbrev pub or_argument_fault : Result Tree NamedFaultView → Result Tree InstanceFaultView
+or_argument_fault (Ok t) = Ok t
+or_argument_fault (Err named) = Err (argument_fault named)
+
+-- the object of arguments that see so much, or the fault of what they would see
+abbrev pub object_in : SchemaView → expr.Entries → Result Environment EvalFault → Result Tree InstanceFaultView
+object_in schema arguments (Err why) = Err (for_each_fault why)
+object_in schema arguments (Ok env) = or_argument_fault (planned_object schema env arguments)
+
+-- The object of an instance of a block: what the schema makes of its arguments, in which `count.index`, `each.key` and
+-- `each.value` are those of the instance. `for_each` is evaluated again for each instance, and its fault comes before
+-- all faults of arguments, also where nothing names `each.value`.
+abbrev pub instance_object : SchemaView → BlockView → InstanceKeyView → Environment → Result Tree InstanceFaultView
+instance_object schema block key env = object_in schema block.arguments (instance_environment block.repetition key env)

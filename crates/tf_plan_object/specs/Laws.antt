@@ -1,0 +1,37 @@
+-- What holds of planned objects, whatever references stand for.
+use Rattle.std.specs.Prelude.{◌≡◌, true, Some, Ok}
+use Rattle.tf_address.specs.ObjectId.{InstanceKeyView}
+use Rattle.tf_config_data.specs.Config.{BlockView}
+use Rattle.tf_config_data.specs.Names.{block_refers}
+use Rattle.tf_protocol.specs.Schema.{SchemaView}
+use Rattle.tf_protocol.specs.Verdict.{has_attributes}
+use Rattle.tf_protocol.specs.declared.schema.Kind.{Kind}
+use Rattle.tf_value.specs.Tree.{Tree}
+use Rattle.tf_value.specs.Refinement.{Refines}
+use Rattle.tf_eval.specs.Environment.{Environment, RefinesTo}
+use Rattle.tf_eval.specs.Locality.{AgreeOn}
+use Rattle.tf_plan_object.specs.Argument.{converted}
+use Rattle.tf_plan_object.specs.Instance.{instance_object}
+
+-- An instance has the same object, or the same fault, in environments that agree on what its block refers to.
+abbrev pub InstancesAreLocal : Type 0
+InstancesAreLocal =
+    (schema : SchemaView) (block : BlockView) (key : InstanceKeyView) (one other : Environment) → AgreeOn one other (block_refers block)
+    → instance_object schema block key one ≡ instance_object schema block key other
+
+-- Where a value refines to another and both are converted to a kind, the first result refines to the second.
+abbrev pub ConversionGrows : Type 0
+ConversionGrows = (kind : Kind) (t u v w : Tree) → Refines t u → converted kind t ≡ Some v → converted kind u ≡ Some w → Refines v w
+
+-- Where an environment refines to another and an instance has an object in both, the first object refines to the second.
+-- So a value that is known in the first stands in the second too.
+abbrev pub InstancesGrow : Type 0
+InstancesGrow =
+    (schema : SchemaView) (block : BlockView) (key : InstanceKeyView) (one other : Environment) (t u : Tree) → RefinesTo one other
+    → instance_object schema block key one ≡ Ok t → instance_object schema block key other ≡ Ok u → Refines t u
+
+-- The object of an instance has exactly the schema's attributes.
+abbrev pub InstancesHaveAttributes : Type 0
+InstancesHaveAttributes =
+    (schema : SchemaView) (block : BlockView) (key : InstanceKeyView) (env : Environment) (t : Tree)
+    → instance_object schema block key env ≡ Ok t → has_attributes schema t ≡ true

@@ -1,0 +1,59 @@
+//! The object that is planned for one instance of a resource.
+
+ghost use Rattle.std.specs.Prelude.{◌≡◌, true, IfOk};
+ghost use Rattle.tf_expand.specs.Words.{block_at, instance_key_of, LabelView, tree_of};
+ghost use Rattle.tf_plan_object.specs.Bounded.{has_planned_attributes};
+ghost use Rattle.tf_plan_object.specs.Instance.{instance_object, instance_of};
+
+use crate::object::{NamedFault, plan_object};
+use std::alloc::{AllocError, Global};
+use tf_address::InstanceKey;
+use tf_config_data::Block;
+use tf_eval::{EvalFault, Scope};
+use tf_expand::{InstanceScope, instance_constants};
+use tf_protocol::Schema;
+use tf_value::Value;
+
+/// What is wrong with an instance.
+#[derive(Debug, Drop)]
+pub enum InstanceFault {
+    /// `for_each`, which is evaluated again for each instance, has no value, or none under the instance's key; or a
+    /// `count` numbers the instance beyond the whole numbers.
+    ForEach(EvalFault),
+    /// The attribute whose name is first in byte order among those with a fault.
+    Argument(NamedFault),
+}
+
+/// Plans the object of an instance by its type's schema, where references stand for what the scope says, and
+/// `count.index`, `each.key` and `each.value` are those of the instance. Or the fault of `for_each`, also where nothing
+/// names `each.value`; else the first fault of the arguments.
+///
+/// # Errors
+///
+/// Only where memory runs out.
+pub fn plan_instance<S: Scope>(
+    alloc: Global,
+    schema: &Schema,
+    block: &Block,
+    key: &InstanceKey,
+    scope: &S,
+) -> Result<Result<Value, InstanceFault>, AllocError>
+    ensures plans { (label : LabelView) → IfOk result (λ planned. instance_of planned
+        ≡ instance_object schema.now (block_at label block.now) (instance_key_of key.now) (S.environment scope.now)) }
+    ensures within { IfOk result (λ planned. IfOk planned (λ v. has_planned_attributes (tree_of v) ≡ true)) }
+{
+    match instance_constants(alloc, &block.repetition, key, scope) {
+        Ok(constants) => {
+            let bound = InstanceScope {
+                constants: &constants,
+                around: scope,
+            };
+            match plan_object(alloc, schema, &block.arguments, &bound)? {
+                Ok(object) => Ok(Ok(object)),
+                Err(named) => Ok(Err(InstanceFault::Argument(named))),
+            }
+        }
+        Err(EvalFault::OutOfMemory) => Err(AllocError),
+        Err(fault) => Ok(Err(InstanceFault::ForEach(fault))),
+    }
+}

@@ -1,0 +1,31 @@
+//! Laws on planned objects.
+
+ghost use Rattle.tf_plan_object.specs.Laws.{ConversionGrows, InstancesAreLocal, InstancesGrow, InstancesHaveAttributes};
+
+use tf_eval::{expr_knowledge_grows, meaning_is_local};
+use tf_expand::standing_laws::instances_stay;
+use tf_value::{lists_stand_for_sets, refinement_is_an_order};
+
+/// What a block refers to decides the object, or the fault, of each of its instances.
+pub fn objects_are_local()
+    ensures { InstancesAreLocal }
+{
+    meaning_is_local();
+}
+
+/// What is known of an object only grows. Where what references stand for refines, so does a converted value, and so do
+/// the objects of instances.
+pub fn objects_grow()
+    ensures conversion { ConversionGrows }
+    ensures instances { InstancesGrow }
+{
+    refinement_is_an_order();
+    lists_stand_for_sets();
+    expr_knowledge_grows();
+    instances_stay();
+}
+
+/// The object of an instance has exactly the schema's attributes.
+pub fn objects_have_attributes()
+    ensures { InstancesHaveAttributes }
+{}

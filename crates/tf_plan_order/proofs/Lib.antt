@@ -1,0 +1,14 @@
+pub mod Chains
+pub mod InstanceOrder
+pub mod Keeping
+pub mod Known
+pub mod Listed
+pub mod Listing
+pub mod Naming
+pub mod Parting
+pub mod PlacesInOrder
+pub mod Placing
+pub mod SpreadState
+pub mod Spreading
+pub mod Standing
+pub mod Turned

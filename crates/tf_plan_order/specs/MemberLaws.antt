@@ -1,0 +1,15 @@
+-- What holds of the members of each resource.
+use Rattle.std.specs.Prelude.{◌≡◌, List}
+use Rattle.tf_address.specs.ObjectId.{InstanceKeyView}
+use Rattle.tf_plan_order.specs.Members.{InstanceToPlanView, AreMembers, members}
+use Rattle.tf_state_data.specs.Record.{RecordView}
+
+-- Whatever the configuration and the state have, there is a list of members.
+abbrev pub MembersAreThere : Type 0
+MembersAreThere = (keys : List InstanceKeyView) (records : List RecordView) → AreMembers keys records (members keys records)
+
+-- And no second one.
+abbrev pub MembersAreOne : Type 0
+MembersAreOne =
+    (keys : List InstanceKeyView) (records : List RecordView) (some others : List InstanceToPlanView) → AreMembers keys records some → AreMembers keys records others
+    → some ≡ others

@@ -1,0 +1,63 @@
+-- What holds of the numbers of a configuration's names and of a state's resources, and of the stored dependencies.
+use Rattle.std.specs.Prelude.{◌≡◌, ◌+◌, ◌<◌, ◌≤◌, ◌↔◌, ℕ, true, false, Some, None, option_map, List, length, map, slice_get, Contains}
+use Rattle.std.specs.List.{list_any}
+use Rattle.tf_address.specs.Label.{LabelView, label_text}
+use Rattle.tf_config_data.specs.Names.{NameView}
+use Rattle.tf_plan_order.specs.Dependencies.{IsStoredDependency, dependencies, is_dot, named_address}
+use Rattle.tf_plan_order.specs.ResourceIndex.{ResourceRefView, a_name, an_orphan, address_of, has_block, numbered, orphans, place_in}
+use Rattle.tf_state_data.specs.Addresses.{AreByAddress}
+use Rattle.tf_state_data.specs.Resource.{ResourceView}
+
+-- Each resource of the state has a place.
+abbrev pub EachHasAPlace : Type 0
+EachHasAPlace =
+    (names : List NameView) (resources : List ResourceView) (r : ResourceView) → Contains resources r → (n : ℕ) × (place_in (numbered names resources) r.label ≡ Some n)
+
+-- At the place of an address stands the resource at that address.
+abbrev pub PlacesAreTrue : Type 0
+PlacesAreTrue =
+    (all : List ResourceRefView) (label : LabelView) (n : ℕ) → place_in all label ≡ Some n → (x : ResourceRefView) × (slice_get all n ≡ Some x) × (address_of x ≡ Some label)
+
+-- Two different addresses have different places.
+abbrev pub PlacesDiffer : Type 0
+PlacesDiffer = (all : List ResourceRefView) (a b : LabelView) (n : ℕ) → place_in all a ≡ Some n → place_in all b ≡ Some n → a ≡ b
+
+-- no two resources are at one address
+abbrev pub AreApart : List ResourceRefView → Type 0
+AreApart all =
+    (i j : ℕ) (x y : ResourceRefView) (label : LabelView) → slice_get all i ≡ Some x → slice_get all j ≡ Some y → address_of x ≡ Some label → address_of y ≡ Some label
+    → i ≡ j
+
+-- Where no two blocks are at one address, no two resources of both together are. So each resource of the state stands at
+-- its place alone.
+abbrev pub ResourcesStayApart : Type 0
+ResourcesStayApart =
+    (names : List NameView) (resources : List ResourceView) → AreApart (map a_name names) → AreByAddress resources → AreApart (numbered names resources)
+
+-- The names keep their places, the orphans stand behind them, and behind those nothing.
+pub record AreInOrder (names : List NameView) (resources : List ResourceView) : Type 0 where
+  pub first_names : (n : ℕ) → n < length names → slice_get (numbered names resources) n ≡ option_map a_name (slice_get names n)
+  pub then_orphans : (n : ℕ) → slice_get (numbered names resources) (length names + n) ≡ option_map an_orphan (slice_get (orphans names resources) n)
+  pub then_none : (n : ℕ) → length names + length (orphans names resources) ≤ n → slice_get (numbered names resources) n ≡ None
+
+abbrev pub NumbersAreInOrder : Type 0
+NumbersAreInOrder = (names : List NameView) (resources : List ResourceView) → AreInOrder names resources
+
+-- A resource stands among the names exactly where the configuration has a block of it.
+abbrev pub BlocksComeFirst : Type 0
+BlocksComeFirst =
+    (names : List NameView) (resources : List ResourceView) (label : LabelView) (n : ℕ) → place_in (numbered names resources) label ≡ Some n
+    → (n < length names) ↔ (has_block names label ≡ true)
+
+-- There are at most as many numbers as names and resources of the state.
+abbrev pub NumbersAreFew : Type 0
+NumbersAreFew = (names : List NameView) (resources : List ResourceView) → length (numbered names resources) ≤ length names + length resources
+
+-- The address of a resource names it, as a text, where its type has no dot.
+abbrev pub AddressesAreNamed : Type 0
+AddressesAreNamed = (label : LabelView) → list_any is_dot label.type_name ≡ false → named_address (label_text label) ≡ Some label
+
+-- The list of stored dependencies has exactly those pairs of places.
+abbrev pub DependenciesAreThose : Type 0
+DependenciesAreThose =
+    (all : List ResourceRefView) (resources : List ResourceView) (place other : ℕ) → Contains (dependencies all resources) (place, other) ↔ IsStoredDependency all resources place other

@@ -1,0 +1,6 @@
+-- What contracts of this crate and of those above cite of those below, from one place.
+pub use Rattle.tf_config_data.specs.Words.{label_of, label_pair, LabelView}
+pub use Rattle.tf_config_names.specs.Places.{found_in}
+pub use Rattle.tf_state_data.specs.Record.{record_of}
+pub use Rattle.tf_state_data.specs.Resource.{resource_of}
+pub use Rattle.tf_state_data.specs.State.{state_of}

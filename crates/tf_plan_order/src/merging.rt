@@ -1,0 +1,78 @@
+//! All instances of a resource.
+
+ghost use Rattle.std.specs.Prelude.{◌≡◌, [], IfOk, OnOk, map};
+ghost use Rattle.tf_address.specs.ObjectId.{instance_key_of};
+ghost use Rattle.tf_plan_order.specs.Members.{AreMembers, all_keys, member, recorded_keys, with_keys};
+ghost use Rattle.tf_plan_order.specs.MemberViews.{keys_in, member_of};
+ghost use Rattle.tf_state_data.specs.Ids.{AreById};
+ghost use Rattle.tf_state_data.specs.Record.{record_of};
+
+use crate::instance_to_plan::InstanceToPlan;
+use crate::own::records_of;
+use std::alloc::{AllocError, Global};
+use std::collections::BTreeSet;
+use tf_address::InstanceKey;
+use tf_state_data::Record;
+
+/// The instances of a resource of which the configuration has those with some keys, and the state has some records: all of
+/// both, each once, in address order. The block of a resource may be gone; then it has no keys.
+///
+/// # Errors
+///
+/// Only where memory runs out.
+pub fn members<'a>(
+    alloc: Global,
+    keys: &[InstanceKey],
+    records: &'a [Record],
+) -> Result<Vec<InstanceToPlan<'a>>, AllocError>
+    requires { AreById (map record_of records.now) }
+    ensures { IfOk result (λ members. AreMembers (map instance_key_of keys.now) (map record_of records.now) (map member_of members.items)) }
+{
+    let mut declared = BTreeSet::new(alloc);
+    add_keys(&mut declared, keys)?;
+    let mut all = declared.clone()?;
+    add_recorded(&mut all, records)?;
+    each_member(alloc, &declared, &all, records)
+}
+
+/// Adds keys to a set.
+fn add_keys(known: &mut BTreeSet<InstanceKey>, keys: &[InstanceKey]) -> Result<(), AllocError>
+    ensures { OnOk result (keys_in known.new ≡ with_keys (keys_in known.old) (map instance_key_of keys.now)) }
+{
+    for key in keys {
+        known.insert(key.clone()?)?;
+    }
+    Ok(())
+}
+
+/// Adds the keys of the instances that records are of.
+fn add_recorded(known: &mut BTreeSet<InstanceKey>, records: &[Record]) -> Result<(), AllocError>
+    ensures { OnOk result (keys_in known.new ≡ with_keys (keys_in known.old) (recorded_keys (map record_of records.now))) }
+{
+    for kept in records {
+        known.insert(kept.id.key.clone()?)?;
+    }
+    Ok(())
+}
+
+/// The member of each key, where the configuration has some of them.
+fn each_member<'a>(
+    alloc: Global,
+    declared: &BTreeSet<InstanceKey>,
+    all: &BTreeSet<InstanceKey>,
+    records: &'a [Record],
+) -> Result<Vec<InstanceToPlan<'a>>, AllocError>
+    requires { AreById (map record_of records.now) }
+    ensures { IfOk result (λ members. map member_of members.items
+        ≡ map (member (keys_in declared.now) (map record_of records.now)) (keys_in all.now)) }
+{
+    let mut members = Vec::new(alloc);
+    for key in all.iter() {
+        members.push(InstanceToPlan {
+            key: key.clone()?,
+            is_declared: declared.contains(key),
+            records: records_of(records, key),
+        })?;
+    }
+    Ok(members)
+}

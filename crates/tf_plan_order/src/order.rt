@@ -1,0 +1,197 @@
+//! The order of a plan's actions.
+
+ghost use Rattle.std.specs.Prelude.{◌≡◌, ◌≤◌, ◌<◌, ◌+◌, ◌++◌, ◌∷◌, [], ◌||◌, ◌&&◌, IfOk, OnOk, IsErrOf, length, if◌then◌else◌};
+ghost use Rattle.tf_plan_order.specs.Before.{are_halves, is_before, is_dependent, is_destroyed_first};
+ghost use Rattle.tf_plan_order.specs.Near.{HoldsBefore};
+ghost use Rattle.tf_plan_order.specs.Order.{IsOrder, pairs, pairs_into};
+ghost use Rattle.tf_plan_order.specs.OrderInput.{AreSound, order_input_of};
+
+use crate::action::{ActionKind, OrderedAction};
+use crate::near::Near;
+use crate::order_input::OrderInput;
+use std::alloc::Global;
+use std::marker::Model;
+use tf_graph::{Graph, MAX_NODES, NodeSet};
+
+/// The most pairs of actions of which the first is before the second that a plan may have.
+pub const MAX_PAIRS: usize = 200_000;
+
+/// Why the order of a plan's actions isn't made.
+#[derive(Clone, Copy, Debug, PartialEq, Eq)]
+pub enum OrderFault {
+    /// There are more pairs than `MAX_PAIRS`.
+    TooMany,
+    /// Memory ran out.
+    OutOfMemory,
+}
+
+/// The order of a plan's actions, as a graph whose nodes are their places in the plan. An edge `(a, b)` says that
+/// action a is before action b, and no chain of edges leads back.
+#[derive(Drop)]
+pub struct Order {
+    graph: Graph,
+}
+
+impl Model for Order {
+    ghost use Rattle.tf_graph.specs.Digraph.{Digraph};
+    ghost use Rattle.tf_plan_order.specs.Order.{IsOrder};
+
+    ghost Value = { Digraph };
+
+    ghost view = { λ o. o.graph };
+
+    ghost invariant = { λ o. IsOrder o.graph };
+}
+
+impl Order {
+    /// The order of these actions, which stand as their places in the list: each pair of which the first is before the
+    /// second, once.
+    ///
+    /// # Errors
+    ///
+    /// `TooMany` where there are more such pairs than `MAX_PAIRS`, and `OutOfMemory`.
+    pub fn new(
+        alloc: Global,
+        ties: &OrderInput<'_>,
+        actions: &[OrderedAction],
+    ) -> Result<Order, OrderFault>
+        requires few { length actions.now ≤ MAX_NODES }
+        requires sound { AreSound (order_input_of ties.now) }
+        ensures nodes { IfOk result (λ o. o.nodes ≡ length actions.now) }
+        ensures edges { IfOk result (λ o. o.edges ≡ pairs (order_input_of ties.now) actions.now) }
+        ensures few { IfOk result (λ o. length o.edges ≤ MAX_PAIRS) }
+        ensures too_many { IsErrOf result OrderFault.TooMany → MAX_PAIRS < length (pairs (order_input_of ties.now) actions.now) }
+    {
+        let pairs = all_pairs(alloc, ties, actions)?;
+        match Graph::of(alloc, actions.len(), pairs.as_slice()) {
+            Ok(graph) => Ok(Order { graph }),
+            Err(_) => Err(OrderFault::OutOfMemory),
+        }
+    }
+
+    /// The graph. No chain of its edges leads back, and some rank rises along each.
+    pub fn graph(&self) -> &Graph
+        ensures graph { result.now ≡ self.now }
+        ensures order { IsOrder self.now }
+    {
+        &self.graph
+    }
+}
+
+/// All pairs of actions of which the first is before the second.
+fn all_pairs(
+    alloc: Global,
+    ties: &OrderInput<'_>,
+    actions: &[OrderedAction],
+) -> Result<Vec<(usize, usize)>, OrderFault>
+    ensures pairs { IfOk result (λ found. found.items ≡ pairs (order_input_of ties.now) actions.now) }
+    ensures few { IfOk result (λ found. length found.items ≤ MAX_PAIRS) }
+    ensures too_many { IsErrOf result OrderFault.TooMany → MAX_PAIRS < length (pairs (order_input_of ties.now) actions.now) }
+{
+    let mut found = Vec::new(alloc);
+    let Ok(near) = Near::new(alloc, ties, actions) else {
+        return Err(OrderFault::OutOfMemory);
+    };
+    for second in 0..actions.len() {
+        let Ok(set) = near.before(alloc, ties, actions, second) else {
+            return Err(OrderFault::OutOfMemory);
+        };
+        add_before(&mut found, ties, actions, second, &set)?;
+    }
+    Ok(found)
+}
+
+/// Adds an action's pairs with those that are before it, which are members of a set.
+fn add_before(
+    found: &mut Vec<(usize, usize)>,
+    ties: &OrderInput<'_>,
+    actions: &[OrderedAction],
+    second: usize,
+    near: &NodeSet,
+) -> Result<(), OrderFault>
+    requires inside { second < length actions.now }
+    requires long { length near.now ≡ length actions.now }
+    requires near { HoldsBefore (order_input_of ties.now) actions.now second near.now }
+    requires few { length found.old.items ≤ MAX_PAIRS }
+    ensures pairs { OnOk result (found.new.items ≡ found.old.items ++ pairs_into (order_input_of ties.now) actions.now second) }
+    ensures few { OnOk result (length found.new.items ≤ MAX_PAIRS) }
+    ensures too_many { IsErrOf result OrderFault.TooMany
+        → MAX_PAIRS < length (found.old.items ++ pairs_into (order_input_of ties.now) actions.now second) }
+{
+    let mut from = 0;
+    while let Some(first) = near.first_from(from) {
+        let holds = is_before(ties, &actions[first], &actions[second]);
+        add_if(found, holds, (first, second))?;
+        from = first + 1;
+    }
+    Ok(())
+}
+
+/// Adds a pair, if it is one of an action and one that is before it.
+fn add_if(
+    found: &mut Vec<(usize, usize)>,
+    holds: bool,
+    pair: (usize, usize),
+) -> Result<(), OrderFault>
+    requires { length found.old.items ≤ MAX_PAIRS }
+    ensures pairs { OnOk result (found.new.items ≡ found.old.items ++ (if holds then pair ∷ [] else [])) }
+    ensures few { OnOk result (length found.new.items ≤ MAX_PAIRS) }
+    ensures too_many { IsErrOf result OrderFault.TooMany
+        → MAX_PAIRS < length (found.old.items ++ (if holds then pair ∷ [] else [])) }
+{
+    if !holds {
+        return Ok(());
+    }
+    if found.len() == MAX_PAIRS {
+        return Err(OrderFault::TooMany);
+    }
+    found.push(pair).map_err(|_| OrderFault::OutOfMemory)
+}
+
+/// Whether an action is before another.
+fn is_before(ties: &OrderInput<'_>, first: &OrderedAction, second: &OrderedAction) -> bool
+    ensures { result ≡ is_before (order_input_of ties.now) first.now second.now }
+{
+    match (first.kind, second.kind) {
+        (ActionKind::Apply, ActionKind::Apply) => ties.needs(second.resource, first.resource),
+        (ActionKind::Apply, ActionKind::Destroy) => {
+            ties.is_late(second.resource)
+                && (are_halves(first, second) || is_dependent(ties, first, second))
+        }
+        (ActionKind::Apply, ActionKind::DestroyDeposed) => {
+            ties.is_late(second.resource) && is_dependent(ties, first, second)
+        }
+        (ActionKind::Destroy, ActionKind::Apply) => {
+            are_halves(first, second) && !ties.is_late(first.resource)
+        }
+        (ActionKind::DestroyDeposed, ActionKind::Apply) => false,
+        (
+            ActionKind::Destroy | ActionKind::DestroyDeposed,
+            ActionKind::Destroy | ActionKind::DestroyDeposed,
+        ) => { is_destroyed_first(ties, first, second) }
+    }
+}
+
+/// Whether two actions, of which one creates and the other destroys an object, are the halves of one replace.
+pub(crate) fn are_halves(action: &OrderedAction, other: &OrderedAction) -> bool
+    ensures { result ≡ are_halves action.now other.now }
+{
+    action.replaces
+        && other.replaces
+        && action.resource == other.resource
+        && action.instance == other.instance
+}
+
+/// Whether what the first destroys needed what the second does, and not the other way round.
+fn is_destroyed_first(ties: &OrderInput<'_>, first: &OrderedAction, second: &OrderedAction) -> bool
+    ensures { result ≡ is_destroyed_first (order_input_of ties.now) first.now second.now }
+{
+    ties.needed(first.resource, second.resource) && !ties.needed(second.resource, first.resource)
+}
+
+/// Whether the one's resource needs the other's, or needed it when it was made.
+fn is_dependent(ties: &OrderInput<'_>, action: &OrderedAction, other: &OrderedAction) -> bool
+    ensures { result ≡ is_dependent (order_input_of ties.now) action.now other.now }
+{
+    ties.needs(action.resource, other.resource) || ties.needed(action.resource, other.resource)
+}

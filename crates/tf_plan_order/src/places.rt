@@ -1,0 +1,46 @@
+//! The places of resources.
+
+ghost use Rattle.std.specs.Prelude.{◌≡◌, Some, IfOk, OnOk, if◌then◌else◌, map};
+ghost use Rattle.tf_plan_order.specs.ResourceRef.{resource_ref_of};
+ghost use Rattle.tf_plan_order.specs.ResourceIndex.{is_at, place_in};
+ghost use Rattle.tf_plan_order.specs.Words.{found_in, label_pair, LabelView};
+
+use crate::resource_ref::ResourceRef;
+use std::alloc::{AllocError, Global};
+use tf_config_names::Places;
+
+/// The places of the resources in a list, from 0 on, by their types and then by their names. Of resources at one
+/// address it has the first.
+///
+/// # Errors
+///
+/// Only where memory runs out.
+pub(crate) fn places_of(alloc: Global, numbered: &[ResourceRef<'_>]) -> Result<Places, AllocError>
+    ensures { IfOk result (λ places. (label : LabelView)
+        → found_in places (label_pair label) ≡ place_in (map resource_ref_of numbered.now) label) }
+{
+    let mut places = Places::empty(alloc);
+    for place in (0..numbered.len()).rev() {
+        put(&mut places, alloc, numbered[place], place)?;
+    }
+    Ok(places)
+}
+
+/// Puts a resource at a place, and nowhere else. A local has no place among resources.
+fn put(
+    places: &mut Places,
+    alloc: Global,
+    numbered: ResourceRef<'_>,
+    place: usize,
+) -> Result<(), AllocError>
+    ensures { OnOk result ((label : LabelView) → found_in places.new (label_pair label)
+        ≡ (if is_at label (resource_ref_of numbered.entry) then Some place else found_in places.old (label_pair label))) }
+{
+    match numbered.address() {
+        Some(label) => {
+            places.put(alloc, label.type_name.as_str(), label.name.as_str(), place)?;
+            Ok(())
+        }
+        None => Ok(()),
+    }
+}

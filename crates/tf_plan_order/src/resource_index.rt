@@ -1,0 +1,140 @@
+//! The numbers of resources.
+
+ghost use Rattle.std.specs.Prelude.{◌≡◌, ◌<◌, ◌++◌, ◌∷◌, [], Some, is_some, not, filter, IfOk, OnOk, length, map, slice_get, if◌then◌else◌};
+ghost use Rattle.tf_config_names.specs.Table.{names_in};
+ghost use Rattle.tf_plan_order.specs.Dependencies.{named_place};
+ghost use Rattle.tf_plan_order.specs.ResourceRef.{resource_ref_of};
+ghost use Rattle.tf_plan_order.specs.ResourceIndex.{a_name, an_orphan, numbered, place_in};
+ghost use Rattle.tf_plan_order.specs.Words.{found_in, label_of, label_pair, LabelView, resource_of, state_of};
+
+use crate::places::places_of;
+use crate::resource_ref::ResourceRef;
+use std::alloc::{AllocError, Global};
+use tf_address::Label;
+use tf_config_names::{Declarations, Places};
+use tf_state_data::{Resource, State};
+
+/// The resources of a configuration and of a prior state together, by number. The names of the configuration keep their
+/// places; behind them stand the orphans, the resources of the state of which the configuration has no block, in
+/// address order.
+#[derive(Drop)]
+pub struct ResourceIndex<'a> {
+    numbered: Vec<ResourceRef<'a>>,
+    places: Places,
+    state: &'a State,
+    ghost placed: { (label : LabelView) → found_in places (label_pair label) ≡ place_in (map resource_ref_of numbered.items) label },
+}
+
+impl<'a> ResourceIndex<'a> {
+    ghost use Rattle.tf_plan_order.specs.Table.{numbered_in, resources_in};
+
+    /// Numbers the names of a configuration and the resources of a state.
+    ///
+    /// # Errors
+    ///
+    /// Only where memory runs out.
+    pub fn new(
+        alloc: Global,
+        names: &Declarations<'a>,
+        state: &'a State,
+    ) -> Result<ResourceIndex<'a>, AllocError>
+        ensures numbered { IfOk result (λ n. numbered_in n ≡ numbered (names_in names.now) (state_of state.now).resources) }
+        ensures resources { IfOk result (λ n. resources_in n ≡ (state_of state.now).resources) }
+    {
+        let mut numbered = numbered_names(alloc, names)?;
+        let blocks = places_of(alloc, numbered.as_slice())?;
+        add_orphans(&mut numbered, &blocks, state.resources())?;
+        let places = places_of(alloc, numbered.as_slice())?;
+        Ok(ResourceIndex {
+            numbered,
+            places,
+            state,
+        })
+    }
+
+    /// How many numbers there are: as many as names and orphans.
+    pub fn len(&self) -> usize
+        ensures { result ≡ length (numbered_in self.now) }
+    {
+        self.numbered.len()
+    }
+
+    /// What stands at a place.
+    pub fn at(&self, place: usize) -> ResourceRef<'a>
+        requires { place < length (numbered_in self.now) }
+        ensures { slice_get (numbered_in self.now) place ≡ Some (resource_ref_of result) }
+    {
+        self.numbered[place]
+    }
+
+    /// The place of the resource at an address, which is a block or an orphan; `None` where there is none.
+    pub fn place(&self, label: &Label) -> Option<usize>
+        ensures { result ≡ place_in (numbered_in self.now) (label_of label.now) }
+    {
+        self.places
+            .find(label.type_name.as_str(), label.name.as_str())
+    }
+
+    /// The place of the resource that a text `TYPE.NAME` names; `None` where it is neither declared nor in the state.
+    pub fn named_place(&self, text: &str) -> Option<usize>
+        ensures { result ≡ named_place (numbered_in self.now) text.now }
+    {
+        match text.split_once('.') {
+            Some((type_name, name)) => self.places.find(type_name, name),
+            None => None,
+        }
+    }
+
+    /// The state whose resources it numbers.
+    pub(crate) fn state(&self) -> &'a State
+        ensures { (state_of result.now).resources ≡ resources_in self.now }
+    {
+        self.state
+    }
+}
+
+/// The names of a configuration, in their order.
+fn numbered_names<'a>(
+    alloc: Global,
+    names: &Declarations<'a>,
+) -> Result<Vec<ResourceRef<'a>>, AllocError>
+    ensures { IfOk result (λ numbered. map resource_ref_of numbered.items ≡ map a_name (names_in names.now)) }
+{
+    let mut numbered = Vec::with_capacity(alloc, names.len())?;
+    for place in 0..names.len() {
+        numbered.push(ResourceRef::Name(names.at(place)))?;
+    }
+    Ok(numbered)
+}
+
+/// Adds those of some resources of which there is no block.
+fn add_orphans<'a>(
+    numbered: &mut Vec<ResourceRef<'a>>,
+    blocks: &Places,
+    resources: &'a [Resource],
+) -> Result<(), AllocError>
+    ensures { OnOk result (map resource_ref_of numbered.new.items ≡ map resource_ref_of numbered.old.items
+        ++ map an_orphan (filter (λ r. not (is_some (found_in blocks.now (label_pair r.label)))) (map resource_of resources.now))) }
+{
+    for resource in resources {
+        let label = resource.label();
+        let block = blocks.find(label.type_name.as_str(), label.name.as_str());
+        add_orphan(numbered, block, resource)?;
+    }
+    Ok(())
+}
+
+/// Adds a resource, where it has no block.
+fn add_orphan<'a>(
+    numbered: &mut Vec<ResourceRef<'a>>,
+    block: Option<usize>,
+    resource: &'a Resource,
+) -> Result<(), AllocError>
+    ensures { OnOk result (map resource_ref_of numbered.new.items ≡ map resource_ref_of numbered.old.items
+        ++ (if not (is_some block) then an_orphan (resource_of resource.now) ∷ [] else [])) }
+{
+    if block.is_none() {
+        numbered.push(ResourceRef::Orphan(resource))?;
+    }
+    Ok(())
+}

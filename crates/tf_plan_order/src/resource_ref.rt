@@ -1,0 +1,32 @@
+//! What has a number.
+
+ghost use Rattle.std.specs.Prelude.{◌≡◌, option_map};
+ghost use Rattle.tf_address.specs.Label.{label_of};
+ghost use Rattle.tf_plan_order.specs.ResourceRef.{resource_ref_of};
+ghost use Rattle.tf_plan_order.specs.ResourceIndex.{address_of};
+
+use tf_address::Label;
+use tf_config_names::Declaration;
+use tf_state_data::Resource;
+
+/// What has a number in a configuration and a prior state together.
+#[derive(Clone, Copy)]
+pub enum ResourceRef<'a> {
+    /// A name of the configuration: a local, or a resource with its block.
+    Name(Declaration<'a>),
+    /// A resource of the state of which the configuration has no block.
+    Orphan(&'a Resource),
+}
+
+impl<'a> ResourceRef<'a> {
+    /// The address of a resource; `None` for a local.
+    pub fn address(self) -> Option<&'a Label>
+        ensures { option_map (λ label. label_of label.now) result ≡ address_of (resource_ref_of self.entry) }
+    {
+        match self {
+            ResourceRef::Name(Declaration::Local(_, _)) => None,
+            ResourceRef::Name(Declaration::Resource(label, _)) => Some(label),
+            ResourceRef::Orphan(resource) => Some(resource.label()),
+        }
+    }
+}

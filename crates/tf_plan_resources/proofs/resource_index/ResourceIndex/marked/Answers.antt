@@ -1,9 +1,0 @@
-use Rattle.std.proofs.Common.{◌∙◌}
-use Rattle.tf_plan_resources.proofs.Placing.{marks-next}
-use Rattle.tf_plan_resources.specs.Table.{numbered_in}
-use Rattle.tf_plan_resources.proofs.resource_index.ResourceIndex.marked.Goals as goal
-
-pub loop-place-preserved : goal.loop-place-preserved
-loop-place-preserved c =
-    c.in_ok-push.ensures.items
-    ∙ marks-next (numbered_in c.args.self.now) c.loop-place.place c.loop-place.marked.items c.is_marked.result c.loop-place.invariant c.is_marked.ensures

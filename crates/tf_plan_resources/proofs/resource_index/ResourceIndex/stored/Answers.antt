@@ -1,8 +1,0 @@
-use Rattle.std.proofs.Common.{◌∙◌}
-use Rattle.tf_plan_resources.proofs.Naming.{pairs-within}
-use Rattle.tf_plan_resources.specs.Table.{numbered_in, resources_in}
-use Rattle.tf_plan_resources.proofs.resource_index.ResourceIndex.stored.Goals as goal
-
-pub new-requires-clause-within : goal.new-requires-clause-within
-new-requires-clause-within c =
-    rw (c.as_slice.ensures.value ∙ c.in_ok-pairs.ensures, c.len.ensures) (pairs-within (numbered_in c.args.self.now) (resources_in c.args.self.now))

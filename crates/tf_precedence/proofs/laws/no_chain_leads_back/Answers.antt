@@ -1,5 +1,0 @@
-use Rattle.tf_precedence.proofs.Chains.{no_chain-back}
-use Rattle.tf_precedence.proofs.laws.no_chain_leads_back.Goals as goal
-
-pub returns : goal.returns
-returns c = no_chain-back

@@ -1,5 +1,0 @@
-use Rattle.tf_precedence.proofs.Spreading.{no_state-back}
-use Rattle.tf_precedence.proofs.laws.no_state_leads_back.Goals as goal
-
-pub returns : goal.returns
-returns c = no_state-back

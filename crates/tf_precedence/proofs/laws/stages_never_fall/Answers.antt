@@ -1,5 +1,0 @@
-use Rattle.tf_precedence.proofs.Chains.{stages-never_fall}
-use Rattle.tf_precedence.proofs.laws.stages_never_fall.Goals as goal
-
-pub returns : goal.returns
-returns c = stages-never_fall

@@ -1,5 +1,0 @@
-use Rattle.tf_precedence.specs.Near.{IsKept}
-use Rattle.tf_precedence.proofs.near.Near.new.Given as goal
-
-abbrev pub invariant-loop-place : goal.invariant-loop-place
-invariant-loop-place l = IsKept l.ties l.actions l.place l.own.items l.early.items

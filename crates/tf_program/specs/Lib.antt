@@ -1,5 +1,0 @@
-pub mod Program
-pub mod Kept
-pub mod Work
-pub mod Past
-pub mod Settled

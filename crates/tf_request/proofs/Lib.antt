@@ -1,5 +1,0 @@
-mod Alone
-pub mod Wanting
-pub mod Answering
-pub mod Shared
-pub mod Requesting

@@ -1,8 +1,0 @@
--- the actions passed are skipped rightly
-use Rattle.std.proofs.Common.{ℕ, ◌<◌}
-use Rattle.tf_outcome.specs.ResultViews.{action_results_of}
-use Rattle.tf_run.specs.Fitting.{IsSkippedRightly}
-use Rattle.tf_run.proofs.fitting.all_fit.Given as goal
-
-abbrev pub invariant-loop-action : goal.invariant-loop-action
-invariant-loop-action l = (n : ℕ) → n < l.action → IsSkippedRightly l.order (action_results_of l.results) n

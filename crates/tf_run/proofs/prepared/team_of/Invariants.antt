@@ -1,6 +1,0 @@
--- the seats made so far belong to these claims
-use Rattle.std.proofs.Common.{◌≡◌, All}
-use Rattle.tf_run.proofs.prepared.team_of.Given as goal
-
-abbrev pub invariant-loop : goal.invariant-loop
-invariant-loop g l = (l.seat.table ≡ l.claims.table) × All (λ d. d.seat.table ≡ l.claims.table) l.others.items

@@ -1,4 +1,0 @@
-pub mod Faults
-pub mod Made
-pub mod Shown
-pub mod ValueLaws

@@ -1,0 +1,168 @@
+//! Carrying out a plan by many workers.
+
+ghost use Rattle.std.specs.Prelude.{◌≡◌, List, map, true, IfOk, MatchBool, MatchResult};
+ghost use Rattle.tf_walk_action.specs.Words.{action_of, AreServed, FitsTogether, plan_of};
+ghost use Rattle.tf_refusal.specs.Refusal.{no_memory, refusal_of, workers as wrong_workers};
+ghost use Rattle.tf_walk_report.specs.Report.{report_of};
+ghost use Rattle.tf_walk.specs.PreparedMany.{IsPrepared};
+ghost use Rattle.tf_walk.specs.Run.{IsRun, are_workers};
+
+use crate::ending::report_walk;
+use crate::prepared_many::{PreparedWalk, Team, prepare};
+use crate::progress::Progress;
+use crate::result_cells::ResultCells;
+use crate::shared::{BorrowedInput, SharedWalk};
+use crate::sharing::share_out;
+use std::alloc::{AllocError, Global};
+use std::marker::Brand;
+use std::sync::{Mutex, Wait};
+use std::thread::Threads;
+use tf_plan_data::{Plan, Planned};
+use tf_provider::Provider;
+use tf_refusal::Refusal;
+use tf_walk_action::Stop;
+use tf_walk_report::Walked;
+use tf_walk_workers::{Log, WalkBrand};
+
+/// The most workers that a walk may have.
+pub const MOST_WORKERS: usize = 64;
+
+/// Carries out a plan by so many workers, of which the calling thread is one; a worker that can't be started is done
+/// without. Every action is ended once, after all that stand before it; once `stop` is set, none that hasn't begun is called.
+/// Some provider in the list has the type of each action. Refused, before the first call, only where `workers` isn't 1 to 64
+/// or there is no memory for the walk; after the first call, no memory is taken for what a reply says. It may wait.
+///
+/// # Errors
+///
+/// `Workers` where `workers` isn't 1 to 64, and else only where memory runs out.
+pub fn run<R: Threads + Wait + Sync>(
+    rt: &R,
+    alloc: Global,
+    plan: &Planned,
+    providers: &[Box<dyn Provider + Sync>],
+    workers: usize,
+    stop: &Stop,
+) -> Result<Walked, Refusal>
+    requires served { AreServed (map meaning providers.now) (map action_of plan.now.actions.items) }
+    ensures walked { IfOk result (IsRun (map meaning providers.now) (plan_of plan.now)) }
+    ensures journal { IfOk result (λ walked. (report_of walked).journal.graph ≡ plan.now.order) }
+    ensures refused { MatchResult result
+        (λ _. are_workers workers ≡ true)
+        (λ r. MatchBool (are_workers workers) (refusal_of r ≡ no_memory) (refusal_of r ≡ wrong_workers)) }
+{
+    match run_and_close(rt, alloc, plan, providers, workers, stop) {
+        Ok((walked, _)) => Ok(walked),
+        Err(refusal) => Err(refusal),
+    }
+}
+
+/// As `run`, and it says also whether the claims could be closed: whether each action was claimed and ended, and all that
+/// waited for it was let go. No contract says so, so tests ask it.
+///
+/// # Errors
+///
+/// As `run`.
+pub fn run_and_close<R: Threads + Wait + Sync>(
+    rt: &R,
+    alloc: Global,
+    plan: &Planned,
+    providers: &[Box<dyn Provider + Sync>],
+    workers: usize,
+    stop: &Stop,
+) -> Result<(Walked, bool), Refusal>
+    requires served { AreServed (map meaning providers.now) (map action_of plan.now.actions.items) }
+    ensures walked { IfOk result (λ ended. IsRun (map meaning providers.now) (plan_of plan.now) ended.0) }
+    ensures journal { IfOk result (λ ended. (report_of ended.0).journal.graph ≡ plan.now.order) }
+    ensures refused { MatchResult result
+        (λ _. are_workers workers ≡ true)
+        (λ r. MatchBool (are_workers workers) (refusal_of r ≡ no_memory) (refusal_of r ≡ wrong_workers)) }
+{
+    if !are_workers(workers) {
+        return Err(Refusal::Workers);
+    }
+    match run_as::<Brand, R>(rt, alloc, &plan.plan, providers, workers, stop) {
+        Ok(ended) => Ok(ended),
+        Err(AllocError) => Err(Refusal::OutOfMemory),
+    }
+}
+
+/// Whether a walk may have so many workers.
+fn are_workers(workers: usize) -> bool
+    ensures { result ≡ are_workers workers }
+{
+    1 <= workers && workers <= MOST_WORKERS
+}
+
+/// Carries out a plan, under a name of the walk.
+fn run_as<N: WalkBrand + Send + Sync, R: Threads + Wait + Sync>(
+    rt: &R,
+    alloc: Global,
+    plan: &Plan,
+    providers: &[Box<dyn Provider + Sync>],
+    workers: usize,
+    stop: &Stop,
+) -> Result<(Walked, bool), AllocError>
+    requires fits { FitsTogether plan.now }
+    requires meanings { N.meanings ≡ map meaning providers.now }
+    requires plan { N.plan ≡ plan_of plan.now }
+    requires served { AreServed (map meaning providers.now) (map action_of plan.now.actions.items) }
+    ensures walked { IfOk result (λ ended. IsRun (map meaning providers.now) (plan_of plan.now) ended.0) }
+    ensures journal { IfOk result (λ ended. (report_of ended.0).journal.graph ≡ plan.now.order) }
+{
+    let prepared = prepare::<N>(alloc, plan, workers)?;
+    Ok(carry_out(rt, alloc, plan, providers, stop, prepared))
+}
+
+/// The report on a plan that is carried out, and whether its claims could be closed. It has no answer that says that there
+/// was no memory.
+fn carry_out<N: WalkBrand + Send + Sync, R: Threads + Wait + Sync>(
+    rt: &R,
+    alloc: Global,
+    plan: &Plan,
+    providers: &[Box<dyn Provider + Sync>],
+    stop: &Stop,
+    prepared: PreparedWalk<'_, N>,
+) -> (Walked, bool)
+    requires fits { FitsTogether plan.now }
+    requires meanings { N.meanings ≡ map meaning providers.now }
+    requires plan { N.plan ≡ plan_of plan.now }
+    requires served { AreServed (map meaning providers.now) (map action_of plan.now.actions.items) }
+    requires prepared { IsPrepared plan.now prepared }
+    ensures walked { IsRun (map meaning providers.now) (plan_of plan.now) result.0 }
+    ensures journal { (report_of result.0).journal.graph ≡ plan.now.order }
+{
+    let PreparedWalk {
+        names,
+        claims,
+        team: Team {
+            worker_state,
+            others,
+            stealers,
+        },
+        journal,
+        result_cells: ResultCells { cells, results },
+        buffers,
+    } = prepared;
+    let journal = Mutex::new(Log::new(journal));
+    let progress = Progress::new();
+    let walk_input = BorrowedInput {
+        plan,
+        names: &names,
+        cells: &cells,
+    };
+    let walk = SharedWalk {
+        alloc,
+        stop,
+        claims: &claims,
+        journal: &journal,
+        stealers: stealers.as_slice(),
+        progress: &progress,
+    };
+    let seat = share_out(rt, &walk, &walk_input, providers, worker_state, others);
+    let is_closed = claims.close(seat);
+    let journal = journal.into_inner().into_journal();
+    let walked = report_walk(
+        rt, alloc, plan, &names, providers, buffers, cells, results, journal,
+    );
+    (walked, is_closed)
+}

@@ -1,0 +1,30 @@
+use Rattle.std.proofs.Common.{◌≡◌, ◌<◌, ℕ, List, length, sym, subst, ◌∙◌}
+use Rattle.std.specs.List.{AllByRecursion}
+use Rattle.tf_config_data.specs.Names.{places}
+use Rattle.tf_expand.proofs.Places.{all_places}
+use Rattle.tf_expand.specs.Views.{shapes_of, resolved_names_of}
+use Rattle.tf_config_names.specs.Table.{names_in}
+use Rattle.tf_syntax.specs.ExprNames.{named_by}
+use Rattle.tf_syntax.specs.ExprTree.{tree_of}
+use Rattle.tf_value.specs.Tree.{entries_view}
+use Rattle.tf_walk_action.proofs.Requesting.{answered, standing_same}
+use Rattle.tf_walk_action.proofs.Shared.{answered_each}
+use Rattle.tf_walk_action.proofs.outputs.output_value.Goals as goal
+
+pub add_resolved_names-requires-clause-within : goal.add_resolved_names-requires-clause-within
+add_resolved_names-requires-clause-within g c =
+    let names = names_in c.args.declared.now.names.now in
+    let named : c.as_slice.result.now ≡ places names (named_by (tree_of c.args.expr.now)) = c.as_slice.ensures.value ∙ c.in_ok-named.ensures in
+    subst (λ (ns : List ℕ). AllByRecursion (λ n. n < length names) ns) (sym named) (all_places (λ n. n < length names) names (named_by (tree_of c.args.expr.now)) (λ n h. h))
+
+pub returns-clause-output : goal.returns-clause-output
+returns-clause-output g c =
+    let variables = entries_view c.args.declared.now.variables.now.entries in
+    let names = names_in c.args.declared.now.names.now in
+    let shapes = shapes_of c.args.shapes.now in
+    let objects = g.R.Results.objects c.args.results.now in
+    let named : c.as_slice.result.now ≡ places names (named_by (tree_of c.args.expr.now)) = c.as_slice.ensures.value ∙ c.in_ok-named.ensures in
+    answered variables names shapes objects (resolved_names_of c.as_slice-2.result.now) (tree_of c.args.expr.now)
+    (λ resolved_names solves. standing_same resolved_names c.as_slice.result.now (places names (named_by (tree_of c.args.expr.now))) c.add_resolved_names.new.kept.items c.as_slice-2.result.now named c.as_slice-2.ensures.value
+    (answered_each variables names shapes objects (resolved_names_of c.add_resolved_names.new.kept.items) c.as_slice.result.now c.in_ok-add_resolved_names.ensures.answered c.in_ok-add_resolved_names.ensures.there resolved_names solves))
+    c.listed_value.result c.listed_value.ensures

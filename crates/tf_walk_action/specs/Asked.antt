@@ -1,0 +1,74 @@
+-- What the actions of a plan ask of their providers.
+use Rattle.std.specs.Prelude.{ℕ, List, [], Option, Some, None, Result, Ok, Err}
+use Rattle.tf_plan_data.specs.Action.{ActionView, StepView, create, update, replacement, replaced, destroyed, deposed_destroyed}
+use Rattle.tf_address.specs.ObjectId.{InstanceKeyView}
+use Rattle.tf_plan_object.specs.Instance.{InstanceFaultView}
+use Rattle.tf_config_data.specs.Names.{NameView, Meant, a_block, meant_at}
+use Rattle.tf_plan_decision.specs.Kept.{kept_object}
+use Rattle.tf_plan_data.specs.Address.{address_text}
+use Rattle.tf_plan_data.specs.Plan.{PlanView, plan_names}
+use Rattle.tf_protocol.specs.Meaning.{Asked}
+use Rattle.tf_protocol.specs.Schema.{SchemaView}
+use Rattle.tf_protocol.specs.declared.request.Op.{Op}
+use Rattle.tf_protocol.specs.declared.request.Op.TheVariants.{Create, Update, Destroy}
+use Rattle.tf_walk_action.specs.Requests.{IsRequest}
+use Rattle.tf_value.specs.Tree.{Tree}
+
+-- what a provider is to do for a step
+abbrev pub op_of : StepView → Op
+op_of (create asked) = Create
+op_of (update prior asked names) = Update
+op_of (replacement asked names) = Create
+op_of _ = Destroy
+
+-- ---- the objects that are asked for
+
+-- What the block of an action's instance makes of it by its type's schema, where instances stand for these objects; or what
+-- is wrong with it.
+abbrev pub Requests : Type 0
+Requests = (ℕ → InstanceKeyView → Tree) → ActionView → SchemaView → Result Tree InstanceFaultView
+
+-- What is asked for instances is what their blocks make of what instances stand for.
+abbrev pub AreRequests : PlanView → Requests → Type 0
+AreRequests plan requests =
+    (objects : ℕ → InstanceKeyView → Tree) (a : ActionView) (schema : SchemaView)
+    → IsRequest plan.variables (plan_names plan) plan.shapes objects a.resource a.key schema (requests objects a schema)
+
+-- the names of the attributes whose changes the block of a resource ignores
+abbrev pub ignored_by : Option Meant → List (List ℕ)
+ignored_by (Some (a_block b)) = b.lifecycle.ignore_changes
+ignored_by _ = []
+
+-- ---- the requests
+
+-- to make an object at an action's address
+abbrev pub create_of : ActionView → Tree → Asked
+create_of a t = record { op = Create; address = address_text a.label a.key; type_name = a.label.type_name; deposed = None; prior = None; object = Some t }
+
+-- to make of the object that is there another
+abbrev pub update_of : ActionView → Tree → Tree → Asked
+update_of a prior t = record { op = Update; address = address_text a.label a.key; type_name = a.label.type_name; deposed = None; prior = Some prior; object = Some t }
+
+-- to take an object away, the current one or the deposed one of a key
+abbrev pub destroy_of : ActionView → Option (List ℕ) → Tree → Asked
+destroy_of a deposed prior = record { op = Destroy; address = address_text a.label a.key; type_name = a.label.type_name; deposed = deposed; prior = Some prior; object = None }
+
+-- a request for an object, or what is wrong with that
+abbrev pub unless_faulty : (Tree → Asked) → Result Tree InstanceFaultView → Result Asked InstanceFaultView
+unless_faulty ask (Ok t) = Ok (ask t)
+unless_faulty ask (Err why) = Err why
+
+-- What an action asks, by what its instance's block makes of it and by the names whose changes are ignored. A create and a
+-- replacement ask for that object, and an update for it with what is kept of the prior one, both those of the provider and
+-- those that are ignored. A destroy asks for no object, so nothing can be wrong with it.
+abbrev pub asked_by_step : List (List ℕ) → SchemaView → ActionView → Result Tree InstanceFaultView → StepView → Result Asked InstanceFaultView
+asked_by_step ignored schema a made (create asked) = unless_faulty (create_of a) made
+asked_by_step ignored schema a made (update prior asked names) = unless_faulty (λ t. update_of a prior (kept_object schema ignored prior t)) made
+asked_by_step ignored schema a made (replacement asked names) = unless_faulty (create_of a) made
+asked_by_step ignored schema a made (replaced prior) = Ok (destroy_of a None prior)
+asked_by_step ignored schema a made (destroyed prior) = Ok (destroy_of a None prior)
+asked_by_step ignored schema a made (deposed_destroyed key prior) = Ok (destroy_of a (Some key) prior)
+
+-- what an action asks, or what is wrong with it, by what its instance's block makes of it
+abbrev pub asked_for : List NameView → SchemaView → ActionView → Result Tree InstanceFaultView → Result Asked InstanceFaultView
+asked_for names schema a made = asked_by_step (ignored_by (meant_at names a.resource)) schema a made a.step

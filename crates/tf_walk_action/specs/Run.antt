@@ -1,0 +1,12 @@
+-- What may come of an action that may be called.
+use Rattle.std.specs.Prelude.{◌≡◌, false}
+use Rattle.tf_walk_action.specs.ActionResult.{ActionResultView, excused, is_faulted}
+use Rattle.tf_walk_action.specs.Excuse.{before_call, during_call, by_stop}
+
+-- An action that may be called has what comes of the call, or is excused: before the call or because of a stop whatever
+-- would come of it, during the call only where there is one.
+abbrev pub IsRun : ActionResultView → ActionResultView → Type 0
+IsRun call (excused before_call) = Unit {0}
+IsRun call (excused by_stop) = Unit {0}
+IsRun call (excused during_call) = is_faulted call ≡ false
+IsRun call d = d ≡ call

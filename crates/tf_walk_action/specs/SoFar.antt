@@ -1,0 +1,13 @@
+-- What names stand for so far, while an action's request is made.
+use Rattle.std.specs.Prelude.{ℕ, List}
+use Rattle.tf_address.specs.ObjectId.{InstanceKeyView}
+use Rattle.tf_expand.specs.Views.{resolved_names_of}
+use Rattle.tf_expand.specs.declared.resolved.Resolved.{Resolved}
+use Rattle.tf_plan_data.specs.Plan.{PlanView, plan_names}
+use Rattle.tf_walk_action.specs.Requests.{AreResolvedSoFar}
+use Rattle.tf_value.specs.Tree.{Tree}
+
+-- What stands in the list, by place, is what the names of a plan's configuration stand for where instances stand for these
+-- objects. Where nothing stands nothing is said.
+abbrev pub ResolvedSoFar : PlanView → (ℕ → InstanceKeyView → Tree) → List Resolved → Type 0
+ResolvedSoFar plan objects kept = AreResolvedSoFar plan.variables (plan_names plan) plan.shapes objects (resolved_names_of kept)

@@ -1,0 +1,62 @@
+//! What came of an action.
+
+ghost use Rattle.std.specs.Prelude.{◌≡◌, ◌≤◌, [], true, None, option_map, replicate, string_bytes, string_capacity, vec_capacity};
+ghost use Rattle.tf_plan_object.specs.Instance.{instance_fault_of};
+ghost use Rattle.tf_walk_action.specs.Fallback.{is_fallback};
+ghost use Rattle.tf_walk_action.specs.Message.{fault_message};
+ghost use Rattle.tf_walk_action.specs.Room.{message_fits};
+ghost use Rattle.tf_value.specs.Tree.{tree_of};
+
+use crate::not_good::NotGood;
+use crate::stop::Stopped;
+use tf_plan_object::InstanceFault;
+use tf_provider::{Judged, Unserved, Waived};
+use tf_state_data::Object;
+
+/// A call whose provider had memory, with what was had for its reply: an empty text with room for each message about it, and
+/// what a create saves where it can't be used. It can't be copied or let go.
+pub struct Served {
+    pub call: Judged,
+    pub message: String,
+    pub fallback: Option<Object>,
+    pub ghost blank: { string_bytes message ≡ [] },
+    pub ghost fits: { message_fits (string_capacity message) (option_map tree_of call.request.object) ≡ true },
+    pub ghost stands_in: { is_fallback call.request.op (option_map tree_of call.request.object) (option_map (λ o. tree_of o.value) fallback) ≡ true },
+}
+
+/// An action for which nothing can be asked: what is wrong with its request, and the message that tells it.
+#[derive(Drop)]
+pub struct Faulted {
+    pub fault: InstanceFault,
+    pub message: String,
+    pub ghost told: { string_bytes message ≡ fault_message (instance_fault_of fault) },
+}
+
+/// What came of an action, with the evidence of whether its provider was called: so an action that was called can't be told
+/// as one that wasn't. As it may hold a reply it can't be copied or let go: it has to become a part of the report.
+pub enum ActionResult {
+    /// An action before it isn't good, as the evidence of that one says.
+    Skipped(Waived, NotGood),
+    /// Memory was refused before the call.
+    NotAsked(Waived),
+    /// The provider had no memory.
+    NotServed(Unserved),
+    /// The walk was to stop, so nothing was asked.
+    Left(Waived, Stopped),
+    /// Its `for_each` or an argument has a fault, so nothing could be asked.
+    Faulted(Faulted, Waived),
+    /// The provider was called, and its reply was judged.
+    Called(Served),
+}
+
+/// A list of so many actions, none of which has ended, in an empty one with room for them.
+pub fn not_ended(mut results: Vec<Option<ActionResult>>, count: usize) -> Vec<Option<ActionResult>>
+    requires empty { results.items ≡ [] }
+    requires room { count ≤ vec_capacity results }
+    ensures { result.items ≡ replicate count None }
+{
+    for _ in 0..count {
+        results.push_reserved(None);
+    }
+    results
+}

@@ -1,0 +1,225 @@
+//! Requests.
+
+ghost use Rattle.std.specs.Prelude.{◌≡◌, true, Some, map, IfOk, IsSomeAnd, IsTrue, option_map, string_bytes};
+ghost use Rattle.tf_walk_action.specs.Words.{action_of, AreRequests, asked, asked_for, asks_fully, call_with, comes_of, config_of, create_of, destroy_of, FitsTogether, has_planned_attributes, ignored_by, IsDeclared, IsOfBlock, IsServedBy, kept_object, meant_at, names_in, names_of, plan_of, prior_of, Requests, schema_in, tree_of, unless_faulty, update_of};
+ghost use Rattle.tf_protocol.specs.declared.request.Op.TheVariants.{Create, Update};
+ghost use Rattle.tf_walk_action.specs.AskedBy.{asked_by, prepared_call_of};
+ghost use Rattle.tf_walk_action.specs.SoFar.{ResolvedSoFar};
+ghost use Rattle.tf_walk_action.specs.Asked.{op_of};
+
+use crate::action_result::Faulted;
+use crate::messages::faulted;
+use crate::objects::Task;
+use crate::prepared_call::PreparedCall;
+use crate::results::Results;
+use crate::rooms::{fallback_for, least_room, reserve_message};
+use std::alloc::{AllocError, Global};
+use tf_config_names::Declarations;
+use tf_expand::Resolved;
+use tf_plan_data::{Action, Plan, Step, address_text};
+use tf_provider::{Op, Provider, Request, Schema, schema_for};
+use tf_state_data::Object;
+use tf_value::Value;
+
+/// What is asked for an action of a plan by the schema of the first provider that has its type, or what is wrong with
+/// it, where instances stand for these results.
+///
+/// `kept` has what names stand for by these results so far, by place, none at first, and then also what they stand for that the
+/// action's block names: actions that are asked for by the same results have each local evaluated once, and each resource's
+/// objects collected once.
+///
+/// # Errors
+///
+/// Only where memory runs out. What stands in `kept` is right then too.
+pub fn ask_provider<R: Results>(
+    alloc: Global,
+    plan: &Plan,
+    names: &Declarations<'_>,
+    providers: &[Box<dyn Provider + Sync>],
+    action: &Action,
+    results: &R,
+    kept: &mut Vec<Resolved>,
+) -> Result<Result<PreparedCall, Faulted>, AllocError>
+    requires fits { FitsTogether plan.now }
+    requires names { names_in names.now ≡ names_of (config_of plan.now.config) }
+    requires declared { IsDeclared (names_of (config_of plan.now.config)) (action_of action.now) }
+    requires served { IsServedBy (map meaning providers.now) (action_of action.now) }
+    requires so_far { ResolvedSoFar (plan_of plan.now) (R.objects results.now) kept.old.items }
+    ensures asked { IfOk result (λ made. (requests : Requests) → AreRequests (plan_of plan.now) requests
+        → comes_of (map meaning providers.now) (asked_by made)
+        ≡ call_with (map meaning providers.now) requests (plan_of plan.now) (R.objects results.now) (action_of action.now)) }
+    ensures served { IfOk result (λ made. IfOk made (λ asking.
+        IsSomeAnd (schema_in (asked asking.request).type_name (map meaning providers.now)) (λ s. IsTrue (asks_fully (asked asking.request) s)))) }
+    ensures op { IfOk result (λ made. IfOk made (λ asking. (asked asking.request).op ≡ op_of (action_of action.now).step)) }
+    ensures so_far { ResolvedSoFar (plan_of plan.now) (R.objects results.now) kept.new.items }
+{
+    match schema_for(providers, action.label.type_name.as_str()) {
+        Some(schema) => {
+            let task = Task {
+                alloc,
+                plan,
+                names,
+                schema,
+                action,
+                results,
+            };
+            task.ask(kept)
+        }
+        None => unreachable!(),
+    }
+}
+
+impl<R: Results> Task<'_, '_, R> {
+    /// What is asked for the action, or what is wrong with it.
+    fn ask(&self, kept: &mut Vec<Resolved>) -> Result<Result<PreparedCall, Faulted>, AllocError>
+        requires fits { FitsTogether self.now.plan.now }
+        requires names { names_in self.now.names.now ≡ names_of (config_of self.now.plan.now.config) }
+        requires declared { IsDeclared (names_of (config_of self.now.plan.now.config)) (action_of self.now.action.now) }
+        requires so_far { ResolvedSoFar (plan_of self.now.plan.now) (R.objects self.now.results.now) kept.old.items }
+        ensures asked { IfOk result (λ made. (requests : Requests) → AreRequests (plan_of self.now.plan.now) requests
+            → asked_by made ≡ asked_for (names_of (config_of self.now.plan.now.config)) self.now.schema.now (action_of self.now.action.now)
+            (requests (R.objects self.now.results.now) (action_of self.now.action.now) self.now.schema.now)) }
+        ensures fully { IfOk result (λ made. IfOk made (λ asking. asks_fully (asked asking.request) self.now.schema.now ≡ true)) }
+        ensures type_name { IfOk result (λ made. IfOk made (λ asking. (asked asking.request).type_name ≡ (action_of self.now.action.now).label.type_name)) }
+        ensures op { IfOk result (λ made. IfOk made (λ asking. (asked asking.request).op ≡ op_of (action_of self.now.action.now).step)) }
+        ensures so_far { ResolvedSoFar (plan_of self.now.plan.now) (R.objects self.now.results.now) kept.new.items }
+    {
+        match &self.action.step {
+            Step::Create(_) | Step::CreateReplacement(_, _) => self.ask_create(kept),
+            Step::Update(prior, _, _) => self.ask_update(prior, kept),
+            Step::DestroyReplaced(prior) | Step::Destroy(prior) => {
+                Ok(Ok(destroying(self.alloc, self.action, None, prior)?))
+            }
+            Step::DestroyDeposed(key, prior) => Ok(Ok(destroying(
+                self.alloc,
+                self.action,
+                Some(key.clone()?),
+                prior,
+            )?)),
+        }
+    }
+
+    /// What is asked for a create, or what is wrong with it.
+    fn ask_create(
+        &self,
+        kept: &mut Vec<Resolved>,
+    ) -> Result<Result<PreparedCall, Faulted>, AllocError>
+        requires fits { FitsTogether self.now.plan.now }
+        requires names { names_in self.now.names.now ≡ names_of (config_of self.now.plan.now.config) }
+        requires block { IsOfBlock (names_of (config_of self.now.plan.now.config)) (action_of self.now.action.now) }
+        requires so_far { ResolvedSoFar (plan_of self.now.plan.now) (R.objects self.now.results.now) kept.old.items }
+        ensures asked { IfOk result (λ made. (requests : Requests) → AreRequests (plan_of self.now.plan.now) requests
+            → asked_by made ≡ unless_faulty (create_of (action_of self.now.action.now)) (requests (R.objects self.now.results.now) (action_of self.now.action.now) self.now.schema.now)) }
+        ensures fully { IfOk result (λ made. IfOk made (λ asking. asks_fully (asked asking.request) self.now.schema.now ≡ true)) }
+        ensures type_name { IfOk result (λ made. IfOk made (λ asking. (asked asking.request).type_name ≡ (action_of self.now.action.now).label.type_name)) }
+        ensures op { IfOk result (λ made. IfOk made (λ asking. (asked asking.request).op ≡ Create)) }
+        ensures so_far { ResolvedSoFar (plan_of self.now.plan.now) (R.objects self.now.results.now) kept.new.items }
+    {
+        match self.made_object(kept)? {
+            Ok(object) => Ok(Ok(creating(self.alloc, self.action, object)?)),
+            Err(fault) => Ok(Err(faulted(self.alloc, fault)?)),
+        }
+    }
+
+    /// What is asked for an update of an object, or what is wrong with it.
+    fn ask_update(
+        &self,
+        prior: &Object,
+        kept: &mut Vec<Resolved>,
+    ) -> Result<Result<PreparedCall, Faulted>, AllocError>
+        requires fits { FitsTogether self.now.plan.now }
+        requires names { names_in self.now.names.now ≡ names_of (config_of self.now.plan.now.config) }
+        requires block { IsOfBlock (names_of (config_of self.now.plan.now.config)) (action_of self.now.action.now) }
+        requires so_far { ResolvedSoFar (plan_of self.now.plan.now) (R.objects self.now.results.now) kept.old.items }
+        ensures asked { IfOk result (λ made. (requests : Requests) → AreRequests (plan_of self.now.plan.now) requests
+            → asked_by made ≡ unless_faulty (λ t. update_of (action_of self.now.action.now) (prior_of prior.now)
+            (kept_object self.now.schema.now (ignored_by (meant_at (names_of (config_of self.now.plan.now.config)) (action_of self.now.action.now).resource)) (prior_of prior.now) t))
+            (requests (R.objects self.now.results.now) (action_of self.now.action.now) self.now.schema.now)) }
+        ensures fully { IfOk result (λ made. IfOk made (λ asking. asks_fully (asked asking.request) self.now.schema.now ≡ true)) }
+        ensures type_name { IfOk result (λ made. IfOk made (λ asking. (asked asking.request).type_name ≡ (action_of self.now.action.now).label.type_name)) }
+        ensures op { IfOk result (λ made. IfOk made (λ asking. (asked asking.request).op ≡ Update)) }
+        ensures so_far { ResolvedSoFar (plan_of self.now.plan.now) (R.objects self.now.results.now) kept.new.items }
+    {
+        match self.made_object(kept)? {
+            Ok(object) => {
+                let wanted = self.kept(&prior.value, &object)?;
+                Ok(Ok(updating(self.alloc, self.action, prior, wanted)?))
+            }
+            Err(fault) => Ok(Err(faulted(self.alloc, fault)?)),
+        }
+    }
+}
+
+/// The request to make an object, with room for what is told of its reply, and with what is saved where that can't be used.
+fn creating(alloc: Global, action: &Action, object: Value) -> Result<PreparedCall, AllocError>
+    requires { has_planned_attributes (tree_of object) ≡ true }
+    ensures { IfOk result (λ asking. asked asking.request ≡ create_of (action_of action.now) (tree_of object)) }
+{
+    let message = reserve_message(alloc, &object)?;
+    let fallback = fallback_for(alloc, &object)?;
+    let request = request_for(alloc, action, Op::Create, None, None, Some(object))?;
+    Ok(PreparedCall {
+        request,
+        message,
+        fallback: Some(fallback),
+    })
+}
+
+/// The request to make of an object that is there another, with room for what is told of its reply.
+fn updating(
+    alloc: Global,
+    action: &Action,
+    prior: &Object,
+    object: Value,
+) -> Result<PreparedCall, AllocError>
+    ensures { IfOk result (λ asking. asked asking.request ≡ update_of (action_of action.now) (prior_of prior.now) (tree_of object)) }
+{
+    let message = reserve_message(alloc, &object)?;
+    let prior = Some(prior.value.clone()?);
+    let request = request_for(alloc, action, Op::Update, None, prior, Some(object))?;
+    Ok(PreparedCall {
+        request,
+        message,
+        fallback: None,
+    })
+}
+
+/// The request to take an object away, the current one or the deposed one of a key, with room for what is told of its reply.
+fn destroying(
+    alloc: Global,
+    action: &Action,
+    deposed: Option<String>,
+    prior: &Object,
+) -> Result<PreparedCall, AllocError>
+    ensures { IfOk result (λ asking. asked asking.request ≡ destroy_of (action_of action.now) (option_map string_bytes deposed) (prior_of prior.now)) }
+{
+    let message = least_room(alloc)?;
+    let prior = Some(prior.value.clone()?);
+    let request = request_for(alloc, action, Op::Destroy, deposed, prior, None)?;
+    Ok(PreparedCall {
+        request,
+        message,
+        fallback: None,
+    })
+}
+
+/// A request about the instance of an action.
+fn request_for(
+    alloc: Global,
+    action: &Action,
+    op: Op,
+    deposed: Option<String>,
+    prior: Option<Value>,
+    object: Option<Value>,
+) -> Result<Request, AllocError>
+    ensures { IfOk result (λ request. asked request ≡ prepared_call_of (action_of action.now) op (option_map string_bytes deposed) (option_map tree_of prior) (option_map tree_of object)) }
+{
+    Ok(Request {
+        op,
+        address: address_text(alloc, &action.label, &action.key)?,
+        type_name: action.label.type_name.clone()?,
+        deposed,
+        prior,
+        object,
+    })
+}

@@ -1,0 +1,50 @@
+//! What is had for a reply before the call.
+
+ghost use Rattle.std.specs.List.{list_all};
+ghost use Rattle.std.specs.Prelude.{◌≡◌, ◌≤◌, ◌+◌, ℕ, [], true, None, Some, nat_le, length, IfOk, string_bytes, string_capacity};
+ghost use Rattle.tf_walk_action.specs.Words.{entries_view, keys_of, message_fits, tree_of, with_nulls};
+
+use std::alloc::{AllocError, Global};
+use std::collections::BTreeMap;
+use tf_state_data::Object;
+use tf_value::{Value, with_nulls};
+
+/// What is saved of an object whose provider's reply can't be used.
+pub(crate) fn fallback_for(alloc: Global, object: &Value) -> Result<Object, AllocError>
+    ensures { IfOk result (λ o. tree_of o.value ≡ with_nulls (tree_of object.now)) }
+{
+    let value = with_nulls(alloc, object)?;
+    Ok(Object { value })
+}
+
+/// An empty text with room for each message about a reply to a request for this object.
+pub(crate) fn reserve_message(alloc: Global, object: &Value) -> Result<String, AllocError>
+    ensures blank { IfOk result (λ text. string_bytes text ≡ []) }
+    ensures fits { IfOk result (λ text. message_fits (string_capacity text) (Some (tree_of object.now)) ≡ true) }
+{
+    match object {
+        Value::Map(attributes) => String::with_capacity(alloc, room_for_names(attributes)),
+        _ => String::with_capacity(alloc, 15),
+    }
+}
+
+/// An empty text with room for each message about a reply to a request for no object.
+pub(crate) fn least_room(alloc: Global) -> Result<String, AllocError>
+    ensures blank { IfOk result (λ text. string_bytes text ≡ []) }
+    ensures fits { IfOk result (λ text. message_fits (string_capacity text) None ≡ true) }
+{
+    String::with_capacity(alloc, 15)
+}
+
+/// How many bytes a message may have that names one of these attributes.
+fn room_for_names(attributes: &BTreeMap<String, Value>) -> usize
+    ensures least { 15 ≤ result }
+    ensures names { (capacity : ℕ) → result ≤ capacity →
+        list_all (λ k. nat_le (12 + length k) capacity) (keys_of (entries_view attributes.now.entries)) ≡ true }
+{
+    let mut room = 15;
+    for (name, _) in attributes.iter() {
+        room = room.max(name.len() + 12);
+    }
+    room
+}

@@ -1,0 +1,17 @@
+use Rattle.std.proofs.Common.{Contains, subst}
+use Rattle.tf_graph.specs.NodeSet.{has}
+use Rattle.tf_config_names.specs.Needs.{order_in}
+use Rattle.tf_config_names.specs.Table.{names_in}
+use Rattle.tf_walk_report.proofs.Solved.{among_all}
+use Rattle.tf_walk_report.specs.Settled.{AreSettledAmong}
+use Rattle.tf_walk_report.proofs.settled.settle_names.Goals as goal
+
+pub settle_in-requires-clause-within : goal.settle_in-requires-clause-within
+settle_in-requires-clause-within c = λ n h. c.requires.dependence.within n (subst (λ xs. Contains xs n) c.order.ensures h)
+
+pub returns : goal.returns
+returns c =
+    let names = names_in c.args.declared.now.names.now in
+    let d = c.args.declared.now.dependence.now in
+    among_all names (has c.args.good.now) (order_in d) (has c.settle_in.new.settled) (c.requires.dependence.ranked c.requires.acyclic) (c.requires.dependence.whole c.requires.acyclic)
+    (subst (λ xs. AreSettledAmong names (has c.args.good.now) xs (has c.settle_in.new.settled)) c.order.ensures c.settle_in.ensures)

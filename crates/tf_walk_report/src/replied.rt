@@ -1,0 +1,77 @@
+//! What a reply says of an object.
+
+ghost use Rattle.std.specs.Bool.{OnTrue};
+ghost use Rattle.std.specs.Prelude.{◌≡◌, option_and_then, option_map, string_bytes, IfSome};
+ghost use Rattle.tf_walk_action.specs.Words.{answered, has_stored_attributes, tree_of};
+ghost use Rattle.tf_state.specs.Valid.{IsAttributes};
+ghost use Rattle.tf_state_next.specs.Saved.{formed_in, if_formed};
+ghost use Rattle.tf_walk_report.specs.Replied.{failure_in};
+
+use tf_provider::{Reply, Schema, well_formed};
+use tf_state_data::Object;
+use tf_value::{Value, each_may_be_stored};
+
+/// What a reply says: the object in it, where that is well formed, and the message of a failure.
+pub struct Replied {
+    pub formed: Option<Object>,
+    pub failure: Option<String>,
+}
+
+/// What a reply says.
+pub fn open_reply(reply: Reply, schema: &Schema) -> Replied
+    ensures formed { option_map (λ o. tree_of o.value) result.formed ≡ formed_in schema.now (answered reply) }
+    ensures stored { IfSome result.formed (λ o. IsAttributes (tree_of o.value)) }
+    ensures failure { option_map string_bytes result.failure ≡ failure_in (answered reply) }
+{
+    match reply {
+        Reply::Object(value) => Replied {
+            formed: formed_object(value, schema),
+            failure: None,
+        },
+        Reply::Failed { message, object } => Replied {
+            formed: object_there(object, schema),
+            failure: Some(message),
+        },
+        Reply::Gone | Reply::NoMemory => Replied {
+            formed: None,
+            failure: None,
+        },
+    }
+}
+
+/// The object that is there in spite of a failure, where there is one and it is well formed.
+fn object_there(object: Option<Value>, schema: &Schema) -> Option<Object>
+    ensures object { option_map (λ o. tree_of o.value) result ≡ option_and_then (if_formed schema.now) (option_map tree_of object) }
+    ensures stored { IfSome result (λ o. IsAttributes (tree_of o.value)) }
+{
+    match object {
+        Some(value) => formed_object(value, schema),
+        None => None,
+    }
+}
+
+/// An object that a provider answered, where it is well formed. It is looked through once more, which tells that its
+/// numbers and keys are such as a text can hold.
+fn formed_object(value: Value, schema: &Schema) -> Option<Object>
+    ensures object { option_map (λ o. tree_of o.value) result ≡ if_formed schema.now (tree_of value) }
+    ensures stored { IfSome result (λ o. IsAttributes (tree_of o.value)) }
+{
+    let _attributes = schema.attributes();
+    if well_formed(&value, schema) {
+        let _stored = has_stored_attributes(&value);
+        Some(Object { value })
+    } else {
+        None
+    }
+}
+
+/// Whether each attribute of an object may be stored.
+pub fn has_stored_attributes(object: &Value) -> bool
+    ensures exact { result ≡ has_stored_attributes (tree_of object.now) }
+    ensures stored { OnTrue result (IsAttributes (tree_of object.now)) }
+{
+    match object {
+        Value::Map(attributes) => each_may_be_stored(attributes),
+        _ => false,
+    }
+}

@@ -1,0 +1,250 @@
+//! What came of an action becomes a part of the report, without taking memory.
+
+ghost use Rattle.std.specs.Prelude.{◌≡◌, ◌≤◌, true, None, Option, Some, length, map, option_map, string_bytes, IfSome, IsSome};
+ghost use Rattle.tf_walk_action.specs.Words.{Answer, answered, Asked, asked, result_or_skipped, fault_message, has_stored_attributes, instance_fault_of, label_of, SchemaView, tree_of, verdict_on, with_nulls};
+ghost use Rattle.tf_protocol.specs.declared.request.Op.TheVariants.{Create};
+ghost use Rattle.tf_state.specs.Valid.{IsAttributes};
+ghost use Rattle.tf_state_next.specs.Ends.{apply_result_of, nothing, saved_of, unchanged};
+ghost use Rattle.tf_state_next.specs.Saved.{formed_in, left_by_destroy};
+ghost use Rattle.tf_walk_report.specs.ActionReport.{IsActionReportOf, IsJudged, change_of, listed};
+ghost use Rattle.tf_walk_report.specs.Change.{MayBeStored, as_applied, change_by, saved_by};
+ghost use Rattle.tf_walk_report.specs.Diagnostics.{diagnostic_of, diagnostics_of_verdict};
+ghost use Rattle.tf_walk_report.specs.Head.{HasVersion};
+ghost use Rattle.tf_walk_report.specs.BuffersHead.{buffers_head, target_of};
+
+use crate::action_reports::{ActionReport, Change};
+use crate::buffers::{ActionBuffers, Target};
+use crate::diagnostic::Diagnostic;
+use crate::replied::{Replied, has_stored_attributes, open_reply};
+use crate::telling::telling;
+use tf_address::Label;
+use tf_provider::{Op, Provider, Schema, Verdict, schema_for};
+use tf_state_data::Object;
+use tf_state_next::{
+    Apply, ApplyResult, Destroy, Left, Saved, left_by_destroy, saved_by_create, saved_by_update,
+};
+use tf_walk_action::{ActionResult, Faulted, Served};
+
+/// What an action adds to the report.
+pub fn report_action<'p>(
+    providers: &[Box<dyn Provider + Sync>],
+    room: ActionBuffers<'p>,
+    ended: Option<ActionResult>,
+) -> ActionReport<'p>
+    requires { IsJudged (map meaning providers.now) (buffers_head room).op (result_or_skipped ended) }
+    ensures { IsActionReportOf (map meaning providers.now) (buffers_head room.entry) (result_or_skipped ended) result }
+{
+    match ended {
+        None => nothing(room),
+        Some(ActionResult::Skipped(_, _)) => nothing(room),
+        Some(ActionResult::NotAsked(_)) => not_called(room, 26, "no memory"),
+        Some(ActionResult::NotServed(_)) => not_called(room, 26, "no memory"),
+        Some(ActionResult::Left(_, _)) => not_called(room, 27, "left"),
+        Some(ActionResult::Faulted(faulted, _)) => fault(room, faulted),
+        Some(ActionResult::Called(served)) => {
+            match schema_for(providers, served.call.request().type_name.as_str()) {
+                Some(schema) => report_call(room, served, schema),
+                None => unreachable!(),
+            }
+        }
+    }
+}
+
+/// A skipped action changes nothing, and nothing is told of it.
+fn nothing<'p>(room: ActionBuffers<'p>) -> ActionReport<'p>
+    ensures change { change_of result.change ≡ change_by (buffers_head room.entry).label (buffers_head room.entry).target nothing unchanged }
+    ensures diagnostic { result.diagnostic ≡ None }
+{
+    let ActionBuffers { label, target, .. } = room;
+    ActionReport {
+        change: unchanged(label, target),
+        diagnostic: None,
+    }
+}
+
+/// What is told of an action that wasn't called, and why.
+fn not_called<'p>(room: ActionBuffers<'p>, code: u8, reason: &str) -> ActionReport<'p>
+    requires { length reason.now ≤ 15 }
+    ensures change { change_of result.change ≡ change_by (buffers_head room.entry).label (buffers_head room.entry).target nothing unchanged }
+    ensures diagnostic { option_map diagnostic_of result.diagnostic
+        ≡ Some (record { code = code; place = (buffers_head room.entry).place; verb = Some room.entry.op; message = reason.now }) }
+{
+    let ActionBuffers {
+        place,
+        op,
+        label,
+        target,
+        mut message,
+    } = room;
+    message.push_str(reason).unwrap();
+    ActionReport {
+        change: unchanged(label, target),
+        diagnostic: told(place, op, Some((code, message))),
+    }
+}
+
+/// What is told of a request that can't be made.
+fn fault<'p>(room: ActionBuffers<'p>, faulted: Faulted) -> ActionReport<'p>
+    ensures change { change_of result.change ≡ change_by (buffers_head room.entry).label (buffers_head room.entry).target nothing unchanged }
+    ensures diagnostic { option_map diagnostic_of result.diagnostic
+        ≡ Some (record { code = 24; place = (buffers_head room.entry).place; verb = Some room.entry.op; message = fault_message (instance_fault_of faulted.fault) }) }
+{
+    let Faulted { message, .. } = faulted;
+    ActionReport {
+        change: unchanged(room.label, room.target),
+        diagnostic: told(room.place, room.op, Some((24, message))),
+    }
+}
+
+/// What an action changes that wasn't called: it saved nothing, and what is known of an object stays.
+fn unchanged<'p>(label: &'p Label, target: Target) -> Change<'p>
+    ensures { change_of result ≡ change_by (label_of label.now) (target_of target) nothing unchanged }
+{
+    match target {
+        Target::Instance(given) => Change::Applied(Apply {
+            label,
+            given,
+            applied: ApplyResult::Nothing,
+        }),
+        Target::Object(id) => Change::Destroyed(Destroy {
+            label,
+            id,
+            left: Left::Unchanged,
+        }),
+    }
+}
+
+/// The diagnostic of what is told of an action, by its code and its message.
+fn told(place: String, op: Op, telling: Option<(u8, String)>) -> Option<Diagnostic>
+    ensures { option_map diagnostic_of result
+        ≡ option_map (λ t. record { code = t.0; place = string_bytes place; verb = Some op; message = string_bytes t.1 }) telling }
+{
+    match telling {
+        Some((code, message)) => Some(Diagnostic {
+            code,
+            place,
+            verb: Some(op),
+            message,
+        }),
+        None => None,
+    }
+}
+
+/// What a call adds to the report.
+fn report_call<'p>(room: ActionBuffers<'p>, served: Served, schema: &Schema) -> ActionReport<'p>
+    requires verdict { served.call.verdict ≡ verdict_on (asked served.call.request) (answered served.call.reply) schema.now }
+    requires op { served.call.request.op ≡ room.op }
+    ensures changes { change_of result.change
+        ≡ change_by (buffers_head room.entry).label (buffers_head room.entry).target
+        (as_applied (saved_by room.entry.op schema.now (asked served.call.request) (answered served.call.reply) served.call.verdict))
+        (left_by_destroy schema.now (answered served.call.reply) served.call.verdict) }
+    ensures stored { MayBeStored (change_of result.change) }
+    ensures tells { listed (option_map diagnostic_of result.diagnostic)
+        ≡ diagnostics_of_verdict (buffers_head room.entry).place room.entry.op (asked served.call.request) (answered served.call.reply) served.call.verdict }
+{
+    let Served {
+        call,
+        message,
+        fallback,
+    } = served;
+    let verdict = call.verdict();
+    let (request, reply) = call.into_report();
+    let ActionBuffers {
+        place,
+        op,
+        label,
+        target,
+        ..
+    } = room;
+    let Replied { formed, failure } = open_reply(reply, schema);
+    let telling = telling(verdict, message, &request.object, failure);
+    let _stored = can_be_stored(&fallback);
+    ActionReport {
+        change: change(label, target, op, verdict, formed, fallback),
+        diagnostic: told(place, op, telling),
+    }
+}
+
+/// What a call changes, by the verdict on its reply, the object in the reply where that is well formed, and the object that a
+/// create asked for, with null for what isn't known.
+fn change<'p>(
+    label: &'p Label,
+    target: Target,
+    op: Op,
+    verdict: Verdict,
+    formed: Option<Object>,
+    fallback: Option<Object>,
+) -> Change<'p>
+    requires { op ≡ Create → IsSome fallback }
+    ensures versioned { HasVersion (target_of target) }
+    ensures changes { (schema : SchemaView) (r : Asked) (answer : Option Answer) → verdict ≡ verdict_on r answer schema
+        → option_map (λ o. tree_of o.value) formed ≡ formed_in schema answer
+        → (op ≡ Create → option_map with_nulls r.object ≡ option_map (λ o. tree_of o.value) fallback)
+        → change_of result ≡ change_by (label_of label.now) (target_of target) (as_applied (saved_by op schema r answer verdict)) (left_by_destroy schema answer verdict) }
+{
+    match target {
+        Target::Instance(given) => Change::Applied(Apply {
+            label,
+            given,
+            applied: applied(op, verdict, formed, fallback),
+        }),
+        Target::Object(id) => Change::Destroyed(Destroy {
+            label,
+            id,
+            left: left_by_destroy(verdict, formed),
+        }),
+    }
+}
+
+/// What came of the call of a create or an update.
+fn applied(
+    op: Op,
+    verdict: Verdict,
+    formed: Option<Object>,
+    fallback: Option<Object>,
+) -> ApplyResult
+    requires { op ≡ Create → IsSome fallback }
+    ensures { (schema : SchemaView) (r : Asked) (answer : Option Answer) → verdict ≡ verdict_on r answer schema
+        → option_map (λ o. tree_of o.value) formed ≡ formed_in schema answer
+        → (op ≡ Create → option_map with_nulls r.object ≡ option_map (λ o. tree_of o.value) fallback)
+        → apply_result_of result ≡ as_applied (saved_by op schema r answer verdict) }
+{
+    match saved(op, verdict, formed, fallback) {
+        Some(saved) => ApplyResult::Saved(saved),
+        None => ApplyResult::Nothing,
+    }
+}
+
+/// What a call saves.
+fn saved(
+    op: Op,
+    verdict: Verdict,
+    formed: Option<Object>,
+    fallback: Option<Object>,
+) -> Option<Saved>
+    requires { op ≡ Create → IsSome fallback }
+    ensures { (schema : SchemaView) (r : Asked) (answer : Option Answer) → verdict ≡ verdict_on r answer schema
+        → option_map (λ o. tree_of o.value) formed ≡ formed_in schema answer
+        → (op ≡ Create → option_map with_nulls r.object ≡ option_map (λ o. tree_of o.value) fallback)
+        → option_map saved_of result ≡ saved_by op schema r answer verdict }
+{
+    match op {
+        Op::Create => match fallback {
+            Some(fallback) => saved_by_create(verdict, formed, fallback),
+            None => unreachable!(),
+        },
+        Op::Update => saved_by_update(verdict, formed),
+        Op::Destroy => None,
+    }
+}
+
+/// Whether an object, where there is one, may be stored. It is looked through once more, which tells that its numbers and
+/// keys are such as a text can hold.
+fn can_be_stored(object: &Option<Object>) -> bool
+    ensures { IfSome object.now (λ o. has_stored_attributes (tree_of o.value) ≡ true → IsAttributes (tree_of o.value)) }
+{
+    match object {
+        Some(object) => has_stored_attributes(&object.value),
+        None => true,
+    }
+}
