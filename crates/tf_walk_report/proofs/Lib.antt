@@ -23,7 +23,6 @@ pub mod Listed
 pub mod Lists
 pub mod Matching
 pub mod Named
-pub mod Numbers
 pub mod Ordered
 pub mod Pairs
 pub mod Solved
@@ -32,3 +31,4 @@ pub mod Spread
 pub mod Stored
 pub mod TellingWhatWasCalled
 pub mod Told
+pub mod Updated

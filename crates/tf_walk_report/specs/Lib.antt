@@ -22,5 +22,5 @@ pub mod Reserved
 pub mod Savable
 pub mod Settled
 pub mod Settling
-pub mod Asked
 pub mod Told
+pub mod Unchanged

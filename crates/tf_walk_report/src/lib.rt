@@ -9,7 +9,6 @@
 
 mod action_reports;
 mod additions;
-mod asked;
 mod buffers;
 mod calls_told;
 mod comparing;
@@ -36,6 +35,7 @@ mod settling;
 mod spreading;
 mod telling;
 mod texts;
+mod unchanged;
 mod updating;
 mod whole;
 

@@ -1,22 +1,27 @@
-use Rattle.std.proofs.Common.{◌∙◌, List, length, ap, subst, sym}
-use Rattle.tf_config_data.specs.Names.{NameView}
-use Rattle.tf_plan_data.specs.Plan.{plan_of}
-use Rattle.tf_plan_order.specs.ResourceIndex.{place_in}
-use Rattle.tf_plan_order.specs.Table.{numbered_in}
-use Rattle.tf_state_data.specs.Resource.{resource_of}
-use Rattle.tf_walk_report.proofs.Lists.{all-at}
-use Rattle.tf_walk_report.proofs.Numbers.{number_listed}
-use Rattle.tf_walk_report.specs.Asked.{IsNumberAsked, IsResourceAsked}
+use Rattle.std.proofs.Common.{◌≡◌, ◌∙◌, IfOk, List, [], ap, arith, eqb-true, length, map, subst, sym, vec_len}
+use Rattle.std.proofs.lemmas.List.{nil_from_length}
+use Rattle.std.specs.List.{AllByRecursion}
+use Rattle.tf_plan_data.specs.Plan.{plan_names, plan_of}
+use Rattle.tf_state_next.specs.Events.{MetadataUpdateView, metadata_update_of}
+use Rattle.tf_walk_report.proofs.Updated.{unchanged_below, unchanged_updated}
+use Rattle.tf_walk_report.specs.Unchanged.{HasNumberBelow, metadata_update_of_unchanged, unchanged_record_of}
 use Rattle.tf_walk_report.proofs.updating.metadata_updates_for.Goals as goal
 
-pub add_resource-requires-clause-listed : goal.add_resource-requires-clause-listed
-add_resource-requires-clause-listed c =
+pub updates_of-requires-clause-below : goal.updates_of-requires-clause-below
+updates_of-requires-clause-below c =
     let plan = plan_of c.args.plan.now in
-    let ns = numbered_in c.in_ok-resource_index.resource_index in
-    let asked = c.in_ok-asked.asked in
-    let resource = c.resource-item.result in
-    let one : IsResourceAsked ns asked (resource_of resource) =
-    all-at (IsResourceAsked ns asked) resource_of c.resources-resources.result.now c.loop-resource.resource-index resource c.loop-resource-test.true c.resource-item.is c.in_ok-asked.ensures.asked in
-    let at : IsNumberAsked asked c.place-number.result = subst (IsNumberAsked asked) (sym (c.place-number.ensures ∙ ap (place_in ns) c.label.ensures)) one in
-    let long = c.in_ok-asked.ensures.length ∙ c.len.ensures ∙ ap (λ (xs : List NameView). length xs) c.requires.names in
-    rw c.as_slice-lists.ensures.value (number_listed plan asked c.in_ok-lists.lists.items c.place-number.result long (rw (← c.requires.names) c.in_ok-lists.ensures) at)
+    rw c.as_slice.ensures.value (subst (AllByRecursion (HasNumberBelow (length (plan_names plan)))) (sym c.in_ok-unchanged.ensures) (unchanged_below plan))
+
+pub returns : goal.returns
+returns c =
+    let plan = plan_of c.args.plan.now in
+    subst (λ (us : List MetadataUpdateView). IfOk c.updates_of.result (λ found. map metadata_update_of found.items ≡ us))
+    (rw c.as_slice.ensures.value (ap (map (metadata_update_of_unchanged plan)) c.in_ok-unchanged.ensures ∙ unchanged_updated plan)) c.updates_of.ensures
+
+pub returns-then-is_empty : goal.returns-then-is_empty
+returns-then-is_empty c =
+    let plan = plan_of c.args.plan.now in
+    let found = c.in_ok-unchanged.unchanged in
+    let long : vec_len found ≡ 0 = eqb-true (vec_len found) 0 (sym c.is_empty.ensures ∙ c.if-is_empty.true) in
+    let none : found.items ≡ [] = nil_from_length found.items (omega (arith, long)) in
+    rw c.new.ensures.items (ap (λ us. map (metadata_update_of_unchanged plan) (map unchanged_record_of us)) (sym none) ∙ ap (map (metadata_update_of_unchanged plan)) c.in_ok-unchanged.ensures ∙ unchanged_updated plan)

@@ -4,7 +4,7 @@ use Rattle.std.specs.List.{list_any}
 use Rattle.tf_plan_data.specs.Action.{action_of}
 use Rattle.tf_address.specs.ObjectId.{instance_key_of}
 use Rattle.tf_walk_report.specs.Events.{is_about}
-use Rattle.tf_walk_report.proofs.updating.is_any_about.Given as goal
+use Rattle.tf_walk_report.proofs.unchanged.is_any_about.Given as goal
 
 abbrev pub invariant-loop-action : goal.invariant-loop-action
 invariant-loop-action l =
