@@ -38,8 +38,11 @@ pub(crate) fn unchanged_records<'p>(
     requires names { names_in names.now ≡ plan_names (plan_of plan.now) }
     ensures { IfOk result (λ found. map unchanged_record_of found.items ≡ unchanged_records (plan_of plan.now)) }
 {
-    let resource_index = ResourceIndex::new(alloc, names, &plan.prior)?;
     let mut found = Vec::new(alloc);
+    if plan.prior.resources().is_empty() {
+        return Ok(found);
+    }
+    let resource_index = ResourceIndex::new(alloc, names, &plan.prior)?;
     for resource in plan.prior.resources() {
         let number = resource_index.place(resource.label());
         add_resource(&mut found, plan, names.len(), resource, number)?;
