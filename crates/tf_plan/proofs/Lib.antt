@@ -18,3 +18,4 @@ pub mod Wanting
 pub mod Looking
 pub mod Declaring
 pub mod Fitting
+pub mod Undestroyed

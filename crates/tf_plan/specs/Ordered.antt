@@ -1,6 +1,7 @@
 -- The order of a plan's actions.
 use Rattle.std.specs.Prelude.{◌≡◌, ◌≤◌, ◌↔◌, ℕ, Bool, true, false, List, length, map, slice_index_or}
 use Rattle.tf_plan_data.specs.Action.{ActionView}
+use Rattle.tf_plan_data.specs.Fits.{is_apply}
 use Rattle.tf_plan_data.specs.Precedence.{ordered}
 use Rattle.tf_config_data.specs.Names.{NameView}
 use Rattle.tf_graph.specs.Closure.{reaches}
@@ -38,6 +39,14 @@ pub record AreTied (names : List NameView) (resources : List ResourceView) (ties
 -- the same by a dependence, by what is stored, and by a list that says which are late
 abbrev pub ties_by : Dependence → StoredDependencies → List Bool → OrderInputView
 ties_by d stored late = record { needs = needs_in d; needed = λ a b. reaches stored.table b a; late = λ n. slice_index_or late n false }
+
+-- by what needs which in the configuration alone: nothing was needed, and nothing is late
+abbrev pub by_needs : (ℕ → ℕ → Bool) → OrderInputView
+by_needs needs = record { needs = needs; needed = λ a b. false; late = λ n. false }
+
+-- an action creates or updates an object
+abbrev pub is_applied : ActionView → Bool
+is_applied a = is_apply a.step
 
 -- the pairs of actions of which the first is before the second
 abbrev pub action_pairs : OrderInputView → List ActionView → List (ℕ × ℕ)

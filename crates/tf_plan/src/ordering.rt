@@ -1,8 +1,9 @@
 //! Which resources of a plan are late, and which of its actions is before which.
 
+ghost use Rattle.std.specs.List.{list_all, list_any};
 ghost use Rattle.std.specs.Prelude.{◌≡◌, ◌≤◌, IfOk, IfErr, false, length, map, slice_index_or};
 ghost use Rattle.tf_plan_data.specs.Words.{action_of, AreSound, IsAcyclic, IsDependence, names_in, needs_in, numbered, numbered_in, ordered, resources_in};
-ghost use Rattle.tf_plan.specs.Ordered.{IsOrdered, action_pairs, max_pairs, ties_by};
+ghost use Rattle.tf_plan.specs.Ordered.{IsOrdered, action_pairs, by_needs, is_applied, max_pairs, ties_by};
 ghost use Rattle.tf_plan.specs.Refused.{AreManyPairsBy, HasManyPairs, Tells};
 
 use crate::faults::{alone, limit_refusal};
@@ -11,7 +12,7 @@ use std::alloc::{AllocError, Global};
 use tf_config_names::Dependence;
 use tf_expand::Module;
 use tf_graph::MAX_NODES;
-use tf_plan_data::Action;
+use tf_plan_data::{Action, Step};
 use tf_plan_order::{Order, OrderFault, OrderInput, ResourceIndex, StoredDependencies, lateness};
 
 /// The order of a plan's actions.
@@ -39,8 +40,11 @@ pub(crate) fn order_actions(
         (λ n. slice_index_or o.late.items n false) (map action_of actions.now) o.order) }
     ensures refused { IfErr result (Tells (HasManyPairs (names_in declared.now.names.now) (resources_in resource_index.now) (map action_of actions.now))) }
 {
-    let stored = resource_index.stored(alloc)?;
     let marked = resource_index.marked(alloc)?;
+    if are_applied(actions) && !is_any_marked(marked.as_slice()) {
+        return order_applied(alloc, declared.dependence, marked, actions);
+    }
+    let stored = resource_index.stored(alloc)?;
     let needs = declared.dependence.graph();
     let late = lateness(alloc, needs, stored.graph(), marked.as_slice())?;
     let order = order_by(
@@ -51,6 +55,60 @@ pub(crate) fn order_actions(
         actions,
     )?;
     Ok(Ordered { late, order })
+}
+
+/// The order of actions that destroy nothing, where no resource is marked, or the refusal of so many pairs. What the state has
+/// stored puts none of them before another then and makes no resource late, so it isn't looked at.
+fn order_applied(
+    alloc: Global,
+    dependence: &Dependence,
+    marked: Vec<bool>,
+    actions: &[Action],
+) -> Result<Ordered, Refused>
+    requires strict { AreSound (by_needs (needs_in dependence.now)) }
+    requires unmarked { list_any (λ m. m) marked.items ≡ false }
+    requires few { length actions.now ≤ MAX_NODES }
+    ensures late { IfOk result (λ o. o.late ≡ marked) }
+    ensures nodes { IfOk result (λ o. o.order.nodes ≡ length actions.now) }
+    ensures edges { IfOk result (λ o. o.order.edges ≡ action_pairs (by_needs (needs_in dependence.now)) (map action_of actions.now)) }
+    ensures few { IfOk result (λ o. length o.order.edges ≤ max_pairs) }
+    ensures refused { IfErr result (Tells (AreManyPairsBy (by_needs (needs_in dependence.now)) (map action_of actions.now))) }
+{
+    let nothing = StoredDependencies::new(alloc, 0, &[])?;
+    let order = order_by(alloc, dependence, &nothing, marked.as_slice(), actions)?;
+    Ok(Ordered {
+        late: marked,
+        order,
+    })
+}
+
+/// Whether each of these actions creates or updates an object.
+fn are_applied(actions: &[Action]) -> bool
+    ensures { result ≡ list_all is_applied (map action_of actions.now) }
+{
+    for action in actions {
+        if !is_applied(action) {
+            return false;
+        }
+    }
+    true
+}
+
+/// Whether an action creates or updates an object.
+fn is_applied(action: &Action) -> bool
+    ensures { result ≡ is_applied (action_of action.now) }
+{
+    match &action.step {
+        Step::Create(_) | Step::Update(_, _, _) | Step::CreateReplacement(_, _) => true,
+        Step::DestroyReplaced(_) | Step::Destroy(_) | Step::DestroyDeposed(_, _) => false,
+    }
+}
+
+/// Whether any resource is marked.
+fn is_any_marked(marked: &[bool]) -> bool
+    ensures { result ≡ list_any (λ m. m) marked.now }
+{
+    marked.iter().any(|mark| *mark)
 }
 
 /// The order of these actions by what ties their resources together, or the refusal of so many pairs.
