@@ -91,7 +91,8 @@ fn dependence_of(alloc: Global, config: &Config) -> Result<Dependence, Refusal>
     ensures refused { IfErr result (λ r. RefusesItsNames (config_of config.now) (refusal_of r)) }
 {
     names_are_few();
-    check_names(alloc, config)
+    let (_, dependence) = check_names(alloc, config)?;
+    Ok(dependence)
 }
 
 /// The state that a plan starts from: the one that a text is, or the empty one of a lineage where there is no text.

@@ -7,27 +7,13 @@ ghost use Rattle.tf_syntax.specs.ExprTree.{entries_view, tree_of};
 ghost use Rattle.tf_syntax.specs.TemplateNames.{reference_of};
 
 use crate::expr::Expr;
-use crate::names::{Names, add_parts, copied_references, copied_texts};
+use crate::names::{Names, add_parts};
 use crate::tree::Reference;
 use std::alloc::{AllocError, Global};
 use std::collections::BTreeMap;
 
 impl Expr {
-    /// What the expression's templates name and call, in walk order, as it stands there: no text is copied.
-    ///
-    /// # Errors
-    ///
-    /// Only where memory runs out.
-    pub fn names(&self, alloc: Global) -> Result<Names<'_>, AllocError>
-        ensures named { IfOk result (λ n. map (λ r. reference_of r.now) n.references.items ≡ named_by (tree_of self.now)) }
-        ensures called { IfOk result (λ n. map (λ f. string_bytes f.now) n.functions.items ≡ called_by (tree_of self.now)) }
-    {
-        let mut found = Names::new(alloc);
-        add(self, &mut found)?;
-        Ok(found)
-    }
-
-    /// Each reference of the expression's templates, in walk order, as often as it stands there, copied.
+    /// Each reference of the expression's templates, in walk order, as often as it stands there.
     ///
     /// # Errors
     ///
@@ -35,12 +21,12 @@ impl Expr {
     pub fn references(&self, alloc: Global) -> Result<Vec<Reference>, AllocError>
         ensures { IfOk result (λ v. map reference_of v.items ≡ named_by (tree_of self.now)) }
     {
-        let names = self.names(alloc)?;
-        copied_references(alloc, names.references.as_slice())
+        let names = names_of(alloc, self)?;
+        Ok(names.references)
     }
 
     /// The name of each function that the expression's templates call, in walk order, as often as it is
-    /// called, copied. A call stands before the calls among its arguments.
+    /// called. A call stands before the calls among its arguments.
     ///
     /// # Errors
     ///
@@ -48,13 +34,22 @@ impl Expr {
     pub fn functions(&self, alloc: Global) -> Result<Vec<String>, AllocError>
         ensures { IfOk result (λ v. map string_bytes v.items ≡ called_by (tree_of self.now)) }
     {
-        let names = self.names(alloc)?;
-        copied_texts(alloc, names.functions.as_slice())
+        let names = names_of(alloc, self)?;
+        Ok(names.functions)
     }
 }
 
+fn names_of(alloc: Global, expr: &Expr) -> Result<Names, AllocError>
+    ensures named { IfOk result (λ n. map reference_of n.references.items ≡ named_by (tree_of expr.now)) }
+    ensures called { IfOk result (λ n. map string_bytes n.functions.items ≡ called_by (tree_of expr.now)) }
+{
+    let mut found = Names::new(alloc);
+    add(expr, &mut found)?;
+    Ok(found)
+}
+
 #[cycle(names)]
-fn add<'a>(expr: &'a Expr, found: &mut Names<'a>) -> Result<(), AllocError>
+fn add(expr: &Expr, found: &mut Names) -> Result<(), AllocError>
     ensures { OnOk result (Adds found.old found.new (named_by (tree_of expr.now)) (called_by (tree_of expr.now))) }
 {
     match expr {
@@ -71,10 +66,7 @@ fn add<'a>(expr: &'a Expr, found: &mut Names<'a>) -> Result<(), AllocError>
 }
 
 #[cycle(names)]
-fn add_entries<'a>(
-    entries: &'a BTreeMap<String, Expr>,
-    found: &mut Names<'a>,
-) -> Result<(), AllocError>
+fn add_entries(entries: &BTreeMap<String, Expr>, found: &mut Names) -> Result<(), AllocError>
     ensures { OnOk result (Adds found.old found.new (named_below (entries_view entries.now.entries)) (called_below (entries_view entries.now.entries))) }
 {
     for (_, expr) in entries.iter() {
