@@ -1,17 +1,11 @@
 //! Plans, their texts and orders, or what is refused, through the planner's door.
 
-ghost use Rattle.std.specs.Prelude.{◌≤◌, ◌<◌, ◌+◌, ◌^◌, IfOk, length};
-ghost use Rattle.tf_plan_data.specs.Words.{config_of, IsAcyclic, IsDependence, names_of, state_of};
-
 use std::alloc::{AllocError, Global};
-use tf_config::{Config, read, read_vars};
-use tf_config_names::{Declarations, Dependence, check_names};
+use tf_cli_inputs::{Inputs, read_texts};
 use tf_plan::{Planned, Refused, plan, plan_text};
 use tf_protocol::Provider;
-use tf_refusal::code::{BAD_STATE, LIMIT};
-use tf_refusal::{Detail, Refusal};
+use tf_refusal::Refusal;
 use tf_sim::Sim;
-use tf_state_data::State;
 
 /// The text of the plan of a configuration from a state, none where its text is empty; or a line for each refusal.
 pub(crate) fn text_of(alloc: Global, config: &str, state: &str) -> Result<String, AllocError> {
@@ -47,13 +41,9 @@ pub(crate) fn count_of(alloc: Global, config: &str, state: &str) -> Result<Strin
     }
 }
 
-/// Whether the names of a configuration are known, and none needs itself.
-pub(crate) fn is_known(alloc: Global, config: &str) -> Result<bool, AllocError> {
-    let prior = State::empty(alloc, "L")?;
-    match read(alloc, config.as_bytes()) {
-        Ok(config) => Ok(dependence_of(alloc, &config, &prior).is_ok()),
-        Err(_) => Ok(false),
-    }
+/// Whether a configuration can be read, its names are known, and none needs itself.
+pub(crate) fn is_known(alloc: Global, config: &str) -> bool {
+    read_texts(alloc, config.as_bytes(), None, None, "L").is_ok()
 }
 
 /// The plan of a configuration from a state, none where its text is empty.
@@ -75,69 +65,26 @@ pub(crate) fn planned_by(
     state: &str,
     providers: &[Box<dyn Provider + Sync>],
 ) -> Result<Planned, Refused> {
-    let config = match read(alloc, config.as_bytes()) {
-        Ok(config) => config,
-        Err(refusal) => return Err(these(alloc, refusal)?),
+    let state = if state.is_empty() {
+        None
+    } else {
+        Some(state.as_bytes())
     };
-    let variables = match read_vars(alloc, None, &config) {
-        Ok(variables) => variables,
-        Err(refusal) => return Err(these(alloc, refusal)?),
-    };
-    let prior = match read_prior(alloc, state) {
-        Ok(prior) => prior,
-        Err(refusal) => return Err(these(alloc, refusal)?),
-    };
-    let dependence = match dependence_of(alloc, &config, &prior) {
-        Ok(dependence) => dependence,
-        Err(refusal) => return Err(these(alloc, refusal)?),
-    };
-    plan(alloc, prior, config, variables, dependence, providers)
+    match read_texts(alloc, config.as_bytes(), None, state, "L") {
+        Ok(
+            Inputs {
+                config,
+                values,
+                dependence,
+                prior,
+            },
+        ) => plan(alloc, prior, config, values, dependence, providers),
+        Err(refusal) => Err(these(alloc, refusal)?),
+    }
 }
 
 fn these(alloc: Global, refusal: Refusal) -> Result<Refused, AllocError> {
     Ok(Refused::These(vec![in alloc; refusal]?))
-}
-
-/// The state of a text, and the empty one of an empty text.
-fn read_prior(alloc: Global, text: &str) -> Result<State, Refusal>
-    ensures { IfOk result (λ state. (state_of state).serial + 1 < 2 ^ 32) }
-{
-    if text.is_empty() {
-        return Ok(State::empty(alloc, "L")?);
-    }
-    match tf_state::read(alloc, text.as_bytes()) {
-        Ok(state) => {
-            if state.serial() < u32::MAX {
-                Ok(state)
-            } else {
-                Err(refusal_at(LIMIT, String::from_str(alloc, "state")?))
-            }
-        }
-        Err(_) => Err(refusal_at(BAD_STATE, String::from_str(alloc, "state")?)),
-    }
-}
-
-/// Which name of a configuration needs which, where these and the resources of the state are few enough.
-fn dependence_of(alloc: Global, config: &Config, prior: &State) -> Result<Dependence, Refusal>
-    ensures dependence { IfOk result (IsDependence (names_of (config_of config.now))) }
-    ensures acyclic { IfOk result IsAcyclic }
-    ensures few { IfOk result (λ _. length (names_of (config_of config.now)) + length (state_of prior.now).resources ≤ 8000) }
-{
-    // Whoever has read both knows that there are few.
-    let count = Declarations::new(alloc, config)?.len();
-    if count > 8000 || prior.resources().len() > 8000 - count {
-        return Err(refusal_at(LIMIT, String::from_str(alloc, "names")?));
-    }
-    let (_names, dependence) = check_names(alloc, config)?;
-    Ok(dependence)
-}
-
-fn refusal_at(code: u8, place: String) -> Refusal {
-    Refusal::Fault {
-        code,
-        place,
-        detail: Detail::Bare,
-    }
 }
 
 /// A line for each refusal.

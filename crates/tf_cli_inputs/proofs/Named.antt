@@ -1,5 +1,5 @@
 -- No name of a configuration needs itself, where none does by its table of dependence.
-use Rattle.std.proofs.Common.{◌≡◌, ℕ, true, false, Option, Some, None, List, refl}
+use Rattle.std.proofs.Common.{◌≡◌, ℕ, true, false, Option, Some, None, List, Result, Ok, Err, IfOk, OnOk, refl}
 use Rattle.std.specs.Prelude.{IsSome}
 use Rattle.tf_config_data.specs.Config.{ConfigView}
 use Rattle.tf_config_data.specs.Names.{NameView, names_of, place_of}
@@ -7,6 +7,7 @@ use Rattle.tf_graph.specs.Path.{Path, direct, onward}
 use Rattle.tf_config_names.specs.Judging.{AllAreKnown}
 use Rattle.tf_config_names.specs.Needs.{IsAcyclic, IsDependence, Needs, RefersTo, needs_in}
 use Rattle.tf_config_names.specs.declared.dependence.Dependence.{Dependence}
+use Rattle.tf_refusal.specs.declared.refusal.Refusal.{Refusal}
 use Rattle.tf_syntax.specs.TemplateNames.{Pair}
 use Rattle.tf_cli_inputs.specs.Texts.{AreNamesGood}
 
@@ -29,3 +30,8 @@ are_good config d known is acyclic =
       known = known;
       acyclic = λ pair needs. at_place names d pair (place_of names pair) is acyclic needs refl (is_placed names pair pair needs);
     }
+
+-- the same of what the check of names answers
+pub are_good_where_ok : (config : ConfigView) (answer : Result Dependence Refusal) → OnOk answer (AllAreKnown config) → IfOk answer (IsDependence (names_of config)) → IfOk answer IsAcyclic → OnOk answer (AreNamesGood config)
+are_good_where_ok config (Ok d) known is acyclic = are_good config d known is acyclic
+are_good_where_ok config (Err refusal) known is acyclic = tt

@@ -91,8 +91,7 @@ fn dependence_of(alloc: Global, config: &Config) -> Result<Dependence, Refusal>
     ensures refused { IfErr result (λ r. RefusesItsNames (config_of config.now) (refusal_of r)) }
 {
     names_are_few();
-    let (_, dependence) = check_names(alloc, config)?;
-    Ok(dependence)
+    check_names(alloc, config)
 }
 
 /// The state that a plan starts from: the one that a text is, or the empty one of a lineage where there is no text.

@@ -3,7 +3,7 @@ use Rattle.std.proofs.Common.{◌≡◌, ◌∙◌, ◌<◌, ℕ, List, length, 
 use Rattle.std.proofs.lemmas.Bool.{both_ways}
 use Rattle.std.specs.List.{AllByRecursion}
 use Rattle.std.specs.Prelude.{Contains, slice_index}
-use Rattle.tf_config_data.specs.Names.{NameView, meant_at, refers_at, directly_before}
+use Rattle.tf_config_data.specs.Names.{NameView, meant_at, place_of, refers_at, directly_before}
 use Rattle.tf_graph.proofs.Edges.{edge-from_target, target-from_edge}
 use Rattle.tf_graph.proofs.GraphLaws.{acyclic-ranked, closure-least, reached-closed, whole_order-all}
 use Rattle.tf_graph.specs.Closure.{reaches, IsClosure}
@@ -13,14 +13,17 @@ use Rattle.tf_graph.specs.Strip.{IsWholeOrder}
 use Rattle.tf_config_names.proofs.Edging.{AreWithin, are-within, places-below}
 use Rattle.tf_config_names.proofs.Needing.{reaching-named, reaches-from_needs, needs-from_reaches, edge-from_before, before-from_edge, filled_some, some_filled}
 use Rattle.tf_config_names.specs.Needs.{IsDependence}
+use Rattle.tf_config_names.specs.Places.{found_in}
+use Rattle.tf_syntax.specs.TemplateNames.{Pair}
 use Rattle.tf_config_names.specs.declared.dependence.Dependence.{Dependence}
 
-pub dependence : (names : List NameView) (d : Dependence) → d.graph.nodes ≡ length names → AreWithin (length names) d.graph.edges → ((n : ℕ) → predecessors_of d.graph n ≡ directly_before names n)
+pub dependence : (names : List NameView) (d : Dependence) → ((pair : Pair) → found_in d.places pair ≡ place_of names pair) → d.graph.nodes ≡ length names → AreWithin (length names) d.graph.edges → ((n : ℕ) → predecessors_of d.graph n ≡ directly_before names n)
     → IsWholeOrder d.graph d.order.items → IsClosure d.graph d.table → IsDependence names d
-dependence names d count are before order closure =
+dependence names d placed count are before order closure =
     let g = d.graph in
     let within = subst (λ k. IsWithin k d.graph.edges) (sym count) (are-within (length names) d.graph.edges are) in
     record {
+      places = placed;
       count = count;
       table = closure.nodes ∙ count;
       before = before;

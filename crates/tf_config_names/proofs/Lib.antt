@@ -1,7 +1,9 @@
 pub mod Dependences
 pub mod Edging
 pub mod NameWalks
+pub mod Lookups
 pub mod Needing
+pub mod Placed
 pub mod Rings
 pub mod Tables
 pub mod Tests

@@ -10,6 +10,7 @@ use Rattle.tf_graph.specs.Order.{IsInOrder}
 use Rattle.tf_graph.specs.Path.{Path}
 use Rattle.tf_graph.specs.Solutions.{Ranked, StaysBelow}
 use Rattle.tf_syntax.specs.TemplateNames.{Pair}
+use Rattle.tf_config_names.specs.Places.{found_in}
 use Rattle.tf_config_names.specs.declared.dependence.Dependence.{Dependence}
 
 -- what a name stands for; none where it isn't declared
@@ -70,9 +71,10 @@ is_filled (x ∷ xs) = true
 abbrev pub is_referred_to : Dependence → ℕ → Bool
 is_referred_to d b = is_filled (successors_of d.graph b)
 
--- A table says which of these names needs which. What is needed by what is needed is needed. Its order has each name
--- once and after all that it refers to, and where none needs itself it has all names.
+-- A table says which of these names needs which, and where each stands. What is needed by what is needed is needed. Its order
+-- has each name once and after all that it refers to, and where none needs itself it has all names.
 pub record IsDependence (names : List NameView) (d : Dependence) : Type 0 where
+  pub places : (pair : Pair) → found_in d.places pair ≡ place_of names pair
   pub count : d.graph.nodes ≡ length names
   pub table : d.table.nodes ≡ length names
   pub before : (n : ℕ) → before_in d n ≡ directly_before names n

@@ -2,43 +2,61 @@
 
 ghost use Rattle.std.specs.List.{AllByRecursion};
 ghost use Rattle.std.specs.Prelude.{◌≡◌, ◌≤◌, ◌<◌, ◌++◌, ℕ, IfOk, OnOk, length, map, slice_index_or, string_bytes, false};
-ghost use Rattle.tf_config_data.specs.Names.{directly_before};
+ghost use Rattle.tf_config_data.specs.Config.{config_of};
+ghost use Rattle.tf_config_data.specs.Names.{directly_before, names_of, place_of};
 ghost use Rattle.tf_graph.specs.Digraph.{sources_into};
+ghost use Rattle.tf_config_names.specs.Declaration.{declaration_of};
 ghost use Rattle.tf_config_names.specs.Edges.{edges_into};
 ghost use Rattle.tf_config_names.specs.Needs.{before_in, is_referred_to, needs_in, order_in, IsDependence};
+ghost use Rattle.tf_config_names.specs.Places.{found_in};
 ghost use Rattle.tf_config_names.specs.Table.{names_in};
+ghost use Rattle.tf_syntax.specs.TemplateNames.{Pair};
 
-use crate::table::Declarations;
+use crate::declaration::Declaration;
+use crate::places::Places;
+use crate::table::{Declarations, declarations_of};
 use std::alloc::{AllocError, Global};
+use tf_config_data::Config;
 use tf_graph::{Closure, Graph};
 
-/// Which name of a configuration needs which, worked out once. Names stand as their places.
+/// Which name of a configuration needs which, worked out once. Names stand as their places, by which they are found here.
 #[derive(Drop)]
 pub struct Dependence {
     graph: Graph,
     order: Vec<usize>,
     table: Closure,
+    places: Places,
 }
 
 impl Dependence {
-    /// Works out which name needs which.
+    /// Works out which name of a configuration needs which.
     ///
     /// # Errors
     ///
     /// Only where memory runs out.
-    pub fn new(alloc: Global, names: &Declarations<'_>) -> Result<Dependence, AllocError>
-        requires { length (names_in names.now) ≤ 8000 }
-        ensures { IfOk result (λ d. IsDependence (names_in names.now) d) }
+    pub fn new(alloc: Global, config: &Config) -> Result<Dependence, AllocError>
+        requires { length (names_of (config_of config.now)) ≤ 8000 }
+        ensures { IfOk result (λ d. IsDependence (names_of (config_of config.now)) d) }
     {
-        let edges = edges_of(alloc, names)?;
-        let graph = Graph::of(alloc, names.len(), edges.as_slice())?;
+        let entries = declarations_of(alloc, config)?;
+        let places = Places::of(alloc, entries.as_slice())?;
+        let (nodes, edges) = direct_edges(alloc, entries, &places)?;
+        let graph = Graph::of(alloc, nodes, edges)?;
         let order = graph.order(alloc)?;
         let table = graph.closure(alloc)?;
         Ok(Dependence {
             graph,
             order,
             table,
+            places,
         })
+    }
+
+    /// The places of the configuration's names.
+    pub(crate) fn places(&self) -> &Places
+        ensures { result.now ≡ self.now.places }
+    {
+        &self.places
     }
 
     /// The graph of what refers directly to what, which leads from what is referred to.
@@ -120,6 +138,24 @@ fn is_referred_to(dependence: &Dependence, name: usize) -> bool
         [] => false,
         [_, ..] => true,
     }
+}
+
+/// How many names there are, and an edge to each from each that it refers to.
+fn direct_edges(
+    alloc: Global,
+    entries: Vec<Declaration<'_>>,
+    places: &Places,
+) -> Result<(usize, Vec<(usize, usize)>), AllocError>
+    requires { (pair : Pair) → found_in places.now pair ≡ place_of (map declaration_of entries.items) pair }
+    ensures count { IfOk result (λ made. made.0 ≡ length (map declaration_of entries.entry.items)) }
+    ensures within { IfOk result (λ made. AllByRecursion
+        (λ e. (e.0 < length (map declaration_of entries.entry.items)) × (e.1 < length (map declaration_of entries.entry.items))) made.1.items) }
+    ensures before { IfOk result (λ made. (n : ℕ)
+        → sources_into made.1.items n ≡ directly_before (map declaration_of entries.entry.items) n) }
+{
+    let names = Declarations::placed(entries, places);
+    let edges = edges_of(alloc, &names)?;
+    Ok((names.len(), edges))
 }
 
 /// An edge to each name from each that it refers to.

@@ -5,7 +5,6 @@ ghost use Rattle.tf_config_data.specs.Config.{config_of};
 ghost use Rattle.tf_config_data.specs.Names.{names_of};
 ghost use Rattle.tf_config_names.specs.Judging.{AllAreKnown, RefusesItsNames};
 ghost use Rattle.tf_config_names.specs.Needs.{IsAcyclic, IsDependence};
-ghost use Rattle.tf_config_names.specs.Table.{names_in};
 ghost use Rattle.tf_refusal.specs.Refusal.{refusal_of};
 
 use crate::cycles::demand_acyclic;
@@ -16,27 +15,32 @@ use std::alloc::Global;
 use tf_config_data::Config;
 use tf_refusal::Refusal;
 
-/// The names of a configuration, and which of them needs which, where each reference is to a known name and no name
-/// needs itself.
+/// Which name of a configuration needs which, where each reference is to a known name and no name needs itself.
 ///
 /// # Errors
 ///
 /// `UnknownName` at the first place in walk order at which something is named or called that isn't known; where there
 /// is none, `Cycle` at `configuration` with exactly the names that need themselves; or there was no memory.
-pub fn check_names(
-    alloc: Global,
-    config: &Config,
-) -> Result<(Declarations<'_>, Dependence), Refusal>
+pub fn check_names(alloc: Global, config: &Config) -> Result<Dependence, Refusal>
     requires few { length (names_of (config_of config.now)) ≤ 8000 }
-    ensures names { IfOk result (λ judged. names_in judged.0 ≡ names_of (config_of config.now)) }
-    ensures dependence { IfOk result (λ judged. IsDependence (names_in judged.0) judged.1) }
+    ensures dependence { IfOk result (IsDependence (names_of (config_of config.now))) }
     ensures known { OnOk result (AllAreKnown (config_of config.now)) }
-    ensures acyclic { IfOk result (λ judged. IsAcyclic judged.1) }
+    ensures acyclic { IfOk result IsAcyclic }
     ensures refused { IfErr result (λ refusal. RefusesItsNames (config_of config.now) (refusal_of refusal)) }
 {
-    let names = Declarations::new(alloc, config)?;
+    let dependence = Dependence::new(alloc, config)?;
+    demand_good_names(alloc, config, &dependence)?;
+    Ok(dependence)
+}
+
+/// Judges the names of a configuration by their dependence: each reference is to a known name, and no name needs itself.
+fn demand_good_names(alloc: Global, config: &Config, dependence: &Dependence) -> Result<(), Refusal>
+    requires { IsDependence (names_of (config_of config.now)) dependence.now }
+    ensures known { OnOk result (AllAreKnown (config_of config.now)) }
+    ensures acyclic { OnOk result (IsAcyclic dependence.now) }
+    ensures refused { IfErr result (λ refusal. RefusesItsNames (config_of config.now) (refusal_of refusal)) }
+{
+    let names = Declarations::new(alloc, config, dependence)?;
     demand_known_names(alloc, config, &names)?;
-    let dependence = Dependence::new(alloc, &names)?;
-    demand_acyclic(alloc, &names, &dependence)?;
-    Ok((names, dependence))
+    demand_acyclic(alloc, &names, dependence)
 }

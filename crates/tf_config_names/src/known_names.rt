@@ -22,7 +22,7 @@ use tf_json_path::Path;
 use tf_operators::Function;
 use tf_refusal::code::UNKNOWN_NAME;
 use tf_refusal::{Detail, Refusal};
-use tf_syntax::{Expr, Reference, Template, functions, references};
+use tf_syntax::{Expr, Reference, Template, names_of};
 
 /// What an expression may name beside what is declared, by where it stands.
 #[derive(Clone, Copy, Debug, PartialEq, Eq)]
@@ -73,10 +73,10 @@ impl Known<'_, '_> {
         "var" == first && has_variable(&self.config.variables, name)
     }
 
-    fn knows_all(&self, context: Context, references: &[Reference]) -> bool
-        ensures { result ≡ list_all (knows (declared_of self.now) context) (map reference_of references.now) }
+    fn knows_all(&self, context: Context, references: &[&Reference]) -> bool
+        ensures { result ≡ list_all (knows (declared_of self.now) context) (map (λ r. reference_of r.now) references.now) }
     {
-        for reference in references {
+        for &reference in references {
             if !self.knows(context, reference.first.as_str(), reference.name.as_str()) {
                 return false;
             }
@@ -87,9 +87,11 @@ impl Known<'_, '_> {
     fn knows_names(&self, context: Context, template: &Template) -> Result<bool, AllocError>
         ensures { IfOk result (λ known. known ≡ knows_names (declared_of self.now) context (template_view template.now)) }
     {
-        let references = references(self.alloc, template)?;
-        let functions = functions(self.alloc, template)?;
-        Ok(self.knows_all(context, references.as_slice()) && are_functions(functions.as_slice()))
+        let named = names_of(self.alloc, template)?;
+        Ok(
+            self.knows_all(context, named.references.as_slice())
+                && are_functions(named.functions.as_slice()),
+        )
     }
 }
 
@@ -99,10 +101,10 @@ fn has_variable(variables: &BTreeMap<String, Variable>, name: &str) -> bool
     variables.contains_key(name)
 }
 
-fn are_functions(names: &[String]) -> bool
-    ensures { result ≡ list_all is_function (map string_bytes names.now) }
+fn are_functions(names: &[&String]) -> bool
+    ensures { result ≡ list_all is_function (map (λ name. string_bytes name.now) names.now) }
 {
-    for name in names {
+    for &name in names {
         if !is_function(name.as_str()) {
             return false;
         }

@@ -3,9 +3,11 @@
 ghost use Rattle.std.specs.Prelude.{◌≡◌, ◌<◌, ◌++◌, ◌∷◌, [], Some, IfOk, OnOk, length, map, slice_get};
 ghost use Rattle.tf_config_data.specs.Words.{block_at, block_refers, config_of, directly_before, entries_view, label_of, label_pair, LabelView, meant_at, named_below, named_by, named_in_repetition, names_of, Pair, place_of, places, refers, repetition_of, tree_of};
 ghost use Rattle.tf_config_names.specs.Declaration.{declaration_of};
+ghost use Rattle.tf_config_names.specs.Needs.{IsDependence};
 ghost use Rattle.tf_config_names.specs.Places.{found_in};
 
 use crate::declaration::Declaration;
+use crate::dependence::Dependence;
 use crate::places::Places;
 use std::alloc::{AllocError, Global};
 use std::collections::BTreeMap;
@@ -14,34 +16,41 @@ use tf_config_data::{Block, Config, Repetition};
 use tf_syntax::Expr;
 
 /// The names of a configuration that need and can be needed: its locals in byte order, then its resources in
-/// address order. Each stands at a place, from 0 on.
+/// address order. Each stands at a place, from 0 on. Where they stand is looked up in a table that was made once.
 #[derive(Drop)]
 pub struct Declarations<'a> {
     entries: Vec<Declaration<'a>>,
-    places: Places,
-    ghost placed: { (pair : Pair) → found_in places pair ≡ place_of (map declaration_of entries.items) pair },
+    places: &'a Places,
+    ghost placed: { (pair : Pair) → found_in places.now pair ≡ place_of (map declaration_of entries.items) pair },
 }
 
 impl<'a> Declarations<'a> {
     ghost use Rattle.tf_config_names.specs.Table.{names_in};
 
-    /// The names of a configuration.
+    /// The names of a configuration, whose places are those that its dependence keeps.
     ///
     /// # Errors
     ///
     /// Only where memory runs out.
-    pub fn new(alloc: Global, config: &'a Config) -> Result<Declarations<'a>, AllocError>
+    pub fn new(
+        alloc: Global,
+        config: &'a Config,
+        dependence: &'a Dependence,
+    ) -> Result<Declarations<'a>, AllocError>
+        requires { IsDependence (names_of (config_of config.now)) dependence.now }
         ensures { IfOk result (λ names. names_in names ≡ names_of (config_of config.now)) }
     {
-        let mut entries = Vec::new(alloc);
-        for (name, expr) in config.locals.iter() {
-            entries.push(Declaration::Local(name, expr))?;
-        }
-        for (label, block) in config.resources.iter() {
-            entries.push(Declaration::Resource(label, block))?;
-        }
-        let places = Places::of(alloc, entries.as_slice())?;
+        let entries = declarations_of(alloc, config)?;
+        let places = dependence.places();
         Ok(Declarations { entries, places })
+    }
+
+    /// Names whose places are already known.
+    pub(crate) fn placed(entries: Vec<Declaration<'a>>, places: &'a Places) -> Declarations<'a>
+        requires { (pair : Pair) → found_in places.now pair ≡ place_of (map declaration_of entries.items) pair }
+        ensures { names_in result ≡ map declaration_of entries.entry.items }
+    {
+        Declarations { entries, places }
     }
 
     /// How many names there are.
@@ -166,8 +175,8 @@ impl<'a> Declarations<'a> {
     fn add_named(&self, expr: &Expr, found: &mut Vec<usize>) -> Result<(), AllocError>
         ensures { OnOk result (found.new.items ≡ found.old.items ++ places (names_in self.now) (named_by (tree_of expr.now))) }
     {
-        let references = expr.references(*found.allocator())?;
-        for reference in &references {
+        let named = expr.names_within(*found.allocator())?;
+        for &reference in named.references.as_slice() {
             self.add_place(reference.first.as_str(), reference.name.as_str(), found)?;
         }
         Ok(())
@@ -183,4 +192,21 @@ impl<'a> Declarations<'a> {
         }
         Ok(())
     }
+}
+
+/// The names of a configuration, in the order of their places.
+pub(crate) fn declarations_of<'a>(
+    alloc: Global,
+    config: &'a Config,
+) -> Result<Vec<Declaration<'a>>, AllocError>
+    ensures { IfOk result (λ entries. map declaration_of entries.items ≡ names_of (config_of config.now)) }
+{
+    let mut entries = Vec::with_capacity(alloc, config.locals.len() + config.resources.len())?;
+    for (name, expr) in config.locals.iter() {
+        entries.push(Declaration::Local(name, expr))?;
+    }
+    for (label, block) in config.resources.iter() {
+        entries.push(Declaration::Resource(label, block))?;
+    }
+    Ok(entries)
 }

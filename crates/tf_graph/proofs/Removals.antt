@@ -11,7 +11,7 @@ use Rattle.tf_graph.specs.Order.{IsInOrder}
 use Rattle.tf_graph.proofs.Solving.{all_by_at, order-grows}
 use Rattle.tf_graph.proofs.Orders.{ordered-next, order-empty}
 use Rattle.tf_graph.proofs.GraphLaws.{has_below}
-use Rattle.tf_graph.specs.Strip.{IsOrdered, IsStripped, IsWholeOrder}
+use Rattle.tf_graph.specs.Strip.{IsStripped, IsWholeOrder}
 use Rattle.tf_graph.specs.Removal.{times, count_left, total, IsRemoval, IsTaken}
 
 -- one less at a place, one less in all

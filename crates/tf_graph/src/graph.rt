@@ -1,11 +1,12 @@
 //! A finite directed graph, kept as the list of its edges and each node's neighbours.
 
-ghost use Rattle.std.specs.Prelude.{◌≡◌, ◌<◌, ◌≤◌, ◌↔◌, ◌==◌, ◌++◌, ◌∷◌, [], ℕ, length, map, All, Some, IfOk, OnOk, IsErrOf, MatchBool, if◌then◌else◌};
+ghost use Rattle.std.specs.Prelude.{◌≡◌, ◌<◌, ◌≤◌, ◌↔◌, ◌==◌, ◌++◌, ◌∷◌, [], ℕ, length, All, Some, IfOk, OnOk, IsErrOf, MatchBool, if◌then◌else◌};
 ghost use Rattle.tf_graph.specs.Digraph.{Digraph, IsWithin, HasOutside, sources_into, targets_from, predecessors_of, successors_of};
 ghost use Rattle.tf_graph.specs.Lists.{row};
 
-use std::alloc::{AllocError, AllocFailed, Global};
+use std::alloc::{AllocError, Global};
 use std::marker::Model;
+use std::sync::Arc;
 
 /// The most nodes that a graph may have.
 pub const MAX_NODES: usize = 8000;
@@ -25,6 +26,13 @@ pub enum GraphFault {
 /// stands before `b`. Self-loops are edges like any other, and an edge may stand more than once.
 #[derive(Drop)]
 pub struct Graph {
+    lists: Arc<Lists>,
+}
+
+/// What a graph and its copies share: the number of nodes, the edges, and for each node where the
+/// edges into it come from, and where those out of it lead.
+#[derive(Drop)]
+struct Lists {
     nodes: usize,
     edges: Vec<(usize, usize)>,
     before: Vec<Vec<usize>>,
@@ -37,9 +45,10 @@ impl Model for Graph {
 
     ghost Value = { Digraph };
 
-    ghost view = { λ g. record { nodes = g.nodes; edges = g.edges.items } };
+    ghost view = { λ g. record { nodes = g.lists.value.nodes; edges = g.lists.value.edges.items } };
 
-    ghost invariant = { λ g. IsBuilt g.nodes g.edges.items g.before.items g.after.items };
+    ghost invariant = { λ g. let l = g.lists.value in
+        IsBuilt l.nodes l.edges.items l.before.items l.after.items };
 }
 
 impl Graph {
@@ -58,35 +67,38 @@ impl Graph {
         if !is_within(nodes, edges) {
             return Err(GraphFault::OutOfRange);
         }
+        let Ok(edges) = Vec::from_slice(alloc, edges) else {
+            return Err(GraphFault::OutOfMemory);
+        };
         Graph::of(alloc, nodes, edges).map_err(|_| GraphFault::OutOfMemory)
     }
 
     /// The graph of `nodes` nodes, named 0 up, with these edges, whose ends are nodes. Refused only
     /// where there is no memory.
-    pub fn of(alloc: Global, nodes: usize, edges: &[(usize, usize)]) -> Result<Graph, AllocError>
+    pub fn of(alloc: Global, nodes: usize, edges: Vec<(usize, usize)>) -> Result<Graph, AllocError>
         requires few { nodes ≤ MAX_NODES }
-        requires within { IsWithin nodes edges.now }
-        ensures { IfOk result (λ g. (g.nodes ≡ nodes) × (g.edges ≡ edges.now)) }
+        requires within { IsWithin nodes edges.items }
+        ensures { IfOk result (λ g. (g.nodes ≡ nodes) × (g.edges ≡ edges.items)) }
     {
-        let (before, after) = neighbours(alloc, nodes, edges)?;
-        let edges = Vec::from_slice(alloc, edges)?;
-        Ok(Graph {
+        let (before, after) = neighbours(alloc, nodes, edges.as_slice())?;
+        let lists = Lists {
             nodes,
             edges,
             before,
             after,
-        })
+        };
+        let lists = Arc::new(alloc, lists)?;
+        Ok(Graph { lists })
     }
 
-    /// A graph equal to this one. Refused only where there is no memory.
-    pub fn copy(&self, alloc: Global) -> Result<Graph, AllocError>
+    /// A graph equal to this one. The copy shares the lists with this graph, and so takes no memory
+    /// for them: the allocator isn't asked. Refused only where there are more copies than can be
+    /// counted.
+    pub fn copy(&self, _alloc: Global) -> Result<Graph, AllocError>
         ensures { IfOk result (λ copy. copy ≡ self.now) }
     {
         Ok(Graph {
-            nodes: self.nodes,
-            edges: Vec::from_slice(alloc, self.edges.as_slice())?,
-            before: copied(alloc, &self.before)?,
-            after: copied(alloc, &self.after)?,
+            lists: Arc::try_clone(&self.lists)?,
         })
     }
 
@@ -96,14 +108,14 @@ impl Graph {
         ensures few { result ≤ MAX_NODES }
         ensures within { IsWithin self.now.nodes self.now.edges }
     {
-        self.nodes
+        self.lists.nodes
     }
 
     /// How many edges there are, each counted as often as it stands.
     pub fn edge_count(&self) -> usize
         ensures { result ≡ length self.now.edges }
     {
-        self.edges.len()
+        self.lists.edges.len()
     }
 
     /// The edges, as they were handed in.
@@ -111,7 +123,7 @@ impl Graph {
         ensures edges { result.now ≡ self.now.edges }
         ensures within { IsWithin self.now.nodes self.now.edges }
     {
-        self.edges.as_slice()
+        self.lists.edges.as_slice()
     }
 
     /// The nodes that stand directly before a node, as often as the edge stands, in the order of the
@@ -121,7 +133,7 @@ impl Graph {
         ensures nodes { result.now ≡ predecessors_of self.now node }
         ensures within { All (λ k. k < self.now.nodes) result.now }
     {
-        self.before[node].as_slice()
+        self.lists.before[node].as_slice()
     }
 
     /// The nodes that stand directly after a node, as often as the edge stands, in the order of the
@@ -131,7 +143,7 @@ impl Graph {
         ensures nodes { result.now ≡ successors_of self.now node }
         ensures within { All (λ k. k < self.now.nodes) result.now }
     {
-        self.after[node].as_slice()
+        self.lists.after[node].as_slice()
     }
 }
 
@@ -207,18 +219,6 @@ fn empty_lists(alloc: Global, counts: &[usize]) -> Result<Vec<Vec<usize>>, Alloc
         lists.push(list)?;
     }
     Ok(lists)
-}
-
-/// The same lists once more.
-fn copied(alloc: Global, lists: &[Vec<usize>]) -> Result<Vec<Vec<usize>>, AllocError>
-    ensures { IfOk result (λ copy. map (λ list. list.items) copy.items ≡ map (λ list. list.items) lists.now) }
-{
-    let mut copy = Vec::with_capacity(alloc, lists.len())?;
-    for list in lists {
-        let same = Vec::from_slice(alloc, list)?;
-        copy.push(same)?;
-    }
-    Ok(copy)
 }
 
 /// Adds a node at the end of one list.

@@ -10,6 +10,7 @@ use Rattle.tf_graph.specs.Path.{Reaches}
 use Rattle.tf_config_names.proofs.Dependences.{dependence}
 use Rattle.tf_config_names.proofs.Edging.{AreEdges, are-within, edges-all, edges-more, edges-none}
 use Rattle.tf_config_names.proofs.Needing.{needs-from_reaches, reaching-named}
+use Rattle.tf_config_names.proofs.Placed.{some_places}
 use Rattle.tf_config_names.specs.Edges.{edges_into}
 use Rattle.tf_config_names.specs.Needs.{IsAcyclic, IsDependence, Needs}
 use Rattle.tf_config_names.specs.declared.dependence.Dependence.{Dependence}
@@ -75,5 +76,5 @@ some_dependence names few none =
     let ranked = acyclic-ranked g (table_of g (decided_reaches names)) (graph_within names) closure (acyclic names none) in
     let order = whole_order g (predecessors-within g (graph_within names)) ranked in
     let short = order_is_short g order.0 order.1 in
-    let d : Dependence = record { graph = g; order = vec_of order.0 (omega (arith, few, short)); table = table_of g (decided_reaches names) } in
-    (d, dependence names d refl (its_edges names).1.within (graph_before names) order.1 closure, acyclic names none)
+    let d : Dependence = record { graph = g; order = vec_of order.0 (omega (arith, few, short)); table = table_of g (decided_reaches names); places = (some_places names).0 } in
+    (d, dependence names d (some_places names).1 refl (its_edges names).1.within (graph_before names) order.1 closure, acyclic names none)

@@ -98,8 +98,8 @@ fn plan_parts<'a>(
     alloc: Global,
     prior: &'a State,
     config: &'a Config,
-    variables: &BTreeMap<String, Value>,
-    dependence: &Dependence,
+    variables: &'a BTreeMap<String, Value>,
+    dependence: &'a Dependence,
     providers: &[Box<dyn Provider + Sync>],
 ) -> Result<PlannedParts, Refused>
     requires dependence { IsDependence (names_of (config_of config.now)) dependence.now }
@@ -109,7 +109,7 @@ fn plan_parts<'a>(
         (needs_in dependence.now) (shapes_of parts.shapes.items) (map action_of parts.actions.items) (λ n. slice_index_or parts.late.items n false) parts.order) }
     ensures refused { IfErr result (Tells (AreRefused (map meaning providers.now) (config_of config.now) (entries_view variables.now.entries) (state_of prior.now))) }
 {
-    let names = Declarations::new(alloc, config)?;
+    let names = Declarations::new(alloc, config, dependence)?;
     let resource_index = ResourceIndex::new(alloc, &names, prior)?;
     let declared = Module {
         variables,

@@ -2,7 +2,8 @@
 //!
 //! From the planned object of an instance, its prior object, the schema of its type and the block's `lifecycle`: nothing, a
 //! create, an update or a replace, or else why it is refused. An instance that the configuration doesn't have is destroyed,
-//! or that is refused. `decide_all` decides about all of them together, in address order.
+//! or that is refused. `decide_in_order` decides about each of them once, in the order of their dependence, and `gather` puts
+//! what was decided in address order.
 #![tactic(auto)]
 
 mod collecting;

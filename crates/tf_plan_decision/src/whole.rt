@@ -21,7 +21,7 @@ use std::mem;
 use tf_config_names::Declaration;
 use tf_eval::Scope;
 use tf_expand::{
-    InstanceKeys, Module, NamesScope, Resolved, ResourceInScope, all_stand, evaluated,
+    InstanceKeys, Module, NamesScope, Resolved, ResourceInScope, all_stand, evaluated, is_marked,
     unresolved_names,
 };
 use tf_plan_order::{ResourceIndex, ResourceRef};
@@ -82,7 +82,7 @@ fn decide_along(
     let mut kept = unresolved_names(alloc, declared.names.len())?;
     let mut rows = no_rows(alloc, declared.names.len())?;
     for place in order {
-        let is_wanted = contains(wanted, *place);
+        let is_wanted = is_marked(wanted, *place);
         let looked = look_at(alloc, stage, declared, kept.as_slice(), *place, is_wanted)?;
         let Looked { resolved, decided } = looked;
         kept[*place] = resolved;
@@ -103,13 +103,6 @@ fn no_rows(alloc: Global, count: usize) -> Result<Vec<Decided>, AllocError>
         rows.push(Decided::nothing(alloc))?;
     }
     Ok(rows)
-}
-
-/// Whether a place is wanted.
-fn contains(wanted: &[bool], place: usize) -> bool
-    ensures { result ≡ has wanted.now place }
-{
-    place < wanted.len() && wanted[place]
 }
 
 /// What the name at a place stands for, and what is decided of it, by what names stand for so far: nothing where something that

@@ -63,7 +63,7 @@ impl Order {
         ensures too_many { IsErrOf result OrderFault.TooMany → MAX_PAIRS < length (pairs (order_input_of ties.now) actions.now) }
     {
         let pairs = all_pairs(alloc, ties, actions)?;
-        match Graph::of(alloc, actions.len(), pairs.as_slice()) {
+        match Graph::of(alloc, actions.len(), pairs) {
             Ok(graph) => Ok(Order { graph }),
             Err(_) => Err(OrderFault::OutOfMemory),
         }

@@ -44,7 +44,11 @@ impl<'a> ResourceIndex<'a> {
         let mut numbered = numbered_names(alloc, names)?;
         let blocks = places_of(alloc, numbered.as_slice())?;
         add_orphans(&mut numbered, &blocks, state.resources())?;
-        let places = places_of(alloc, numbered.as_slice())?;
+        let places = if numbered.len() == names.len() {
+            blocks
+        } else {
+            places_of(alloc, numbered.as_slice())?
+        };
         Ok(ResourceIndex {
             numbered,
             places,

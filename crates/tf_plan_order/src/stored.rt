@@ -32,7 +32,7 @@ impl StoredDependencies {
         ensures { IfOk result (λ stored. IsStored resources dependencies.now stored) }
     {
         let edges = turn(alloc, dependencies)?;
-        let graph = Graph::of(alloc, resources, edges.as_slice())?;
+        let graph = Graph::of(alloc, resources, edges)?;
         let table = graph.closure(alloc)?;
         Ok(StoredDependencies { graph, table })
     }

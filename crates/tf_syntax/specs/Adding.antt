@@ -6,4 +6,5 @@ use Rattle.tf_syntax.specs.declared.names.Names.{Names}
 -- these references and these names of calls, behind what was found before
 abbrev pub Adds : Names → Names → List Pair → List (List ℕ) → Type 0
 Adds old new named called =
-    (map reference_of new.references.items ≡ map reference_of old.references.items ++ named) × (map string_bytes new.functions.items ≡ map string_bytes old.functions.items ++ called)
+    (map (λ r. reference_of r.now) new.references.items ≡ map (λ r. reference_of r.now) old.references.items ++ named)
+    × (map (λ f. string_bytes f.now) new.functions.items ≡ map (λ f. string_bytes f.now) old.functions.items ++ called)

@@ -7,13 +7,27 @@ ghost use Rattle.tf_syntax.specs.ExprTree.{entries_view, tree_of};
 ghost use Rattle.tf_syntax.specs.TemplateNames.{reference_of};
 
 use crate::expr::Expr;
-use crate::names::{Names, add_parts};
+use crate::names::{Names, add_parts, copied_references, copied_texts};
 use crate::tree::Reference;
 use std::alloc::{AllocError, Global};
 use std::collections::BTreeMap;
 
 impl Expr {
-    /// Each reference of the expression's templates, in walk order, as often as it stands there.
+    /// What the expression's templates name and call, in walk order, as it stands there: no text is copied.
+    ///
+    /// # Errors
+    ///
+    /// Only where memory runs out.
+    pub fn names_within(&self, alloc: Global) -> Result<Names<'_>, AllocError>
+        ensures named { IfOk result (λ n. map (λ r. reference_of r.now) n.references.items ≡ named_by (tree_of self.now)) }
+        ensures called { IfOk result (λ n. map (λ f. string_bytes f.now) n.functions.items ≡ called_by (tree_of self.now)) }
+    {
+        let mut found = Names::new(alloc);
+        add(self, &mut found)?;
+        Ok(found)
+    }
+
+    /// Each reference of the expression's templates, in walk order, as often as it stands there, copied.
     ///
     /// # Errors
     ///
@@ -21,12 +35,12 @@ impl Expr {
     pub fn references(&self, alloc: Global) -> Result<Vec<Reference>, AllocError>
         ensures { IfOk result (λ v. map reference_of v.items ≡ named_by (tree_of self.now)) }
     {
-        let names = names_of(alloc, self)?;
-        Ok(names.references)
+        let names = self.names_within(alloc)?;
+        copied_references(alloc, names.references.as_slice())
     }
 
     /// The name of each function that the expression's templates call, in walk order, as often as it is
-    /// called. A call stands before the calls among its arguments.
+    /// called, copied. A call stands before the calls among its arguments.
     ///
     /// # Errors
     ///
@@ -34,22 +48,13 @@ impl Expr {
     pub fn functions(&self, alloc: Global) -> Result<Vec<String>, AllocError>
         ensures { IfOk result (λ v. map string_bytes v.items ≡ called_by (tree_of self.now)) }
     {
-        let names = names_of(alloc, self)?;
-        Ok(names.functions)
+        let names = self.names_within(alloc)?;
+        copied_texts(alloc, names.functions.as_slice())
     }
 }
 
-fn names_of(alloc: Global, expr: &Expr) -> Result<Names, AllocError>
-    ensures named { IfOk result (λ n. map reference_of n.references.items ≡ named_by (tree_of expr.now)) }
-    ensures called { IfOk result (λ n. map string_bytes n.functions.items ≡ called_by (tree_of expr.now)) }
-{
-    let mut found = Names::new(alloc);
-    add(expr, &mut found)?;
-    Ok(found)
-}
-
 #[cycle(names)]
-fn add(expr: &Expr, found: &mut Names) -> Result<(), AllocError>
+fn add<'a>(expr: &'a Expr, found: &mut Names<'a>) -> Result<(), AllocError>
     ensures { OnOk result (Adds found.old found.new (named_by (tree_of expr.now)) (called_by (tree_of expr.now))) }
 {
     match expr {
@@ -66,7 +71,10 @@ fn add(expr: &Expr, found: &mut Names) -> Result<(), AllocError>
 }
 
 #[cycle(names)]
-fn add_entries(entries: &BTreeMap<String, Expr>, found: &mut Names) -> Result<(), AllocError>
+fn add_entries<'a>(
+    entries: &'a BTreeMap<String, Expr>,
+    found: &mut Names<'a>,
+) -> Result<(), AllocError>
     ensures { OnOk result (Adds found.old found.new (named_below (entries_view entries.now.entries)) (called_below (entries_view entries.now.entries))) }
 {
     for (_, expr) in entries.iter() {

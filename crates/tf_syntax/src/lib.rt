@@ -17,6 +17,6 @@ mod tree;
 pub use copies::copy;
 pub use expr::{Expr, find};
 pub use expr_copies::copy_expr;
-pub use names::{functions, references};
+pub use names::{Names, functions, names_of, references};
 pub use operator::Operator;
 pub use tree::{Prefix, Reference, Template, Term};

@@ -8,43 +8,21 @@ ghost use Rattle.tf_syntax.specs.TemplateTree.{parts_view, template_view, terms_
 use crate::tree::{Reference, Template, Term};
 use std::alloc::{AllocError, Global};
 
-/// Each reference of a template, from left to right, as often as it stands there.
-///
-/// # Errors
-///
-/// Only where memory runs out.
-pub fn references(alloc: Global, template: &Template) -> Result<Vec<Reference>, AllocError>
-    ensures { IfOk result (λ v. map reference_of v.items ≡ named (template_view template.now)) }
-{
-    let names = names_of(alloc, template)?;
-    Ok(names.references)
-}
-
-/// The name of each function that a template calls, from left to right, as often as it is called. A call
-/// stands before the calls among its arguments.
-///
-/// # Errors
-///
-/// Only where memory runs out.
-pub fn functions(alloc: Global, template: &Template) -> Result<Vec<String>, AllocError>
-    ensures { IfOk result (λ v. map string_bytes v.items ≡ called (template_view template.now)) }
-{
-    let names = names_of(alloc, template)?;
-    Ok(names.functions)
-}
-
-/// What was found so far.
+/// What a template names and calls, as it stands there: no text of it is copied.
 #[derive(Drop)]
-pub(crate) struct Names {
-    pub(crate) references: Vec<Reference>,
-    pub(crate) functions: Vec<String>,
+pub struct Names<'a> {
+    /// Each reference, from left to right, as often as it stands there.
+    pub references: Vec<&'a Reference>,
+    /// The name of each function that is called, from left to right, as often as it is called. A call stands before the
+    /// calls among its arguments.
+    pub functions: Vec<&'a String>,
 }
 
-impl Names {
+impl<'a> Names<'a> {
     ghost use Rattle.std.specs.Prelude.{◌≡◌, []};
 
     /// Nothing yet.
-    pub(crate) fn new(alloc: Global) -> Names
+    pub(crate) fn new(alloc: Global) -> Names<'a>
         ensures named { result.references.items ≡ [] }
         ensures called { result.functions.items ≡ [] }
     {
@@ -55,17 +33,72 @@ impl Names {
     }
 }
 
-fn names_of(alloc: Global, template: &Template) -> Result<Names, AllocError>
-    ensures named { IfOk result (λ n. map reference_of n.references.items ≡ named (template_view template.now)) }
-    ensures called { IfOk result (λ n. map string_bytes n.functions.items ≡ called (template_view template.now)) }
+/// What a template names and calls.
+///
+/// # Errors
+///
+/// Only where memory runs out.
+pub fn names_of<'a>(alloc: Global, template: &'a Template) -> Result<Names<'a>, AllocError>
+    ensures named { IfOk result (λ n. map (λ r. reference_of r.now) n.references.items ≡ named (template_view template.now)) }
+    ensures called { IfOk result (λ n. map (λ f. string_bytes f.now) n.functions.items ≡ called (template_view template.now)) }
 {
     let mut found = Names::new(alloc);
     add_parts(&template.parts, &mut found)?;
     Ok(found)
 }
 
+/// Each reference of a template, from left to right, as often as it stands there, copied.
+///
+/// # Errors
+///
+/// Only where memory runs out.
+pub fn references(alloc: Global, template: &Template) -> Result<Vec<Reference>, AllocError>
+    ensures { IfOk result (λ v. map reference_of v.items ≡ named (template_view template.now)) }
+{
+    let names = names_of(alloc, template)?;
+    copied_references(alloc, names.references.as_slice())
+}
+
+/// The name of each function that a template calls, from left to right, as often as it is called, copied. A call
+/// stands before the calls among its arguments.
+///
+/// # Errors
+///
+/// Only where memory runs out.
+pub fn functions(alloc: Global, template: &Template) -> Result<Vec<String>, AllocError>
+    ensures { IfOk result (λ v. map string_bytes v.items ≡ called (template_view template.now)) }
+{
+    let names = names_of(alloc, template)?;
+    copied_texts(alloc, names.functions.as_slice())
+}
+
+/// Some references, copied.
+pub(crate) fn copied_references(
+    alloc: Global,
+    references: &[&Reference],
+) -> Result<Vec<Reference>, AllocError>
+    ensures { IfOk result (λ v. map reference_of v.items ≡ map (λ r. reference_of r.now) references.now) }
+{
+    let mut copies = Vec::with_capacity(alloc, references.len())?;
+    for &reference in references {
+        copies.push(reference.clone()?)?;
+    }
+    Ok(copies)
+}
+
+/// Some texts, copied.
+pub(crate) fn copied_texts(alloc: Global, texts: &[&String]) -> Result<Vec<String>, AllocError>
+    ensures { IfOk result (λ v. map string_bytes v.items ≡ map (λ t. string_bytes t.now) texts.now) }
+{
+    let mut copies = Vec::with_capacity(alloc, texts.len())?;
+    for &text in texts {
+        copies.push(text.clone()?)?;
+    }
+    Ok(copies)
+}
+
 #[cycle(names)]
-fn add(term: &Term, found: &mut Names) -> Result<(), AllocError>
+fn add<'a>(term: &'a Term, found: &mut Names<'a>) -> Result<(), AllocError>
     ensures { OnOk result (Adds found.old found.new (named_by (view term.now)) (called_by (view term.now))) }
 {
     match term {
@@ -91,7 +124,7 @@ fn add(term: &Term, found: &mut Names) -> Result<(), AllocError>
 }
 
 #[cycle(names)]
-fn add_terms(terms: &Vec<Term>, found: &mut Names) -> Result<(), AllocError>
+fn add_terms<'a>(terms: &'a Vec<Term>, found: &mut Names<'a>) -> Result<(), AllocError>
     ensures { OnOk result (Adds found.old found.new (named_among (terms_view terms.now.items)) (called_among (terms_view terms.now.items))) }
 {
     for term in terms {
@@ -102,7 +135,10 @@ fn add_terms(terms: &Vec<Term>, found: &mut Names) -> Result<(), AllocError>
 
 /// Adds what interpolations name and call.
 #[cycle(names)]
-pub(crate) fn add_parts(parts: &Vec<(String, Term)>, found: &mut Names) -> Result<(), AllocError>
+pub(crate) fn add_parts<'a>(
+    parts: &'a Vec<(String, Term)>,
+    found: &mut Names<'a>,
+) -> Result<(), AllocError>
     ensures { OnOk result (Adds found.old found.new (named_between (parts_view parts.now.items)) (called_between (parts_view parts.now.items))) }
 {
     for part in parts {
@@ -111,20 +147,20 @@ pub(crate) fn add_parts(parts: &Vec<(String, Term)>, found: &mut Names) -> Resul
     Ok(())
 }
 
-fn add_reference(reference: &Reference, found: &mut Names) -> Result<(), AllocError>
-    ensures named { OnOk result (map reference_of found.new.references.items
-        ≡ map reference_of found.old.references.items ++ reference_of reference.now ∷ []) }
+fn add_reference<'a>(reference: &'a Reference, found: &mut Names<'a>) -> Result<(), AllocError>
+    ensures named { OnOk result (map (λ r. reference_of r.now) found.new.references.items
+        ≡ map (λ r. reference_of r.now) found.old.references.items ++ reference_of reference.now ∷ []) }
     ensures called { found.new.functions ≡ found.old.functions }
 {
-    found.references.push(reference.clone()?)?;
+    found.references.push(reference)?;
     Ok(())
 }
 
-fn add_function(name: &String, found: &mut Names) -> Result<(), AllocError>
+fn add_function<'a>(name: &'a String, found: &mut Names<'a>) -> Result<(), AllocError>
     ensures named { found.new.references ≡ found.old.references }
-    ensures called { OnOk result (map string_bytes found.new.functions.items
-        ≡ map string_bytes found.old.functions.items ++ string_bytes name.now ∷ []) }
+    ensures called { OnOk result (map (λ f. string_bytes f.now) found.new.functions.items
+        ≡ map (λ f. string_bytes f.now) found.old.functions.items ++ string_bytes name.now ∷ []) }
 {
-    found.functions.push(name.clone()?)?;
+    found.functions.push(name)?;
     Ok(())
 }

@@ -19,6 +19,7 @@ use Rattle.tf_config_data.specs.contracts.config.Config as config
 use Rattle.tf_config_data.specs.contracts.variable.Variable as variable
 use Rattle.tf_config_names.specs.contracts.dependence.Dependence as dependence
 use Rattle.tf_config_names.specs.contracts.declaration.Declaration as named
+use Rattle.tf_config_names.specs.contracts.places.Places as places
 use Rattle.tf_config_names.specs.contracts.table.Declarations as names
 use Rattle.tf_plan_data.specs.contracts.plan.Plan as plan
 use Rattle.tf_plan_order.specs.contracts.order.Order as order
@@ -56,8 +57,11 @@ config_part = search (block_sync, variable_sync, expr.crosses, term.crosses, map
 state_part : IsSync (Struct (shape state.the_type))
 state_part = search (value.crosses, maps.crosses, crosses, sendable) depth 60 fits 20000
 
+places_sync : IsSync places.the_row
+places_sync = search (maps.crosses, crosses, sendable) depth 60 fits 20000
+
 dependence_part : IsSync (Struct (shape dependence.the_type))
-dependence_part = search (crosses, sendable) depth 60 fits 20000
+dependence_part = search (places_sync, crosses, sendable) depth 60 fits 20000
 
 order_sync : IsSync order.the_row
 order_sync = search (crosses, sendable) depth 60 fits 20000
@@ -72,7 +76,7 @@ named_sync : (κ : NamedLft) → IsSync (named.the_row κ)
 named_sync κ = search (label_sync, block_sync, expression_sync, maps.String-sync, sendable) depth 60 fits 20000
 
 names_sync : (κ : NamedLft) → IsSync (names.the_row κ)
-names_sync κ = search (named_sync, maps.crosses, crosses, sendable) depth 60 fits 20000
+names_sync κ = search (named_sync, places_sync, maps.crosses, crosses, sendable) depth 60 fits 20000
 
 pub grounds_sync : (κ : NamedLft) (T : RattleType) (g : Ghosts T.Denot) → IsSend T → IsSync T → IsSync (walk_inputs.the_row κ T g)
 grounds_sync κ T g s y =

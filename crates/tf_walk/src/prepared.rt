@@ -32,7 +32,7 @@ pub fn prepare(alloc: Global, plan: &Plan) -> Result<Prepared<'_>, AllocError>
     ensures { IfOk result (IsPrepared plan.now) }
 {
     let order = plan.order.graph();
-    let names = Declarations::new(alloc, &plan.config)?;
+    let names = Declarations::new(alloc, &plan.config, &plan.dependence)?;
     let book = Book::new(alloc, order)?;
     let journal = Journal::with_room(alloc, order)?;
     let results = Vec::with_capacity(alloc, order.nodes())?;

@@ -52,7 +52,7 @@ pub(crate) fn prepare<'p, N: WalkBrand>(
     ensures { IfOk result (IsPrepared plan.now) }
 {
     let order = plan.order.graph();
-    let names = Declarations::new(alloc, &plan.config)?;
+    let names = Declarations::new(alloc, &plan.config, &plan.dependence)?;
     let (claims, seat) = Claims::new(alloc, order)?;
     let team = team_of(alloc, &claims, seat, workers.min(order.nodes()))?;
     let journal = Journal::with_room(alloc, order)?;

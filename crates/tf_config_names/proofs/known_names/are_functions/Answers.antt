@@ -8,15 +8,15 @@ pub loop-name-preserved : goal.loop-name-preserved
 loop-name-preserved c =
     let all = c.args.names.now in
     let i = c.loop-name.name-index in
-    rests_more is_function string_bytes all i c.name-item.result (drop_next all i c.name-item.result c.loop-name-test.true c.name-item.is)
+    rests_more is_function (λ name. string_bytes name.now) all i c.name-item.result (drop_next all i c.name-item.result c.loop-name-test.true c.name-item.is)
     (rw (← c.as_str.ensures.value) (sym c.is_function.ensures ∙ c.if-not-is_function.false)) c.loop-name.invariant
 
 pub returns-then-not-is_function : goal.returns-then-not-is_function
 returns-then-not-is_function c =
     let all = c.args.names.now in
     let i = c.loop-name.name-index in
-    rests_fail is_function string_bytes all i c.name-item.result (drop_next all i c.name-item.result c.loop-name-test.true c.name-item.is)
+    rests_fail is_function (λ name. string_bytes name.now) all i c.name-item.result (drop_next all i c.name-item.result c.loop-name-test.true c.name-item.is)
     (rw (← c.as_str.ensures.value) (sym c.is_function.ensures ∙ c.if-not-is_function.true)) c.loop-name.invariant
 
 pub returns : goal.returns
-returns c = rests_none is_function string_bytes c.args.names.now c.loop-name.name-index (omega arith) c.loop-name.invariant
+returns c = rests_none is_function (λ name. string_bytes name.now) c.args.names.now c.loop-name.name-index (omega arith) c.loop-name.invariant

@@ -1,4 +1,4 @@
-use Rattle.std.proofs.Common.{◌<◌, ◌∷◌, [], ℕ, List, length, get_or, arith, ◌∙◌, inl, inr}
+use Rattle.std.proofs.Common.{◌<◌, ◌∷◌, [], ℕ, List, length, get_or, arith, inl, inr}
 use Rattle.std.proofs.lemmas.List.{take_more, take_all}
 use Rattle.std.proofs.lemmas.List.Elements.{Contains-get_or, Contains-push_cases}
 use Rattle.tf_graph.specs.Path.{HasEdge}

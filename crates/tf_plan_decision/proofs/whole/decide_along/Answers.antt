@@ -23,9 +23,9 @@ loop-place-preserved g c =
     let p : ℕ = slice_index_or c.args.order.now i 0 in
     let below : i < length c.args.order.now = c.loop-place-test.true in
     looked_more ms (state_of c.args.stage.now.state.now).resources (entries_view c.args.declared.now.variables.now.entries) names (shapes_of c.args.stage.now.shapes.now)
-    c.args.order.now c.args.wanted.now i p c.loop-place.kept.items _ c.loop-place.rows.items _ c.in_ok-looked.looked.resolved c.in_ok-looked.looked.decided c.contains-is_wanted.result c.as_slice.result.now
+    c.args.order.now c.args.wanted.now i p c.loop-place.kept.items _ c.loop-place.rows.items _ c.in_ok-looked.looked.resolved c.in_ok-looked.looked.decided c.is_marked-is_wanted.result c.as_slice.result.now
     c.requires.order c.requires.closed c.requires.needed below refl (c.requires.within p (i, below, get_or_default c.args.order.now i p 0 below)) refl refl
-    c.contains-is_wanted.ensures c.as_slice.ensures.value c.in_ok-looked.ensures.resolved c.in_ok-looked.ensures.decided c.loop-place.invariant
+    c.is_marked-is_wanted.ensures c.as_slice.ensures.value c.in_ok-looked.ensures.resolved c.in_ok-looked.ensures.decided c.loop-place.invariant
 
 pub returns-clause-resolved_names : goal.returns-clause-resolved_names
 returns-clause-resolved_names g c =

@@ -5,4 +5,4 @@ use Rattle.tf_syntax.specs.TemplateNames.{reference_of}
 use Rattle.tf_config_names.proofs.table.Declarations.add_named.Given as goal
 
 abbrev pub invariant-loop-reference : goal.invariant-loop-reference
-invariant-loop-reference l = Adds (names_in l.self) l.fn.found.items (map reference_of l.reference-items) l.found.items (map reference_of (drop l.reference-index l.reference-items))
+invariant-loop-reference l = Adds (names_in l.self) l.fn.found.items (map (λ r. reference_of r.now) l.reference-items) l.found.items (map (λ r. reference_of r.now) (drop l.reference-index l.reference-items))

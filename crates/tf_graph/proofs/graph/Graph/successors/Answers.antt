@@ -5,6 +5,6 @@ use Rattle.tf_graph.proofs.graph.Graph.successors.Goals as goal
 
 pub returns-clause-within : goal.returns-clause-within
 returns-clause-within c =
-    let g = c.self.inside in
+    let g = c.self.inside.lists.value in
     rw (← c.self.view_is) (read-within g.after.items g.nodes c.args.node c.index.result.now c.as_slice.result.now (targets_from g.edges.items c.args.node) c.as_slice.ensures.value
-    (omega (arith, ap (λ (d : Digraph). d.nodes) c.self.view_is)) c.index.ensures (c.self.invariant.after_rows c.args.node) (targets_from-within g.nodes g.edges.items c.args.node c.self.invariant.within))
+    (omega (arith, ap (λ (d : Digraph). d.nodes) c.self.view_is)) (rw (← c.deref.ensures) c.index.ensures) (c.self.invariant.after_rows c.args.node) (targets_from-within g.nodes g.edges.items c.args.node c.self.invariant.within))

@@ -6,12 +6,12 @@ use Rattle.tf_plan_order.proofs.stored.StoredDependencies.new.Goals as goal
 
 pub of-requires-clause-within : goal.of-requires-clause-within
 of-requires-clause-within c =
-    rw (c.as_slice.ensures.value ∙ c.in_ok-edges.ensures) (turned-within c.args.resources c.args.dependencies.now c.requires.within)
+    rw c.in_ok-edges.ensures (turned-within c.args.resources c.args.dependencies.now c.requires.within)
 
 pub returns : goal.returns
 returns c =
     let g : Digraph = c.in_ok-graph.graph in
-    let edges : g.edges ≡ turned c.args.dependencies.now = c.in_ok-graph.ensures.1 ∙ c.as_slice.ensures.value ∙ c.in_ok-edges.ensures in
+    let edges : g.edges ≡ turned c.args.dependencies.now = c.in_ok-graph.ensures.1 ∙ c.in_ok-edges.ensures in
     record {
       nodes = c.in_ok-graph.ensures.0;
       edges = edges;

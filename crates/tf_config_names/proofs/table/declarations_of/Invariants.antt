@@ -3,7 +3,7 @@ use Rattle.tf_config_data.specs.Config.{blocks_of, config_of}
 use Rattle.tf_config_data.specs.Names.{block_name, local_names, names_of}
 use Rattle.tf_config_names.specs.Table.{declaration_of}
 use Rattle.tf_syntax.specs.ExprTree.{entries_view}
-use Rattle.tf_config_names.proofs.table.Declarations.new.Given as goal
+use Rattle.tf_config_names.proofs.table.declarations_of.Given as goal
 
 abbrev pub invariant-loop-name : goal.invariant-loop-name
 invariant-loop-name l = map declaration_of l.entries.items ++ local_names (entries_view l.name-iterator) ≡ local_names (entries_view l.config.locals.entries)
