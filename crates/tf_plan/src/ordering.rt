@@ -12,7 +12,7 @@ use std::alloc::{AllocError, Global};
 use tf_config_names::Dependence;
 use tf_expand::Module;
 use tf_graph::MAX_NODES;
-use tf_plan_data::{Action, Step};
+use tf_plan_data::Action;
 use tf_plan_order::{Order, OrderFault, OrderInput, ResourceIndex, StoredDependencies, lateness};
 
 /// The order of a plan's actions.
@@ -87,21 +87,11 @@ fn are_applied(actions: &[Action]) -> bool
     ensures { result ≡ list_all is_applied (map action_of actions.now) }
 {
     for action in actions {
-        if !is_applied(action) {
+        if !action.step.is_apply() {
             return false;
         }
     }
     true
-}
-
-/// Whether an action creates or updates an object.
-fn is_applied(action: &Action) -> bool
-    ensures { result ≡ is_applied (action_of action.now) }
-{
-    match &action.step {
-        Step::Create(_) | Step::Update(_, _, _) | Step::CreateReplacement(_, _) => true,
-        Step::DestroyReplaced(_) | Step::Destroy(_) | Step::DestroyDeposed(_, _) => false,
-    }
 }
 
 /// Whether any resource is marked.

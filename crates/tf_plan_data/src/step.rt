@@ -2,6 +2,7 @@
 
 ghost use Rattle.std.specs.Prelude.{◌≡◌};
 ghost use Rattle.tf_plan_data.specs.Action.{step_of};
+ghost use Rattle.tf_plan_data.specs.Fits.{is_apply};
 ghost use Rattle.tf_plan_data.specs.Precedence.{is_half, kind_of};
 
 use tf_plan_order::ActionKind;
@@ -38,6 +39,16 @@ impl Step {
             Step::DestroyReplaced(_) | Step::Destroy(_) => ActionKind::Destroy,
             Step::DestroyDeposed(_, _) => ActionKind::DestroyDeposed,
         }
+    }
+
+    /// Whether it makes an object or changes one.
+    pub fn is_apply(&self) -> bool
+        ensures { result ≡ is_apply (step_of self.now) }
+    {
+        matches!(
+            self,
+            Step::Create(_) | Step::Update(_, _, _) | Step::CreateReplacement(_, _)
+        )
     }
 
     /// Whether it is half of a replace.

@@ -1,7 +1,7 @@
 //! What instances stand for while a plan is carried out, as the requests and outputs that name them need it.
 
 ghost use Rattle.std.specs.Prelude.{◌≡◌, IfOk, map, option_map, slice_get};
-ghost use Rattle.tf_plan_data.specs.Words.{action_of, instance_key_of, is_apply, label_of, meant_at, names_in, null, seen_by, state_of, step_of, tree_of};
+ghost use Rattle.tf_plan_data.specs.Words.{action_of, instance_key_of, label_of, meant_at, names_in, null, seen_by, state_of, tree_of};
 ghost use Rattle.tf_walk_action.specs.ResultViews.{result_or_skipped, action_results_of};
 ghost use Rattle.tf_walk_action.specs.Objects.{current_object, is_of, object_of, objects_seen, prior_object};
 ghost use Rattle.tf_walk_action.specs.Outcome.{done_at};
@@ -11,7 +11,7 @@ use crate::results::Results;
 use std::alloc::{AllocError, Global};
 use tf_address::{InstanceKey, Label, ObjectId};
 use tf_config_names::{Declaration, Declarations};
-use tf_plan_data::{Action, Step};
+use tf_plan_data::Action;
 use tf_protocol::Reply;
 use tf_state_data::State;
 use tf_value::{Value, copy};
@@ -113,19 +113,9 @@ fn is_of(action: Option<&Action>, place: usize, key: &InstanceKey) -> bool
     ensures { result ≡ is_of (option_map (λ a. action_of a.now) action.entry) place (instance_key_of key.now) }
 {
     match action {
-        Some(action) => is_apply(&action.step) && action.resource == place && action.key == *key,
+        Some(action) => action.step.is_apply() && action.resource == place && action.key == *key,
         None => false,
     }
-}
-
-/// Whether a step makes an object or changes one.
-fn is_apply(step: &Step) -> bool
-    ensures { result ≡ is_apply (step_of step.now) }
-{
-    matches!(
-        step,
-        Step::Create(_) | Step::Update(_, _, _) | Step::CreateReplacement(_, _)
-    )
 }
 
 /// The object that a provider answered to the action at a place, copied; null where there is none.

@@ -1,11 +1,11 @@
 //! Of which resources all creates and updates are good.
 
 ghost use Rattle.std.specs.Prelude.{◌≡◌, ◌<◌, ◌&&◌, ◌||◌, ℕ, length, map, not, true};
-ghost use Rattle.tf_walk_action.specs.Words.{action_of, result_or_skipped, action_results_of, has, is_apply, is_good, step_of};
+ghost use Rattle.tf_walk_action.specs.Words.{action_of, result_or_skipped, action_results_of, has, is_good};
 ghost use Rattle.tf_walk_report.specs.Good.{are_good_at, is_apply_of};
 
 use crate::gather::is_good;
-use tf_plan_data::{Action, Step};
+use tf_plan_data::Action;
 use tf_walk_action::ActionResult;
 
 /// Notes of each resource, by the place of its name, whether all its creates and updates are good.
@@ -37,17 +37,7 @@ fn note_end(good: &mut [bool], action: &Action, ended: &Option<ActionResult>)
         ≡ (has good.old n && (not (is_apply_of n (action_of action.now)) || is_good (result_or_skipped ended.now))) }
 {
     let number = action.resource;
-    if is_apply(&action.step) && !is_good(ended) && number < good.len() {
+    if action.step.is_apply() && !is_good(ended) && number < good.len() {
         good[number] = false;
     }
-}
-
-/// Whether a step creates or updates an object.
-pub fn is_apply(step: &Step) -> bool
-    ensures { result ≡ is_apply (step_of step.now) }
-{
-    matches!(
-        step,
-        Step::Create(_) | Step::Update(_, _, _) | Step::CreateReplacement(_, _)
-    )
 }

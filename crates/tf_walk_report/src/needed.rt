@@ -5,7 +5,7 @@ ghost use Rattle.std.specs.Option.{option_to_list};
 ghost use Rattle.std.specs.Prelude.{◌≡◌, ◌≤◌, ◌<◌, ◌++◌, ◌⊎◌, [], ℕ, true, Contains, IfOk, OnOk, length, map, if◌then◌else◌};
 ghost use Rattle.tf_graph.specs.Lists.{row};
 ghost use Rattle.tf_graph.specs.NodeSet.{has};
-ghost use Rattle.tf_walk_action.specs.Words.{action_of, is_apply, IsDeclared, meant_at, names_in, needs_in, plan_names, plan_of, step_of};
+ghost use Rattle.tf_walk_action.specs.Words.{action_of, IsDeclared, meant_at, names_in, needs_in, plan_names, plan_of};
 ghost use Rattle.tf_walk_report.specs.Dependencies.{address_of, addresses_at};
 ghost use Rattle.tf_walk_report.specs.Needed.{AreListedAsked, IsAsked, IsListedFor};
 
@@ -13,7 +13,7 @@ use crate::spreading::{empty_lists, spread};
 use std::alloc::{AllocError, Global};
 use tf_config_names::{Declaration, Declarations, Dependence};
 use tf_graph::NodeSet;
-use tf_plan_data::{Action, Plan, Step};
+use tf_plan_data::{Action, Plan};
 
 /// For each name the places of all resources that it needs, where an action makes or changes an object of it, in the order of
 /// the names.
@@ -49,18 +49,8 @@ fn ask(asked: &mut NodeSet, count: usize, action: &Action)
     ensures kept { (k : ℕ) → has asked.old k ≡ true → has asked.new k ≡ true }
     ensures asked { IsAsked asked.new (action_of action.now) }
 {
-    if makes(&action.step) && action.resource < count {
+    if action.step.is_apply() && action.resource < count {
         asked.insert(action.resource);
-    }
-}
-
-/// Whether a step makes or changes an object.
-fn makes(step: &Step) -> bool
-    ensures { result ≡ is_apply (step_of step.now) }
-{
-    match step {
-        Step::Create(_) | Step::Update(_, _, _) | Step::CreateReplacement(_, _) => true,
-        Step::DestroyReplaced(_) | Step::Destroy(_) | Step::DestroyDeposed(_, _) => false,
     }
 }
 

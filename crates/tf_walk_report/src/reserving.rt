@@ -12,7 +12,6 @@ ghost use Rattle.tf_walk_report.specs.Settling.{IsReady};
 use crate::additions::Changes;
 use crate::buffers::ActionBuffers;
 use crate::diagnostic::Diagnostic;
-use crate::good::is_apply;
 use crate::keeping::kept_outputs;
 use crate::output_buffers::reserve_outputs;
 use crate::outputs::texts_for;
@@ -137,7 +136,7 @@ fn add_label<'a>(labels: &mut Vec<&'a Label>, action: &'a Action) -> Result<(), 
     ensures { OnOk result (map (λ l. label_of l.now) labels.new.items ≡ map (λ l. label_of l.now) labels.old.items
         ++ (if is_apply (action_of action.now).step then (action_of action.now).label ∷ [] else [])) }
 {
-    if is_apply(&action.step) {
+    if action.step.is_apply() {
         labels.push(&action.label)?;
     }
     Ok(())

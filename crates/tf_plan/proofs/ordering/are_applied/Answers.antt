@@ -10,14 +10,14 @@ loop-action-preserved c =
     let all = c.args.actions.now in
     let i = c.loop-action.action-index in
     rests_more is_applied action_of all i c.action-item.result (drop_next all i c.action-item.result c.loop-action-test.true c.action-item.is)
-    (sym c.is_applied.ensures ∙ c.if-not-is_applied.false) c.loop-action.invariant
+    (sym c.is_apply.ensures ∙ c.if-not-is_apply.false) c.loop-action.invariant
 
-pub returns-then-not-is_applied : goal.returns-then-not-is_applied
-returns-then-not-is_applied c =
+pub returns-then-not-is_apply : goal.returns-then-not-is_apply
+returns-then-not-is_apply c =
     let all = c.args.actions.now in
     let i = c.loop-action.action-index in
     rests_fail is_applied action_of all i c.action-item.result (drop_next all i c.action-item.result c.loop-action-test.true c.action-item.is)
-    (sym c.is_applied.ensures ∙ c.if-not-is_applied.true) c.loop-action.invariant
+    (sym c.is_apply.ensures ∙ c.if-not-is_apply.true) c.loop-action.invariant
 
 pub returns : goal.returns
 returns c = rests_none is_applied action_of c.args.actions.now c.loop-action.action-index (omega arith) c.loop-action.invariant
