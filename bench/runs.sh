@@ -28,14 +28,14 @@ row() {
         }' "$work/times"
 }
 
-for shape in independent chains layers locals part pairs indexed; do
+for shape in independent counted chains layers locals part pairs indexed; do
     # With 447 after 447 there are 199,809 pairs of which one is before the other, of 200,000 that there may be.
     case "$shape" in pairs | indexed) sizes="224 447 894" ;; part) sizes="50 100 200" ;; *) sizes="500 1000 2000" ;; esac
     for blocks in $sizes; do
         row "$shape" "$blocks"
     done
 done
-for shape in chains layers; do
+for shape in counted chains layers; do
     for change in nothing updated replaced swapped destroyed; do
         # There are two actions for each host that is replaced, and 2,000 at most; and 200,000 pairs of which one is before
         # the other, of which 1,000 hosts in layers that are replaced late have more.

@@ -2,6 +2,7 @@
 line between them: what was applied before, and what is to be applied then.
 
 independent    hosts that refer to nothing, each with an argument that is worked out
+counted        hosts of one resource, by their number
 chains         chains of a hundred hosts, each of which names the one before it
 layers         eight layers of hosts, each of which names ten of the layer before it
 pairs          half of the hosts after all of the other half, by `depends_on`
@@ -60,6 +61,10 @@ def halves(count, **second):
     })
 
 
+def counted(count):
+    return of_hosts({"h": {"count": count, "name": NAME + "-${count.index}", "size": ADDED, **MORE}})
+
+
 def pairs(count):
     return halves(count, depends_on=["sim_host.first"])
 
@@ -80,7 +85,7 @@ def part(count):
     return of_hosts(hosts, locals={"table": table})
 
 
-SHAPES = {"independent": independent, "chains": chains, "layers": layers, "pairs": pairs, "indexed": indexed, "locals": locals_that_double, "part": part}
+SHAPES = {"independent": independent, "counted": counted, "chains": chains, "layers": layers, "pairs": pairs, "indexed": indexed, "locals": locals_that_double, "part": part}
 shape, count = SHAPES[sys.argv[1]], int(sys.argv[2])
 json.dump(shape(count), sys.stdout, indent=2)
 if CHANGE:

@@ -1,5 +1,6 @@
 -- A resource and its records, as plain data.
-use Rattle.std.specs.Prelude.{◌+◌, ◌≤◌, ℕ, List, Option, map, string_bytes, vec_len, vec_capacity}
+use Rattle.std.specs.Option.{option_map_or}
+use Rattle.std.specs.Prelude.{◌+◌, ◌≤◌, ℕ, Bool, List, Option, map, string_bytes, vec_len, vec_capacity}
 use Rattle.tf_address.specs.Label.{LabelView, label_of}
 use Rattle.tf_state_data.specs.Order.{at_key, with_one, without_one}
 use Rattle.tf_address.specs.ObjectId.{ObjectIdView, object_id_cmp}
@@ -26,6 +27,11 @@ with_record new r = record r { records = with_one (λ x. x.id) object_id_cmp new
 -- the resource without the record of an object
 abbrev pub without_record : ObjectIdView → ResourceView → ResourceView
 without_record id r = record r { records = without_one (λ x. x.id) object_id_cmp id r.records }
+
+-- the resource in which the record of an object, where there is one, has been given anew what it depends on and its flag
+abbrev pub with_metadata : ObjectIdView → List (List ℕ) → Bool → ResourceView → ResourceView
+with_metadata id dependencies late r =
+    option_map_or (λ x. with_record (record x { id = id; dependencies = dependencies; create_before_destroy = late }) r) (record_at id r.records) r
 
 -- there is room for so many records more
 abbrev pub HasRoomForRecords : ℕ → Resource → Type 0

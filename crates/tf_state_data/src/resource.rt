@@ -7,6 +7,7 @@ ghost use Rattle.tf_state_data.specs.Record.{record_of};
 
 use crate::record::Record;
 use std::alloc::{AllocError, Global};
+use std::collections::BTreeSet;
 use std::mem;
 use tf_address::{Label, ObjectId};
 
@@ -24,7 +25,7 @@ impl Resource {
     ghost use Rattle.tf_address.specs.Label.{label_of};
     ghost use Rattle.tf_state_data.specs.Order.{IsAt, IsGapFor};
     ghost use Rattle.tf_address.specs.ObjectId.{object_id_cmp, object_id_of};
-    ghost use Rattle.tf_state_data.specs.Resource.{HasRoomForRecords, record_at, resource_of, with_record, without_record};
+    ghost use Rattle.tf_state_data.specs.Resource.{HasRoomForRecords, record_at, resource_of, with_metadata, with_record, without_record};
 
     /// A resource at an address, with the address of its provider, and without records yet.
     pub fn empty(alloc: Global, label: Label, provider: String) -> Resource
@@ -105,6 +106,26 @@ impl Resource {
                 self.records.insert(index, new).unwrap();
                 None
             }
+        }
+    }
+
+    /// Gives the record of an object, where the resource has one, what it depends on and its flag anew. It takes no memory, and no
+    /// record is moved.
+    pub fn renew_metadata(
+        &mut self,
+        id: ObjectId,
+        dependencies: BTreeSet<String>,
+        create_before_destroy: bool,
+    )
+        ensures renewed { resource_of self.new
+            ≡ with_metadata (object_id_of id) (map string_bytes dependencies.keys) create_before_destroy (resource_of self.old) }
+        ensures room { (n : ℕ) → HasRoomForRecords n self.old → HasRoomForRecords n self.new }
+    {
+        if let Ok(index) = self.search(&id) {
+            let record = &mut self.records[index];
+            record.id = id;
+            record.dependencies = dependencies;
+            record.create_before_destroy = create_before_destroy;
         }
     }
 

@@ -1,7 +1,7 @@
 -- What the code does to a resource is what comes of the actions.
 use Rattle.std.proofs.Common.{◌≡◌, ℕ, Bool, true, false, cond, List, [], ◌∷◌, Option, Some, None, option_map, option_and_then, refl, sym, ap, ◌∙◌, subst}
 use Rattle.std.proofs.lemmas.Slice.Eq.{bytes_eq-Decides}
-use Rattle.std.specs.Option.{option_eq, option_or}
+use Rattle.std.specs.Option.{option_eq, option_map_or, option_or}
 use Rattle.std.specs.Prelude.{bytes_eq}
 use Rattle.tf_address.specs.ObjectId.{InstanceKeyView, ObjectIdView}
 use Rattle.tf_state_next.specs.After.{IsAfter, after_destroy, as_deposed, current_after, deposed_anew, destroy_under, instance_after, left_of_record, object_at, places_in, record_of_saved, renewed}
@@ -9,7 +9,7 @@ use Rattle.tf_state_next.specs.Ends.{SavedView, LeftView, gone, changed, unchang
 use Rattle.tf_state_next.specs.Room.{deposed_by, with_any}
 use Rattle.tf_state_next.proofs.Places.{IsSet, HasId, found_id, put_sets, set_again, left_sets, taken_sets}
 use Rattle.tf_state_data.specs.Record.{RecordView}
-use Rattle.tf_state_data.specs.Resource.{ResourceView, record_at, with_record, without_record}
+use Rattle.tf_state_data.specs.Resource.{ResourceView, record_at, with_metadata, with_record, without_record}
 
 -- ---- what is left of a record is of the same object
 
@@ -188,3 +188,39 @@ pub saved_after : (g : RecordInputView) (x : SavedView) (b : ApplyResultView) (d
     → IsAfter g (record { applied = b; destroyed = destroyed; deposed = [] }) r s
 saved_after g x b destroyed new r s same what is =
     subst (λ (c : ApplyResultView). IsAfter g (record { applied = c; destroyed = destroyed; deposed = [] }) r s) (sym same) (saved_set g x destroyed new r s what is)
+
+-- where none becomes deposed, the record is put in over the old one
+pub saved_in_place : (g : RecordInputView) (x : SavedView) (b : ApplyResultView) (r s : ResourceView) → b ≡ saved x → g.deposed_key ≡ None → s ≡ with_record (record_of_saved g x) r
+    → IsAfter g (record { applied = b; destroyed = None; deposed = [] }) r s
+saved_in_place g x b r s same none is =
+    let put : IsSet (object_at g.key None) (Some (record_of_saved g x)) r s =
+    subst (λ q. IsSet (object_at g.key None) (Some (record_of_saved g x)) r q) (sym is) (put_sets (object_at g.key None) (record_of_saved g x) r refl) in
+    subst (λ (c : ApplyResultView). IsAfter g (record { applied = c; destroyed = None; deposed = [] }) r s) (sym same)
+    (record { own = own put; others = λ other not. put.others other (other_apart g.key None other not); label = put.label; provider = put.provider })
+  where
+    own : IsSet (object_at g.key None) (Some (record_of_saved g x)) r s
+        → (d : Option (List ℕ)) → places_in g.key s.records d ≡ instance_after g (record { applied = saved x; destroyed = None; deposed = [] }) (places_in g.key r.records) d
+    own put None = put.there
+    own put (Some t) =
+        put.others (object_at g.key (Some t)) (current_apart g.key t)
+        ∙ sym (ap (λ (key : Option (List ℕ)). option_or (anew key (record_at (object_at g.key None) r.records) t) (record_at (object_at g.key (Some t)) r.records)) none)
+
+-- ---- where nothing was planned
+
+renewed_set : (id : ObjectIdView) (dependencies : List (List ℕ)) (late : Bool) (r : ResourceView) (there : Option RecordView) → record_at id r.records ≡ there
+    → IsSet id (option_map (renewed dependencies late) there) r (option_map_or (λ x. with_record (record x { id = id; dependencies = dependencies; create_before_destroy = late }) r) there r)
+renewed_set id dependencies late r None e = record { there = e; others = λ other not. refl; label = refl; provider = refl }
+renewed_set id dependencies late r (Some x) e =
+    let own : x.id ≡ id = found_id id x r.records e in
+    let new : RecordView = record x { id = id; dependencies = dependencies; create_before_destroy = late } in
+    let same : new ≡ renewed dependencies late x = ap (λ (i : ObjectIdView). record x { id = i; dependencies = dependencies; create_before_destroy = late }) (sym own) in
+    subst (λ (y : RecordView). IsSet id (Some y) r (with_record new r)) same (put_sets id new r refl)
+
+-- the record is given anew what it is given where it stands
+pub renewed_in_place : (g : RecordInputView) (b : ApplyResultView) (r s : ResourceView) → b ≡ unplanned → s ≡ with_metadata (object_at g.key None) g.dependencies g.create_before_destroy r
+    → IsAfter g (record { applied = b; destroyed = None; deposed = [] }) r s
+renewed_in_place g b r s same is =
+    let id = object_at g.key None in
+    let set : IsSet id (option_map (renewed g.dependencies g.create_before_destroy) (record_at id r.records)) r s =
+    subst (λ q. IsSet id (option_map (renewed g.dependencies g.create_before_destroy) (record_at id r.records)) r q) (sym is) (renewed_set id g.dependencies g.create_before_destroy r (record_at id r.records) refl) in
+    subst (λ (c : ApplyResultView). IsAfter g (record { applied = c; destroyed = None; deposed = [] }) r s) (sym same) (current_set g unplanned None r s tt set)

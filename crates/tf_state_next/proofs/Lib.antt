@@ -15,4 +15,5 @@ pub mod Finding
 pub mod One
 pub mod OneByOne
 pub mod Pending
+pub mod Reversed
 pub mod Validity

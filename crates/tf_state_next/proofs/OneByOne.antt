@@ -84,7 +84,7 @@ destroyed_joined xs ys before mid after apart first second = record {
 -- ---- applies
 
 -- what comes of the apply of an instance, where there is one
-abbrev after_by : Option ApplyView → InstanceKeyView → Places → Places
+abbrev pub after_by : Option ApplyView → InstanceKeyView → Places → Places
 after_by o key before =
     instance_after (option_map_or (λ a. a.given) o (nothing_given key)) (record { applied = option_map_or (λ a. a.applied) o unwanted; destroyed = None; deposed = [] }) before
 

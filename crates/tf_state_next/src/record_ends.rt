@@ -1,12 +1,12 @@
 //! What came of an instance's actions is recorded, without memory.
 
-ghost use Rattle.std.specs.Prelude.{◌≡◌, ◌+◌, ℕ, IfNone, IfSome, IsSome, map, option_and_then, option_map, string_bytes};
+ghost use Rattle.std.specs.Prelude.{◌≡◌, ◌+◌, ℕ, [], None, IfNone, IfSome, IsSome, map, option_and_then, option_map, string_bytes};
 ghost use Rattle.tf_address.specs.ObjectId.{object_id_of};
-ghost use Rattle.tf_state_next.specs.After.{IsAfter, after_destroy, left_of_record, renewed};
-ghost use Rattle.tf_state_next.specs.Ends.{RecordInputView, apply_result_of, destroy_of, instance_result_of, record_input_of, left_of};
+ghost use Rattle.tf_state_next.specs.After.{IsAfter, after_destroy, left_of_record, object_at, record_of_saved, renewed};
+ghost use Rattle.tf_state_next.specs.Ends.{RecordInputView, apply_result_of, destroy_of, instance_result_of, record_input_of, left_of, saved_of};
 ghost use Rattle.tf_state_next.specs.Room.{deposed_by, records_more, with_any};
 ghost use Rattle.tf_state_data.specs.Record.{record_of};
-ghost use Rattle.tf_state_data.specs.Resource.{HasRoomForRecords, record_at, resource_of, without_record};
+ghost use Rattle.tf_state_data.specs.Resource.{HasRoomForRecords, record_at, resource_of, with_metadata, with_record, without_record};
 
 use crate::ends::{ApplyResult, InstanceResult, Left, RecordInput, Saved};
 use std::collections::BTreeSet;
@@ -54,6 +54,73 @@ pub fn record_current(resource: &mut Resource, given: RecordInput, ends: Instanc
             put_any(resource, left);
         }
     }
+}
+
+/// Records what came of the create or the update of an instance whose current object no other action destroys. Where no object
+/// becomes deposed, the record is written over where it stands, and no other is moved. It takes no memory: where an object was saved
+/// there has to be room for one record more.
+pub(crate) fn record_apply(resource: &mut Resource, given: RecordInput, applied: ApplyResult)
+    requires { HasRoomForRecords (records_more (apply_result_of applied)) resource.old }
+    ensures after { IsAfter (record_input_of given) (record { applied = apply_result_of applied; destroyed = None; deposed = [] })
+        (resource_of resource.old) (resource_of resource.new) }
+    ensures room { (n : ℕ) → HasRoomForRecords (n + records_more (apply_result_of applied)) resource.old → HasRoomForRecords n resource.new }
+{
+    let is_plain = given.deposed_key.is_none();
+    match applied {
+        ApplyResult::Unwanted | ApplyResult::Nothing => {}
+        ApplyResult::Unplanned => renew_record(resource, given),
+        ApplyResult::Saved(saved) => {
+            if is_plain {
+                put_saved(resource, given, saved);
+            } else {
+                let ends = InstanceResult {
+                    applied: ApplyResult::Saved(saved),
+                    destroyed: None,
+                };
+                record_current(resource, given, ends);
+            }
+        }
+    }
+}
+
+/// Gives the record of the current object of an instance what it is given anew.
+fn renew_record(resource: &mut Resource, given: RecordInput)
+    ensures renewed { resource_of resource.new ≡ with_metadata (object_at (record_input_of given).key None)
+        (record_input_of given).dependencies (record_input_of given).create_before_destroy (resource_of resource.old) }
+    ensures room { (n : ℕ) → HasRoomForRecords n resource.old → HasRoomForRecords n resource.new }
+{
+    let RecordInput {
+        key,
+        schema_version: _,
+        dependencies,
+        create_before_destroy,
+        deposed_key: _,
+    } = given;
+    let id = ObjectId { key, deposed: None };
+    resource.renew_metadata(id, dependencies, create_before_destroy);
+}
+
+/// Puts in the record of an object that was saved, in place of the one that was there.
+fn put_saved(resource: &mut Resource, given: RecordInput, saved: Saved)
+    requires { HasRoomForRecords 1 resource.old }
+    ensures put { resource_of resource.new ≡ with_record (record_of_saved (record_input_of given) (saved_of saved)) (resource_of resource.old) }
+    ensures room { (n : ℕ) → HasRoomForRecords (n + 1) resource.old → HasRoomForRecords n resource.new }
+{
+    let Saved {
+        attributes,
+        tainted,
+    } = saved;
+    drop(resource.put(Record {
+        id: ObjectId {
+            key: given.key,
+            deposed: None,
+        },
+        attributes,
+        schema_version: given.schema_version,
+        tainted,
+        dependencies: given.dependencies,
+        create_before_destroy: given.create_before_destroy,
+    }));
 }
 
 /// Records what the destroy of an object left of it, of the current object of an instance or of a deposed one. It takes no

@@ -9,9 +9,9 @@ ghost use Rattle.tf_state_data.specs.Addresses.{AreByAddress};
 ghost use Rattle.tf_state_data.specs.Order.{IsAt, IsGapFor};
 ghost use Rattle.tf_state_data.specs.Resource.{resource_of};
 
-use crate::ends::{ApplyResult, InstanceResult, Left};
+use crate::ends::{ApplyResult, Left};
 use crate::events::{Apply, Destroy, MetadataUpdate};
-use crate::record_ends::{record_current, record_destroy};
+use crate::record_ends::{record_apply, record_destroy};
 use tf_address::Label;
 use tf_state_data::Resource;
 
@@ -78,15 +78,11 @@ fn renew(resources: &mut [Resource], event: MetadataUpdate<'_>)
 {
     let MetadataUpdate { label, given } = event;
     if let Ok(index) = search(resources, label) {
-        let ends = InstanceResult {
-            applied: ApplyResult::Unplanned,
-            destroyed: None,
-        };
-        record_current(&mut resources[index], given, ends);
+        record_apply(&mut resources[index], given, ApplyResult::Unplanned);
     }
 }
 
-/// Records what came of each create and update.
+/// Records what came of each create and update, of the last first.
 pub(crate) fn apply_all(resources: &mut [Resource], mut applies: Vec<Apply<'_>>)
     requires ordered { AreByAddress (map resource_of resources.old) }
     requires apart { AreApart instance_of (map apply_of applies.items) }
@@ -116,9 +112,5 @@ fn apply(resources: &mut [Resource], event: Apply<'_>)
     let Ok(index) = search(resources, label) else {
         unreachable!()
     };
-    let ends = InstanceResult {
-        applied,
-        destroyed: None,
-    };
-    record_current(&mut resources[index], given, ends);
+    record_apply(&mut resources[index], given, applied);
 }

@@ -60,7 +60,8 @@ fn recorded(mut resources: Vec<Resource>, events: Events<'_>) -> Vec<Resource>
     resources
 }
 
-/// Records what came of all actions.
+/// Records what came of all actions. Of creates and updates the first is recorded first, so that records whose keys rise are put in
+/// one behind the other.
 fn record_all(resources: &mut [Resource], events: Events<'_>)
     requires ordered { AreByAddress (map resource_of resources.old) }
     requires apart { AreEachAboutOne (events_of events) }
@@ -70,11 +71,12 @@ fn record_all(resources: &mut [Resource], events: Events<'_>)
 {
     let Events {
         destroys,
-        applies,
+        mut applies,
         metadata_updates,
     } = events;
     destroy_all(resources, destroys);
     renew_all(resources, metadata_updates);
+    applies.reverse();
     apply_all(resources, applies);
 }
 
