@@ -11,7 +11,7 @@ use test_watching::{Aside, Meeting, Sided, is_reached_within, meet, tell_of};
 use tf_provider::{Provider, Reply, Request};
 use tf_sim::Sim;
 use tf_value::Value;
-use tf_walk::run_and_close;
+use tf_walk::run;
 use tf_walk_action::Stop;
 
 /// How often a call looks for another, or for all others of its kind.
@@ -30,14 +30,13 @@ fn check_meets<R: Abort + Threads + Wait + Sync>(
     misses: &AtomicUsize,
 ) -> Result<(), Fail> {
     let plan = plan_texts(alloc, config, None, providers)?;
-    let Ok((walked, is_closed)) = run_and_close(rt, alloc, &plan, providers, workers, &Stop::new())
-    else {
+    let Ok(walked) = run(rt, alloc, &plan, providers, workers, &Stop::new()) else {
         return Err("no memory".into());
     };
     let told = tell_of(alloc, walked)?;
     assert_eq!(rt; misses.load(Ordering::SeqCst), 0, "{config}");
     assert_eq!(rt; told.journal.len(), plan.plan.actions.len(), "{config}");
-    assert!(rt; told.whole && is_closed, "{config}");
+    assert!(rt; told.whole, "{config}");
     Ok(())
 }
 

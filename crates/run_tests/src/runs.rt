@@ -16,6 +16,7 @@ use tf_provider::Provider;
 use tf_sim::Sim;
 use tf_walk::{run_and_close, run_one};
 use tf_walk_action::Stop;
+use tf_walk_report::Walked;
 
 /// Two nets, and a host on each.
 pub(crate) const NETS: &str =
@@ -109,16 +110,41 @@ pub(crate) fn check_runs_by<R: Abort + Threads + Wait + Sync>(
     times: usize,
 ) -> Result<(), Fail> {
     let plan = plan_texts(alloc, config, state, providers)?;
-    let Ok(walked) = run_one(alloc, &plan, providers, &Stop::new()) else {
-        return Err("no memory".into());
-    };
-    let one = tell_of(alloc, walked)?;
+    let one = tell_of(alloc, walk_once(alloc, &plan, providers)?)?;
     if let Some(outcomes) = outcomes {
         assert_eq!(rt; one.outcomes.as_str(), outcomes);
     }
+    check_all(rt, alloc, &plan, providers, &one, times)
+}
+
+/// The walk of a plan by one thread.
+pub(crate) fn walk_once(
+    alloc: Global,
+    plan: &Planned,
+    providers: &[Box<dyn Provider + Sync>],
+) -> Result<Walked, Fail>
+    requires served { AreServed (map meaning providers.now) (map action_of plan.now.actions.items) }
+{
+    match run_one(alloc, plan, providers, &Stop::new()) {
+        Ok(walked) => Ok(walked),
+        Err(_) => Err("no memory".into()),
+    }
+}
+
+/// Checks that walks by different numbers of workers come to what another came to, so many times each.
+fn check_all<R: Abort + Threads + Wait + Sync>(
+    rt: &R,
+    alloc: Global,
+    plan: &Planned,
+    providers: &[Box<dyn Provider + Sync>],
+    one: &Told,
+    times: usize,
+) -> Result<(), Fail>
+    requires served { AreServed (map meaning providers.now) (map action_of plan.now.actions.items) }
+{
     for workers in [1, 2, 4, 64] {
         for _ in 0..times {
-            check_run(rt, alloc, &plan, providers, workers, &one)?;
+            check_run(rt, alloc, plan, providers, workers, one)?;
         }
     }
     Ok(())
@@ -140,16 +166,33 @@ fn check_run<R: Abort + Threads + Wait + Sync>(
         return Err("no memory".into());
     };
     let many = tell_of(alloc, walked)?;
-    assert!(rt; is_closed && many.whole, "{workers}");
-    assert_eq!(rt; many.excused.as_str(), "", "{workers}");
-    assert_eq!(rt; many.outcomes.as_str(), one.outcomes.as_str(), "{workers}");
+    assert!(rt; is_whole_as(&many, one) && is_closed, "{workers}");
+    check_same(rt, &many, one, workers)
+}
+
+/// Whether what is told of a walk is whole, excuses nothing, and has as many calls as another.
+fn is_whole_as(told: &Told, other: &Told) -> bool {
+    told.whole && told.excused.is_empty() && told.journal.len() == other.journal.len()
+}
+
+/// Checks that what is told of a walk by so many workers is what is told of another, but for journals and excuses.
+pub(crate) fn check_same<R: Abort>(
+    rt: &R,
+    told: &Told,
+    other: &Told,
+    workers: usize,
+) -> Result<(), Fail> {
     assert_eq!(rt;
-        many.diagnostics.as_str(),
-        one.diagnostics.as_str(),
+        told.outcomes.as_str(),
+        other.outcomes.as_str(),
         "{workers}"
     );
-    assert_eq!(rt; many.journal.len(), one.journal.len(), "{workers}");
-    assert!(rt; many.state == one.state, "{workers}");
+    assert_eq!(rt;
+        told.diagnostics.as_str(),
+        other.diagnostics.as_str(),
+        "{workers}"
+    );
+    assert!(rt; told.state == other.state, "{workers}");
     Ok(())
 }
 

@@ -1,15 +1,37 @@
 //! Reports with a journal that isn't the one of their walk.
 
-use crate::runs::{BROKEN, DIAMOND, plan_texts};
+ghost use Rattle.std.specs.Prelude.{◌≡◌};
+
+use crate::runs::{BROKEN, DIAMOND, check_same, plan_texts, walk_once};
 use std::alloc::Global;
 use std::process::Abort;
 use std::test::Fail;
 use test_watching::tell_of;
 use tf_provider::{Journal, Provider};
 use tf_sim::Sim;
-use tf_walk::run_one;
-use tf_walk_action::Stop;
-use tf_walk_report::{Report, settle};
+use tf_walk_report::{Report, Walked, settle};
+
+/// The report of a walk with another journal.
+fn with_journal(walked: Walked, journal: Journal) -> Report
+    ensures { result.journal.graph ≡ journal.graph }
+{
+    let Report {
+        state,
+        outcomes,
+        diagnostics,
+        journal: _,
+        excused,
+        good,
+    } = walked.into_report();
+    Report {
+        state,
+        outcomes,
+        diagnostics,
+        journal,
+        excused,
+        good,
+    }
+}
 
 /// Checks whether the report on a configuration that is carried out is whole with a journal in which nothing is, and that all
 /// else in it is as it was.
@@ -22,37 +44,12 @@ fn check_without_calls<R: Abort>(
     let mut providers: Vec<Box<dyn Provider + Sync>> = Vec::new(alloc);
     providers.push(Box::new(alloc, Sim::new(alloc)?)?)?;
     let plan = plan_texts(alloc, config, None, &providers)?;
+    let before = tell_of(alloc, walk_once(alloc, &plan, &providers)?)?;
     let empty = Journal::with_room(alloc, plan.plan.order.graph())?;
-    let Ok(walked) = run_one(alloc, &plan, &providers, &Stop::new()) else {
-        return Err("no memory".into());
-    };
-    let before = tell_of(alloc, walked)?;
-    let Ok(walked) = run_one(alloc, &plan, &providers, &Stop::new()) else {
-        return Err("no memory".into());
-    };
-    let Report {
-        state,
-        outcomes,
-        diagnostics,
-        journal: _,
-        excused,
-        good,
-    } = walked.into_report();
-    let report = Report {
-        state,
-        outcomes,
-        diagnostics,
-        journal: empty,
-        excused,
-        good,
-    };
+    let report = with_journal(walk_once(alloc, &plan, &providers)?, empty);
     let told = tell_of(alloc, settle(&plan.plan, report))?;
-    assert_eq!(rt; told.whole, whole);
-    assert!(rt; told.journal.is_empty());
-    assert!(rt; told.state == before.state);
-    assert_eq!(rt; told.outcomes.as_str(), before.outcomes.as_str());
-    assert_eq!(rt; told.diagnostics.as_str(), before.diagnostics.as_str());
-    Ok(())
+    assert!(rt; told.whole == whole && told.journal.is_empty());
+    check_same(rt, &told, &before, 1)
 }
 
 #[test]

@@ -6,7 +6,7 @@ ghost use Rattle.tf_cli.specs.Refusals.{AreApplyRefusals};
 ghost use Rattle.tf_cli_inputs.specs.Texts.{the_texts};
 ghost use Rattle.tf_plan.specs.Refused.{Tells};
 ghost use Rattle.tf_walk_report.specs.Report.{report_of};
-ghost use Rattle.tf_walk.specs.Run.{are_workers};
+ghost use Rattle.tf_walk.specs.Run.{are_workers, is_whole};
 ghost use Rattle.tf_state_data.specs.State.{state_of};
 ghost use Rattle.tf_state.specs.Text.{state_text};
 
@@ -25,7 +25,7 @@ use tf_walk_action::Stop;
 use tf_walk_report::Walked;
 
 /// Plans a configuration beside a prior state, and carries the plan out by so many workers, 1 to 64, of which the calling
-/// thread is one; it may wait. Its variables have the values that the variables file and their defaults give; where no state
+/// thread is one; with more than one it may wait. Its variables have the values that the variables file and their defaults give; where no state
 /// is given, nothing exists yet, and the lineage is that of the new state. Once the flag is set, no further provider is
 /// called. Where it refuses, no provider was asked for anything but schemas.
 pub fn apply_text<R: Threads + Wait + Sync>(
@@ -41,6 +41,7 @@ pub fn apply_text<R: Threads + Wait + Sync>(
 ) -> Result<Applied, Refused>
     ensures applied { IfOk result (IsApplied (map meaning providers.now) (the_texts config.now (option_map (λ s. s.now) vars.entry) (option_map (λ s. s.now) state.entry)) lineage.now) }
     ensures workers { IfOk result (λ _. are_workers workers ≡ true) }
+    ensures whole { workers ≡ 1 → IfOk result (λ answer. is_whole answer.walked ≡ true) }
     ensures refused { IfErr result (Tells (AreApplyRefusals (map meaning providers.now) (the_texts config.now (option_map (λ s. s.now) vars.entry) (option_map (λ s. s.now) state.entry)) lineage.now workers)) }
 {
     blocks_have_names();

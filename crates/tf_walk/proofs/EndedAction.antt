@@ -11,7 +11,7 @@ use Rattle.tf_graph.specs.Solutions.{seen_by}
 use Rattle.tf_plan_data.specs.Plan.{PlanView, plan_names}
 use Rattle.tf_protocol.specs.Meaning.{Meaning}
 use Rattle.tf_value.specs.Tree.{Tree}
-use Rattle.tf_walk_action.proofs.Calling.{run_at, seen_objects}
+use Rattle.tf_walk_action.proofs.Calling.{run_at}
 use Rattle.tf_walk_action.specs.ResultViews.{action_result_of, action_results_of}
 use Rattle.tf_walk_action.specs.Outcome.{ActionResultView, skipped, Requests, is_good, call_at, call_with, comes_of, done_at, objects_by, objects_seen}
 use Rattle.tf_walk_action.specs.Run.{IsRun}
@@ -19,7 +19,8 @@ use Rattle.tf_walk_action.specs.declared.prepared_call.PreparedCall.{PreparedCal
 use Rattle.tf_walk_action.specs.declared.action_result.ActionResult.{ActionResult}
 use Rattle.tf_walk_action.specs.declared.action_result.Faulted.{Faulted}
 use Rattle.tf_walk.specs.Ends.{IsEnd, done_in}
-use Rattle.tf_walk.proofs.Seen.{all_good-seen, seen-are}
+use Rattle.tf_walk.proofs.Memos.{seen_behind}
+use Rattle.tf_walk.proofs.Seen.{all_good-seen}
 
 -- an action is skipped where one directly before it isn't good
 pub ends_skipped : (ms : List Meaning) (requests : Requests) (plan : PlanView) (n : ℕ) (results : ℕ → ActionResultView) (nodes : List ℕ) → list_all (λ k. is_good (results k)) nodes ≡ false
@@ -40,7 +41,7 @@ pub ends_asked : (ms : List Meaning) (requests : Requests) (plan : PlanView) (n 
 ends_asked ms requests plan n names actions results nodes a made want d is run same alike before here good told =
     let ends = done_in (map (option_map action_result_of) results) in
     let seen = seen_by ends (predecessors_of plan.order n) in
-    let objects = seen_objects plan names actions (seen_by (done_at (action_results_of results)) nodes) seen same alike (ap (seen_by (done_at (action_results_of results))) before ∙ seen-are results (predecessors_of plan.order n)) in
+    let objects = seen_behind plan names actions results nodes n same alike before in
     let call : comes_of ms (asked_by want) ≡ call_with ms requests plan (objects_by plan seen) a =
     ap (λ (m : Result PreparedCall Faulted). comes_of ms (asked_by m)) (sym is) ∙ (told ∙ ap (λ (o : ℕ → InstanceKeyView → Tree). call_with ms requests plan o a) objects) in
     ends_run ms requests plan n ends (predecessors_of plan.order n) d good (run_at ms requests plan n seen a (comes_of ms (asked_by want)) d here call run)

@@ -4,6 +4,7 @@ pub mod Entered
 pub mod GoodSeen
 pub mod Judged
 pub mod Judging
+pub mod Memos
 pub mod Reported
 pub mod Seen
 pub mod Settling

@@ -42,14 +42,14 @@ other_than ends n m free some = at (eqb n m) refl
 pub stays : (ends : List (Option ActionResultView)) (n : ℕ) (d : ActionResultView) (m : ℕ) → n < length ends → end_at ends n ≡ None → is_some (end_at ends m) ≡ true → end_at (set ends n (Some d)) m ≡ end_at ends m
 stays ends n d m h free some = end_at-set ends n d m h ∙ ap (λ (b : Bool). cond b (Some d) (end_at ends m)) (other_than ends n m free some)
 
-done_stays : (ends : List (Option ActionResultView)) (n : ℕ) (d : ActionResultView) (m : ℕ) → n < length ends → end_at ends n ≡ None → is_some (end_at ends m) ≡ true → done_in (set ends n (Some d)) m ≡ done_in ends m
+pub done_stays : (ends : List (Option ActionResultView)) (n : ℕ) (d : ActionResultView) (m : ℕ) → n < length ends → end_at ends n ≡ None → is_some (end_at ends m) ≡ true → done_in (set ends n (Some d)) m ≡ done_in ends m
 done_stays ends n d m h free some = ap (λ (o : Option ActionResultView). unwrap_or o skipped) (stays ends n d m h free some)
 
 some_stays : (ends : List (Option ActionResultView)) (n : ℕ) (d : ActionResultView) (m : ℕ) → n < length ends → end_at ends n ≡ None → is_some (end_at ends m) ≡ true → is_some (end_at (set ends n (Some d)) m) ≡ true
 some_stays ends n d m h free some = ap is_some (stays ends n d m h free some) ∙ some
 
 -- where all that stands before an action has ended, one more end changes nothing that it sees
-seen_stays : (ends : List (Option ActionResultView)) (n : ℕ) (d : ActionResultView) (nodes : List ℕ) → n < length ends → end_at ends n ≡ None → list_all (λ m. is_some (end_at ends m)) nodes ≡ true
+pub seen_stays : (ends : List (Option ActionResultView)) (n : ℕ) (d : ActionResultView) (nodes : List ℕ) → n < length ends → end_at ends n ≡ None → list_all (λ m. is_some (end_at ends m)) nodes ≡ true
     → seen_by (done_in (set ends n (Some d))) nodes ≡ seen_by (done_in ends) nodes
 seen_stays ends n d nodes h free before =
     seen_by-same (done_in (set ends n (Some d))) (done_in ends) nodes (all_by_test (λ m. is_some (end_at ends m)) (λ m. done_in (set ends n (Some d)) m ≡ done_in ends m) nodes (λ m some. done_stays ends n d m h free some) before)

@@ -1,5 +1,6 @@
 pub mod Ends
 pub mod Fitting
+pub mod Memo
 pub mod Post
 pub mod Prepared
 pub mod PreparedMany

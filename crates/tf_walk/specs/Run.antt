@@ -1,5 +1,5 @@
 -- What a walk of many workers answers.
-use Rattle.std.specs.Prelude.{ℕ, ◌&&◌, Bool, nat_le, List}
+use Rattle.std.specs.Prelude.{ℕ, ◌&&◌, Bool, true, false, nat_le, List}
 use Rattle.tf_walk_action.specs.Journal.{IsJournal}
 use Rattle.tf_plan_data.specs.Plan.{PlanView}
 use Rattle.tf_protocol.specs.Meaning.{Meaning}
@@ -18,6 +18,11 @@ pub record IsTorn (ms : List Meaning) (plan : PlanView) (report : Report) : Type
 abbrev pub IsRun : List Meaning → PlanView → Walked → Type 0
 IsRun ms plan (Whole report) = IsWalked ms plan (Whole report)
 IsRun ms plan (Torn report) = IsTorn ms plan report
+
+-- whether a report comes with its journal
+abbrev pub is_whole : Walked → Bool
+is_whole (Whole report) = true
+is_whole (Torn report) = false
 
 -- a walk may have 1 to 64 workers
 abbrev pub are_workers : ℕ → Bool

@@ -6,15 +6,23 @@ ghost use Rattle.tf_claim.specs.declared.book.Stage.TheVariants as stage;
 
 use tf_claim::{Book, Finished, Permit};
 
-/// A permit for some action that may be claimed, which is then taken; `None` where there is none.
-pub fn next_permit(book: &mut Book) -> Option<Permit>
+/// A permit for the first action that may be claimed from a place on, or else before it, which is then taken; `None` where there
+/// is none.
+pub fn next_permit(book: &mut Book, from: usize) -> Option<Permit>
     ensures claimed { MatchOption result
         ((book.new ≡ book.old) × ((n : ℕ) → n < book.old.graph.nodes → is_claimable book.old n ≡ false))
         (λ permit. (permit < book.old.graph.nodes) × (is_claimable book.old permit ≡ true)
         × (book.new ≡ moved book.old permit stage.Taken)) }
     ensures kept { IsKept book.new }
 {
-    for action in 0..book.graph().nodes() {
+    let count = book.graph().nodes();
+    let start = from.min(count);
+    for action in start..count {
+        if let Some(permit) = book.claim(action) {
+            return Some(permit);
+        }
+    }
+    for action in 0..start {
         if let Some(permit) = book.claim(action) {
             return Some(permit);
         }

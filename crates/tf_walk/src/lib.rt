@@ -5,7 +5,6 @@
 //! is compared and reported once they are joined.
 #![tactic(auto)]
 
-mod asking;
 mod bound;
 mod calls;
 mod claims;
@@ -13,6 +12,7 @@ mod ending;
 mod fitting;
 mod hinting;
 mod many;
+mod memo;
 mod prepared;
 mod prepared_many;
 mod progress;

@@ -5,7 +5,7 @@ ghost use Rattle.tf_walk_action.specs.Words.{action_of, AreServed, FitsTogether,
 ghost use Rattle.tf_refusal.specs.Refusal.{no_memory, refusal_of, workers as wrong_workers};
 ghost use Rattle.tf_walk_report.specs.Report.{report_of};
 ghost use Rattle.tf_walk.specs.PreparedMany.{IsPrepared};
-ghost use Rattle.tf_walk.specs.Run.{IsRun, are_workers};
+ghost use Rattle.tf_walk.specs.Run.{IsRun, are_workers, is_whole};
 
 use crate::ending::report_walk;
 use crate::prepared_many::{PreparedWalk, Team, prepare};
@@ -13,6 +13,7 @@ use crate::progress::Progress;
 use crate::result_cells::ResultCells;
 use crate::shared::{BorrowedInput, SharedWalk};
 use crate::sharing::share_out;
+use crate::single::run_one;
 use std::alloc::{AllocError, Global};
 use std::marker::Brand;
 use std::sync::{Mutex, Wait};
@@ -28,9 +29,10 @@ use tf_walk_workers::{Log, WalkBrand};
 pub const MOST_WORKERS: usize = 64;
 
 /// Carries out a plan by so many workers, of which the calling thread is one; a worker that can't be started is done
-/// without. Every action is ended once, after all that stand before it; once `stop` is set, none that hasn't begun is called.
-/// Some provider in the list has the type of each action. Refused, before the first call, only where `workers` isn't 1 to 64
-/// or there is no memory for the walk; after the first call, no memory is taken for what a reply says. It may wait.
+/// without. One worker carries it out as `run_one` does, so that no journal is withheld. Every action is ended once, after all
+/// that stand before it; once `stop` is set, none that hasn't begun is called. Some provider in the list has the type of each
+/// action. Refused, before the first call, only where `workers` isn't 1 to 64 or there is no memory for the walk; after the first
+/// call, no memory is taken for what a reply says. With more than one worker it may wait.
 ///
 /// # Errors
 ///
@@ -45,19 +47,23 @@ pub fn run<R: Threads + Wait + Sync>(
 ) -> Result<Walked, Refusal>
     requires served { AreServed (map meaning providers.now) (map action_of plan.now.actions.items) }
     ensures walked { IfOk result (IsRun (map meaning providers.now) (plan_of plan.now)) }
+    ensures whole { workers ≡ 1 → IfOk result (λ walked. is_whole walked ≡ true) }
     ensures journal { IfOk result (λ walked. (report_of walked).journal.graph ≡ plan.now.order) }
     ensures refused { MatchResult result
         (λ _. are_workers workers ≡ true)
         (λ r. MatchBool (are_workers workers) (refusal_of r ≡ no_memory) (refusal_of r ≡ wrong_workers)) }
 {
+    if workers == 1 {
+        return run_one(alloc, plan, providers, stop);
+    }
     match run_and_close(rt, alloc, plan, providers, workers, stop) {
         Ok((walked, _)) => Ok(walked),
         Err(refusal) => Err(refusal),
     }
 }
 
-/// As `run`, and it says also whether the claims could be closed: whether each action was claimed and ended, and all that
-/// waited for it was let go. No contract says so, so tests ask it.
+/// As `run` by more than one worker, whatever their number, and it says also whether the claims could be closed: whether each
+/// action was claimed and ended, and all that waited for it was let go. No contract says so, so tests ask it.
 ///
 /// # Errors
 ///

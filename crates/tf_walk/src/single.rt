@@ -3,7 +3,7 @@
 ghost use Rattle.std.specs.Prelude.{◌≡◌, map, IfOk, IfErr};
 ghost use Rattle.tf_walk_action.specs.Words.{action_of, AreServed, FitsTogether, plan_of};
 ghost use Rattle.tf_refusal.specs.Refusal.{no_memory, refusal_of};
-ghost use Rattle.tf_walk_report.specs.Report.{IsWalked, IsWhole};
+ghost use Rattle.tf_walk_report.specs.Report.{IsWalked, IsWhole, report_of};
 ghost use Rattle.tf_walk.specs.Prepared.{IsPrepared};
 
 use crate::prepared::{Prepared, prepare};
@@ -32,6 +32,7 @@ pub fn run_one(
 ) -> Result<Walked, Refusal>
     requires served { AreServed (map meaning providers.now) (map action_of plan.now.actions.items) }
     ensures walked { IfOk result (IsWalked (map meaning providers.now) (plan_of plan.now)) }
+    ensures journal { IfOk result (λ walked. (report_of walked).journal.graph ≡ plan.now.order) }
     ensures refused { IfErr result (λ r. refusal_of r ≡ no_memory) }
 {
     let plan = &plan.plan;
@@ -52,7 +53,8 @@ fn carry_out(
     requires fits { FitsTogether plan.now }
     requires served { AreServed (map meaning providers.now) (map action_of plan.now.actions.items) }
     requires prepared { IsPrepared plan.now prepared }
-    ensures { IsWhole (map meaning providers.now) (plan_of plan.now) result }
+    ensures whole { IsWhole (map meaning providers.now) (plan_of plan.now) result }
+    ensures journal { result.journal.graph ≡ plan.now.order }
 {
     let Prepared {
         names,

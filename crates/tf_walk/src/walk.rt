@@ -5,6 +5,7 @@ ghost use Rattle.tf_walk_action.specs.Words.{action_of, AreServed, config_of, ac
 ghost use Rattle.tf_walk.specs.Ends.{AllHaveEnded, IsSoFar, IsStaged, end_at};
 
 use crate::claims::{close, next_permit};
+use crate::memo::Memo;
 use crate::steps::end_action;
 use std::alloc::Global;
 use std::mem;
@@ -14,7 +15,8 @@ use tf_plan_data::Plan;
 use tf_provider::{Journal, Provider};
 use tf_walk_action::{ActionResult, Stop};
 
-/// Takes every action of a plan to its end; once the walk is to stop, no further provider is called.
+/// Takes every action of a plan to its end, from the first on as long as one may be claimed, and again from the first on; once the
+/// walk is to stop, no further provider is called.
 pub fn walk(
     alloc: Global,
     plan: &Plan,
@@ -37,13 +39,16 @@ pub fn walk(
     ensures graph { journal.new.graph ≡ plan.now.order }
 {
     let _order = plan.order.graph();
-    while let Some(permit) = next_permit(book) {
+    let mut memo = Memo::new(alloc);
+    let mut from = 0;
+    while let Some(permit) = next_permit(book, from) {
         let action = permit.action();
         let (ended, finished) = end_action(
-            alloc, plan, names, providers, results, journal, stop, permit,
+            alloc, plan, names, providers, results, journal, stop, &mut memo, permit,
         );
         keep(results, action, ended);
         close(book, finished);
+        from = action + 1;
     }
 }
 

@@ -52,8 +52,8 @@ report_of-requires-clause-judged g c =
     let judged = so_far-judged ms asked.0 plan (map (option_map action_result_of) new) c.walk.new.journal.entries (action_results_of new) c.walk.ensures.so_far asked.1 (dones-are new) in
     subst (λ rs. AreJudged ms (map (λ a. op_of a.step) (map action_of c.args.plan.now.actions.items)) (action_results_of rs)) (sym left.0) judged
 
-pub returns : goal.returns
-returns g c =
+pub returns-clause-whole : goal.returns-clause-whole
+returns-clause-whole g c =
     let ms = map (λ b. (goal.Provider-dyn g (b.vtable, b.value)).meaning b.value) c.args.providers.now in
     let plan = plan_of c.args.plan.now in
     let new = c.walk.new.results in
@@ -92,3 +92,6 @@ returns g c =
             ops = subst (λ es. AllByRecursion (IsOfAction plan.actions) es) (sym written) c.walk.ensures.so_far.ops;
           };
     }
+
+pub returns-clause-journal : goal.returns-clause-journal
+returns-clause-journal g c = ap (λ (l : Log). l.graph) c.report_of.ensures.journal ∙ c.walk.ensures.graph

@@ -8,9 +8,20 @@ use Rattle.tf_graph.specs.Digraph.{Digraph}
 use Rattle.tf_plan_data.specs.Action.{action_of}
 use Rattle.tf_plan_data.specs.Plan.{plan_of}
 use Rattle.tf_walk_action.specs.ResultViews.{action_result_of}
+use Rattle.tf_walk.proofs.Memos.{memo-more}
 use Rattle.tf_walk.proofs.SoFar.{so_far-more, staged-more, claimable_is, all_ended}
 use Rattle.tf_walk.proofs.Stages.{taken_there, fewer_free, map-set}
 use Rattle.tf_walk.proofs.walk.walk.Goals as goal
+
+pub loop-permit-init : goal.loop-permit-init
+loop-permit-init g c =
+    record {
+      so_far = c.requires.so_far;
+      staged = c.requires.staged;
+      book = c.requires.book;
+      graph = c.requires.graph;
+      memo = rw c.new-memo.ensures tt;
+    }
 
 pub end_action-ended-requires-clause-before : goal.end_action-ended-requires-clause-before
 end_action-ended-requires-clause-before g c =
@@ -66,6 +77,7 @@ loop-permit-preserved g c =
       staged = rw (written, book) (staged-more old.stages ends p d inside within c.loop-permit.invariant.staged);
       book = ap (λ (l : Ledger). l.graph) book ∙ c.loop-permit.invariant.book;
       graph = c.end_action-ended.ensures.same_graph ∙ c.loop-permit.invariant.graph;
+      memo = rw written (memo-more (plan_of c.args.plan.now) ends c.end_action-ended.new.memo p d inside parts.0 c.end_action-ended.ensures.memo);
     }
 
 pub returns-clause-all : goal.returns-clause-all
