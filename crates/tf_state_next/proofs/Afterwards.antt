@@ -5,7 +5,7 @@ use Rattle.std.specs.Option.{option_eq, option_map_or, option_or}
 use Rattle.std.specs.Prelude.{bytes_eq}
 use Rattle.tf_address.specs.ObjectId.{InstanceKeyView, ObjectIdView}
 use Rattle.tf_state_next.specs.After.{IsAfter, after_destroy, as_deposed, current_after, deposed_anew, destroy_under, instance_after, left_of_record, object_at, places_in, record_of_saved, renewed}
-use Rattle.tf_state_next.specs.Ends.{SavedView, LeftView, gone, changed, unchanged, ApplyResultView, unwanted, unplanned, nothing, saved, RecordInputView, destroy_of}
+use Rattle.tf_state_next.specs.Ends.{SavedView, LeftView, gone, changed, unchanged, ApplyResultView, unwanted, unplanned, nothing, saved, RecordInputView, apply_of, destroy_of}
 use Rattle.tf_state_next.specs.Room.{deposed_by, with_any}
 use Rattle.tf_state_next.proofs.Places.{IsSet, HasId, found_id, put_sets, set_again, left_sets, taken_sets}
 use Rattle.tf_state_data.specs.Record.{RecordView}
@@ -22,10 +22,6 @@ left_id id unchanged (Some r) is x e = is x e
 pub destroyed_id : (id : ObjectIdView) (destroyed : Option LeftView) (rs : List RecordView) → HasId id (after_destroy destroyed (record_at id rs))
 destroyed_id id None rs x e = found_id id x rs e
 destroyed_id id (Some left) rs x e = left_id id left (record_at id rs) (λ y f. found_id id y rs f) x e
-
-renewed_id : (id : ObjectIdView) (dependencies : List (List ℕ)) (late : Bool) (there : Option RecordView) → HasId id there → HasId id (option_map (renewed dependencies late) there)
-renewed_id id dependencies late None is x e = absurd (cc)
-renewed_id id dependencies late (Some r) is x e = let one : renewed dependencies late r ≡ x = (cc) in sym (ap (λ r. r.id) one) ∙ is r refl
 
 -- ---- where one place alone changed
 
@@ -93,21 +89,6 @@ destroyed_set id left r s is g same =
     subst (λ q. IsSet id (after_destroy (Some left) (record_at id r.records)) r q) (sym is) (left_sets id (after_destroy (Some left) (record_at id r.records)) r (destroyed_id id (Some left) r.records)) in
     destroyed_at g id.deposed left r s (subst (λ i. IsSet i (after_destroy (Some left) (record_at i r.records)) r s) (sym one) set)
 
--- ---- where nothing was saved
-
--- what was left of the current object is put back, as it is or with what it is given anew
-pub left_set : (g : RecordInputView) (a b : ApplyResultView) (destroyed : Option LeftView) (kept : Option RecordView) (r s : ResourceView) → b ≡ a → IsStill a
-    → kept ≡ current_after g a (after_destroy destroyed (record_at (object_at g.key None) r.records)) → HasId (object_at g.key None) kept
-    → s ≡ with_any kept (without_record (object_at g.key None) r) → IsAfter g (record { applied = b; destroyed = destroyed; deposed = [] }) r s
-left_set g a b destroyed kept r s same still what named is =
-    let set = subst (λ q. IsSet (object_at g.key None) kept r q) (sym is) (left_sets (object_at g.key None) kept r named) in
-    subst (λ (c : ApplyResultView). IsAfter g (record { applied = c; destroyed = destroyed; deposed = [] }) r s) (sym same)
-    (current_set g a destroyed r s still (subst (λ k. IsSet (object_at g.key None) k r s) what set))
-
-pub renewed_named : (g : RecordInputView) (destroyed : Option LeftView) (r : ResourceView) → HasId (object_at g.key None) (option_map (renewed g.dependencies g.create_before_destroy) (after_destroy destroyed (record_at (object_at g.key None) r.records)))
-renewed_named g destroyed r =
-    renewed_id (object_at g.key None) g.dependencies g.create_before_destroy (after_destroy destroyed (record_at (object_at g.key None) r.records)) (destroyed_id (object_at g.key None) destroyed r.records)
-
 -- ---- where an object was saved
 
 -- the object that becomes deposed under a key
@@ -157,16 +138,16 @@ old_deposed key (Some to) (Some x) r named =
     }
 
 -- the object that was saved is put in, and the old one becomes deposed
-saved_set : (g : RecordInputView) (x : SavedView) (destroyed : Option LeftView) (new : RecordView) (r s : ResourceView) → new ≡ record_of_saved g x
-    → s ≡ with_any (deposed_by g.deposed_key (after_destroy destroyed (record_at (object_at g.key None) r.records))) (with_record new (without_record (object_at g.key None) r))
-    → IsAfter g (record { applied = saved x; destroyed = destroyed; deposed = [] }) r s
-saved_set g x destroyed new r s what is =
+pub saved_after : (g : RecordInputView) (x : SavedView) (new : RecordView) (r s : ResourceView) → new ≡ record_of_saved g x
+    → s ≡ with_any (deposed_by g.deposed_key (record_at (object_at g.key None) r.records)) (with_record new (without_record (object_at g.key None) r))
+    → IsAfter g (apply_of (saved x)) r s
+saved_after g x new r s what is =
     let id = object_at g.key None in
-    let left = after_destroy destroyed (record_at id r.records) in
+    let left = record_at id r.records in
     let mid = with_record new (without_record id r) in
     let named : new.id ≡ id = ap (λ (n : RecordView). n.id) what in
     let put : IsSet id (Some new) r mid = set_again id None (Some new) r (without_record id r) mid (taken_sets id r) (put_sets id new (without_record id r) named) in
-    let old : IsDeposed g.key g.deposed_key left mid s = subst (λ q. IsDeposed g.key g.deposed_key left mid q) (sym is) (old_deposed g.key g.deposed_key left mid (destroyed_id id destroyed r.records)) in
+    let old : IsDeposed g.key g.deposed_key left mid s = subst (λ q. IsDeposed g.key g.deposed_key left mid q) (sym is) (old_deposed g.key g.deposed_key left mid (λ y e. found_id id y r.records e)) in
     let current : places_in g.key s.records None ≡ Some (record_of_saved g x) = old.current ∙ put.there ∙ ap Some what in
     record {
       own = λ d. own put old current d;
@@ -176,18 +157,12 @@ saved_set g x destroyed new r s what is =
     }
   where
     own : IsSet (object_at g.key None) (Some new) r (with_record new (without_record (object_at g.key None) r))
-        → IsDeposed g.key g.deposed_key (after_destroy destroyed (record_at (object_at g.key None) r.records)) (with_record new (without_record (object_at g.key None) r)) s
+        → IsDeposed g.key g.deposed_key (record_at (object_at g.key None) r.records) (with_record new (without_record (object_at g.key None) r)) s
         → places_in g.key s.records None ≡ Some (record_of_saved g x)
-        → (d : Option (List ℕ)) → places_in g.key s.records d ≡ instance_after g (record { applied = saved x; destroyed = destroyed; deposed = [] }) (places_in g.key r.records) d
+        → (d : Option (List ℕ)) → places_in g.key s.records d ≡ instance_after g (apply_of (saved x)) (places_in g.key r.records) d
     own put old current None = current
     own put old current (Some t) =
-        old.own t ∙ ap (λ o. option_or (anew g.deposed_key (after_destroy destroyed (record_at (object_at g.key None) r.records)) t) o) (put.others (object_at g.key (Some t)) (current_apart g.key t))
-
-pub saved_after : (g : RecordInputView) (x : SavedView) (b : ApplyResultView) (destroyed : Option LeftView) (new : RecordView) (r s : ResourceView) → b ≡ saved x → new ≡ record_of_saved g x
-    → s ≡ with_any (deposed_by g.deposed_key (after_destroy destroyed (record_at (object_at g.key None) r.records))) (with_record new (without_record (object_at g.key None) r))
-    → IsAfter g (record { applied = b; destroyed = destroyed; deposed = [] }) r s
-saved_after g x b destroyed new r s same what is =
-    subst (λ (c : ApplyResultView). IsAfter g (record { applied = c; destroyed = destroyed; deposed = [] }) r s) (sym same) (saved_set g x destroyed new r s what is)
+        old.own t ∙ ap (λ o. option_or (anew g.deposed_key (record_at (object_at g.key None) r.records) t) o) (put.others (object_at g.key (Some t)) (current_apart g.key t))
 
 -- where none becomes deposed, the record is put in over the old one
 pub saved_in_place : (g : RecordInputView) (x : SavedView) (b : ApplyResultView) (r s : ResourceView) → b ≡ saved x → g.deposed_key ≡ None → s ≡ with_record (record_of_saved g x) r

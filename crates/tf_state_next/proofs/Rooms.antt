@@ -1,5 +1,5 @@
 -- Room, as records are taken out and put in.
-use Rattle.std.proofs.Common.{ℕ, ◌+◌, Option, Some, None, IfSome, IfNone, IsSome, refl}
+use Rattle.std.proofs.Common.{ℕ, ◌+◌, Option, Some, None, IfSome, IfNone, IsSome}
 use Rattle.tf_state_data.specs.Resource.{HasRoomForRecords}
 use Rattle.tf_state_data.specs.declared.record.Record.{Record}
 use Rattle.tf_state_data.specs.declared.resource.Resource.{Resource}
@@ -20,11 +20,6 @@ pub put_back : (left kept : Option Record) (r s t : Resource) → Keeps r s → 
 put_back left None r s t keeps freed there none some n h = none n (keeps n h)
 put_back (Some x) (Some y) r s t keeps freed there none some n h = some n (freed n h)
 put_back None (Some y) r s t keeps freed there none some n h = absurd (cc)
-
--- an object that was left is there
-pub itself : (left : Option Record) → IfSome left (λ _. IsSome left)
-itself None = tt
-itself (Some x) = refl
 
 -- there is room for the old object behind the new one
 pub room_for_old : (left kept : Option Record) (r s t : Resource) → Freed left r s → IfSome kept (λ _. IsSome left) → Uses s t → HasRoomForRecords 1 r → IfSome kept (λ _. HasRoomForRecords 1 t)

@@ -3,7 +3,6 @@ use Rattle.std.specs.Prelude.{ℕ, Bool, List, [], ◌∷◌, Option, Some, None
 use Rattle.tf_address.specs.ObjectId.{InstanceKeyView, instance_key_of}
 use Rattle.tf_state_next.specs.declared.ends.ApplyResult.{ApplyResult}
 use Rattle.tf_state_next.specs.declared.ends.ApplyResult.TheVariants as applies
-use Rattle.tf_state_next.specs.declared.ends.InstanceResult.{InstanceResult}
 use Rattle.tf_state_next.specs.declared.ends.RecordInput.{RecordInput}
 use Rattle.tf_state_next.specs.declared.ends.Left.{Left}
 use Rattle.tf_state_next.specs.declared.ends.Left.TheVariants as lefts
@@ -61,10 +60,6 @@ apply_result_of applies.Unplanned = unplanned
 apply_result_of applies.Nothing = nothing
 apply_result_of (applies.Saved s) = saved (saved_of s)
 
--- nothing is said of deposed objects
-abbrev pub instance_result_of : InstanceResult → InstanceResultView
-instance_result_of e = record { applied = apply_result_of e.applied; destroyed = option_map left_of e.destroyed; deposed = [] }
-
 abbrev pub record_input_of : RecordInput → RecordInputView
 record_input_of g =
     record {
@@ -74,6 +69,10 @@ record_input_of g =
       create_before_destroy = g.create_before_destroy;
       deposed_key = option_map string_bytes g.deposed_key;
     }
+
+-- a create or an update alone
+abbrev pub apply_of : ApplyResultView → InstanceResultView
+apply_of applied = record { applied = applied; destroyed = None; deposed = [] }
 
 -- a destroy alone, of the current object or of a deposed one
 abbrev pub destroy_of : Option (List ℕ) → LeftView → InstanceResultView

@@ -35,14 +35,6 @@ pub enum ApplyResult {
     Saved(Saved),
 }
 
-/// What came of the actions on the current object of an instance. It can be neither copied nor let go.
-pub struct InstanceResult {
-    /// What came of the create or the update.
-    pub applied: ApplyResult,
-    /// What the destroy of the object that was there left of it, where one was planned.
-    pub destroyed: Option<Left>,
-}
-
 /// What the record of an instance's object is given, all of which is had before the first call.
 #[derive(Drop)]
 pub struct RecordInput {

@@ -20,9 +20,9 @@ mod saved;
 mod whole;
 
 pub use draft::{StateDraft, draft_state};
-pub use ends::{ApplyResult, InstanceResult, Left, RecordInput, Saved};
+pub use ends::{ApplyResult, Left, RecordInput, Saved};
 pub use events::{Apply, Destroy, Events, MetadataUpdate};
 pub use key::deposed_key;
-pub use record_ends::{record_current, record_destroy};
+pub use record_ends::{record_apply, record_destroy};
 pub use saved::{left_by_destroy, saved_by_create, saved_by_update};
 pub use whole::state_after;

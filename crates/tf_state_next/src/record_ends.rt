@@ -1,83 +1,34 @@
 //! What came of an instance's actions is recorded, without memory.
 
-ghost use Rattle.std.specs.Prelude.{◌≡◌, ◌+◌, ℕ, [], None, IfNone, IfSome, IsSome, map, option_and_then, option_map, string_bytes};
+ghost use Rattle.std.specs.Prelude.{◌≡◌, ◌+◌, ℕ, None, IfNone, IfSome, IsSome, option_and_then, option_map, string_bytes};
 ghost use Rattle.tf_address.specs.ObjectId.{object_id_of};
-ghost use Rattle.tf_state_next.specs.After.{IsAfter, after_destroy, left_of_record, object_at, record_of_saved, renewed};
-ghost use Rattle.tf_state_next.specs.Ends.{RecordInputView, apply_result_of, destroy_of, instance_result_of, record_input_of, left_of, saved_of};
+ghost use Rattle.tf_state_next.specs.After.{IsAfter, left_of_record, object_at, record_of_saved};
+ghost use Rattle.tf_state_next.specs.Ends.{RecordInputView, apply_of, apply_result_of, destroy_of, left_of, record_input_of, saved, saved_of};
 ghost use Rattle.tf_state_next.specs.Room.{deposed_by, records_more, with_any};
 ghost use Rattle.tf_state_data.specs.Record.{record_of};
-ghost use Rattle.tf_state_data.specs.Resource.{HasRoomForRecords, record_at, resource_of, with_metadata, with_record, without_record};
+ghost use Rattle.tf_state_data.specs.Resource.{HasRoomForRecords, resource_of, with_metadata, with_record};
 
-use crate::ends::{ApplyResult, InstanceResult, Left, RecordInput, Saved};
-use std::collections::BTreeSet;
+use crate::ends::{ApplyResult, Left, RecordInput, Saved};
 use tf_address::ObjectId;
 use tf_state_data::{Record, Resource};
 
-/// Records what came of the actions on the current object of an instance. It takes no memory: where an object was saved
-/// there has to be room for one record more.
-pub fn record_current(resource: &mut Resource, given: RecordInput, ends: InstanceResult)
-    requires { HasRoomForRecords (records_more (apply_result_of ends.applied)) resource.old }
-    ensures after { IsAfter (record_input_of given) (instance_result_of ends) (resource_of resource.old) (resource_of resource.new) }
-    ensures room { (n : ℕ) → HasRoomForRecords (n + records_more (apply_result_of ends.applied)) resource.old → HasRoomForRecords n resource.new }
-{
-    let RecordInput {
-        key,
-        schema_version,
-        dependencies,
-        create_before_destroy,
-        deposed_key,
-    } = given;
-    let InstanceResult { applied, destroyed } = ends;
-    let id = ObjectId { key, deposed: None };
-    let left = take_left(resource, &id, destroyed);
-    match applied {
-        ApplyResult::Unwanted | ApplyResult::Nothing => put_any(resource, left),
-        ApplyResult::Unplanned => {
-            let left = renew(left, dependencies, create_before_destroy);
-            put_any(resource, left);
-        }
-        ApplyResult::Saved(
-            Saved {
-                attributes,
-                tainted,
-            },
-        ) => {
-            drop(resource.put(Record {
-                id,
-                attributes,
-                schema_version,
-                tainted,
-                dependencies,
-                create_before_destroy,
-            }));
-            let left = depose(left, deposed_key);
-            put_any(resource, left);
-        }
-    }
-}
-
-/// Records what came of the create or the update of an instance whose current object no other action destroys. Where no object
-/// becomes deposed, the record is written over where it stands, and no other is moved. It takes no memory: where an object was saved
-/// there has to be room for one record more.
-pub(crate) fn record_apply(resource: &mut Resource, given: RecordInput, applied: ApplyResult)
+/// Records what came of the create or the update of an instance. Where an object was saved and a key is given for the one that
+/// was there, that becomes deposed; else the record is written over where it stands, and no other is moved. It takes no memory:
+/// where an object was saved there has to be room for one record more.
+pub fn record_apply(resource: &mut Resource, given: RecordInput, applied: ApplyResult)
     requires { HasRoomForRecords (records_more (apply_result_of applied)) resource.old }
-    ensures after { IsAfter (record_input_of given) (record { applied = apply_result_of applied; destroyed = None; deposed = [] })
-        (resource_of resource.old) (resource_of resource.new) }
+    ensures after { IsAfter (record_input_of given) (apply_of (apply_result_of applied)) (resource_of resource.old) (resource_of resource.new) }
     ensures room { (n : ℕ) → HasRoomForRecords (n + records_more (apply_result_of applied)) resource.old → HasRoomForRecords n resource.new }
 {
     let is_plain = given.deposed_key.is_none();
     match applied {
         ApplyResult::Unwanted | ApplyResult::Nothing => {}
         ApplyResult::Unplanned => renew_record(resource, given),
-        ApplyResult::Saved(saved) => {
+        ApplyResult::Saved(object) => {
             if is_plain {
-                put_saved(resource, given, saved);
+                put_saved(resource, given, object);
             } else {
-                let ends = InstanceResult {
-                    applied: ApplyResult::Saved(saved),
-                    destroyed: None,
-                };
-                record_current(resource, given, ends);
+                put_deposing(resource, given, object);
             }
         }
     }
@@ -101,15 +52,15 @@ fn renew_record(resource: &mut Resource, given: RecordInput)
 }
 
 /// Puts in the record of an object that was saved, in place of the one that was there.
-fn put_saved(resource: &mut Resource, given: RecordInput, saved: Saved)
+fn put_saved(resource: &mut Resource, given: RecordInput, object: Saved)
     requires { HasRoomForRecords 1 resource.old }
-    ensures put { resource_of resource.new ≡ with_record (record_of_saved (record_input_of given) (saved_of saved)) (resource_of resource.old) }
+    ensures put { resource_of resource.new ≡ with_record (record_of_saved (record_input_of given) (saved_of object)) (resource_of resource.old) }
     ensures room { (n : ℕ) → HasRoomForRecords (n + 1) resource.old → HasRoomForRecords n resource.new }
 {
     let Saved {
         attributes,
         tainted,
-    } = saved;
+    } = object;
     drop(resource.put(Record {
         id: ObjectId {
             key: given.key,
@@ -123,6 +74,36 @@ fn put_saved(resource: &mut Resource, given: RecordInput, saved: Saved)
     }));
 }
 
+/// Puts in the record of an object that was saved. The one that was there becomes deposed under the key that is given for it.
+fn put_deposing(resource: &mut Resource, given: RecordInput, object: Saved)
+    requires { HasRoomForRecords 1 resource.old }
+    ensures after { IsAfter (record_input_of given) (apply_of (saved (saved_of object))) (resource_of resource.old) (resource_of resource.new) }
+    ensures room { (n : ℕ) → HasRoomForRecords (n + 1) resource.old → HasRoomForRecords n resource.new }
+{
+    let RecordInput {
+        key,
+        schema_version,
+        dependencies,
+        create_before_destroy,
+        deposed_key,
+    } = given;
+    let Saved {
+        attributes,
+        tainted,
+    } = object;
+    let id = ObjectId { key, deposed: None };
+    let there = resource.remove(&id);
+    drop(resource.put(Record {
+        id,
+        attributes,
+        schema_version,
+        tainted,
+        dependencies,
+        create_before_destroy,
+    }));
+    put_any(resource, depose(there, deposed_key));
+}
+
 /// Records what the destroy of an object left of it, of the current object of an instance or of a deposed one. It takes no
 /// memory.
 pub fn record_destroy(resource: &mut Resource, id: &ObjectId, left: Left)
@@ -130,23 +111,8 @@ pub fn record_destroy(resource: &mut Resource, id: &ObjectId, left: Left)
         → IsAfter g (destroy_of (object_id_of id.now).deposed (left_of left)) (resource_of resource.old) (resource_of resource.new) }
     ensures room { (n : ℕ) → HasRoomForRecords n resource.old → HasRoomForRecords n resource.new }
 {
-    let left = take_left(resource, id, Some(left));
-    put_any(resource, left);
-}
-
-/// Takes out the record of an object, and gives what the destroy left of it.
-fn take_left(resource: &mut Resource, id: &ObjectId, destroyed: Option<Left>) -> Option<Record>
-    ensures left { option_map record_of result
-        ≡ after_destroy (option_map left_of destroyed) (record_at (object_id_of id.now) (resource_of resource.old).records) }
-    ensures taken { resource_of resource.new ≡ without_record (object_id_of id.now) (resource_of resource.old) }
-    ensures room { (n : ℕ) → HasRoomForRecords n resource.old → HasRoomForRecords n resource.new }
-    ensures freed { IfSome result (λ _. (n : ℕ) → HasRoomForRecords n resource.old → HasRoomForRecords (n + 1) resource.new) }
-{
     let there = resource.remove(id);
-    match destroyed {
-        Some(left) => leave(there, left),
-        None => there,
-    }
+    put_any(resource, leave(there, left));
 }
 
 /// What a destroy left of a record, where there is one.
@@ -174,26 +140,6 @@ fn put_any(resource: &mut Resource, kept: Option<Record>)
 {
     if let Some(kept) = kept {
         drop(resource.put(kept));
-    }
-}
-
-/// The record of an object for which nothing was planned, with what it is given anew.
-fn renew(
-    kept: Option<Record>,
-    dependencies: BTreeSet<String>,
-    create_before_destroy: bool,
-) -> Option<Record>
-    ensures renewed { option_map record_of result
-        ≡ option_map (renewed (map string_bytes dependencies.keys) create_before_destroy) (option_map record_of kept) }
-    ensures there { IfSome result (λ _. IsSome kept) }
-{
-    match kept {
-        Some(mut kept) => {
-            kept.dependencies = dependencies;
-            kept.create_before_destroy = create_before_destroy;
-            Some(kept)
-        }
-        None => None,
     }
 }
 

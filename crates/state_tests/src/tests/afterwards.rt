@@ -4,8 +4,7 @@ use std::test::Fail;
 use tf_address::{InstanceKey, Label, ObjectId};
 use tf_state_data::{Object, Record, Resource, provider_address};
 use tf_state_next::{
-    ApplyResult, InstanceResult, Left, RecordInput, Saved, deposed_key, record_current,
-    record_destroy,
+    ApplyResult, Left, RecordInput, Saved, deposed_key, record_apply, record_destroy,
 };
 use tf_value::Value;
 
@@ -92,16 +91,13 @@ fn deposes_what_was_replaced(rt: HostRuntime) -> Result<(), Fail> {
         deposed_key: Some(String::from_str(alloc, "00000002")?),
     };
     resource.reserve(1)?;
-    let ends = InstanceResult {
-        applied: ApplyResult::Saved(Saved {
-            attributes: Object {
-                value: Value::Bool(true),
-            },
-            tainted: true,
-        }),
-        destroyed: Some(Left::Unchanged),
-    };
-    record_current(&mut resource, given, ends);
+    let applied = ApplyResult::Saved(Saved {
+        attributes: Object {
+            value: Value::Bool(true),
+        },
+        tainted: true,
+    });
+    record_apply(&mut resource, given, applied);
     let value = Value::Bool(false);
     record_destroy(&mut resource, &deposed, Left::Changed(Object { value }));
     assert_eq!(rt; resource.records().len(), 4);
