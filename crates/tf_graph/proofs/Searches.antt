@@ -1,11 +1,11 @@
 -- A search for what a node reaches: one step on, and at its end.
-use Rattle.std.proofs.Common.{◌≡◌, ◌||◌, ◌<◌, ◌≤◌, ◌⊎◌, ◌∷◌, ◌++◌, [], ℕ, zero, suc, List, Bool, true, false, cond, length, set, refl, sym, ◌∙◌, arith, eqb, inl, inr}
+use Rattle.std.proofs.Common.{◌≡◌, ◌||◌, ◌<◌, ◌≤◌, ◌⊎◌, ◌∷◌, ◌++◌, [], ℕ, zero, suc, List, Bool, true, false, cond, length, set, refl, sym, subst, ◌∙◌, arith, eqb, inl, inr}
 use Rattle.std.specs.Prelude.{Contains}
 use Rattle.std.proofs.lemmas.Bool.{cases_eq, cases_lt, or_cases, or_left, or_right, eq-eqb, eqb-true, false≢true, both_ways}
 use Rattle.std.proofs.lemmas.List.{get_or-set_same, get_or-set_other, get_or_past}
 use Rattle.std.proofs.lemmas.List.Elements.{Contains-append_left, Contains-append_right, Contains-push, Contains-push_cases, Contains-append_cases}
-use Rattle.tf_graph.specs.Digraph.{Digraph, IsWithin}
-use Rattle.tf_graph.proofs.Edges.{start_inside}
+use Rattle.tf_graph.specs.Digraph.{Digraph, IsWithin, successors_of}
+use Rattle.tf_graph.proofs.Edges.{start_inside, target-from_edge}
 use Rattle.tf_graph.specs.Closure.{Table, IsClosure}
 use Rattle.tf_graph.specs.Path.{Path, direct, onward, HasEdge, Reaches, joined}
 use Rattle.tf_graph.specs.NodeSet.{has}
@@ -40,6 +40,10 @@ missing-lt set more (suc n) node h below was is = elim (cases_eq node n) [
       let here : cond (has more n) 0 1 ≤ cond (has set n) 0 1 = fewer (has set n) (has more n) (h n) in
       omega arith
 ]
+
+pub or_none : (a b : Bool) → (a || b) ≡ false → a ≡ false
+or_none true b h = absurd (cc)
+or_none false b h = refl
 
 -- a set, and more: a node is added to it, and then another set
 old_stays : (set more others : List Bool) (node : ℕ) → ((k : ℕ) → has more k ≡ ((has set k || eqb node k) || has others k)) → (k : ℕ) → has set k ≡ true → has more k ≡ true
@@ -241,6 +245,39 @@ known-more g rows known more row node are_known below is found led = record {
       | inl old ↦ old
       | inr here ↦ absurd (other (sym (eqb-true node a here)))
     ]
+
+-- a node that no edge leaves reaches nothing, so an empty row is its own
+pub known-edgeless : (g : Digraph) (rows : List (List Bool)) (known more : List Bool) (node : ℕ) → AreKnown g rows known → ((b : ℕ) → has (row_of rows node) b ≡ false) → successors_of g node ≡ [] → ((k : ℕ) → has more k ≡ (has known k || eqb node k)) → AreKnown g rows more
+known-edgeless g rows known more node are_known empty none is = record {
+  found = λ a b h p. elim (was a h) [
+    | inl old ↦ are_known.found a b old p
+    | inr here ↦ absurd (leaves_none b (rw (← here) at p))
+  ];
+  led = λ a b h m. elim (was a h) [
+    | inl old ↦ are_known.led a b old m
+    | inr here ↦ absurd (both_ways (has (row_of rows a) b) (rw here at empty b) m)
+  ];
+}
+  where
+    was : (a : ℕ) → has more a ≡ true → (has known a ≡ true) ⊎ (node ≡ a)
+    was a h = elim (or_cases _ _ (sym (is a) ∙ h)) [ inl old ↦ inl old | inr here ↦ inr (eqb-true node a here) ]
+
+    no_edge : (t : ℕ) → HasEdge g node t → ⊥
+    no_edge t e = let there : Contains {X = ℕ} [] t = subst (λ ts. Contains ts t) none (target-from_edge g.edges node t e) in omega (arith, there.1)
+
+    leaves_none : (b : ℕ) → Reaches g node b → ⊥
+    leaves_none b p = go node b p refl
+      where
+        go : (a c : ℕ) → Path (HasEdge g) a c → a ≡ node → ⊥
+        go _ _ (direct a c e) h = no_edge c (rw h at e)
+        go _ _ (onward a k c e q) h = no_edge k (rw h at e)
+
+-- what isn't known yet keeps its empty row
+pub blank-more : (rows : List (List Bool)) (known more row : List Bool) (node : ℕ) → ((a b : ℕ) → has known a ≡ false → has (row_of rows a) b ≡ false) → ((k : ℕ) → has more k ≡ (has known k || eqb node k)) → (a b : ℕ) → has more a ≡ false → has (row_of (set rows node row) a) b ≡ false
+blank-more rows known more row node blank is a b h = elim (cases_eq a node) [
+  | inl here ↦ absurd (both_ways (has more a) h (is a ∙ or_right _ _ (eq-eqb node a (sym here))))
+  | inr other ↦ rw (get_or-set_other rows node a row [] other) (blank a b (or_none (has known a) (eqb node a) (sym (is a) ∙ h)))
+]
 
 -- rows that are all known are the closure
 pub closure-known : (g : Digraph) (t : Table) (known : List Bool) → IsWithin g.nodes g.edges → t.nodes ≡ g.nodes → length t.rows ≡ g.nodes → AreKnown g t.rows known → ((k : ℕ) → k < g.nodes → has known k ≡ true) → IsClosure g t

@@ -1,5 +1,5 @@
 -- A search for what a node reaches, which takes over what is known of other nodes.
-use Rattle.std.specs.Prelude.{◌≡◌, ◌<◌, ◌+◌, ◌⊎◌, ℕ, zero, suc, Bool, true, cond, List, [], length, slice_index_or, Contains}
+use Rattle.std.specs.Prelude.{◌≡◌, ◌<◌, ◌+◌, ◌⊎◌, ℕ, zero, suc, Bool, true, false, cond, List, [], length, slice_index_or, Contains}
 use Rattle.std.specs.List.{All}
 use Rattle.tf_graph.specs.Digraph.{Digraph}
 use Rattle.tf_graph.specs.Path.{HasEdge, Reaches}
@@ -23,12 +23,14 @@ pub record AreKnown (g : Digraph) (rows : List (List Bool)) (known : List Bool) 
   pub found : (a b : ℕ) → has known a ≡ true → Reaches g a b → has (row_of rows a) b ≡ true
   pub led : (a b : ℕ) → has known a ≡ true → has (row_of rows a) b ≡ true → Reaches g a b
 
--- what is known of a graph: a row for each node, and the known nodes, whose rows are exactly what these reach
+-- what is known of a graph: a row for each node, and the known nodes, whose rows are exactly what these reach; the rows of the
+-- others are empty
 pub record IsTold (g : Digraph) (rows : List (List Bool)) (known : List Bool) : Type 0 where
   pub count : length rows ≡ g.nodes
   pub long : AreLong g.nodes rows
   pub known_length : length known ≡ g.nodes
   pub rows_known : AreKnown g rows known
+  pub blank : (a b : ℕ) → has known a ≡ false → has (row_of rows a) b ≡ false
 
 -- the sets of a search have a place for each node
 pub record IsWide (nodes : ℕ) (row settled : List Bool) : Type 0 where

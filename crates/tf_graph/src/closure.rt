@@ -1,6 +1,6 @@
 //! Which node of a graph reaches which.
 
-ghost use Rattle.std.specs.Prelude.{◌≡◌, ◌≤◌, ◌<◌, ◌+◌, ◌++◌, ◌∷◌, [], ◌⊎◌, ℕ, true, List, length, All, IfOk, IfSome, OnOk, vec_len};
+ghost use Rattle.std.specs.Prelude.{◌≡◌, ◌≤◌, ◌<◌, ◌+◌, ◌++◌, ◌∷◌, [], ◌⊎◌, ℕ, true, false, List, length, All, IfOk, IfSome, OnOk, vec_len};
 ghost use Rattle.tf_graph.specs.Digraph.{Digraph};
 ghost use Rattle.tf_graph.specs.Path.{Reaches};
 ghost use Rattle.tf_graph.specs.NodeSet.{has, IsFirstFrom};
@@ -85,6 +85,7 @@ impl Graph {
 fn empty_rows(alloc: Global, nodes: usize) -> Result<Vec<NodeSet>, AllocError>
     ensures count { IfOk result (λ rows. length rows.items ≡ nodes) }
     ensures long { IfOk result (λ rows. AreLong nodes rows.items) }
+    ensures blank { IfOk result (λ rows. (a b : ℕ) → has (row_of rows.items a) b ≡ false) }
 {
     let mut rows = Vec::with_capacity(alloc, nodes)?;
     for _ in 0..nodes {
@@ -93,7 +94,7 @@ fn empty_rows(alloc: Global, nodes: usize) -> Result<Vec<NodeSet>, AllocError>
     Ok(rows)
 }
 
-/// Makes the row of a node known.
+/// Makes the row of a node known. That of a node without successors is empty, as it stands.
 fn fill(
     alloc: Global,
     graph: &Graph,
@@ -108,6 +109,10 @@ fn fill(
     ensures kept { (k : ℕ) → has known.old k ≡ true → has known.new k ≡ true }
 {
     if known.contains(node) {
+        return Ok(());
+    }
+    if graph.successors(node).is_empty() {
+        known.insert(node);
         return Ok(());
     }
     let row = reached_from(alloc, &Told { graph, rows, known }, node)?;

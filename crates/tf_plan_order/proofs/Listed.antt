@@ -146,14 +146,14 @@ module _ {A : Type 0} (f : ℕ → List A) where
       let long = made-long from to found all h e in
       omega (arith, long, many)
 
-  from_made : (n from : ℕ) (x : A) → Contains (flat_map f (range_with_len from n)) x → (k : ℕ) × (from ≤ k) × (k < from + n) × Contains (f k) x
+  pub from_made : (n from : ℕ) (x : A) → Contains (flat_map f (range_with_len from n)) x → (k : ℕ) × (from ≤ k) × (k < from + n) × Contains (f k) x
   from_made zero from x c = absurd (omega (arith, c.1))
   from_made (suc n) from x c = elim (Contains-append_cases (f from) (flat_map f (range_with_len (from + 1) n)) x c) [
     | inl here ↦ (from, omega arith, omega arith, here)
     | inr rest ↦ let later = from_made n (from + 1) x rest in (later.0, omega (arith, later.1), omega (arith, later.2), later.3)
   ]
 
-  to_made : (n from k : ℕ) (x : A) → from ≤ k → k < from + n → Contains (f k) x → Contains (flat_map f (range_with_len from n)) x
+  pub to_made : (n from k : ℕ) (x : A) → from ≤ k → k < from + n → Contains (f k) x → Contains (flat_map f (range_with_len from n)) x
   to_made zero from k x low high c = absurd (omega (arith, low, high))
   to_made (suc n) from k x low high c = elim (cases_eq from k) [
     | inl here ↦ Contains-append_left (f from) (flat_map f (range_with_len (from + 1) n)) x (rw here c)

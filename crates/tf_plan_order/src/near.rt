@@ -1,12 +1,11 @@
 //! Which actions may be before an action, by what ties their resources.
 
-ghost use Rattle.std.specs.Prelude.{◌≡◌, ◌≤◌, ◌<◌, ◌+◌, ◌⊎◌, [], ℕ, true, Contains, IfOk, OnOk, length};
+ghost use Rattle.std.specs.Prelude.{◌≡◌, ◌≤◌, ◌<◌, ◌+◌, ◌++◌, ◌∷◌, ◌&&◌, ◌==◌, ◌⊎◌, [], ℕ, true, false, Contains, IfOk, IfSome, OnOk, length, if◌then◌else◌};
 ghost use Rattle.tf_graph.specs.Closure.{reaches};
 ghost use Rattle.tf_graph.specs.Lists.{row};
 ghost use Rattle.tf_graph.specs.NodeSet.{has};
-ghost use Rattle.tf_graph.specs.Search.{row_of, AreLong};
 ghost use Rattle.tf_plan_order.specs.Before.{are_halves, IsApply};
-ghost use Rattle.tf_plan_order.specs.Near.{HasGrown, HaveGrown, HoldsBefore, IsKept};
+ghost use Rattle.tf_plan_order.specs.Near.{HasGrown, HoldsBefore, IsKept, applies};
 ghost use Rattle.tf_plan_order.specs.Order.{action_at};
 ghost use Rattle.tf_plan_order.specs.OrderInput.{order_input_of};
 
@@ -22,8 +21,8 @@ use tf_graph::{Closure, NodeSet};
 pub struct Near {
     /// For each resource the places of its actions.
     own: Vec<Vec<usize>>,
-    /// For each resource the places of what is created or updated of all that it needs.
-    early: Vec<NodeSet>,
+    /// For each resource the places of what is created or updated of all that it needs, in order.
+    early: Vec<Vec<usize>>,
 }
 
 impl Near {
@@ -41,13 +40,29 @@ impl Near {
     {
         let count = resources(ties);
         let mut own = empty_lists(alloc, count)?;
-        let mut early = empty_sets(alloc, count, actions.len())?;
+        let mut early = empty_lists(alloc, count)?;
         for place in 0..actions.len() {
             let action = &actions[place];
             list(&mut own, action.resource, place)?;
-            note(&mut early, ties.by_configuration, action, place);
+            note(&mut early, ties.by_configuration, action, place)?;
         }
         Ok(Near { own, early })
+    }
+
+    /// The places of all that is before what creates or updates an object and isn't half of a replace, in order. `None` for
+    /// other actions, and where nothing is kept of the resource.
+    pub fn early_for(&self, action: &OrderedAction) -> Option<&[usize]>
+        ensures places { IfSome result (λ places. places.now ≡ row self.now.early.items action.now.resource) }
+        ensures applies { IfSome result (λ _. IsApply action.now) }
+        ensures whole { IfSome result (λ _. action.now.replaces ≡ false) }
+    {
+        if action.replaces || action.resource >= self.early.len() {
+            return None;
+        }
+        match action.kind {
+            ActionKind::Apply => Some(self.early[action.resource].as_slice()),
+            ActionKind::Destroy | ActionKind::DestroyDeposed => None,
+        }
     }
 
     /// A set of places that has each action that is before the one at a place, and maybe others.
@@ -76,7 +91,7 @@ impl Near {
         }
         add_halves(&mut set, actions, action, own[action.resource].as_slice());
         if let ActionKind::Apply = action.kind {
-            set.add_all(&self.early[action.resource]);
+            add_places(&mut set, self.early[action.resource].as_slice());
             return Ok(set);
         }
         add_reached(&mut set, own, ties.by_configuration, action.resource);
@@ -105,18 +120,6 @@ fn empty_lists(alloc: Global, count: usize) -> Result<Vec<Vec<usize>>, AllocErro
     Ok(lists)
 }
 
-/// An empty set of places for each resource.
-fn empty_sets(alloc: Global, count: usize, places: usize) -> Result<Vec<NodeSet>, AllocError>
-    ensures count { IfOk result (λ sets. length sets.items ≡ count) }
-    ensures long { IfOk result (λ sets. AreLong places sets.items) }
-{
-    let mut sets = Vec::with_capacity(alloc, count)?;
-    for _ in 0..count {
-        sets.push(NodeSet::new(alloc, places)?)?;
-    }
-    Ok(sets)
-}
-
 /// Adds a place to the list of a resource, if there is one.
 fn list(lists: &mut [Vec<usize>], resource: usize, place: usize) -> Result<(), AllocError>
     ensures count { length lists.new ≡ length lists.old }
@@ -131,42 +134,54 @@ fn list(lists: &mut [Vec<usize>], resource: usize, place: usize) -> Result<(), A
     Ok(())
 }
 
-/// Adds the place of what creates or updates to the sets of all that needs its resource.
-fn note(early: &mut [NodeSet], table: &Closure, action: &OrderedAction, place: usize)
-    requires nodes { table.now.nodes ≤ length early.old }
-    requires room { (k : ℕ) → k < length early.old → place < length (row_of early.old k) }
-    ensures grown { HaveGrown early.old early.new }
-    ensures needed { IsApply action.now → (s : ℕ) → reaches table.now action.now.resource s ≡ true → has (row_of early.new s) place ≡ true }
+/// Adds the place of what creates or updates to the lists of all that needs its resource.
+fn note(
+    early: &mut [Vec<usize>],
+    table: &Closure,
+    action: &OrderedAction,
+    place: usize,
+) -> Result<(), AllocError>
+    requires { table.now.nodes ≤ length early.old }
+    ensures count { length early.new ≡ length early.old }
+    ensures rows { OnOk result ((s : ℕ) → row early.new s
+        ≡ row early.old s ++ (if applies action.now.kind && reaches table.now action.now.resource s then place ∷ [] else [])) }
 {
     match action.kind {
         ActionKind::Apply => spread(early, table, action.resource, place),
-        ActionKind::Destroy | ActionKind::DestroyDeposed => {}
+        ActionKind::Destroy | ActionKind::DestroyDeposed => Ok(()),
     }
 }
 
-/// Adds a place to the set of each resource that a table leads to from one.
-fn spread(sets: &mut [NodeSet], table: &Closure, resource: usize, place: usize)
-    requires nodes { table.now.nodes ≤ length sets.old }
-    requires room { (k : ℕ) → k < length sets.old → place < length (row_of sets.old k) }
-    ensures grown { HaveGrown sets.old sets.new }
-    ensures added { (s : ℕ) → reaches table.now resource s ≡ true → has (row_of sets.new s) place ≡ true }
+/// Adds a place to the list of each resource that a table leads to from one.
+fn spread(
+    lists: &mut [Vec<usize>],
+    table: &Closure,
+    resource: usize,
+    place: usize,
+) -> Result<(), AllocError>
+    requires { table.now.nodes ≤ length lists.old }
+    ensures count { length lists.new ≡ length lists.old }
+    ensures rows { OnOk result ((s : ℕ) → row lists.new s
+        ≡ row lists.old s ++ (if reaches table.now resource s then place ∷ [] else [])) }
 {
     let mut from = 0;
     while let Some(other) = table.first_reached(resource, from) {
-        add(sets, other, place);
+        add(lists, other, place)?;
         from = other + 1;
     }
+    Ok(())
 }
 
-/// Adds a place to the set of a resource.
-fn add(sets: &mut [NodeSet], resource: usize, place: usize)
-    requires inside { resource < length sets.old }
-    requires room { place < length (row_of sets.old resource) }
-    ensures grown { HaveGrown sets.old sets.new }
-    ensures added { has (row_of sets.new resource) place ≡ true }
+/// Adds a place to one of some lists.
+fn add(lists: &mut [Vec<usize>], at: usize, place: usize) -> Result<(), AllocError>
+    requires { at < length lists.old }
+    ensures count { length lists.new ≡ length lists.old }
+    ensures rows { OnOk result ((n : ℕ) → row lists.new n
+        ≡ (if at == n then row lists.old n ++ place ∷ [] else row lists.old n)) }
 {
-    let set = &mut sets[resource];
-    set.insert(place);
+    let list = &mut lists[at];
+    list.push(place)?;
+    Ok(())
 }
 
 /// Adds all places.

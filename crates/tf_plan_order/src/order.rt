@@ -1,8 +1,8 @@
 //! The order of a plan's actions.
 
-ghost use Rattle.std.specs.Prelude.{◌≡◌, ◌≤◌, ◌<◌, ◌+◌, ◌++◌, ◌∷◌, [], ◌||◌, ◌&&◌, IfOk, OnOk, IsErrOf, length, if◌then◌else◌};
+ghost use Rattle.std.specs.Prelude.{◌≡◌, ◌≤◌, ◌<◌, ◌+◌, ◌++◌, ◌∷◌, [], ◌||◌, ◌&&◌, IfOk, OnOk, IsErrOf, length, map, if◌then◌else◌};
 ghost use Rattle.tf_plan_order.specs.Before.{are_halves, is_before, is_dependent, is_destroyed_first};
-ghost use Rattle.tf_plan_order.specs.Near.{HoldsBefore};
+ghost use Rattle.tf_plan_order.specs.Near.{HoldsBefore, IsKept};
 ghost use Rattle.tf_plan_order.specs.Order.{IsOrder, pairs, pairs_into};
 ghost use Rattle.tf_plan_order.specs.OrderInput.{AreSound, order_input_of};
 
@@ -93,12 +93,57 @@ fn all_pairs(
         return Err(OrderFault::OutOfMemory);
     };
     for second in 0..actions.len() {
-        let Ok(set) = near.before(alloc, ties, actions, second) else {
-            return Err(OrderFault::OutOfMemory);
-        };
-        add_before(&mut found, ties, actions, second, &set)?;
+        add_pairs_into(alloc, &mut found, &near, ties, actions, second)?;
     }
     Ok(found)
+}
+
+/// Adds an action's pairs with those that are before it.
+fn add_pairs_into(
+    alloc: Global,
+    found: &mut Vec<(usize, usize)>,
+    near: &Near,
+    ties: &OrderInput<'_>,
+    actions: &[OrderedAction],
+    second: usize,
+) -> Result<(), OrderFault>
+    requires inside { second < length actions.now }
+    requires kept { IsKept ties.now actions.now (length actions.now) near.now.own.items near.now.early.items }
+    requires few { length found.old.items ≤ MAX_PAIRS }
+    ensures pairs { OnOk result (found.new.items ≡ found.old.items ++ pairs_into (order_input_of ties.now) actions.now second) }
+    ensures few { OnOk result (length found.new.items ≤ MAX_PAIRS) }
+    ensures too_many { IsErrOf result OrderFault.TooMany
+        → MAX_PAIRS < length (found.old.items ++ pairs_into (order_input_of ties.now) actions.now second) }
+{
+    if let Some(early) = near.early_for(&actions[second]) {
+        return add_listed(found, early, second);
+    }
+    let Ok(set) = near.before(alloc, ties, actions, second) else {
+        return Err(OrderFault::OutOfMemory);
+    };
+    add_before(found, ties, actions, second, &set)
+}
+
+/// Adds an action's pairs with those in a list.
+fn add_listed(
+    found: &mut Vec<(usize, usize)>,
+    before: &[usize],
+    second: usize,
+) -> Result<(), OrderFault>
+    requires { length found.old.items ≤ MAX_PAIRS }
+    ensures pairs { OnOk result (found.new.items ≡ found.old.items ++ map (λ first. (first, second)) before.now) }
+    ensures few { OnOk result (length found.new.items ≤ MAX_PAIRS) }
+    ensures too_many { IsErrOf result OrderFault.TooMany → MAX_PAIRS < length found.old.items + length before.now }
+{
+    if before.len() > MAX_PAIRS - found.len() {
+        return Err(OrderFault::TooMany);
+    }
+    for first in before {
+        if found.push((*first, second)).is_err() {
+            return Err(OrderFault::OutOfMemory);
+        }
+    }
+    Ok(())
 }
 
 /// Adds an action's pairs with those that are before it, which are members of a set.

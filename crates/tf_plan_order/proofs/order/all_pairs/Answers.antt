@@ -14,15 +14,15 @@ loop-second-preserved c =
     let a = c.args in
     let l = c.loop-second in
     record {
-      rest = made-step (pairs_into (order_input_of a.ties.now) a.actions.now) l.second (length a.actions.now) l.found.items c.add_before.new.found.items (pairs (order_input_of a.ties.now) a.actions.now)
-          c.loop-second-test.true c.in_ok-add_before.ensures.pairs l.invariant.rest;
-      few = c.in_ok-add_before.ensures.few;
+      rest = made-step (pairs_into (order_input_of a.ties.now) a.actions.now) l.second (length a.actions.now) l.found.items c.add_pairs_into.new.found.items (pairs (order_input_of a.ties.now) a.actions.now)
+          c.loop-second-test.true c.in_ok-add_pairs_into.ensures.pairs l.invariant.rest;
+      few = c.in_ok-add_pairs_into.ensures.few;
     }
 
-pub returns-in_err-add_before-clause-too_many : goal.returns-in_err-add_before-clause-too_many
-returns-in_err-add_before-clause-too_many c h =
+pub returns-in_err-add_pairs_into-clause-too_many : goal.returns-in_err-add_pairs_into-clause-too_many
+returns-in_err-add_pairs_into-clause-too_many c h =
     let e = err_from_is_err_and c.from_residual.result c.from_residual.ensures.1 in
     let l = c.loop-second in
     let f = pairs_into (order_input_of c.args.ties.now) c.args.actions.now in
     made-many f 200000 l.second (length c.args.actions.now) l.found.items (pairs (order_input_of c.args.ties.now) c.args.actions.now) c.loop-second-test.true l.invariant.rest
-    (c.in_err-add_before.ensures.too_many (ap Err (sym e.2 ∙ same_fault c.from_residual.result e.0 TooMany e.1 h)))
+    (c.in_err-add_pairs_into.ensures.too_many (ap Err (sym e.2 ∙ same_fault c.from_residual.result e.0 TooMany e.1 h)))

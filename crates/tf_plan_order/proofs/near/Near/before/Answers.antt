@@ -1,11 +1,7 @@
-use Rattle.std.proofs.Common.{[], ◌<◌, ◌≡◌, ◌∙◌, length, arith}
-use Rattle.std.proofs.lemmas.Bool.{or_left, or_right}
-use Rattle.std.proofs.lemmas.List.{get_or_read}
+use Rattle.std.proofs.Common.{◌<◌, ◌≡◌, ◌∙◌, length, arith}
 use Rattle.tf_graph.proofs.Rows.{row_read}
-use Rattle.tf_graph.specs.NodeSet.{has}
-use Rattle.tf_graph.specs.Search.{row_of}
 use Rattle.tf_graph.specs.Lists.{row}
-use Rattle.tf_plan_order.proofs.Keeping.{holds-apply, holds-destroy}
+use Rattle.tf_plan_order.proofs.Keeping.{early-within, holds-apply, holds-destroy}
 use Rattle.tf_plan_order.specs.Near.{AreListed}
 use Rattle.tf_plan_order.specs.Order.{action_at}
 use Rattle.tf_plan_order.specs.OrderInput.{order_input_of}
@@ -63,6 +59,17 @@ returns c =
           second.added;
     }
 
+pub add_places-requires : goal.add_places-requires
+add_places-requires c =
+    let actions = c.args.actions.now in
+    let early = c.args.self.now.early.items in
+    let resource = (action_at actions c.args.second).resource in
+    let own = c.as_slice-own.result.now in
+    let count : length early ≡ length own = rw c.as_slice-own.ensures.value c.requires.kept.count in
+    let inside : resource < length early = omega (arith, count, c.if-action-own.false) in
+    let same : c.as_slice-in-Apply.result.now ≡ row early resource = c.as_slice-in-Apply.ensures.value ∙ row_read early resource c.index.result.now inside c.index.ensures in
+    λ k h. omega (arith, early-within (order_input_of c.args.ties.now) actions early c.requires.kept.rows resource k (rw same at h), c.add_halves.ensures.grown.long, c.in_ok-set.ensures.length)
+
 pub returns-in-Apply-clause-before : goal.returns-in-Apply-clause-before
 returns-in-Apply-clause-before c =
     let actions = c.args.actions.now in
@@ -73,8 +80,8 @@ returns-in-Apply-clause-before c =
     let same : c.as_slice.result.now ≡ row own resource = c.as_slice.ensures.value ∙ row_read own resource c.index-own-action.result c.if-action-own.false c.index-own-action.is in
     let count : length early ≡ length own = rw c.as_slice-own.ensures.value c.requires.kept.count in
     let inside : resource < length early = omega (arith, count, c.if-action-own.false) in
-    let read : c.index.result.now ≡ row_of early resource = get_or_read early resource c.index.result.now inside c.index.ensures [] in
-    holds-apply (order_input_of c.args.ties.now) actions c.args.second own c.add_all.new.self lists c.if-action-own.false
-    (λ k h is. c.add_all.ensures.members k ∙ or_left (has c.add_halves.new.set k) (has c.index.result.now k) (c.add_halves.ensures.added k (rw same h) is))
-    early c.requires.kept.sets c.in-Apply.is
-    (λ k h. c.add_all.ensures.members k ∙ or_right (has c.add_halves.new.set k) (has c.index.result.now k) (rw read h))
+    let read : c.as_slice-in-Apply.result.now ≡ row early resource = c.as_slice-in-Apply.ensures.value ∙ row_read early resource c.index.result.now inside c.index.ensures in
+    holds-apply (order_input_of c.args.ties.now) actions c.args.second own c.add_places.new.set lists c.if-action-own.false
+    (λ k h is. c.add_places.ensures.grown.kept k (c.add_halves.ensures.added k (rw same h) is))
+    early c.requires.kept.rows c.in-Apply.is
+    (λ k h. c.add_places.ensures.added k (rw read h))
