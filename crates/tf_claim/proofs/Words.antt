@@ -1,5 +1,5 @@
 -- The shared claims in the words of their table: each step keeps what the table keeps.
-use Rattle.std.proofs.Common.{◌≡◌, ◌≢◌, ◌<◌, ◌+◌, ◌-◌, ◌*◌, ◌%◌, ◌^◌, ◌==◌, ℕ, zero, suc, Bool, List, [], ◌∷◌, length, get_or, set, refl, sym, ap, subst, ◌∙◌, arith, inl, inr, get_or-set_other, get_or-set_same, length-set}
+use Rattle.std.proofs.Common.{◌≡◌, ◌≢◌, ◌<◌, ◌+◌, ◌-◌, ◌*◌, ◌%◌, ◌^◌, ◌==◌, ℕ, zero, suc, Bool, MatchBool, List, [], ◌∷◌, length, get_or, set, refl, sym, ap, subst, ◌∙◌, arith, inl, inr, get_or-set_other, get_or-set_same, length-set}
 use Rattle.std.proofs.lemmas.Bool.{cases_eq, eq-eqb, ne_eqb}
 use mathlib.Core.Option.{some, none, some-ne-none}
 use lib.ListN.{get_elem?}
@@ -9,7 +9,7 @@ use Rattle.tf_graph.specs.Digraph.{Digraph, target}
 use Rattle.tf_claim.specs.declared.seat.View.{View}
 use Rattle.tf_claim.specs.Views.{nothing, first_view, halved, split_off, saw, saw_through, knew, took, ended, went, both, steps_of, Owes, MayLetGo, times}
 use Rattle.tf_claim.specs.Claims.{Holds, Begins, IsSmall, Stands, IsKept, IsTrueOf, IsLetThrough, stage_in, count_in}
-use Rattle.tf_claim.specs.Moments.{StandsWhere, IsHeldBack}
+use Rattle.tf_claim.specs.Moments.{StandsWhere, IsHeldBack, WasHeldBack, WasLetThrough}
 use Rattle.tf_claim.specs.Plays.{Sat, Leaves, Looks, Counts, Takes, Ends, Releases, Rests}
 use Rattle.tf_claim.proofs.Keeping as keeping
 
@@ -56,6 +56,19 @@ module _ (g : Digraph) (s : St) (id : ℕ) (me : Sat) (h : Holds g s) (at : get_
     },
     part,
   )
+
+  -- what is so in the state that the step leaves
+  leaves_so : (i x : ℕ) (w : View) → Holds g (stepped s i x id me.1 w keeps) → (IsSo : (ℕ → ℕ) → (ℕ → ℕ) → List View → Type 0)
+      → IsSo (stage_in (set s.words i x)) (count_in (set s.words i x)) (set s.views id w) → StandsWhere g w IsSo
+  leaves_so i x w after IsSo so = record {
+    stage = stage_in (set s.words i x);
+    count = count_in (set s.words i x);
+    views = set s.views id w;
+    seat = id;
+    rule = after.rule;
+    at = at_again s.views id me.0 w at;
+    so = so;
+  }
 
   -- what is so in the state that the step meets
   met : (IsSo : (ℕ → ℕ) → (ℕ → ℕ) → List View → Type 0) → IsSo (stage_in s.words) (count_in s.words) s.views → StandsWhere g me.0 IsSo
@@ -143,8 +156,9 @@ module _ (g : Digraph) (slots id : ℕ) (me : Sat) (live : 0 < length me.0.part)
   releases e below may s h homes at fits =
       let sized = h.sized in
       let w : View = went e me.0 in
-      let i : ℕ = target g e * 8 + 1 in
-      let x : ℕ = count_in s.words (target g e) in
+      let n : ℕ = target g e in
+      let i : ℕ = n * 8 + 1 in
+      let x : ℕ = count_in s.words n in
       let new : ℕ = (x + (2 ^ 64 - 1)) % 2 ^ 64 in
       let stage' : ℕ → ℕ = stage_in (set s.words i new) in
       let count' : ℕ → ℕ = count_in (set s.words i new) in
@@ -154,47 +168,17 @@ module _ (g : Digraph) (slots id : ℕ) (me : Sat) (live : 0 < length me.0.part)
       let after = holds_after g s id me h at i new w rule in
       let views' : List View = set s.views id w in
       let at' : get_elem? views' id ≡ some w = at_again s.views id me.0 w at in
-      let left : count' (target g e) ≡ x - 1 = word_here s.words i new (omega arith) ∙ less in
+      let left : count' n ≡ x - 1 = word_here s.words i new (omega arith) ∙ less in
+      let told : MatchBool (x == 1) (WasLetThrough g n w) (WasHeldBack g n w) =
       elim (cases_eq x 1) [
         | inl is ↦
-            let zero_left : count' (target g e) ≡ 0 = omega arith in (
-              w,
-              keeps,
-              tt,
-              after,
-              (
-                leaves g s id me h at i new w refl after,
-                rw (eq-eqb x 1 is) (record {
-                  stage = stage';
-                  count = count';
-                  views = views';
-                  seat = id;
-                  rule = rule;
-                  at = at';
-                  so = (zero_left, keeping.let_through g stage' stage' count' count' views' id w rule at' (target g e) below zero_left);
-                }),
-              ),
-            )
+            let none_left : count' n ≡ 0 = omega arith in
+            rw (eq-eqb x 1 is) (leaves_so g s id me h at i new w after (λ stage count views. (count n ≡ 0) × IsLetThrough g n views) (none_left, keeping.let_through g stage' stage' count' count' views' id w rule at' n below none_left))
         | inr ne ↦
-            let some_left : 0 < count' (target g e) = omega arith in (
-              w,
-              keeps,
-              tt,
-              after,
-              (
-                leaves g s id me h at i new w refl after,
-                rw (ne_eqb x 1 ne) (record {
-                  stage = stage';
-                  count = count';
-                  views = views';
-                  seat = id;
-                  rule = rule;
-                  at = at';
-                  so = (some_left, keeping.held_back g stage' stage' count' count' views' id w rule at' (target g e) below some_left);
-                }),
-              ),
-            )
-      ]
+            let some_left : 0 < count' n = omega arith in
+            rw (ne_eqb x 1 ne) (leaves_so g s id me h at i new w after (λ stage count views. (0 < count n) × IsHeldBack g n views) (some_left, keeping.held_back g stage' stage' count' count' views' id w rule at' n below some_left))
+      ] in
+      (w, keeps, tt, after, (leaves g s id me h at i new w refl after, told))
 
   pub rests : (i : ℕ) → Allows (Holds g) slots id me i (λ x. x) (Rests g (step slots i 0 0 none) me)
   rests i s h homes at fits =
