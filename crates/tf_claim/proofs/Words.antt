@@ -60,15 +60,9 @@ module _ (g : Digraph) (s : St) (id : ℕ) (me : Sat) (h : Holds g s) (at : get_
   -- what is so in the state that the step leaves
   leaves_so : (i x : ℕ) (w : View) → Holds g (stepped s i x id me.1 w keeps) → (IsSo : (ℕ → ℕ) → (ℕ → ℕ) → List View → Type 0)
       → IsSo (stage_in (set s.words i x)) (count_in (set s.words i x)) (set s.views id w) → StandsWhere g w IsSo
-  leaves_so i x w after IsSo so = record {
-    stage = stage_in (set s.words i x);
-    count = count_in (set s.words i x);
-    views = set s.views id w;
-    seat = id;
-    rule = after.rule;
-    at = at_again s.views id me.0 w at;
-    so = so;
-  }
+  leaves_so i x w after IsSo so =
+      let words : List ℕ = set s.words i x in
+      record { stage = stage_in words; count = count_in words; views = set s.views id w; seat = id; rule = after.rule; at = at_again s.views id me.0 w at; so = so }
 
   -- what is so in the state that the step meets
   met : (IsSo : (ℕ → ℕ) → (ℕ → ℕ) → List View → Type 0) → IsSo (stage_in s.words) (count_in s.words) s.views → StandsWhere g me.0 IsSo
