@@ -1,17 +1,19 @@
 -- A text spells one tree at most.
 use Rattle.std.proofs.Common.{◌≡◌, ◌⊎◌, true, false, true≢false, ℕ, suc, ◌≤◌, Bool, List, [], inl, inr, refl, sym, ap, ◌∙◌, subst, arith}
 use Rattle.tf_template.specs.Literal.{piece, opens, closes}
-use Rattle.tf_template.specs.Reads.{Turns, IsOperand, Holds, Stops, begins, binding}
+use Rattle.tf_template.specs.Reads.{Turns, IsOperand, Holds, Stops, begins, closing}
 use Rattle.tf_template.specs.Spelling.{Spells, SpellsList, SpellsParts, SpellsTemplate, Takes, TakesName, IsEmpty, prefix_token, truth_word}
 use Rattle.tf_template.specs.Token.{token_kind, token_word, after_token}
 use Rattle.tf_syntax.specs.TemplateTree.{Tree, number, truth, null, quoted, reference, call, group, listed, attribute, index, unary, binary, conditional, Trees, no_trees, tree, Parts, no_parts, part, Woven, level, level_of}
 use Rattle.tf_template.specs.Word.{keyword}
+use Rattle.tf_template.specs.declared.token.Bracket.{Bracket}
+use Rattle.tf_template.specs.declared.token.Bracket.TheVariants.{Round, Square}
 use Rattle.tf_template.specs.declared.token.Kind.{Kind}
-use Rattle.tf_template.specs.declared.token.Kind.TheVariants.{Name, Quote, Colon, OpenParen, CloseParen, OpenBracket, CloseBracket, CloseBrace, Comma, Dot}
+use Rattle.tf_template.specs.declared.token.Kind.TheVariants.{Name, Quote, Colon, OpenParen, CloseParen, OpenBracket, CloseBracket, CloseBrace, Dot}
 use Rattle.tf_syntax.specs.declared.tree.Prefix.{Prefix}
 use Rattle.tf_syntax.specs.declared.tree.Prefix.TheVariants.{Not, Negate}
 use Rattle.tf_template.specs.declared.word.Keyword.TheVariants.{Null, Free}
-use Rattle.tf_template.proofs.Begun.{at_binary, at_question, at_bracket, sort_of, sort_is, stops_at}
+use Rattle.tf_template.proofs.Begun.{closing_last, closing_other, at_binary, at_question, at_bracket, sort_of, sort_is, stops_at}
 use Rattle.tf_template.proofs.Growing.{Grows, done, again, spine, holds_where, turns_kind, turns_needs, last_step, level_some, spells_begins}
 use Rattle.tf_template.proofs.Rowing.{Tail, tail_stops}
 use Rattle.tf_template.proofs.Pieces.{Literal-same, at_closes, at_opens}
@@ -229,7 +231,7 @@ mutual
   meets (reference a c) s m h z u r j y = from_operand (reference a c) s m (λ b p o k w. same_reference a c b s m p h o k) u r j y
   meets (call f ts) s m h z u r j y = from_operand (call f ts) s m (λ b p o k w.
       let g = at_call f ts b s m p h o k in
-      let e = meets_list ts CloseParen refl refl (λ x. cc) h.1.1 m h.1.4 g.us p g.spelled in
+      let e = meets_list ts Round h.1.1 m h.1.4 g.us p g.spelled in
       (ap (λ x. call f x) e.0 ∙ sym g.is, e.1)) u r j y
   meets (group t) s m h z u r j y = from_operand (group t) s m (λ b p o k w.
       let g = at_grouped t b s m p h o k in
@@ -239,7 +241,7 @@ mutual
       (ap group e.0 ∙ sym g.is, same_after CloseParen CloseParen h.1 m p h.4 (subst (λ x. Takes CloseParen x p) (sym e.1) g.close))) u r j y
   meets (listed ts) s m h z u r j y = from_operand (listed ts) s m (λ b p o k w.
       let g = at_listed ts b s m p h o k in
-      let e = meets_list ts CloseBracket refl refl (λ x. cc) h.0 m h.2 g.us p g.spelled in
+      let e = meets_list ts Square h.0 m h.2 g.us p g.spelled in
       (ap listed e.0 ∙ sym g.is, e.1)) u r j y
   meets (unary op t) s m h z u r j y = from_operand (unary op t) s m (λ b p o k w.
       let g = at_signed op t b s m p h o k in
@@ -287,24 +289,24 @@ mutual
       (ap (λ v. conditional l v b) e.0 ∙ ap (λ v. conditional l g.a v) f.0 ∙ sym g.is, f.1)) u r
       (meets l s h.0 h.1 (holds_where l h.0 (inr (turns_needs l h.0 (conditional l a b) m turn))) u r j y) y
 
-  meets_list : (ts : Trees) (close : Kind) → binding close ≡ 0 → begins close ≡ false → (close ≡ Comma → ⊥) → (s m : List ℕ) → SpellsList close ts s m
-      → (us : Trees) (r : List ℕ) → SpellsList close us s r → (ts ≡ us) × (m ≡ r)
-  meets_list no_trees close z b o s m h no_trees r j = (refl, sym h.after_is ∙ j.after_is)
-  meets_list no_trees close z b o s m h (tree u us) r j = absurd (true≢false (sym (spells_begins u s j.0 j.1) ∙ ap begins h.kind_is ∙ b))
-  meets_list (tree t ts) close z b o s m h no_trees r j = absurd (true≢false (sym (spells_begins t s h.0 h.1) ∙ ap begins j.kind_is ∙ b))
-  meets_list (tree t ts) close z b o s m h (tree u us) r j =
-      let zt = tail_stops close z ts h.0 m h.2 in
-      let zu = tail_stops close z us j.0 r j.2 in
+  meets_list : (ts : Trees) (b : Bracket) (s m : List ℕ) → SpellsList (closing b) ts s m
+      → (us : Trees) (r : List ℕ) → SpellsList (closing b) us s r → (ts ≡ us) × (m ≡ r)
+  meets_list no_trees b s m h no_trees r j = (refl, sym h.after_is ∙ j.after_is)
+  meets_list no_trees b s m h (tree u us) r j = absurd (true≢false (sym (spells_begins u s j.0 j.1) ∙ ap begins h.kind_is ∙ closing_last b))
+  meets_list (tree t ts) b s m h no_trees r j = absurd (true≢false (sym (spells_begins t s h.0 h.1) ∙ ap begins j.kind_is ∙ closing_last b))
+  meets_list (tree t ts) b s m h (tree u us) r j =
+      let zt = tail_stops b ts h.0 m h.2 in
+      let zu = tail_stops b us j.0 r j.2 in
       let e = settle 1 t h.0 u j.0 (meets t s h.0 h.1 (holds_stop 1 t h.0 zt (level_some t)) u j.0 j.1 (holds_stop 1 u j.0 zu (level_some u))) zt zu (level_some t) (level_some u) in
-      let tail : Tail close us h.0 r = subst (λ x. Tail close us x r) (sym e.1) j.2 in
+      let tail : Tail (closing b) us h.0 r = subst (λ x. Tail (closing b) us x r) (sym e.1) j.2 in
       let f : (ts ≡ us) × (m ≡ r) = elim h.2 [
         | inl a ↦ elim tail [
           | inl d ↦ (empty_is ts a.0 ∙ sym (empty_is us d.0), sym a.1.after_is ∙ d.1.after_is)
-          | inr d ↦ absurd (o (sym a.1.kind_is ∙ d.1.kind_is))
+          | inr d ↦ absurd (closing_other b (sym a.1.kind_is ∙ d.1.kind_is))
         ]
         | inr a ↦ elim tail [
-          | inl d ↦ absurd (o (sym d.1.kind_is ∙ a.1.kind_is))
-          | inr d ↦ meets_list ts close z b o a.0 m a.2 us r (subst (λ x. SpellsList close us x r) (sym d.1.after_is ∙ a.1.after_is) d.2)
+          | inl d ↦ absurd (closing_other b (sym d.1.kind_is ∙ a.1.kind_is))
+          | inr d ↦ meets_list ts b a.0 m a.2 us r (subst (λ x. SpellsList (closing b) us x r) (sym d.1.after_is ∙ a.1.after_is) d.2)
         ]
       ] in
       (ap (λ x. tree x ts) e.0 ∙ ap (λ x. tree u x) f.0, f.1)

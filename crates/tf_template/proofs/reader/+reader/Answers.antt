@@ -1,17 +1,18 @@
 use Rattle.std.proofs.Common.{◌^◌, true, ◌≡◌, ℕ, ◌+◌, ◌<◌, ◌≤◌, List, length, string_bytes, refl, sym, ap, ◌∙◌, subst, arith}
 use Rattle.std.proofs.lemmas.Result.{err_from_is_err_and}
-use Rattle.tf_template.specs.Reads.{Fails, Holds, begins, binding, closing}
+use Rattle.tf_template.specs.Reads.{Fails, Holds, begins, binding}
 use Rattle.tf_template.specs.Spelling.{Spells, SpellsParts}
 use Rattle.tf_template.specs.Token.{token_kind, after_token}
 use Rattle.tf_template.specs.Steps.{EndsWithin, end_of}
 use Rattle.tf_template.specs.declared.token.Kind.TheVariants.{CloseParen, CloseBracket, Colon}
 use Rattle.tf_syntax.specs.TemplateTree.{Parts, Woven, quoted, conditional, level_of, parts_depth, tree_depth, view}
 use Rattle.tf_template.specs.Word.{decimal}
-use Rattle.tf_template.proofs.Begun.{closing_plain, closing_last, closing_other, at_quote, at_group, at_binary, at_question, at_bracket, stops_at, made_answers, number_fits, deep_some}
+use Rattle.tf_template.proofs.Begun.{at_quote, at_group, at_binary, at_question, at_bracket, stops_at, made_answers, number_fits, deep_some}
 use Rattle.tf_template.proofs.Growing.{Fails-below, spells_begins, level_some, first_fails, first_grows, next_fails, climbs, climbed}
-use Rattle.tf_template.proofs.Rowing.{row_closed, row_closed_only, row_fails, part_closed, part_closed_only, part_refused, part_more, deepest_is}
+use Rattle.tf_template.proofs.Rowing.{Pushed, row_closed, row_closed_only, row_fails, part_closed, part_closed_only, part_refused, part_more, deepest_is}
 use Rattle.tf_template.proofs.Weaving.{weave_closed, weave_closed_only, weave_wrong, weave_fails, brace_missing, weave_more, template_made}
 use Rattle.tf_template.proofs.reader.+reader.Goals as goal
+use Rattle.tf_template.proofs.reader.+reader.Goals.{list-In_ok-push}
 
 pub expression-returns-in_err-left-clause-complete : goal.expression-returns-in_err-left-clause-complete
 expression-returns-in_err-left-clause-complete t c =
@@ -49,91 +50,80 @@ expression-returns-clause-complete t c =
     let bound : c.binding.result ≡ binding (token_kind c.loop-alloc.left.rest.now) = c.binding.ensures ∙ ap binding c.next_token.ensures.kind in
     climbed c.args.least c.args.budget c.args.text.now c.loop-alloc.left c.loop-alloc.invariant (rw bound at c.loop-alloc-test.false)
 
+-- one part was read and put behind those so far
+part_pushed : (t : ℕ) (c : list-In_ok-push t) → Pushed c.args.bracket c.loop-rest.rest.text.now c.loop-rest.terms.items c.in_ok-found.found c.push.new.self.items
+part_pushed t c = record {
+  goes_on = λ k. c.closes.ensures.no c.if-closes.false (c.next_token-token.ensures.kind ∙ k);
+  spelled = c.in_ok-found.ensures.sound.0.0;
+  only = c.in_ok-found.ensures.complete;
+  put = c.in_ok-push.ensures.items;
+}
+
 pub list-returns-then-closes-clause-sound : goal.list-returns-then-closes-clause-sound
 list-returns-then-closes-clause-sound t c =
-    let b = c.args.bracket in
     let inv = c.loop-rest.invariant in
     let kind = sym c.next_token-token.ensures.kind ∙ c.closes.ensures.yes c.if-closes.true in (
-      row_closed (closing b) (closing_plain b) (closing_last b) (closing_other b) c.args.budget c.args.text.now c.loop-rest.terms.items c.loop-rest.depth c.loop-rest.rest.text.now inv
-          c.next_token-token.result.rest.now kind (sym c.next_token-token.ensures.rest),
+      row_closed c.args.bracket c.args.budget c.args.text.now c.loop-rest.terms.items c.loop-rest.depth c.loop-rest.rest.text.now inv c.next_token-token.result.rest.now kind (sym c.next_token-token.ensures.rest),
       inv.depth_is,
       inv.room,
     )
 
 pub list-returns-then-closes-clause-complete : goal.list-returns-then-closes-clause-complete
 list-returns-then-closes-clause-complete t c =
-    let b = c.args.bracket in
-    let inv = c.loop-rest.invariant in
     let kind = sym c.next_token-token.ensures.kind ∙ c.closes.ensures.yes c.if-closes.true in
     λ ts rest h.
-    let found = row_closed_only (closing b) (closing_plain b) (closing_last b) (closing_other b) c.args.budget c.args.text.now c.loop-rest.terms.items c.loop-rest.depth c.loop-rest.rest.text.now inv kind ts rest h in
+    let found = row_closed_only c.args.bracket c.args.budget c.args.text.now c.loop-rest.terms.items c.loop-rest.depth c.loop-rest.rest.text.now c.loop-rest.invariant kind ts rest h in
     (found.0, c.next_token-token.ensures.rest ∙ found.1)
 
 pub list-returns-in_err-found-clause-complete : goal.list-returns-in_err-found-clause-complete
 list-returns-in_err-found-clause-complete t c =
-    let b = c.args.bracket in
-    let inv = c.loop-rest.invariant in
     λ ts rest h.
     let e = err_from_is_err_and c.from_residual.result c.from_residual.ensures.1 in
-    rw (e.1, e.2) (row_fails (closing b) (closing_plain b) (closing_last b) (closing_other b) c.args.budget c.args.text.now c.loop-rest.terms.items c.loop-rest.depth c.loop-rest.rest.text.now inv
+    rw (e.1, e.2) (row_fails c.args.bracket c.args.budget c.args.text.now c.loop-rest.terms.items c.loop-rest.depth c.loop-rest.rest.text.now c.loop-rest.invariant
     (λ k. c.closes.ensures.no c.if-closes.false (c.next_token-token.ensures.kind ∙ k)) c.in_err-found.field-0.0 c.in_err-found.ensures.complete ts rest h)
 
 pub list-returns-then-closes-2-clause-sound : goal.list-returns-then-closes-2-clause-sound
 list-returns-then-closes-2-clause-sound t c =
-    let b = c.args.bracket in
     let inv = c.loop-rest.invariant in
-    let f = c.in_ok-found.found in
     let s = c.in_ok-found.ensures.sound in
-    let open_ = λ (k : token_kind c.loop-rest.rest.text.now ≡ closing b). c.closes.ensures.no c.if-closes.false (c.next_token-token.ensures.kind ∙ k) in
-    let kind = sym c.next_token-token-in-loop-rest.ensures.kind ∙ c.closes-in-loop-rest.ensures.yes c.if-closes-2.true in
-    let deepest = deepest_is (closing b) (closing_plain b) (closing_last b) (closing_other b) c.args.budget c.args.text.now c.loop-rest.terms.items c.loop-rest.depth c.loop-rest.rest.text.now inv
-    open_ f s.0.0 c.in_ok-found.ensures.complete c.push.new.self.items c.in_ok-push.ensures.items c.max-depth.result s.0.1 c.max-depth.ensures in (
-      part_closed (closing b) (closing_plain b) (closing_last b) (closing_other b) c.args.budget c.args.text.now c.loop-rest.terms.items c.loop-rest.depth c.loop-rest.rest.text.now inv
-          open_ f s.0.0 c.in_ok-found.ensures.complete c.push.new.self.items c.in_ok-push.ensures.items c.next_token-token-in-loop-rest.result.rest.now kind (sym c.next_token-token-in-loop-rest.ensures.rest),
-      deepest,
+    let pushed = part_pushed t (goal.at.list-returns-then-closes-2-clause-sound t c).In_ok-push in
+    let kind = sym c.next_token-token-in-loop-rest.ensures.kind ∙ c.closes-in-loop-rest.ensures.yes c.if-closes-2.true in (
+      part_closed c.args.bracket c.args.budget c.args.text.now c.loop-rest.terms.items c.loop-rest.depth c.loop-rest.rest.text.now inv c.in_ok-found.found c.push.new.self.items pushed
+          c.next_token-token-in-loop-rest.result.rest.now kind (sym c.next_token-token-in-loop-rest.ensures.rest),
+      deepest_is c.args.bracket c.args.budget c.args.text.now c.loop-rest.terms.items c.loop-rest.depth c.loop-rest.rest.text.now inv c.in_ok-found.found c.push.new.self.items pushed
+          c.max-depth.result s.0.1 c.max-depth.ensures,
       omega (arith, inv.room, s.0.2, c.max-depth.ensures),
     )
 
 pub list-returns-then-closes-2-clause-complete : goal.list-returns-then-closes-2-clause-complete
 list-returns-then-closes-2-clause-complete t c =
-    let b = c.args.bracket in
-    let inv = c.loop-rest.invariant in
-    let f = c.in_ok-found.found in
-    let s = c.in_ok-found.ensures.sound in
-    let open_ = λ (k : token_kind c.loop-rest.rest.text.now ≡ closing b). c.closes.ensures.no c.if-closes.false (c.next_token-token.ensures.kind ∙ k) in
+    let pushed = part_pushed t (goal.at.list-returns-then-closes-2-clause-complete t c).In_ok-push in
     let kind = sym c.next_token-token-in-loop-rest.ensures.kind ∙ c.closes-in-loop-rest.ensures.yes c.if-closes-2.true in
     λ ts rest h.
-    let found = part_closed_only (closing b) (closing_plain b) (closing_last b) (closing_other b) c.args.budget c.args.text.now c.loop-rest.terms.items c.loop-rest.depth c.loop-rest.rest.text.now inv
-    open_ f s.0.0 c.in_ok-found.ensures.complete c.push.new.self.items c.in_ok-push.ensures.items kind ts rest h in
+    let found = part_closed_only c.args.bracket c.args.budget c.args.text.now c.loop-rest.terms.items c.loop-rest.depth c.loop-rest.rest.text.now c.loop-rest.invariant
+    c.in_ok-found.found c.push.new.self.items pushed kind ts rest h in
     (found.0, c.next_token-token-in-loop-rest.ensures.rest ∙ found.1)
 
 pub list-returns-in_default : goal.list-returns-in_default
 list-returns-in_default t c =
-    let b = c.args.bracket in
-    let inv = c.loop-rest.invariant in
-    let f = c.in_ok-found.found in
-    let s = c.in_ok-found.ensures.sound in
-    let open_ = λ (k : token_kind c.loop-rest.rest.text.now ≡ closing b). c.closes.ensures.no c.if-closes.false (c.next_token-token.ensures.kind ∙ k) in
+    let pushed = part_pushed t (goal.at.list-returns-in_default t c).In_ok-push in
     record {
       sound = tt;
       shorter = tt;
-      complete = λ ts rest h. absurd (part_refused (closing b) (closing_plain b) (closing_last b) (closing_other b) c.args.budget c.args.text.now c.loop-rest.terms.items c.loop-rest.depth c.loop-rest.rest.text.now inv
-          open_ f s.0.0 c.in_ok-found.ensures.complete c.push.new.self.items c.in_ok-push.ensures.items
+      complete = λ ts rest h. absurd (part_refused c.args.bracket c.args.budget c.args.text.now c.loop-rest.terms.items c.loop-rest.depth c.loop-rest.rest.text.now c.loop-rest.invariant
+          c.in_ok-found.found c.push.new.self.items pushed
           (λ k. c.closes-in-loop-rest.ensures.no c.if-closes-2.false (c.next_token-token-in-loop-rest.ensures.kind ∙ k))
           (λ k. c.in_default.not-Comma (c.next_token-token-in-loop-rest.ensures.kind ∙ k)) ts rest h);
     }
 
 pub list-loop-rest-preserved : goal.list-loop-rest-preserved
 list-loop-rest-preserved t c =
-    let b = c.args.bracket in
-    let inv = c.loop-rest.invariant in
-    let f = c.in_ok-found.found in
     let s = c.in_ok-found.ensures.sound in
-    let open_ = λ (k : token_kind c.loop-rest.rest.text.now ≡ closing b). c.closes.ensures.no c.if-closes.false (c.next_token-token.ensures.kind ∙ k) in
-    part_more (closing b) (closing_plain b) (closing_last b) (closing_other b) c.args.budget c.args.text.now c.loop-rest.terms.items c.loop-rest.depth c.loop-rest.rest.text.now inv
-    open_ f s.0.0 c.in_ok-found.ensures.complete c.push.new.self.items c.in_ok-push.ensures.items c.next_token-token-in-loop-rest.result.rest.now c.max-depth.result
+    let pushed = part_pushed t (goal.at.list-loop-rest-preserved t c).In_ok-push in
+    part_more c.args.bracket c.args.budget c.args.text.now c.loop-rest.terms.items c.loop-rest.depth c.loop-rest.rest.text.now c.loop-rest.invariant
+    c.in_ok-found.found c.push.new.self.items pushed c.next_token-token-in-loop-rest.result.rest.now c.max-depth.result
     (sym c.next_token-token-in-loop-rest.ensures.kind ∙ c.in-Comma.is) (sym c.next_token-token-in-loop-rest.ensures.rest) s.0.1 s.0.2 c.max-depth.ensures
-    (omega (arith, inv.shorter, c.in_ok-found.ensures.shorter, c.next_token-token-in-loop-rest.ensures.shorter))
+    (omega (arith, c.loop-rest.invariant.shorter, c.in_ok-found.ensures.shorter, c.next_token-token-in-loop-rest.ensures.shorter))
 
 pub operand-returns-in_err-read-in-Quote-clause-complete : goal.operand-returns-in_err-read-in-Quote-clause-complete
 operand-returns-in_err-read-in-Quote-clause-complete t c =
@@ -285,10 +275,9 @@ expression-returns-then-budget-eq0-clause-complete t c = λ tree rest h k z. ome
 
 pub list-returns-then-budget-eq0-clause-complete : goal.list-returns-then-budget-eq0-clause-complete
 list-returns-then-budget-eq0-clause-complete t c =
-    let b = c.args.bracket in
     let kind = c.next_token-token.ensures.kind in
     λ ts rest h.
-    row_fails (closing b) (closing_plain b) (closing_last b) (closing_other b) c.args.budget c.args.text.now c.loop-rest.terms.items c.loop-rest.depth c.loop-rest.rest.text.now c.loop-rest.invariant
+    row_fails c.args.bracket c.args.budget c.args.text.now c.loop-rest.terms.items c.loop-rest.depth c.loop-rest.rest.text.now c.loop-rest.invariant
     (λ k. c.closes.ensures.no c.if-closes.false (kind ∙ k)) c.last_level.result
     (λ tree p g k z.
     let begun = ap begins kind ∙ spells_begins tree c.loop-rest.rest.text.now p g in

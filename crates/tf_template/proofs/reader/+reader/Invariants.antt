@@ -1,5 +1,4 @@
 use Rattle.std.proofs.Common.{◌+◌, ◌-◌, ◌*◌, length}
-use Rattle.tf_template.specs.Reads.{closing}
 use Rattle.tf_template.proofs.Growing.{Climbed}
 use Rattle.tf_template.proofs.Rowing.{Rowed}
 use Rattle.tf_template.proofs.Weaving.{Weaves}
@@ -30,7 +29,7 @@ abbrev pub decreases-expression-loop-alloc : goal.decreases-expression-loop-allo
 decreases-expression-loop-alloc l = l.budget - l.left.depth
 
 abbrev pub invariant-list-loop-rest : goal.invariant-list-loop-rest
-invariant-list-loop-rest l = Rowed (closing l.bracket) l.budget l.fn.text l.terms.items l.depth l.rest.text.now
+invariant-list-loop-rest l = Rowed l.bracket l.budget l.fn.text l.terms.items l.depth l.rest.text.now
 
 abbrev pub decreases-list-loop-rest : goal.decreases-list-loop-rest
 decreases-list-loop-rest l = length l.rest.text.now
