@@ -1,10 +1,10 @@
 -- What is decided of names, kept one after another.
 use Rattle.std.proofs.Common.{◌≡◌, ◌≢◌, ◌<◌, ◌≤◌, ◌+◌, ℕ, Bool, true, if◌then◌else◌, List, [], ◌∷◌, map, length, get_or, set, take, drop, Some, None, Option, refl, sym, ap, subst, ◌∙◌, arith, inl, inr}
 use Rattle.std.proofs.lemmas.Bool.{cases_eq}
-use Rattle.std.proofs.lemmas.List.{at_drop_more, get_or-set_same, get_or-set_other, map-set, length-map, length-set, take_all}
+use Rattle.std.proofs.lemmas.List.{at_drop_more, get_or_default, get_or-set_same, get_or-set_other, map-set, length-map, length-set, take_all}
 use Rattle.std.proofs.lemmas.List.Sums.{fold_more}
 use Rattle.std.specs.List.{AllByRecursion}
-use Rattle.std.specs.Prelude.{Contains, slice_get, slice_index}
+use Rattle.std.specs.Prelude.{Contains, slice_get, slice_index, slice_index_or}
 use Rattle.tf_config_data.specs.Config.{BlockView}
 use Rattle.tf_config_data.specs.Names.{NameView, Meant, a_local, a_block, block_refers, directly_before, meant_at, places, refers_at}
 use Rattle.tf_plan_decision.proofs.Local.{block_local, stage_local}
@@ -108,6 +108,12 @@ module _ (ms : List Meaning) (resources : List ResourceView) (variables : Entrie
         rows_more order wanted i p (resolved_names_of kept) rows rows_now d ordered needed h is (subst (λ m. p < m) (sym inv.long) inside) set_rows
         (decides ∙ ap (λ xs. row ms resources variables names shapes (resolved_names_of xs) p (meant_at names p)) same) inv.resolved.have inv.each;
   }
+
+-- a place of an order over as many names as a list has items is one of the list
+pub place_within : (order : List ℕ) (count : ℕ) → ((n : ℕ) → Contains order n → n < count) → (i : ℕ) → i < length order → (long : ℕ) → long ≡ count → slice_index_or order i 0 < long
+place_within order count within i below long same =
+    let p : ℕ = slice_index_or order i 0 in
+    subst (λ m. p < m) (sym same) (within p (i, below, get_or_default order i p 0 below))
 
 -- ---- what is gathered
 

@@ -13,6 +13,7 @@ pub mod Growing
 pub mod Keeping
 pub mod Listed
 pub mod Local
+pub mod Looking
 pub mod Planned
 pub mod Replies
 pub mod Shown

@@ -23,8 +23,8 @@ settled_standing-requires g c =
     ap (map settled_of) c.as_slice-2.ensures.value ∙ (c.in_ok-settled.ensures ∙ ap (settled_from becomes 0) listed) in
     subst (λ xs. IsStrictlySortedBy instance_key_cmp (map settled_key xs)) (sym all) (block_sorted becomes (shape_of c.args.shape.now) block (state_of c.args.stage.now.state.now).resources)
 
-pub returns-clause-resolved : goal.returns-clause-resolved
-returns-clause-resolved g c =
+pub returns : goal.returns
+returns g c =
     let ms = map (λ b. (goal.Provider-dyn g (b.vtable, b.value)).meaning b.value) c.args.stage.now.providers.now in
     let resources = (state_of c.args.stage.now.state.now).resources in
     let block = block_at (label_of c.args.resource.now.label.now) c.args.resource.now.block.now in
@@ -33,18 +33,11 @@ returns-clause-resolved g c =
     let same = c.schema_for-schema.ensures ∙ ap (λ t. schema_in t ms) c.as_str.ensures.value in
     let listed = ap (map member_of) c.as_slice.ensures.value ∙ c.in_ok-members.ensures in
     let settled = c.in_ok-settled.ensures ∙ ap (settled_from (member_outcome found block env) 0) listed in
-    standing_by ms resources c.args.resource.now.place block env (shape_of c.args.shape.now) found (map settled_of c.as_slice-2.result.now) same (ap (map settled_of) c.as_slice-2.ensures.value ∙ settled)
-    c.args.is_wanted (resolved_of c.in_ok-resolved.resolved) c.in_ok-resolved.ensures
-
-pub returns-clause-decided : goal.returns-clause-decided
-returns-clause-decided g c =
-    let ms = map (λ b. (goal.Provider-dyn g (b.vtable, b.value)).meaning b.value) c.args.stage.now.providers.now in
-    let resources = (state_of c.args.stage.now.state.now).resources in
-    let block = block_at (label_of c.args.resource.now.label.now) c.args.resource.now.block.now in
-    let env = g.S.Scope.environment c.args.resource.now.scope.now in
-    let found = option_map (λ s. s.now) c.schema_for-schema.result in
-    let same = c.schema_for-schema.ensures ∙ ap (λ t. schema_in t ms) c.as_str.ensures.value in
-    let listed = ap (map member_of) c.as_slice.ensures.value ∙ c.in_ok-members.ensures in
-    let settled = c.in_ok-settled.ensures ∙ ap (settled_from (member_outcome found block env) 0) listed in
-    decided_by ms resources c.args.resource.now.place block env (shape_of c.args.shape.now) found (map settled_of c.in_ok-settled.settled.items) same settled
-    c.version_of.result (decided_of c.add_settled.new.self) (decided_of c.nothing-decided.result) c.version_of.ensures c.nothing-decided.ensures c.in_ok-add_settled.ensures
+    record {
+      resolved =
+          standing_by ms resources c.args.resource.now.place block env (shape_of c.args.shape.now) found (map settled_of c.as_slice-2.result.now) same (ap (map settled_of) c.as_slice-2.ensures.value ∙ settled)
+          c.args.is_wanted (resolved_of c.in_ok-resolved.resolved) c.in_ok-resolved.ensures;
+      decided =
+          decided_by ms resources c.args.resource.now.place block env (shape_of c.args.shape.now) found (map settled_of c.in_ok-settled.settled.items) same settled
+          c.version_of.result (decided_of c.add_settled.new.self) (decided_of c.nothing-decided.result) c.version_of.ensures c.nothing-decided.ensures c.in_ok-add_settled.ensures;
+    }

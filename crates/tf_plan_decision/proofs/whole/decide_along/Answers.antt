@@ -1,6 +1,5 @@
-use Rattle.std.proofs.Common.{rules, ◌≡◌, ◌<◌, ℕ, length, map, slice_index_or, refl, ◌∙◌, arith}
-use Rattle.std.proofs.lemmas.List.{get_or_default}
-use Rattle.tf_plan_decision.proofs.Along.{looked_start, looked_more, rows_all}
+use Rattle.std.proofs.Common.{rules, ◌<◌, ℕ, length, map, slice_index_or, refl, ◌∙◌, arith}
+use Rattle.tf_plan_decision.proofs.Along.{looked_start, looked_more, place_within, rows_all}
 use Rattle.tf_plan_decision.specs.Stage.{deciding}
 use Rattle.tf_expand.proofs.Keeping.{kept_all}
 use Rattle.tf_expand.specs.Views.{shapes_of}
@@ -22,9 +21,10 @@ loop-place-preserved g c =
     let i = c.loop-place.place-index in
     let p : ℕ = slice_index_or c.args.order.now i 0 in
     let below : i < length c.args.order.now = c.loop-place-test.true in
+    let inside : p < length names = place_within c.args.order.now (length names) c.requires.within i below (length names) refl in
     looked_more ms (state_of c.args.stage.now.state.now).resources (entries_view c.args.declared.now.variables.now.entries) names (shapes_of c.args.stage.now.shapes.now)
     c.args.order.now c.args.wanted.now i p c.loop-place.kept.items _ c.loop-place.rows.items _ c.in_ok-looked.looked.resolved c.in_ok-looked.looked.decided c.is_marked-is_wanted.result c.as_slice.result.now
-    c.requires.order c.requires.closed c.requires.needed below refl (c.requires.within p (i, below, get_or_default c.args.order.now i p 0 below)) refl refl
+    c.requires.order c.requires.closed c.requires.needed below refl inside refl refl
     c.is_marked-is_wanted.ensures c.as_slice.ensures.value c.in_ok-looked.ensures.resolved c.in_ok-looked.ensures.decided c.loop-place.invariant
 
 pub returns-clause-resolved_names : goal.returns-clause-resolved_names
@@ -41,24 +41,19 @@ returns-clause-rows g c =
 
 pub look_at-requires-clause-place : goal.look_at-requires-clause-place
 look_at-requires-clause-place g c =
-    let i = c.loop-place.place-index in
-    let p : ℕ = slice_index_or c.args.order.now i 0 in
-    c.requires.within p (i, c.loop-place-test.true, get_or_default c.args.order.now i p 0 c.loop-place-test.true)
+    let count = length (names_in c.args.declared.now.names.now) in
+    place_within c.args.order.now count c.requires.within c.loop-place.place-index c.loop-place-test.true count refl
 
 pub index_mut-requires : goal.index_mut-requires
 index_mut-requires g c =
-    let i = c.loop-place.place-index in
-    let p : ℕ = slice_index_or c.args.order.now i 0 in
-    let inside : p < length (names_in c.args.declared.now.names.now) = c.requires.within p (i, c.loop-place-test.true, get_or_default c.args.order.now i p 0 c.loop-place-test.true) in
-    let long : length c.loop-place.kept.items ≡ length (names_in c.args.declared.now.names.now) = c.loop-place.invariant.resolved.long in
-    let wide : length c.loop-place.rows.items ≡ length (names_in c.args.declared.now.names.now) = c.loop-place.invariant.long in
+    let count = length (names_in c.args.declared.now.names.now) in
+    let inside : slice_index_or c.args.order.now c.loop-place.place-index 0 < length c.loop-place.kept.items =
+    place_within c.args.order.now count c.requires.within c.loop-place.place-index c.loop-place-test.true (length c.loop-place.kept.items) c.loop-place.invariant.resolved.long in
     search rules
 
 pub index_mut-requires-in-loop-place : goal.index_mut-requires-in-loop-place
 index_mut-requires-in-loop-place g c =
-    let i = c.loop-place.place-index in
-    let p : ℕ = slice_index_or c.args.order.now i 0 in
-    let inside : p < length (names_in c.args.declared.now.names.now) = c.requires.within p (i, c.loop-place-test.true, get_or_default c.args.order.now i p 0 c.loop-place-test.true) in
-    let long : length c.loop-place.kept.items ≡ length (names_in c.args.declared.now.names.now) = c.loop-place.invariant.resolved.long in
-    let wide : length c.loop-place.rows.items ≡ length (names_in c.args.declared.now.names.now) = c.loop-place.invariant.long in
+    let count = length (names_in c.args.declared.now.names.now) in
+    let inside : slice_index_or c.args.order.now c.loop-place.place-index 0 < length c.loop-place.rows.items =
+    place_within c.args.order.now count c.requires.within c.loop-place.place-index c.loop-place-test.true (length c.loop-place.rows.items) c.loop-place.invariant.long in
     search rules

@@ -1,0 +1,37 @@
+-- What is looked at at one place.
+use Rattle.std.proofs.Common.{◌≡◌, ℕ, Bool, true, false, if◌then◌else◌, List, Option, Some, None, option_map, refl, sym, ap, ◌∙◌, arith}
+use Rattle.std.proofs.Math.ListN.{get_or-map}
+use Rattle.std.specs.Borrow.{Bor}
+use Rattle.std.specs.Option.{unwrap_or}
+use Rattle.std.specs.Slice.{IsItemAt}
+use Rattle.tf_config_data.specs.Names.{NameView, Meant, a_local, a_block, directly_before}
+use Rattle.tf_expand.specs.InstanceKeys.{InstanceKeysView}
+use Rattle.tf_expand.specs.Resolved.{ResolvedView, all_stand, environment}
+use Rattle.tf_expand.specs.Views.{shape_of, shapes_of}
+use Rattle.tf_expand.specs.Words.{seen_by}
+use Rattle.tf_expand.specs.declared.shape.InstanceKeys.{InstanceKeys}
+use Rattle.tf_expand.specs.declared.shape.InstanceKeys.TheVariants.{One}
+use Rattle.tf_plan_decision.specs.Deciding.{with_block}
+use Rattle.tf_plan_decision.specs.Rows.{row}
+use Rattle.tf_plan_decision.specs.Whole.{nothing_decided}
+use Rattle.tf_protocol.specs.Meaning.{Meaning}
+use Rattle.tf_state_data.specs.Resource.{ResourceView}
+use Rattle.tf_value.specs.Tree.{Entries}
+
+-- how the instances of a resource stand together, by what is found at its place
+pub shape_found : (shapes : List InstanceKeys) (p : ℕ) (found is : Option (Bor InstanceKeys)) → IsItemAt shapes p found → found ≡ is → shapes_of shapes p ≡ shape_of (unwrap_or (option_map (λ (b : Bor InstanceKeys). b.now) is) One)
+shape_found shapes p found is lookup same =
+    get_or-map shape_of shapes p One ∙ ap shape_of (sym (lookup.4 (omega arith) One) ∙ ap (λ (o : Option (Bor InstanceKeys)). unwrap_or (option_map (λ (b : Bor InstanceKeys). b.now) o) One) same)
+
+-- where something that a name needs was refused, it stands for nothing, wanted or not
+pub nothing_either : (is_wanted : Bool) (resolved : ResolvedView) → resolved ≡ None → resolved ≡ (if is_wanted then None else None)
+nothing_either true resolved none = none
+nothing_either false resolved none = none
+
+-- and nothing is decided there
+pub nothing_in_row : (ms : List Meaning) (resources : List ResourceView) (variables : Entries) (names : List NameView) (shapes : ℕ → InstanceKeysView) (kept : ℕ → ResolvedView) (p : ℕ) (m : Option Meant)
+    → all_stand (seen_by kept (directly_before names p)) ≡ false → nothing_decided ≡ row ms resources variables names shapes kept p m
+nothing_in_row ms resources variables names shapes kept p None refused = refl
+nothing_in_row ms resources variables names shapes kept p (Some (a_local e)) refused = refl
+nothing_in_row ms resources variables names shapes kept p (Some (a_block block)) refused =
+    ap (λ (all : Bool). if all then with_block ms resources p block (environment variables names kept) (shapes p) nothing_decided else nothing_decided) (sym refused)
