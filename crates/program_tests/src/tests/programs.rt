@@ -58,6 +58,9 @@ const DRAWN: &str =
 const APPLIED: &str =
     "+ sim_net.a\n    cidr = \"x\"\n    id = (known after apply)\nPlan: 1 to add, 0 to change, 0 to destroy.\nApply complete! Resources: 1 added, 0 changed, 0 destroyed.\n";
 
+const UNCHANGED: &str =
+    "No changes.\nApply complete! Resources: 0 added, 0 changed, 0 destroyed.\n";
+
 const HALF_APPLIED: &str =
     "+ sim_net.a\n    cidr = \"x\"\n    id = (known after apply)\n+ sim_net.b\n    cidr = \"bad\"\n    id = (known after apply)\nPlan: 2 to add, 0 to change, 0 to destroy.\nApply incomplete. Resources: 1 added, 0 changed, 0 destroyed.\n";
 
@@ -75,6 +78,9 @@ const BACKED: &str = "link s\nto s.backup.new\nrename s.backup.new\nto s.backup\
 
 // The new one takes its place.
 const MOVED: &str = "rename s.new\nto s\nread .\nsync .\n";
+
+// It can't take its place, and is removed.
+const UNMOVED: &str = "rename s.new\nto s\nremove s.new\n";
 
 const EMPTIED: &str = "empty s.log\nsync s.log\n";
 
@@ -97,387 +103,261 @@ const TWO_REFUSED: &str =
 
 const HALF_UNWRITTEN: &str = "error 21 at sim_net.b create: refused\nerror: state not written\n";
 
+// What a plan reads: the configuration, the state and the log.
+const READ: &str = "read c\nread s\nread s.log\n";
+
+const WITH_VALUES: &[&str] = &[
+    "apply",
+    "--state",
+    "s",
+    "--vars",
+    "v",
+    "--config",
+    "c",
+    "--lineage",
+    "L",
+];
+
+const TO_DRAW: &[&str] = &["plan", "--config", "c", "--state", "s", "--graph", "dot"];
+
+// An apply of a net where there is no state.
+const APPLY: Row = Row {
+    program: Program::Apply,
+    words: WORDS,
+    files: &[("c", Kind::File, NET)],
+    fault: Fault::None,
+    status: 0,
+    out: Told::Is(APPLIED),
+    err: Told::Is(""),
+    calls: &["read c\n", HELD, STARTED, CREATED, MOVED, EMPTIED],
+    state: Some(STATE),
+};
+
+// An apply of a net over an old state, which stays since the new one can't be made.
+const UNWRITABLE: Row = Row {
+    files: &[("c", Kind::File, NET), ("s", Kind::File, OLD)],
+    fault: Fault::Create,
+    status: 3,
+    out: Told::Is(APPLIED_AND_STATE),
+    err: Told::Is(UNWRITTEN),
+    calls: &["read c\n", HELD, STARTED, "create s.new\n"],
+    state: Some(OLD),
+    ..APPLY
+};
+
+// An apply that finds nothing, for which its words are refused.
+const REFUSED: Row = Row {
+    files: &[],
+    status: 1,
+    out: Told::Is(""),
+    err: Told::Something,
+    calls: &[],
+    state: None,
+    ..APPLY
+};
+
+// A plan of a net from an old state.
+const PLAN: Row = Row {
+    program: Program::Plan,
+    files: &[("c", Kind::File, NET), ("s", Kind::File, OLD)],
+    out: Told::Is(PLANNED),
+    calls: &[READ],
+    state: Some(OLD),
+    ..APPLY
+};
+
+// A plan that is refused, where there is no state.
+const PLAN_REFUSED: Row = Row {
+    status: 1,
+    out: Told::Is(""),
+    err: Told::Is("error 1 at configuration: NotJson\n"),
+    state: None,
+    ..PLAN
+};
+
 pub static ROWS: [Row; 26] = [
+    APPLY,
     Row {
-        program: Program::Apply,
-        words: WORDS,
-        files: &[("c", Kind::File, NET)],
-        fault: Fault::None,
-        status: 0,
-        out: Told::Is(APPLIED),
-        err: Told::Is(""),
-        calls: &["read c\n", HELD, STARTED, CREATED, MOVED, EMPTIED],
-        state: Some(STATE),
-    },
-    Row {
-        program: Program::Apply,
-        words: WORDS,
         files: &[("c", Kind::File, NET), ("s", Kind::File, OLD)],
-        fault: Fault::None,
-        status: 0,
-        out: Told::Is(APPLIED),
-        err: Told::Is(""),
         calls: &["read c\n", HELD, STARTED, CREATED, BACKED, MOVED, EMPTIED],
-        state: Some(STATE),
+        ..APPLY
     },
     Row {
-        program: Program::Apply,
-        words: WORDS,
         files: &[("c", Kind::File, NET), ("s", Kind::File, STATE)],
-        fault: Fault::None,
-        status: 0,
-        out: Told::Is("No changes.\nApply complete! Resources: 0 added, 0 changed, 0 destroyed.\n"),
-        err: Told::Is(""),
+        out: Told::Is(UNCHANGED),
         calls: &["read c\n", HELD, STARTED, EMPTIED],
-        state: Some(STATE),
+        ..APPLY
     },
     Row {
-        program: Program::Apply,
         words: &["apply", "--lineage", "L"],
         files: &[("main.tf.json", Kind::File, "{}")],
-        fault: Fault::None,
-        status: 0,
-        out: Told::Is("No changes.\nApply complete! Resources: 0 added, 0 changed, 0 destroyed.\n"),
-        err: Told::Is(""),
+        out: Told::Is(UNCHANGED),
         calls: &[
             "read main.tf.json\nappend terraform.tfstate.log\nlock terraform.tfstate.log\nread terraform.tfstate\nread terraform.tfstate.log\n",
             "sync terraform.tfstate.log\nread .\nsync .\n",
             "empty terraform.tfstate.log\nsync terraform.tfstate.log\n",
         ],
         state: None,
+        ..APPLY
     },
     Row {
-        program: Program::Apply,
-        words: &[
-            "apply",
-            "--state",
-            "s",
-            "--vars",
-            "v",
-            "--config",
-            "c",
-            "--lineage",
-            "L",
-        ],
+        words: WITH_VALUES,
         files: &[
             ("c", Kind::File, NAMED),
             ("v", Kind::File, "{\"v\": \"x\"}"),
         ],
-        fault: Fault::None,
-        status: 0,
-        out: Told::Is(APPLIED),
-        err: Told::Is(""),
         calls: &["read c\nread v\n", HELD, STARTED, CREATED, MOVED, EMPTIED],
-        state: Some(STATE),
+        ..APPLY
     },
     Row {
-        program: Program::Apply,
-        words: &[
-            "apply",
-            "--state",
-            "s",
-            "--vars",
-            "v",
-            "--config",
-            "c",
-            "--lineage",
-            "L",
-        ],
+        words: WITH_VALUES,
         files: &[("c", Kind::File, NAMED), ("s", Kind::File, OLD)],
-        fault: Fault::None,
-        status: 1,
-        out: Told::Is(""),
         err: Told::Is("error: cannot read v\n"),
         calls: &["read c\nread v\n"],
         state: Some(OLD),
+        ..REFUSED
     },
     Row {
-        program: Program::Apply,
-        words: WORDS,
         files: &[("s", Kind::File, OLD)],
-        fault: Fault::None,
-        status: 1,
-        out: Told::Is(""),
         err: Told::Is("error: cannot read c\n"),
         calls: &["read c\n"],
         state: Some(OLD),
+        ..REFUSED
     },
     Row {
-        program: Program::Apply,
-        words: WORDS,
         files: &[("c", Kind::Folder, "")],
-        fault: Fault::None,
-        status: 1,
-        out: Told::Is(""),
         err: Told::Is("error: cannot read c\n"),
         calls: &["read c\n"],
-        state: None,
+        ..REFUSED
     },
     Row {
-        program: Program::Apply,
-        words: WORDS,
         files: &[("c", Kind::File, NET), ("s", Kind::Secret, OLD)],
-        fault: Fault::None,
-        status: 1,
-        out: Told::Is(""),
         err: Told::Is("error: cannot read s\n"),
         calls: &["read c\nappend s.log\nlock s.log\nread s\n"],
         state: Some(OLD),
+        ..REFUSED
     },
     Row {
-        program: Program::Apply,
-        words: WORDS,
         files: &[("c", Kind::File, NET), ("s", Kind::Folder, "")],
-        fault: Fault::None,
-        status: 1,
-        out: Told::Is(""),
         err: Told::Is("error: cannot read s\n"),
         calls: &["read c\nappend s.log\nlock s.log\nread s\n"],
         state: Some(""),
+        ..REFUSED
     },
     Row {
-        program: Program::Apply,
-        words: WORDS,
         files: &[("c", Kind::File, NET), ("s", Kind::File, "")],
-        fault: Fault::None,
-        status: 1,
-        out: Told::Is(""),
         err: Told::Is("error 13 at state: BadState\n"),
         calls: &["read c\n", HELD, STARTED, EMPTIED],
         state: Some(""),
+        ..REFUSED
     },
     Row {
-        program: Program::Apply,
         words: &["apply", "--nope"],
-        files: &[],
-        fault: Fault::None,
-        status: 1,
-        out: Told::Is(""),
-        err: Told::Something,
-        calls: &[],
-        state: None,
+        ..REFUSED
     },
     Row {
-        program: Program::Apply,
         words: &["apply", "--config", "c", "--parallelism", "0"],
         files: &[("c", Kind::File, NET)],
-        fault: Fault::None,
-        status: 1,
-        out: Told::Is(""),
-        err: Told::Something,
-        calls: &[],
-        state: None,
+        ..REFUSED
     },
     Row {
-        program: Program::Apply,
         words: &["apply", "--help"],
-        files: &[],
-        fault: Fault::None,
         status: 0,
         out: Told::Something,
         err: Told::Is(""),
-        calls: &[],
-        state: None,
+        ..REFUSED
     },
     Row {
-        program: Program::Apply,
-        words: WORDS,
         files: &[("c", Kind::File, HALF)],
-        fault: Fault::None,
         status: 2,
         out: Told::Is(HALF_APPLIED),
         err: Told::Is("error 21 at sim_net.b create: refused\n"),
-        calls: &["read c\n", HELD, STARTED, CREATED, MOVED, EMPTIED],
-        state: Some(STATE),
+        ..APPLY
     },
+    UNWRITABLE,
     Row {
-        program: Program::Apply,
-        words: WORDS,
-        files: &[("c", Kind::File, NET), ("s", Kind::File, OLD)],
-        fault: Fault::Create,
-        status: 3,
-        out: Told::Is(APPLIED_AND_STATE),
-        err: Told::Is(UNWRITTEN),
-        calls: &["read c\n", HELD, STARTED, "create s.new\n"],
-        state: Some(OLD),
-    },
-    Row {
-        program: Program::Apply,
-        words: WORDS,
-        files: &[("c", Kind::File, NET), ("s", Kind::File, OLD)],
         fault: Fault::Write,
-        status: 3,
-        out: Told::Is(APPLIED_AND_STATE),
-        err: Told::Is(UNWRITTEN),
         calls: &["read c\n", HELD, STARTED, "create s.new\nremove s.new\n"],
-        state: Some(OLD),
+        ..UNWRITABLE
     },
     Row {
-        program: Program::Apply,
-        words: WORDS,
-        files: &[("c", Kind::File, NET), ("s", Kind::File, OLD)],
         fault: Fault::Sync,
-        status: 3,
-        out: Told::Is(APPLIED_AND_STATE),
-        err: Told::Is(UNWRITTEN),
         calls: &[
             "read c\n",
             HELD,
             STARTED,
             "create s.new\nsync s.new\nremove s.new\n",
         ],
-        state: Some(OLD),
+        ..UNWRITABLE
     },
     Row {
-        program: Program::Apply,
-        words: WORDS,
-        files: &[("c", Kind::File, NET), ("s", Kind::File, OLD)],
         fault: Fault::Rename,
-        status: 3,
-        out: Told::Is(APPLIED_AND_STATE),
-        err: Told::Is(UNWRITTEN),
-        calls: &[
-            "read c\n",
-            HELD,
-            STARTED,
-            CREATED,
-            BACKED,
-            "rename s.new\nto s\nremove s.new\n",
-        ],
-        state: Some(OLD),
+        calls: &["read c\n", HELD, STARTED, CREATED, BACKED, UNMOVED],
+        ..UNWRITABLE
     },
     Row {
-        program: Program::Apply,
-        words: WORDS,
         files: &[("c", Kind::File, HALF)],
         fault: Fault::Rename,
-        status: 3,
         out: Told::Is(HALF_AND_STATE),
         err: Told::Is(HALF_UNWRITTEN),
-        calls: &[
-            "read c\n",
-            HELD,
-            STARTED,
-            CREATED,
-            "rename s.new\nto s\nremove s.new\n",
-        ],
+        calls: &["read c\n", HELD, STARTED, CREATED, UNMOVED],
         state: None,
+        ..UNWRITABLE
     },
+    PLAN,
     Row {
-        program: Program::Plan,
-        words: WORDS,
-        files: &[("c", Kind::File, NET), ("s", Kind::File, OLD)],
-        fault: Fault::None,
-        status: 0,
-        out: Told::Is(PLANNED),
-        err: Told::Is(""),
-        calls: &["read c\nread s\nread s.log\n"],
-        state: Some(OLD),
-    },
-    Row {
-        program: Program::Plan,
-        words: WORDS,
         files: &[("c", Kind::File, NET), ("s", Kind::File, STATE)],
-        fault: Fault::None,
-        status: 0,
         out: Told::Is("No changes.\n"),
-        err: Told::Is(""),
-        calls: &["read c\nread s\nread s.log\n"],
         state: Some(STATE),
+        ..PLAN
     },
     Row {
-        program: Program::Plan,
-        words: &[
-            "apply",
-            "--state",
-            "s",
-            "--vars",
-            "v",
-            "--config",
-            "c",
-            "--lineage",
-            "L",
-        ],
+        words: WITH_VALUES,
         files: &[
             ("c", Kind::File, NAMED),
             ("v", Kind::File, "{\"v\": \"x\"}"),
         ],
-        fault: Fault::None,
-        status: 0,
-        out: Told::Is(PLANNED),
-        err: Told::Is(""),
         calls: &["read c\nread v\nread s\nread s.log\n"],
         state: None,
+        ..PLAN
     },
     Row {
-        program: Program::Apply,
-        words: WORDS,
         files: &[("c", Kind::File, WRONG_TWICE), ("s", Kind::File, OLD)],
-        fault: Fault::None,
-        status: 1,
-        out: Told::Is(""),
         err: Told::Is(TWO_REFUSED),
         calls: &["read c\n", HELD, STARTED, EMPTIED],
         state: Some(OLD),
+        ..REFUSED
     },
     Row {
-        program: Program::Plan,
-        words: WORDS,
         files: &[("c", Kind::File, WRONG_TWICE), ("s", Kind::File, OLD)],
-        fault: Fault::None,
-        status: 1,
-        out: Told::Is(""),
         err: Told::Is(TWO_REFUSED),
-        calls: &["read c\nread s\nread s.log\n"],
         state: Some(OLD),
+        ..PLAN_REFUSED
     },
     Row {
-        program: Program::Plan,
-        words: WORDS,
         files: &[("c", Kind::File, "{\"resource\":")],
-        fault: Fault::None,
-        status: 1,
-        out: Told::Is(""),
-        err: Told::Is("error 1 at configuration: NotJson\n"),
-        calls: &["read c\nread s\nread s.log\n"],
-        state: None,
+        ..PLAN_REFUSED
     },
 ];
 
 // Plans that are to be drawn.
 static DRAWN_ROWS: [Row; 3] = [
     Row {
-        program: Program::Plan,
-        words: &["plan", "--config", "c", "--state", "s", "--graph", "dot"],
+        words: TO_DRAW,
         files: &[("c", Kind::File, NET)],
-        fault: Fault::None,
-        status: 0,
         out: Told::Is(DRAWN),
-        err: Told::Is(""),
-        calls: &["read c\nread s\nread s.log\n"],
         state: None,
+        ..PLAN
     },
     Row {
-        program: Program::Plan,
-        words: &["plan", "--config", "c", "--state", "s", "--graph", "dot"],
+        words: TO_DRAW,
         files: &[("c", Kind::File, "[")],
-        fault: Fault::None,
-        status: 1,
-        out: Told::Is(""),
-        err: Told::Is("error 1 at configuration: NotJson\n"),
-        calls: &["read c\nread s\nread s.log\n"],
-        state: None,
+        ..PLAN_REFUSED
     },
     Row {
-        program: Program::Apply,
         words: &["apply", "--config", "c", "--state", "s", "--graph", "dot"],
         files: &[("c", Kind::File, NET)],
-        fault: Fault::None,
-        status: 1,
-        out: Told::Is(""),
-        err: Told::Something,
-        calls: &[],
-        state: None,
+        ..REFUSED
     },
 ];
 
