@@ -6,9 +6,9 @@ use std::io::Write;
 use std::process::ExitCode;
 use std::sync::Wait;
 use std::thread::Threads;
-use tf_cli_program::{Past, Place, ProgramInput, settle};
+use tf_cli_program::{Past, Place, ProgramInput, both_replayed, settle};
 use tf_local::LocalFile;
-use tf_log::{Entry, Replayed, split};
+use tf_log::{Entry, split};
 use tf_provider::Provider;
 use tf_sim::Sim;
 
@@ -26,13 +26,10 @@ pub fn take_up<T: Threads + Wait + Sync, O: Write, E: Write>(
     err: &mut E,
 ) -> io::Result<Result<(), ExitCode>> {
     let alloc = rt.alloc();
-    let mut own = own_entries(rt, entries)?;
-    let of_files = own.pop().unwrap_or(Vec::new(alloc));
-    let of_sim = own.pop().unwrap_or(Vec::new(alloc));
-    let sim = Box::new(alloc, Replayed::new(alloc, of_sim, Sim::new(alloc)?))?;
-    let files = Replayed::new(alloc, of_files, LocalFile::new(alloc, *rt)?);
+    let own = own_entries(rt, entries)?;
+    let (sim, files) = both_replayed(alloc, own, Sim::new(alloc)?, LocalFile::new(alloc, *rt)?);
     let mut providers: Vec<Box<dyn Provider + Sync>> = Vec::new(alloc);
-    providers.push(sim)?;
+    providers.push(Box::new(alloc, sim)?)?;
     providers.push(Box::new(alloc, files)?)?;
     Ok(settle(
         rt,

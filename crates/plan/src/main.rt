@@ -7,11 +7,11 @@ use std::process::ExitCode;
 use std::sync::Wait;
 use std::thread::Threads;
 use tf_cli_program::{
-    GraphForm, Options, Past, Place, Program, ProgramInput, Seen, foresee, print_graph, print_plan,
-    run, see,
+    GraphForm, Options, Past, Place, Program, ProgramInput, Seen, both_replayed, foresee,
+    print_graph, print_plan, run, see,
 };
 use tf_local::LocalFile;
-use tf_log::{Entry, Replayed, split};
+use tf_log::{Entry, split};
 use tf_provider::Provider;
 use tf_sim::Sim;
 
@@ -67,16 +67,13 @@ fn look_back<T: Threads + Wait + Sync, E: Write>(
     place: &Place,
     given: &mut ProgramInput,
     past: &Past,
-    mut own: Vec<Vec<Entry>>,
+    own: Vec<Vec<Entry>>,
     err: &mut E,
 ) -> io::Result<Result<(), ExitCode>> {
     let alloc = rt.alloc();
-    let of_files = own.pop().unwrap_or(Vec::new(alloc));
-    let of_sim = own.pop().unwrap_or(Vec::new(alloc));
-    let sim = Box::new(alloc, Replayed::new(alloc, of_sim, Sim::new(alloc)?))?;
-    let files = Replayed::new(alloc, of_files, LocalFile::new(alloc, *rt)?);
+    let (sim, files) = both_replayed(alloc, own, Sim::new(alloc)?, LocalFile::new(alloc, *rt)?);
     let mut providers: Vec<Box<dyn Provider + Sync>> = Vec::new(alloc);
-    providers.push(sim)?;
+    providers.push(Box::new(alloc, sim)?)?;
     providers.push(Box::new(alloc, files)?)?;
     Ok(foresee(
         threads,

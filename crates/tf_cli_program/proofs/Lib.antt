@@ -1,5 +1,6 @@
 mod Cut
 mod Flags
+mod Paired
 mod Settling
 mod Taken
 mod Worked

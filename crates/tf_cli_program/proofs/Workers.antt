@@ -1,8 +1,9 @@
 -- What a number that was read says of the text, and the same for a text.
-use Rattle.std.proofs.Common.{◌≡◌, ◌<◌, ◌⊎◌, ℕ, Option, Some, None, Result, Ok, Err, refl, sym, ap, ◌∙◌, arith, inl, inr}
+use Rattle.std.proofs.Common.{◌≡◌, ◌<◌, ◌⊎◌, ℕ, List, Option, Some, None, Result, Ok, Err, refl, sym, ap, ◌∙◌, arith, inl, inr}
 use Rattle.std.specs.Prelude.{unwrap_or, option_map}
 use Rattle.std.specs.Borrow.{Bor}
-use Rattle.std.specs.Str.Parse.{ParsesUnsigned, digits_value, without_leading_plus}
+use Rattle.std.specs.Str.Parse.{ExplainsUnsignedError, HasUnsignedDigitsIfOk, ParsesUnsigned, digits_value, without_leading_plus}
+use Rattle.std.specs.declared.num.ParseIntError.{ParseIntError}
 use Rattle.clap.specs.Matches.{ReadsOne}
 use Rattle.clap.specs.Words.{Text}
 use Rattle.tf_cli_program.specs.Reads.{IsStop, IsWorkers}
@@ -11,6 +12,10 @@ use Rattle.tf_cli_program.specs.Reads.{IsStop, IsWorkers}
 pub now_or : (o : Option (Bor Text)) (default : Bor Text) → (unwrap_or o default).now ≡ unwrap_or (option_map (λ s. s.now) o) default.now
 now_or None default = refl
 now_or (Some s) default = refl
+
+-- what `parse` says of a number in a text
+abbrev pub parses : List ℕ → Result ℕ ParseIntError → Type 0
+parses t r = ParsesUnsigned 64 10 t r × ExplainsUnsignedError 10 t r × HasUnsignedDigitsIfOk t r
 
 module _ (E : Type 0) (gives : Text → Result ℕ E → Type 0) (only : (t : Text) (r : Result ℕ E) → gives t r → ParsesUnsigned 64 10 t r) where
   -- a number that was read is the one that the text says

@@ -10,7 +10,7 @@ use std::io::Write;
 use tf_cli::{SaveFault, save};
 
 /// The status where the state isn't written.
-const UNWRITTEN: u8 = 3;
+pub const UNWRITTEN: u8 = 3;
 
 /// Writes the state's text to its file, and answers 0; or 3 where the file couldn't be opened, which is `None`, where a write
 /// to it failed or took nothing, or where its `flush` failed, by which a file is put in its place. Then standard error is told that

@@ -6,6 +6,7 @@ ghost use Rattle.tf_cli_program.specs.Work.{EndsLogged};
 ghost use Rattle.tf_cli_program.specs.Settled.{GoesOnFrom, IsLookedInto, IsPut};
 
 use crate::given::ProgramInput;
+use crate::keeping::UNWRITTEN;
 use crate::log_file::{LogFile, empty};
 use crate::looking::{LogStanding, look_back};
 use crate::past::Past;
@@ -22,9 +23,6 @@ use std::thread::Threads;
 use tf_cli::Stop;
 use tf_log::{Header, NotStarted, OpenLog, Sink};
 use tf_provider::Provider;
-
-/// The status where the state isn't written.
-const UNWRITTEN: u8 = 3;
 
 /// The status where somebody is to look before anything is done.
 const TO_BE_LOOKED_AT: u8 = 2;

@@ -29,23 +29,28 @@ pub fn run<
     requires { W.IsAlwaysCallable work }
     ensures { (answer : _) × Ends (λ e. error_kind e ≡ ErrorKind.OutOfMemory) answer result × (IsEarly answer ⊎ ((options : _) × (o : _) × (e : _) × (o_after : _) × (e_after : _) × W.post work options o e answer o_after e_after)) }
 {
-    end(answer_of(rt, program, out, err, work), err)
+    match asked_of(rt, program, out, err) {
+        Ok(Ok(options)) => {
+            let answer = work(options, out, err);
+            end(answer, err)
+        }
+        Ok(Err(status)) => Ok(status),
+        Err(error) => end(Err(error), err),
+    }
 }
 
-fn answer_of<
-    R: Env + AllocGlobal,
-    O: Write,
-    E: Write,
-    W: FnOnce(Options, &mut O, &mut E) -> io::Result<ExitCode>,
->(rt: &R, program: Program, out: &mut O, err: &mut E, work: W) -> io::Result<ExitCode>
-    requires { W.IsAlwaysCallable work }
-    ensures { IsEarly result ⊎ ((options : _) × (o : _) × (e : _) × (o_after : _) × (e_after : _) × W.post work options o e result o_after e_after) }
+/// What a program's own words ask for. Where they are refused, or ask for help, that has been told, and this is the program's
+/// status.
+fn asked_of<R: Env + AllocGlobal, O: Write, E: Write>(
+    rt: &R,
+    program: Program,
+    out: &mut O,
+    err: &mut E,
+) -> io::Result<Result<Options, ExitCode>>
+    ensures { IfOk result (λ asked. IfErr asked (λ status. exit_status status ≤ 1)) }
 {
     let words: Vec<String> = env::args(rt)?.collect(rt.alloc())?;
-    match read_options(rt.alloc(), program, words.as_slice(), out, err) {
-        Ok(options) => work(options, out, err),
-        Err(status) => Ok(status),
-    }
+    Ok(read_options(rt.alloc(), program, words.as_slice(), out, err))
 }
 
 /// The options that words say. Where they are refused, or ask for help, that has been told.

@@ -1,16 +1,12 @@
 -- The number that was read is the one that was given, where that is accepted.
-use Rattle.std.specs.Prelude.{ℕ, List, Result, None, Some, codes}
-use Rattle.std.specs.Str.Parse.{ParsesUnsigned, ExplainsUnsignedError, HasUnsignedDigitsIfOk}
+use Rattle.std.specs.Prelude.{None, Some, codes}
 use Rattle.std.proofs.Common.{rules, subst}
 use Rattle.clap.specs.Words.{found_of}
 use Rattle.std.specs.declared.num.ParseIntError.{ParseIntError}
 use Rattle.clap.proofs.WalkLemmas.{one_text-rows}
 use Rattle.tf_cli_program.specs.Reads.{IsStop}
-use Rattle.tf_cli_program.proofs.Workers.{stop_read, stop_beyond, stop_none}
+use Rattle.tf_cli_program.proofs.Workers.{parses, stop_read, stop_beyond, stop_none}
 use Rattle.tf_cli_program.proofs.option_reading.stop_in.Goals as goal
-
-abbrev parses : List ℕ → Result ℕ ParseIntError → Type 0
-parses t r = ParsesUnsigned 64 10 t r × ExplainsUnsignedError 10 t r × HasUnsignedDigitsIfOk t r
 
 pub returns-in-Some-clause-reads : goal.returns-in-Some-clause-reads
 returns-in-Some-clause-reads c = subst (λ o. IsStop o (Some c.in-Some.calls)) (one_text-rows (found_of c.args.matches.now) (codes "stop-after"))

@@ -1,18 +1,11 @@
 -- The number that was read is the one that was given, where that is accepted.
-use Rattle.std.specs.Prelude.{ℕ, List, Result}
-use Rattle.std.specs.Str.Parse.{ParsesUnsigned, ExplainsUnsignedError, HasUnsignedDigitsIfOk}
-use Rattle.std.proofs.Common.{rules, subst, inl, inr}
-use Rattle.std.specs.Prelude.{codes}
-use Rattle.std.proofs.Common.{refl}
+use Rattle.std.proofs.Common.{codes, rules, refl, subst, inl, inr}
 use Rattle.clap.specs.Words.{found_of}
 use Rattle.std.specs.declared.num.ParseIntError.{ParseIntError}
 use Rattle.clap.proofs.WalkLemmas.{one_text-rows}
 use Rattle.tf_cli_program.specs.Reads.{IsWorkers}
-use Rattle.tf_cli_program.proofs.Workers.{workers_read, workers_beyond, workers_none}
+use Rattle.tf_cli_program.proofs.Workers.{parses, workers_read, workers_beyond, workers_none}
 use Rattle.tf_cli_program.proofs.option_reading.workers_in.Goals as goal
-
-abbrev parses : List ℕ → Result ℕ ParseIntError → Type 0
-parses t r = ParsesUnsigned 64 10 t r × ExplainsUnsignedError 10 t r × HasUnsignedDigitsIfOk t r
 
 pub returns-in-Some-clause-reads : goal.returns-in-Some-clause-reads
 returns-in-Some-clause-reads c = subst (λ o. IsWorkers o c.in-Some.workers) (one_text-rows (found_of c.args.matches.now) (codes "parallelism"))
