@@ -7,6 +7,7 @@ pub mod JsonForms
 pub mod Forms
 pub mod Rewriting
 pub mod WithNulls
+pub mod Retained
 pub mod WithLists
 pub mod Ordered
 pub mod Refining

@@ -27,14 +27,10 @@ pub fn make_call(
         × (journal.new.entries ≡ journal.old.entries ++ e ∷ []) }
     ensures graph { journal.new.graph ≡ journal.old.graph }
 {
-    let PreparedCall {
-        request,
-        message,
-        fallback,
-    } = asking;
+    let PreparedCall { request, message } = asking;
     let called = call(provider, permit, request);
     match journal.record(called) {
-        Ok(recorded) => ended_by(recorded, message, fallback),
+        Ok(recorded) => ended_by(recorded, message),
         Err(_) => unreachable!(),
     }
 }

@@ -55,13 +55,7 @@ impl<N: WalkBrand> ResultCells<N> {
 /// Forgets what came of an action.
 fn forget(ended: ActionResult) {
     match ended {
-        ActionResult::Called(
-            Served {
-                call,
-                message: _,
-                fallback: _,
-            },
-        ) => {
+        ActionResult::Called(Served { call, message: _ }) => {
             let (_request, _reply) = call.into_report();
         }
         ActionResult::Faulted(_, _) | ActionResult::Left(_, _) => {}

@@ -2,8 +2,7 @@ mod Alone
 pub mod Answering
 pub mod AskedRight
 pub mod Calling
-pub mod Fallback
-pub mod FallbackTested
+pub mod Storable
 pub mod Growing
 pub mod Judging
 pub mod Lookup

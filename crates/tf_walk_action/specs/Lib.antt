@@ -3,7 +3,7 @@ pub mod Asked
 pub mod AskedBy
 pub mod AskingLaws
 pub mod Excuse
-pub mod Fallback
+pub mod Storable
 pub mod Journal
 pub mod Laws
 pub mod Message

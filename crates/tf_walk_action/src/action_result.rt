@@ -2,7 +2,7 @@
 
 ghost use Rattle.std.specs.Prelude.{◌≡◌, ◌≤◌, [], true, None, option_map, replicate, string_bytes, string_capacity, vec_capacity};
 ghost use Rattle.tf_plan_object.specs.Instance.{instance_fault_of};
-ghost use Rattle.tf_walk_action.specs.Fallback.{is_fallback};
+ghost use Rattle.tf_walk_action.specs.Storable.{asks_planned};
 ghost use Rattle.tf_walk_action.specs.Message.{fault_message};
 ghost use Rattle.tf_walk_action.specs.Room.{message_fits};
 ghost use Rattle.tf_value.specs.Tree.{tree_of};
@@ -11,17 +11,15 @@ use crate::not_good::NotGood;
 use crate::stop::Stopped;
 use tf_plan_object::InstanceFault;
 use tf_provider::{Judged, Unserved, Waived};
-use tf_state_data::Object;
 
-/// A call whose provider had memory, with what was had for its reply: an empty text with room for each message about it, and
-/// what a create saves where it can't be used. It can't be copied or let go.
+/// A call whose provider had memory, with what was had for its reply: an empty text with room for each message about it. It
+/// can't be copied or let go.
 pub struct Served {
     pub call: Judged,
     pub message: String,
-    pub fallback: Option<Object>,
     pub ghost blank: { string_bytes message ≡ [] },
     pub ghost fits: { message_fits (string_capacity message) (option_map tree_of call.request.object) ≡ true },
-    pub ghost stands_in: { is_fallback call.request.op (option_map tree_of call.request.object) (option_map (λ o. tree_of o.value) fallback) ≡ true },
+    pub ghost planned: { asks_planned call.request.op (option_map tree_of call.request.object) ≡ true },
 }
 
 /// An action for which nothing can be asked: what is wrong with its request, and the message that tells it.

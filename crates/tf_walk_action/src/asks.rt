@@ -12,7 +12,7 @@ use crate::messages::faulted;
 use crate::objects::Task;
 use crate::prepared_call::PreparedCall;
 use crate::results::Results;
-use crate::rooms::{fallback_for, least_room, reserve_message};
+use crate::rooms::{least_room, reserve_message};
 use std::alloc::{AllocError, Global};
 use tf_config_names::Declarations;
 use tf_expand::Resolved;
@@ -150,19 +150,14 @@ impl<R: Results> Task<'_, '_, R> {
     }
 }
 
-/// The request to make an object, with room for what is told of its reply, and with what is saved where that can't be used.
+/// The request to make an object, with room for what is told of its reply.
 fn creating(alloc: Global, action: &Action, object: Value) -> Result<PreparedCall, AllocError>
     requires { has_planned_attributes (tree_of object) ≡ true }
     ensures { IfOk result (λ asking. asked asking.request ≡ create_of (action_of action.now) (tree_of object)) }
 {
     let message = reserve_message(alloc, &object)?;
-    let fallback = fallback_for(alloc, &object)?;
     let request = request_for(alloc, action, Op::Create, None, None, Some(object))?;
-    Ok(PreparedCall {
-        request,
-        message,
-        fallback: Some(fallback),
-    })
+    Ok(PreparedCall { request, message })
 }
 
 /// The request to make of an object that is there another, with room for what is told of its reply.
@@ -177,11 +172,7 @@ fn updating(
     let message = reserve_message(alloc, &object)?;
     let prior = Some(prior.value.clone()?);
     let request = request_for(alloc, action, Op::Update, None, prior, Some(object))?;
-    Ok(PreparedCall {
-        request,
-        message,
-        fallback: None,
-    })
+    Ok(PreparedCall { request, message })
 }
 
 /// The request to take an object away, the current one or the deposed one of a key, with room for what is told of its reply.
@@ -196,11 +187,7 @@ fn destroying(
     let message = least_room(alloc)?;
     let prior = Some(prior.value.clone()?);
     let request = request_for(alloc, action, Op::Destroy, deposed, prior, None)?;
-    Ok(PreparedCall {
-        request,
-        message,
-        fallback: None,
-    })
+    Ok(PreparedCall { request, message })
 }
 
 /// A request about the instance of an action.

@@ -5,25 +5,19 @@ ghost use Rattle.tf_protocol.specs.Meaning.{asked, answered};
 ghost use Rattle.tf_value.specs.Tree.{tree_of};
 ghost use Rattle.tf_graph.specs.Digraph.{Digraph};
 ghost use Rattle.tf_walk_action.specs.ResultViews.{HasCause, result_by, action_result_of, ended_action};
-ghost use Rattle.tf_walk_action.specs.Fallback.{is_fallback};
+ghost use Rattle.tf_walk_action.specs.Storable.{asks_planned};
 ghost use Rattle.tf_walk_action.specs.Room.{message_fits};
 
 use crate::action_result::{ActionResult, Served};
 use tf_claim::Finished;
 use tf_provider::Recorded;
-use tf_state_data::Object;
 
 /// What came of a recorded call, and the right to report its action as done. It takes what was had before the call beside
-/// its request: an empty text with room for each message about the reply, and what a create saves where the reply can't
-/// be used.
-pub fn ended_by(
-    recorded: Recorded,
-    message: String,
-    fallback: Option<Object>,
-) -> (ActionResult, Finished)
+/// its request: an empty text with room for each message about the reply.
+pub fn ended_by(recorded: Recorded, message: String) -> (ActionResult, Finished)
     requires blank { string_bytes message ≡ [] }
     requires fits { message_fits (string_capacity message) (option_map tree_of recorded.request.object) ≡ true }
-    requires stands_in { is_fallback recorded.request.op (option_map tree_of recorded.request.object) (option_map (λ o. tree_of o.value) fallback) ≡ true }
+    requires planned { asks_planned recorded.request.op (option_map tree_of recorded.request.object) ≡ true }
     ensures finished { result.1 ≡ recorded.action }
     ensures action { ended_action result.0 ≡ recorded.action }
     ensures cause { (order : Digraph) → HasCause order result.0 }
@@ -32,13 +26,6 @@ pub fn ended_by(
     let (finished, judged) = recorded.split();
     match judged {
         Err(unserved) => (ActionResult::NotServed(unserved), finished),
-        Ok(call) => {
-            let served = Served {
-                call,
-                message,
-                fallback,
-            };
-            (ActionResult::Called(served), finished)
-        }
+        Ok(call) => (ActionResult::Called(Served { call, message }), finished),
     }
 }

@@ -2,20 +2,11 @@
 
 ghost use Rattle.std.specs.List.{list_all};
 ghost use Rattle.std.specs.Prelude.{◌≡◌, ◌≤◌, ◌+◌, ℕ, [], true, None, Some, nat_le, length, IfOk, string_bytes, string_capacity};
-ghost use Rattle.tf_walk_action.specs.Words.{entries_view, keys_of, message_fits, tree_of, with_nulls};
+ghost use Rattle.tf_walk_action.specs.Words.{entries_view, keys_of, message_fits, tree_of};
 
 use std::alloc::{AllocError, Global};
 use std::collections::BTreeMap;
-use tf_state_data::Object;
-use tf_value::{Value, with_nulls};
-
-/// What is saved of an object whose provider's reply can't be used.
-pub(crate) fn fallback_for(alloc: Global, object: &Value) -> Result<Object, AllocError>
-    ensures { IfOk result (λ o. tree_of o.value ≡ with_nulls (tree_of object.now)) }
-{
-    let value = with_nulls(alloc, object)?;
-    Ok(Object { value })
-}
+use tf_value::Value;
 
 /// An empty text with room for each message about a reply to a request for this object.
 pub(crate) fn reserve_message(alloc: Global, object: &Value) -> Result<String, AllocError>

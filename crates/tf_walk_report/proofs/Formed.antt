@@ -1,6 +1,6 @@
--- Each attribute of an object that is well formed may be stored, so that none has an unknown part.
-use Rattle.std.proofs.Common.{◌≡◌, ℕ, Bool, true, false, List, [], ◌∷◌, map as each, refl, sym, ap, ◌∙◌, Ordering, Less, Equal, Greater}
-use Rattle.std.specs.Prelude.{Option, Some, if◌then◌else◌}
+-- An object is well formed where each attribute may be stored, it has those of the schema, and the value of each is allowed.
+use Rattle.std.proofs.Common.{◌≡◌, ℕ, Bool, true, false, List, [], ◌∷◌, ◌&&◌, map as each, refl, sym, ap, ap₂, ◌∙◌, Ordering, Less, Equal, Greater}
+use Rattle.std.specs.Prelude.{Option, Some, None, IfSome, if◌then◌else◌}
 use Rattle.std.specs.List.{list_all}
 use Rattle.std.specs.Option.{option_map_or}
 use Rattle.std.specs.Ordering.{nat_cmp, is_lt, is_eq, ordering_reverse}
@@ -10,11 +10,13 @@ use Rattle.std.proofs.lemmas.Map.Text.{is_eq-slice_cmp}
 use Rattle.std.proofs.lemmas.Slice.Eq.{bytes_eq-Decides}
 use Rattle.tf_protocol.specs.Schema.{AttributeView, SchemaView, IsSchema, ascends, is_below}
 use Rattle.tf_value.specs.Tree.{keys_of, Tree, map, Entries, no_entries, entry, get}
-use Rattle.tf_protocol.specs.Verdict.{same_names, is_allowed, fits, fits_in, well_formed}
+use Rattle.tf_protocol.specs.Verdict.{same_names, has_attributes, is_allowed, fits, fits_in, well_formed}
 use Rattle.tf_value.proofs.Conjunction.{and-first, and-second, and-both}
 use Rattle.tf_value.specs.Known.{known, known_entries}
-use Rattle.tf_value.specs.Stored.{may_be_stored, each_may_be_stored}
-use Rattle.tf_walk_action.specs.Fallback.{has_stored_attributes}
+use Rattle.tf_state.specs.Valid.{IsAttributes}
+use Rattle.tf_value.specs.Stored.{EachMayBeStored, may_be_stored, each_may_be_stored}
+use Rattle.tf_walk_report.specs.Formed.{allowed_in}
+use Rattle.tf_walk_action.specs.Storable.{has_stored_attributes}
 
 fits-stored : (a : AttributeView) (t : Tree) → fits a t ≡ true → may_be_stored t ≡ true
 fits-stored a t h = and-first (may_be_stored t) (is_allowed a t) h
@@ -52,17 +54,48 @@ entries-stored (entry k t es) (b ∷ bs) s a f =
     let above : list_all (λ c. is_below k c.name) bs ≡ true = ap (λ n. list_all (λ c. is_below n c.name) bs) same ∙ and-first _ _ a in
     and-both _ _ (fits-stored b t mine) (entries-stored es bs (and-second _ _ s) (and-second _ _ a) (beyond k t es bs above (and-second _ _ f)))
 
-pub well_formed-stored : (s : SchemaView) (t : Tree) → IsSchema s → well_formed s t ≡ true → has_stored_attributes t ≡ true
+well_formed-stored : (s : SchemaView) (t : Tree) → IsSchema s → well_formed s t ≡ true → has_stored_attributes t ≡ true
 well_formed-stored s (map es) k h = entries-stored es s.attributes (and-first _ _ h) k.ascending (and-second _ _ h)
 well_formed-stored s _ k h = absurd (cc)
 
-entries-known : (es : Entries) → each_may_be_stored es ≡ true → known_entries es ≡ true
-entries-known no_entries h = refl
-entries-known (entry k t es) h = and-both _ _ (and-first _ _ (and-first _ _ h)) (entries-known es (and-second _ _ h))
+-- ---- part by part
 
-stored-known : (t : Tree) → has_stored_attributes t ≡ true → known t ≡ true
-stored-known (map es) h = entries-known es h
-stored-known _ h = absurd (cc)
+one_of : (b : Bool) (t : Tree) (o : Option Tree) → may_be_stored t ≡ true → IfSome o (λ u. may_be_stored u ≡ true) → IfSome (if b then Some t else o) (λ u. may_be_stored u ≡ true)
+one_of true t o h more = h
+one_of false t o h more = more
 
-pub well_formed-known : (s : SchemaView) (t : Tree) → IsSchema s → well_formed s t ≡ true → known t ≡ true
-well_formed-known s t k h = stored-known t (well_formed-stored s t k h)
+-- what stands at a key may be stored
+get-stored : (es : Entries) (k : List ℕ) → each_may_be_stored es ≡ true → IfSome (get k es) (λ t. may_be_stored t ≡ true)
+get-stored no_entries k h = tt
+get-stored (entry l t es) k h = one_of (bytes_eq k l) t (get k es) (and-first _ _ h) (get-stored es k (and-second _ _ h))
+
+fits-allowed : (a : AttributeView) (o : Option Tree) → IfSome o (λ t. may_be_stored t ≡ true) → option_map_or (fits a) o false ≡ option_map_or (is_allowed a) o false
+fits-allowed a None h = refl
+fits-allowed a (Some t) h = ap (λ b. b && is_allowed a t) h
+
+all_fit-allowed : (es : Entries) → each_may_be_stored es ≡ true → (xs : List AttributeView) → list_all (fits_in (map es)) xs ≡ list_all (allowed_in (map es)) xs
+all_fit-allowed es h [] = refl
+all_fit-allowed es h (a ∷ xs) = ap₂ (λ b c. b && c) (fits-allowed a (get a.name es) (get-stored es a.name h)) (all_fit-allowed es h xs)
+
+-- an object whose attributes may be stored is well formed where it has the schema's, and each is allowed
+pub stored-formed : (s : SchemaView) (t : Tree) → has_stored_attributes t ≡ true → well_formed s t ≡ (has_attributes s t && list_all (allowed_in t) s.attributes)
+stored-formed s (map es) h = ap (λ b. has_attributes s (map es) && b) (all_fit-allowed es h s.attributes)
+stored-formed s _ h = absurd (cc)
+
+unless : (b c : Bool) → (b ≡ true → c ≡ true) → c ≡ false → b ≡ false
+unless true c p e = sym (p refl) ∙ e
+unless false c p e = refl
+
+-- another one isn't well formed
+pub not_stored-formed : (s : SchemaView) (t : Tree) → IsSchema s → has_stored_attributes t ≡ false → well_formed s t ≡ false
+not_stored-formed s t k e = unless (well_formed s t) (has_stored_attributes t) (well_formed-stored s t k) e
+
+-- ---- what may be stored is known
+
+each-known : (es : Entries) → EachMayBeStored es → known_entries es ≡ true
+each-known no_entries h = refl
+each-known (entry k t es) h = and-both _ _ h.0.2 (each-known es h.1)
+
+pub attributes-known : (t : Tree) → IsAttributes t → known t ≡ true
+attributes-known (map es) h = each-known es h.1
+attributes-known _ h = absurd h

@@ -1,7 +1,7 @@
 -- What a call changes may be stored.
 use Rattle.std.proofs.Common.{◌≡◌, Bool, true, false, not, refl, sym, ap, subst}
 use Rattle.std.specs.Option.{option_map_or}
-use Rattle.std.specs.Prelude.{Option, Some, None, IfSome, option_map, option_and_then, if◌then◌else◌}
+use Rattle.std.specs.Prelude.{Option, Some, None, IfSome, IsSome, option_map, option_and_then, if◌then◌else◌}
 use Rattle.tf_protocol.specs.Meaning.{Asked, Answer, object, gone, failed}
 use Rattle.tf_protocol.specs.Schema.{SchemaView}
 use Rattle.tf_protocol.specs.Verdict.{verdict_on, well_formed, contradiction, is_destroy}
@@ -14,7 +14,7 @@ use Rattle.tf_state_next.specs.Ends.{changed, unchanged}
 use Rattle.tf_state_next.specs.Saved.{as_saved, formed_in, left_by_destroy, object_replied, object_there}
 use Rattle.tf_value.specs.Nulls.{with_nulls}
 use Rattle.tf_state_data.specs.declared.object.Object.{Object}
-use Rattle.tf_walk_action.specs.Fallback.{has_stored_attributes}
+use Rattle.tf_walk_action.specs.Storable.{has_stored_attributes}
 use Rattle.tf_value.specs.Tree.{Tree, tree_of}
 use Rattle.tf_walk_report.specs.Change.{MayBeLeft, MayBeSaved, as_applied, saved_by}
 
@@ -53,11 +53,11 @@ reply_stored : (b : Bool) (r : Asked) (a : Option Answer) (s : SchemaView) → s
 reply_stored b r a s e f = as_saved-stored b (object_replied a) (subst (λ (o : Option Tree). IfSome o IsAttributes) (sym (replied_formed r a s e)) f)
 
 -- what a create or an update saves may be stored, where the object in the reply and the one that a create asked for may be
-pub saved-stored : (op : Op) (s : SchemaView) (r : Asked) (a : Option Answer) (v : Verdict) → v ≡ verdict_on r a s → IfSome (formed_in s a) IsAttributes → (op ≡ Create → IfSome (option_map with_nulls r.object) IsAttributes)
+pub saved-stored : (op : Op) (s : SchemaView) (r : Asked) (a : Option Answer) (v : Verdict) → v ≡ verdict_on r a s → IfSome (formed_in s a) IsAttributes → (op ≡ Create → v ≡ verdict.Malformed → IfSome (option_map with_nulls r.object) IsAttributes)
     → MayBeSaved (as_applied (saved_by op s r a v))
 saved-stored Create s r a verdict.Good e f n = reply_stored false r a s (ap saves_reply (sym e)) f
 saved-stored Create s r a (verdict.Contradicted place) e f n = reply_stored true r a s (ap saves_reply (sym e)) f
-saved-stored Create s r a verdict.Malformed e f n = as_saved-stored true (option_map with_nulls r.object) (n refl)
+saved-stored Create s r a verdict.Malformed e f n = as_saved-stored true (option_map with_nulls r.object) (n refl refl)
 saved-stored Create s r a verdict.Failed e f n = as_saved-stored true (object_there s a) (there_stored s a f)
 saved-stored Create s r a verdict.Excused e f n = tt
 saved-stored Update s r a verdict.Good e f n = reply_stored false r a s (ap saves_reply (sym e)) f
@@ -89,3 +89,9 @@ pub tested_stored : (o : Option Object) → IfSome o (λ x. has_stored_attribute
     → IfSome (option_map (λ x. tree_of x.value) o) IsAttributes
 tested_stored None h k = tt
 tested_stored (Some o) h k = h k
+
+-- where an object was asked for, there is one in which null stands for what isn't known
+pub there_of : (o : Option Object) (t : Option Tree) → option_map (λ x. tree_of x.value) o ≡ option_map with_nulls t → IsSome t → IsSome o
+there_of (Some o) t e h = search
+there_of None None e h = h
+there_of None (Some t) e h = absurd (cc)

@@ -5,6 +5,7 @@ pub mod Change
 pub mod Dependencies
 pub mod Diagnostics
 pub mod Events
+pub mod Formed
 pub mod Good
 pub mod Head
 pub mod JournalTold

@@ -1,7 +1,7 @@
 //! Outputs are worked out after an apply.
 
 ghost use Rattle.std.specs.Prelude.{◌≡◌, ◌≤◌, [], IfOk, Ok, length, true, vec_capacity};
-ghost use Rattle.tf_expand.specs.Words.{entries_view, has, has_no_set, IsAcyclic, IsDependence, IsTable, named_by, names_in, shapes_of, resolved_names_of, tree_of, with_nulls};
+ghost use Rattle.tf_expand.specs.Words.{entries_view, has, has_no_set, IsAcyclic, IsDependence, IsTable, named_by, names_in, shapes_of, resolved_names_of, tree_of};
 ghost use Rattle.tf_config_data.specs.Names.{places as places_of};
 ghost use Rattle.tf_walk_report.specs.Keeping.{IsSameOrExcused, MayBeSaved, done_of};
 ghost use Rattle.tf_walk_report.specs.Outputs.{AreOutputsEnded, IsOutputDone, done_with};
@@ -20,7 +20,7 @@ use tf_eval::EvalFault;
 use tf_expand::{InstanceKeys, Module, Resolved};
 use tf_state_data::Object;
 use tf_syntax::Expr;
-use tf_value::{Value, is_known, is_within_limits, with_nulls};
+use tf_value::{Value, is_within_limits, with_nulls};
 use tf_walk_action::{Results, output_value};
 
 /// What comes of all outputs: their values by name, without those that are null, and, in `ends`, what is told of each,
@@ -87,7 +87,7 @@ fn end_output<R: Results>(
     match shared_value(alloc, declared, shapes, expr, results, stood) {
         Err(_) => EvaluatedOutput::NoMemory,
         Ok(Err(fault)) => EvaluatedOutput::Faulted(fault),
-        Ok(Ok(value)) => within_limits(alloc, value),
+        Ok(Ok(value)) => within_limits(value),
     }
 }
 
@@ -146,8 +146,8 @@ fn value_by<R: Results>(
     }
 }
 
-/// What comes of an output with a value.
-fn within_limits(alloc: Global, value: Value) -> EvaluatedOutput
+/// What comes of an output with a value: that value, with null for what isn't known.
+fn within_limits(value: Value) -> EvaluatedOutput
     requires { has_no_set (tree_of value) ≡ true }
     ensures done { IsSameOrExcused (done_with (Ok (tree_of value))) (done_of result) }
     ensures stored { MayBeSaved (done_of result) }
@@ -155,19 +155,7 @@ fn within_limits(alloc: Global, value: Value) -> EvaluatedOutput
     if !is_within_limits(&value) {
         return EvaluatedOutput::Faulted(EvalFault::TooLarge);
     }
-    match known_object(alloc, value) {
-        Ok(object) => EvaluatedOutput::Valued(object),
-        Err(_) => EvaluatedOutput::NoMemory,
-    }
-}
-
-/// A value with null for what isn't known.
-fn known_object(alloc: Global, value: Value) -> Result<Object, AllocError>
-    ensures { IfOk result (λ object. tree_of object.value ≡ with_nulls (tree_of value)) }
-{
-    if is_known(&value) {
-        return Ok(Object { value });
-    }
-    let value = with_nulls(alloc, &value)?;
-    Ok(Object { value })
+    EvaluatedOutput::Valued(Object {
+        value: with_nulls(value),
+    })
 }

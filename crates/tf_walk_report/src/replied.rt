@@ -1,13 +1,18 @@
 //! What a reply says of an object.
 
 ghost use Rattle.std.specs.Bool.{OnTrue};
-ghost use Rattle.std.specs.Prelude.{◌≡◌, option_and_then, option_map, string_bytes, IfSome};
+ghost use Rattle.std.specs.List.{list_all};
+ghost use Rattle.std.specs.Prelude.{◌≡◌, map, option_and_then, option_map, string_bytes, IfSome};
+ghost use Rattle.tf_protocol.specs.Schema.{attribute_of};
+ghost use Rattle.tf_protocol.specs.Verdict.{well_formed};
 ghost use Rattle.tf_walk_action.specs.Words.{answered, has_stored_attributes, tree_of};
 ghost use Rattle.tf_state.specs.Valid.{IsAttributes};
 ghost use Rattle.tf_state_next.specs.Saved.{formed_in, if_formed};
+ghost use Rattle.tf_walk_report.specs.Formed.{allowed_in};
 ghost use Rattle.tf_walk_report.specs.Replied.{failure_in};
 
-use tf_provider::{Reply, Schema, well_formed};
+use tf_protocol::is_allowed;
+use tf_provider::{Attribute, Reply, Schema, has_attributes};
 use tf_state_data::Object;
 use tf_value::{Value, each_may_be_stored};
 
@@ -50,18 +55,48 @@ fn object_there(object: Option<Value>, schema: &Schema) -> Option<Object>
     }
 }
 
-/// An object that a provider answered, where it is well formed. It is looked through once more, which tells that its
-/// numbers and keys are such as a text can hold.
+/// An object that a provider answered, where it is well formed.
 fn formed_object(value: Value, schema: &Schema) -> Option<Object>
     ensures object { option_map (λ o. tree_of o.value) result ≡ if_formed schema.now (tree_of value) }
     ensures stored { IfSome result (λ o. IsAttributes (tree_of o.value)) }
 {
-    let _attributes = schema.attributes();
-    if well_formed(&value, schema) {
-        let _stored = has_stored_attributes(&value);
+    if is_well_formed(&value, schema) {
         Some(Object { value })
     } else {
         None
+    }
+}
+
+/// Whether an object is well formed: each attribute may be stored, it has exactly those of the schema, and the value of each
+/// is allowed. As it looks through the object, it also says that numbers and keys are such as a text can hold.
+fn is_well_formed(value: &Value, schema: &Schema) -> bool
+    ensures exact { result ≡ well_formed schema.now (tree_of value.now) }
+    ensures stored { OnTrue result (IsAttributes (tree_of value.now)) }
+{
+    let attributes = schema.attributes();
+    let stored = has_stored_attributes(value);
+    stored && has_attributes(value, schema) && all_allowed(value, attributes)
+}
+
+/// Whether the value of each attribute is there and allowed.
+fn all_allowed(value: &Value, attributes: &[Attribute]) -> bool
+    ensures { result ≡ list_all (allowed_in (tree_of value.now)) (map attribute_of attributes.now) }
+{
+    for attribute in attributes {
+        if !is_allowed_in(value, attribute) {
+            return false;
+        }
+    }
+    true
+}
+
+/// Whether a map has a value for the attribute that is allowed.
+fn is_allowed_in(value: &Value, attribute: &Attribute) -> bool
+    ensures { result ≡ allowed_in (tree_of value.now) (attribute_of attribute.now) }
+{
+    match value.get(attribute.name.as_str()) {
+        Some(part) => is_allowed(part, attribute),
+        None => false,
     }
 }
 

@@ -3,6 +3,7 @@
 ghost use Rattle.std.specs.Prelude.{◌≡◌, ◌≤◌, true, None, Option, Some, length, map, option_map, string_bytes, IfSome, IsSome};
 ghost use Rattle.tf_walk_action.specs.Words.{Answer, answered, Asked, asked, result_or_skipped, fault_message, has_stored_attributes, instance_fault_of, label_of, SchemaView, tree_of, verdict_on, with_nulls};
 ghost use Rattle.tf_protocol.specs.declared.request.Op.TheVariants.{Create};
+ghost use Rattle.tf_protocol.specs.declared.verdict.Verdict.TheVariants.{Malformed};
 ghost use Rattle.tf_state.specs.Valid.{IsAttributes};
 ghost use Rattle.tf_state_next.specs.Ends.{apply_result_of, nothing, saved_of, unchanged};
 ghost use Rattle.tf_state_next.specs.Saved.{formed_in, left_by_destroy};
@@ -23,6 +24,7 @@ use tf_state_data::Object;
 use tf_state_next::{
     Apply, ApplyResult, Destroy, Left, Saved, left_by_destroy, saved_by_create, saved_by_update,
 };
+use tf_value::{Value, with_nulls};
 use tf_walk_action::{ActionResult, Faulted, Served};
 
 /// What an action adds to the report.
@@ -142,11 +144,7 @@ fn report_call<'p>(room: ActionBuffers<'p>, served: Served, schema: &Schema) -> 
     ensures tells { listed (option_map diagnostic_of result.diagnostic)
         ≡ diagnostics_of_verdict (buffers_head room.entry).place room.entry.op (asked served.call.request) (answered served.call.reply) served.call.verdict }
 {
-    let Served {
-        call,
-        message,
-        fallback,
-    } = served;
+    let Served { call, message } = served;
     let verdict = call.verdict();
     let (request, reply) = call.into_report();
     let ActionBuffers {
@@ -158,7 +156,8 @@ fn report_call<'p>(room: ActionBuffers<'p>, served: Served, schema: &Schema) -> 
     } = room;
     let Replied { formed, failure } = open_reply(reply, schema);
     let telling = telling(verdict, message, &request.object, failure);
-    let _stored = can_be_stored(&fallback);
+    let fallback = fallback_for(op, request.object);
+    let _stored = can_be_saved(verdict, &fallback);
     ActionReport {
         change: change(label, target, op, verdict, formed, fallback),
         diagnostic: told(place, op, telling),
@@ -238,13 +237,25 @@ fn saved(
     }
 }
 
-/// Whether an object, where there is one, may be stored. It is looked through once more, which tells that its numbers and
-/// keys are such as a text can hold.
-fn can_be_stored(object: &Option<Object>) -> bool
-    ensures { IfSome object.now (λ o. has_stored_attributes (tree_of o.value) ≡ true → IsAttributes (tree_of o.value)) }
+/// What a create saves after a malformed reply: the object that it asked for, with null for what isn't known.
+fn fallback_for(op: Op, object: Option<Value>) -> Option<Object>
+    ensures { op ≡ Create → option_map (λ o. tree_of o.value) result ≡ option_map with_nulls (option_map tree_of object) }
 {
-    match object {
-        Some(object) => has_stored_attributes(&object.value),
-        None => true,
+    match (op, object) {
+        (Op::Create, Some(value)) => Some(Object {
+            value: with_nulls(value),
+        }),
+        _ => None,
+    }
+}
+
+/// Whether what is saved after a malformed reply may be stored. It is looked through, which tells that its numbers and
+/// keys are such as a text can hold. By another verdict it isn't saved, so it isn't looked through.
+fn can_be_saved(verdict: Verdict, fallback: &Option<Object>) -> bool
+    ensures { verdict ≡ Malformed → IfSome fallback.now (λ o. has_stored_attributes (tree_of o.value) ≡ true → IsAttributes (tree_of o.value)) }
+{
+    match (verdict, fallback) {
+        (Verdict::Malformed, Some(object)) => has_stored_attributes(&object.value),
+        _ => true,
     }
 }

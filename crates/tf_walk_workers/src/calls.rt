@@ -49,7 +49,7 @@ fn make_call<N: WalkBrand, R: Wait>(
 {
     let called = call(provider, permit, asking.request);
     let recorded = record(rt, log, called);
-    ended_by(recorded, asking.message, asking.fallback)
+    ended_by(recorded, asking.message)
 }
 
 /// Records a call. Where the journal refuses it, which it doesn't where all actions directly before its own are recorded,

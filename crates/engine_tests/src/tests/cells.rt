@@ -34,11 +34,7 @@ fn kind_of(ended: ActionResult) -> Kind {
         ActionResult::Faulted(_, _) => Kind::Faulted,
         ActionResult::Left(_, _) => Kind::Left,
         ActionResult::Called(served) => {
-            let Served {
-                call,
-                message: _,
-                fallback: _,
-            } = served;
+            let Served { call, message: _ } = served;
             let (_request, _reply) = call.into_report();
             Kind::Called
         }

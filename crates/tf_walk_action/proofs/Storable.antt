@@ -1,16 +1,16 @@
--- What is saved in place of an object that a create asked for.
-use Rattle.std.proofs.Common.{◌≡◌, true, ◌&&◌, Some, refl, sym, ap, ap₂, ◌∙◌}
-use Rattle.std.specs.Prelude.{nat_le}
+-- What a create asks for may be stored with null for what isn't known.
+use Rattle.std.proofs.Common.{◌≡◌, true, ◌&&◌, Option, Some, None, option_map, refl, ap₂, subst, ◌∙◌}
+use Rattle.std.specs.Prelude.{nat_le, IfSome, IsSome}
 use Rattle.tf_plan_object.specs.Bounded.{each_may_be_planned, has_planned_attributes}
+use Rattle.tf_protocol.specs.declared.request.Op.{Op}
 use Rattle.tf_protocol.specs.declared.request.Op.TheVariants.{Create}
 use Rattle.tf_value.proofs.Conjunction.{and-first, and-second, and-both}
 use Rattle.tf_value.proofs.WithNulls.{nulls-known, nulls-measure, nulls-no_set}
-use Rattle.tf_value.specs.Equality.{same_Decides}
 use Rattle.tf_value.specs.Measure.{max_weight, max_depth}
 use Rattle.tf_value.specs.Nulls.{with_nulls, entries_with_nulls}
 use Rattle.tf_value.specs.Stored.{each_may_be_stored, may_be_planned}
 use Rattle.tf_value.specs.Tree.{Tree, map, Entries, no_entries, entry}
-use Rattle.tf_walk_action.specs.Fallback.{has_stored_attributes, is_fallback}
+use Rattle.tf_walk_action.specs.Storable.{asks_planned, has_stored_attributes}
 
 nulls-stored : (es : Entries) → each_may_be_planned es ≡ true → each_may_be_stored (entries_with_nulls es) ≡ true
 nulls-stored no_entries h = refl
@@ -25,6 +25,22 @@ object-stored : (t : Tree) → has_planned_attributes t ≡ true → has_stored_
 object-stored (map es) h = nulls-stored es h
 object-stored _ h = absurd (cc)
 
-pub fallback-tested : (t fallback : Tree) → fallback ≡ with_nulls t → has_planned_attributes t ≡ true → is_fallback Create (Some t) (Some fallback) ≡ true
-fallback-tested t fallback e h =
-    and-both _ _ ((same_Decides (with_nulls t) fallback).1 (sym e)) (ap has_stored_attributes e ∙ object-stored t h)
+there : (asked : Option Tree) → asks_planned Create asked ≡ true → IsSome asked
+there None h = absurd (cc)
+there (Some t) h = search
+
+stored : (asked : Option Tree) → asks_planned Create asked ≡ true → IfSome (option_map with_nulls asked) (λ t. has_stored_attributes t ≡ true)
+stored None h = absurd (cc)
+stored (Some t) h = object-stored t h
+
+module _ (op : Op) (create : op ≡ Create) (asked : Option Tree) (h : asks_planned op asked ≡ true) where
+  as_create : asks_planned Create asked ≡ true
+  as_create = subst (λ (o : Op). asks_planned o asked ≡ true) create h
+
+  -- a create asks for an object
+  pub planned-there : IsSome asked
+  planned-there = there asked as_create
+
+  -- with null for what isn't known, its attributes may be stored
+  pub planned-stored : IfSome (option_map with_nulls asked) (λ t. has_stored_attributes t ≡ true)
+  planned-stored = stored asked as_create
