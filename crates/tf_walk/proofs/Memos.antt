@@ -16,8 +16,8 @@ use Rattle.tf_walk_action.specs.Outcome.{ActionResultView, skipped, done_at, is_
 use Rattle.tf_walk_action.specs.declared.action_result.ActionResult.{ActionResult}
 use Rattle.tf_walk_action.specs.SoFar.{ResolvedSoFar}
 use Rattle.tf_walk.specs.Ends.{end_at, done_in}
-use Rattle.tf_walk.specs.Memo.{HoldsBehind, IsTrueMemo}
-use Rattle.tf_walk.specs.declared.memo.Memo.{Memo}
+use Rattle.tf_walk.specs.ResolvedMemo.{HoldsBehind, IsTrueResolvedMemo}
+use Rattle.tf_walk.specs.declared.resolved_memo.ResolvedMemo.{ResolvedMemo}
 use Rattle.tf_walk.proofs.Seen.{list_all-weaker, seen-are}
 use Rattle.tf_walk.proofs.SoFar.{done_stays, seen_stays}
 
@@ -37,8 +37,8 @@ holds-more {plan} {ends} {actions} {kept} n d h free holds =
     }
 
 -- and so does a memo
-pub memo-more : (plan : PlanView) (ends : List (Option ActionResultView)) (memo : Memo) (n : ℕ) (d : ActionResultView) → n < length ends → end_at ends n ≡ None
-    → IsTrueMemo plan ends memo → IsTrueMemo plan (set ends n (Some d)) memo
+pub memo-more : (plan : PlanView) (ends : List (Option ActionResultView)) (memo : ResolvedMemo) (n : ℕ) (d : ActionResultView) → n < length ends → end_at ends n ≡ None
+    → IsTrueResolvedMemo plan ends memo → IsTrueResolvedMemo plan (set ends n (Some d)) memo
 memo-more plan ends memo n d h free is = by_action memo.action is
   where
     by_action : (o : Option ℕ) → IfSome o (λ own. (own < plan.order.nodes) × HoldsBehind plan ends (predecessors_of plan.order own) memo.kept.items)
@@ -53,16 +53,20 @@ seen_behind plan names actions results nodes n same alike before =
     seen_objects plan names actions (seen_by (done_at (action_results_of results)) nodes) (seen_by (done_in (map (option_map action_result_of) results)) (predecessors_of plan.order n)) same alike
     (ap (seen_by (done_at (action_results_of results))) before ∙ seen-are results (predecessors_of plan.order n))
 
-module _ (plan : PlanView) (ends : List (Option ActionResultView)) (memo : Memo) (n : ℕ) (own : memo.action ≡ Some n) (is : IsTrueMemo plan ends memo) (objects : ℕ → InstanceKeyView → Tree)
+module _ (plan : PlanView) (ends : List (Option ActionResultView)) (memo : ResolvedMemo) (n : ℕ) (own : memo.action ≡ Some n) (is : IsTrueResolvedMemo plan ends memo) (objects : ℕ → InstanceKeyView → Tree)
     (same : objects ≡ objects_by plan (seen_by (done_in ends) (predecessors_of plan.order n))) where
   its_own : (n < plan.order.nodes) × HoldsBehind plan ends (predecessors_of plan.order n) memo.kept.items
   its_own = subst (λ o. IfSome o (λ k. (k < plan.order.nodes) × HoldsBehind plan ends (predecessors_of plan.order k) memo.kept.items)) own is
 
-  -- so by that what a memo of the action keeps stands
+  -- so by that all actions directly before it are good
+  pub memo-good : list_all (λ k. is_good (done_in ends k)) (predecessors_of plan.order n) ≡ true
+  memo-good = its_own.1.good
+
+  -- what a memo of the action keeps stands
   pub memo-stands : ResolvedSoFar plan objects memo.kept.items
   memo-stands = subst (λ o. ResolvedSoFar plan o memo.kept.items) (sym same) its_own.1.so_far
 
-  -- and what stands by that may be kept
+  -- and what stands so may be kept
   pub memo-keeps : (kept : List Resolved) → ResolvedSoFar plan objects kept → IfSome memo.action (λ k. (k < plan.order.nodes) × HoldsBehind plan ends (predecessors_of plan.order k) kept)
   memo-keeps kept stands =
       subst (λ o. IfSome o (λ k. (k < plan.order.nodes) × HoldsBehind plan ends (predecessors_of plan.order k) kept)) (sym own)

@@ -1,9 +1,10 @@
 pub mod Ends
 pub mod Fitting
-pub mod Memo
+pub mod Next
 pub mod Post
 pub mod Prepared
 pub mod PreparedMany
+pub mod ResolvedMemo
 pub mod Run
 pub mod Sharing
 pub mod Walk

@@ -1,18 +1,20 @@
 //! Claims on the actions of a book, by one thread.
 
-ghost use Rattle.std.specs.Prelude.{◌≡◌, ◌<◌, ℕ, true, false, MatchOption};
+ghost use Rattle.std.specs.Prelude.{◌≡◌, ◌<◌, ℕ, true, false, IfSome, MatchOption};
 ghost use Rattle.tf_claim.specs.Ledger.{IsKept, is_claimable, is_taken, moved, stage_in};
 ghost use Rattle.tf_claim.specs.declared.book.Stage.TheVariants as stage;
+ghost use Rattle.tf_walk.specs.Next.{IsNext};
 
 use tf_claim::{Book, Finished, Permit};
 
-/// A permit for the first action that may be claimed from a place on, or else before it, which is then taken; `None` where there
-/// is none.
+/// A permit for the first action that may be claimed from a place on, or else for the first before it, which is then taken; `None`
+/// where there is none.
 pub fn next_permit(book: &mut Book, from: usize) -> Option<Permit>
     ensures claimed { MatchOption result
         ((book.new ≡ book.old) × ((n : ℕ) → n < book.old.graph.nodes → is_claimable book.old n ≡ false))
         (λ permit. (permit < book.old.graph.nodes) × (is_claimable book.old permit ≡ true)
         × (book.new ≡ moved book.old permit stage.Taken)) }
+    ensures next { IfSome result (IsNext book.old from) }
     ensures kept { IsKept book.new }
 {
     let count = book.graph().nodes();

@@ -62,8 +62,8 @@ pub fn run<R: Threads + Wait + Sync>(
     }
 }
 
-/// As `run` by more than one worker, whatever their number, and it says also whether the claims could be closed: whether each
-/// action was claimed and ended, and all that waited for it was let go. No contract says so, so tests ask it.
+/// As `run`, but one worker too goes by shared claims, and it says also whether these could be closed: whether each action was
+/// claimed and ended, and all that waited for it was let go. No contract says so, so tests ask it.
 ///
 /// # Errors
 ///

@@ -5,7 +5,7 @@ ghost use Rattle.tf_walk_action.specs.Words.{action_of, AreServed, config_of, ac
 ghost use Rattle.tf_walk.specs.Ends.{AllHaveEnded, IsSoFar, IsStaged, end_at};
 
 use crate::claims::{close, next_permit};
-use crate::memo::Memo;
+use crate::resolved_memo::ResolvedMemo;
 use crate::steps::end_action;
 use std::alloc::Global;
 use std::mem;
@@ -39,7 +39,7 @@ pub fn walk(
     ensures graph { journal.new.graph ≡ plan.now.order }
 {
     let _order = plan.order.graph();
-    let mut memo = Memo::new(alloc);
+    let mut memo = ResolvedMemo::new(alloc);
     let mut from = 0;
     while let Some(permit) = next_permit(book, from) {
         let action = permit.action();

@@ -5,7 +5,7 @@ use Rattle.tf_claim.specs.Ledger.{is_free}
 use Rattle.tf_plan_data.specs.Plan.{plan_of}
 use Rattle.tf_walk_action.specs.ResultViews.{action_result_of}
 use Rattle.tf_walk.specs.Ends.{IsSoFar, IsStaged}
-use Rattle.tf_walk.specs.Memo.{IsTrueMemo}
+use Rattle.tf_walk.specs.ResolvedMemo.{IsTrueResolvedMemo}
 use Rattle.tf_walk.proofs.walk.walk.Given as goal
 
 abbrev pub invariant-loop-permit : goal.invariant-loop-permit
@@ -17,7 +17,7 @@ invariant-loop-permit g l =
       staged : IsStaged l.book.stages ends;
       book : l.book.graph ≡ l.plan.order;
       graph : l.journal.graph ≡ l.plan.order;
-      memo : IsTrueMemo (plan_of l.plan) ends l.memo;
+      memo : IsTrueResolvedMemo (plan_of l.plan) ends l.memo;
     }
 
 abbrev pub decreases-loop-permit : goal.decreases-loop-permit

@@ -1,6 +1,6 @@
 //! What a walk by one thread keeps of its requests, for the next one.
 
-ghost use Rattle.std.specs.Prelude.{◌≡◌, ◌<◌, [], None, Some, IfSome, IsSomeAnd, IsTrue};
+ghost use Rattle.std.specs.Prelude.{◌≡◌, ◌<◌, ◌↔◌, [], None, Some, IfSome, IsSomeAnd, IsTrue};
 ghost use Rattle.tf_walk_action.specs.Words.{predecessors_of};
 
 use std::alloc::Global;
@@ -11,29 +11,29 @@ use tf_graph::Graph;
 /// actions before it, as the instances of a resource mostly have: for all of them each local is evaluated once, and each
 /// resource's objects are collected once.
 #[derive(Drop)]
-pub(crate) struct Memo {
+pub(crate) struct ResolvedMemo {
     /// The action that it was last for; none at first.
     pub(crate) action: Option<usize>,
     /// What stands so far.
     pub(crate) kept: Vec<Resolved>,
 }
 
-impl Memo {
+impl ResolvedMemo {
     /// Nothing is kept yet.
-    pub(crate) fn new(alloc: Global) -> Memo
+    pub(crate) fn new(alloc: Global) -> ResolvedMemo
         ensures { result.action ≡ None }
     {
-        Memo {
+        ResolvedMemo {
             action: None,
             kept: Vec::new(alloc),
         }
     }
 
-    /// Whether the same actions stand before another one too.
-    pub(crate) fn holds_for(&self, order: &Graph, action: usize) -> bool
+    /// Whether it holds for another action too: exactly where the same actions stand before both.
+    pub(crate) fn is_reusable_for(&self, order: &Graph, action: usize) -> bool
         requires own { IfSome self.now.action (λ own. own < order.now.nodes) }
         requires other { action < order.now.nodes }
-        ensures { IsTrue result → IsSomeAnd self.now.action (λ own. predecessors_of order.now own ≡ predecessors_of order.now action) }
+        ensures { IsTrue result ↔ IsSomeAnd self.now.action (λ own. predecessors_of order.now own ≡ predecessors_of order.now action) }
     {
         match self.action {
             Some(own) => order.predecessors(own) == order.predecessors(action),
