@@ -1,7 +1,6 @@
 pub mod Carried
 pub mod EndedAction
 pub mod Entered
-pub mod GoodSeen
 pub mod Judged
 pub mod Judging
 pub mod Memos

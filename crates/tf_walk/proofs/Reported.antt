@@ -16,7 +16,11 @@ use Rattle.tf_walk_action.specs.Excuse.{Moment, before_call, during_call, by_sto
 use Rattle.tf_walk_action.specs.Journal.{op_at, verdict_in, entered_verdict}
 use Rattle.tf_walk_action.specs.Outcome.{ActionResultView, skipped, excused, faulted, called, Requests, AreRequests, all_good, call_at, excuse_in, is_faulted, op_of, or_excused, rule, done_at, AreOutcomes}
 use Rattle.tf_walk_action.specs.declared.excuse.Excuse.{Excuse}
+use Rattle.tf_walk_report.proofs.Excused.{excuses-with_outputs}
 use Rattle.tf_walk_report.specs.ActionReport.{AreJudged, IsJudged}
+use Rattle.tf_walk_report.specs.Outputs.{OutputResultView, end_of}
+use Rattle.tf_walk_report.specs.Report.{IsReport, IsTold}
+use Rattle.tf_walk_report.specs.declared.report.Report.{Report}
 use Rattle.tf_walk_action.specs.Run.{IsRun}
 use Rattle.tf_walk.specs.Ends.{IsSoFar, IsStaged, AllHaveEnded, end_at, done_in, stage_of}
 use Rattle.tf_walk_report.proofs.JudgedAsAsked.{all-judged, ops-read}
@@ -74,6 +78,14 @@ so_far-asked ms requests plan ends entries done s are same n e =
     let end = s.ended requests are n (excused during_call) (ended_during (end_at ends n) (sym (same n) ∙ e)) in
     ap (λ (ds : List (ℕ × ActionResultView)). is_faulted (call_at ms requests plan n ds)) seen
     ∙ run_during (all_good (seen_by (done_in ends) nodes)) (call_at ms requests plan n (seen_by (done_in ends) nodes)) end
+
+-- a report that tells what came of all actions is a report on their plan, where that is what the rule makes of the report's excuses
+pub is_report-told : (ms : List Meaning) (requests : Requests) (plan : PlanView) (done : List ActionResultView) (outputs : List OutputResultView) (report : Report)
+    → (((n : ℕ) → excuse_of report.excused.items n ≡ excuse_in (done_at done n)) → AreOutcomes ms requests plan report.excused.items done)
+    → ((n : ℕ) → done_at done n ≡ excused during_call → is_faulted (call_at ms requests plan n (seen_by (done_at done) (predecessors_of plan.order n))) ≡ false)
+    → IsTold ms plan done outputs report → IsReport ms requests plan done outputs report
+is_report-told ms requests plan done outputs report solves asked told =
+    record { solved = solves (λ n. ap (λ es. excuse_of es n) told.lawful ∙ excuses-with_outputs done (map end_of outputs) n); asked = asked; told = told }
 
 entered_one : (o : Option ActionResultView) → option_and_then entered_verdict o ≡ entered_verdict (unwrap_or o skipped)
 entered_one None = refl

@@ -1,6 +1,6 @@
 -- What was taken out of cells, in the list that it was written to.
-use Rattle.std.proofs.Common.{◌≡◌, ◌∙◌, ℕ, List, [], ◌∷◌, ◌++◌, Option, None, replicate, length, take, drop, refl, sym, ap, subst, arith}
-use Rattle.std.proofs.lemmas.List.{length-map, length-replicate}
+use Rattle.std.proofs.Common.{◌≡◌, ◌∙◌, ℕ, List, ◌++◌, Option, None, replicate, length, take, drop, sym, ap, subst, arith}
+use Rattle.std.proofs.lemmas.List.{length-map}
 use Rattle.tf_walk_workers.specs.Ideal.{IsTrueTo}
 use Rattle.tf_walk_workers.specs.Laws.{FitTogether}
 use Rattle.tf_graph.specs.Digraph.{Digraph}
@@ -10,18 +10,7 @@ use Rattle.tf_walk_action.specs.declared.action_result.ActionResult.{ActionResul
 use Rattle.tf_plan_data.specs.Plan.{PlanView}
 use Rattle.tf_protocol.specs.Meaning.{Meaning}
 use Rattle.tf_walk.specs.Fitting.{IsSkippedRightly, AreSkippedRightly}
-
-first-part : {A : Type 0} (xs ys : List A) → take (length xs) (xs ++ ys) ≡ xs
-first-part [] ys = refl
-first-part (x ∷ xs) ys = ap (λ zs. x ∷ zs) (first-part xs ys)
-
-written-back : {A : Type 0} (new ys : List A) (n : ℕ) → length new ≡ n → take n (new ++ ys) ≡ new
-written-back new ys n e = subst (λ (k : ℕ). take k (new ++ ys) ≡ new) e (first-part new ys)
-
--- a list for so many actions that was lent to be filled is then what was written
-taken-back : (new items : List (Option ActionResult)) (len nodes : ℕ) → length new ≡ nodes → items ≡ replicate nodes None → length items ≡ len → take len (new ++ drop (length new) items) ≡ new
-taken-back new items len nodes sized start long =
-    written-back new (drop (length new) items) len (sized ∙ (sym (ap length start ∙ length-replicate nodes None) ∙ long))
+use Rattle.tf_walk.proofs.Carried.{taken-back}
 
 -- ends that are true and that were found to fit do so
 fit-taken : (named ms : List Meaning) (other plan : PlanView) (order : Digraph) (new final seen : List (Option ActionResult)) → named ≡ ms → other ≡ plan → order ≡ plan.order

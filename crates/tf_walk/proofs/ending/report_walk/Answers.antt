@@ -4,11 +4,9 @@ use Rattle.tf_plan_data.specs.Action.{action_of}
 use Rattle.tf_walk_action.proofs.AskedRight.{some_requests}
 use Rattle.tf_walk_workers.proofs.Outcomes.{true_outcomes}
 use Rattle.tf_walk_action.specs.ResultViews.{action_results_of}
-use Rattle.tf_walk_action.specs.Excuse.{excuse_of}
-use Rattle.tf_walk_report.specs.Outputs.{end_of}
 use Rattle.tf_plan_data.specs.Plan.{plan_of}
-use Rattle.tf_walk_report.proofs.Excused.{excuses-with_outputs}
 use Rattle.tf_walk.proofs.Judging.{fit-asked, fit-judged}
+use Rattle.tf_walk.proofs.Reported.{is_report-told}
 use Rattle.tf_provider.specs.Entries.{Log}
 use Rattle.tf_walk_report.specs.declared.report.Report.{Report}
 use Rattle.tf_walk.proofs.Settling.{settled-run, settled-same}
@@ -33,20 +31,9 @@ returns-clause-run g c =
     let report = c.report_of-report.result in
     let told = c.report_of-report.ensures.told in
     let asked = some_requests plan (c.requires.fits.dependence.ranked c.requires.fits.acyclic) in
-    settled-run ms plan report c.settle.result
-    (record {
-      requests = asked.0;
-      are_requests = asked.1;
-      done = done;
-      outputs = told.0;
-      is_report =
-          record {
-            solved = true_outcomes ms plan done ranked fit asked.0 asked.1 report.excused.items (λ n below. ap (λ es. excuse_of es n) told.1.lawful ∙ excuses-with_outputs done (map end_of told.0) n);
-            asked = fit-asked ms plan done ranked fit asked.0 asked.1;
-            told = told.1;
-          };
-    })
-    c.settle.ensures
+    let is_report =
+    is_report-told ms asked.0 plan done told.0 report (λ excuses. true_outcomes ms plan done ranked fit asked.0 asked.1 report.excused.items (λ n below. excuses n)) (fit-asked ms plan done ranked fit asked.0 asked.1) told.1 in
+    settled-run ms plan report c.settle.result (record { requests = asked.0; are_requests = asked.1; done = done; outputs = told.0; is_report = is_report }) c.settle.ensures
 
 pub returns-clause-journal : goal.returns-clause-journal
 returns-clause-journal g c =

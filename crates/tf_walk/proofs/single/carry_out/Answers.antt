@@ -7,16 +7,13 @@ use Rattle.tf_provider.specs.Entries.{Log, actions_of}
 use Rattle.tf_plan_data.specs.Action.{action_of}
 use Rattle.tf_plan_data.specs.Plan.{plan_of}
 use Rattle.tf_walk_action.specs.ResultViews.{action_result_of, result_or_skipped, action_results_of}
-use Rattle.tf_walk_action.specs.Excuse.{excuse_of}
 use Rattle.tf_walk_action.specs.Journal.{IsOfAction, verdict_in}
 use Rattle.tf_walk_action.specs.Outcome.{done_at, op_of}
-use Rattle.tf_walk_report.specs.Outputs.{end_of}
 use Rattle.tf_walk_report.specs.ActionReport.{AreJudged}
 use Rattle.tf_walk.specs.Ends.{done_in}
 use Rattle.tf_walk_action.proofs.AskedRight.{some_requests}
 use Rattle.tf_walk.proofs.Carried.{left_by_walk}
-use Rattle.tf_walk_report.proofs.Excused.{excuses-with_outputs}
-use Rattle.tf_walk.proofs.Reported.{so_far-asked, so_far-entered, so_far-judged, so_far-none, so_far-solves, staged-none}
+use Rattle.tf_walk.proofs.Reported.{is_report-told, so_far-asked, so_far-entered, so_far-judged, so_far-none, so_far-solves, staged-none}
 use Rattle.tf_walk.proofs.Seen.{dones-are}
 use Rattle.tf_walk.proofs.single.carry_out.Goals as goal
 
@@ -66,25 +63,15 @@ returns-clause-whole g c =
     let lengths : length done ≡ length ends = ap (λ rs. length (action_results_of rs)) back ∙ (length-map new result_or_skipped ∙ sym (length-map new (option_map action_result_of))) in
     let report = c.report_of.result in
     let told = c.report_of.ensures.told in
-    let excuses = λ (n : ℕ). ap (λ es. excuse_of es n) told.1.lawful ∙ excuses-with_outputs done (map end_of told.0) n in
     let written : report.journal.entries ≡ entries = ap (λ (l : Log). l.entries) c.report_of.ensures.journal in
     let allowed : IsInOrder (predecessors_of c.args.plan.now.order) (actions_of entries) =
     subst (λ (d : Digraph). IsInOrder (predecessors_of d) (actions_of entries)) c.walk.ensures.graph c.entries-entries.ensures.allowed in
     let asked = some_requests plan (c.requires.fits.dependence.ranked c.requires.fits.acyclic) in
+    let is_report =
+    is_report-told ms asked.0 plan done told.0 report (so_far-solves ms asked.0 plan ends entries done report.excused.items c.walk.ensures.so_far asked.1 c.walk.ensures.all lengths same)
+    (so_far-asked ms asked.0 plan ends entries done c.walk.ensures.so_far asked.1 same) told.1 in
     record {
-      reported =
-          record {
-            requests = asked.0;
-            are_requests = asked.1;
-            done = done;
-            outputs = told.0;
-            is_report =
-                record {
-                  solved = so_far-solves ms asked.0 plan ends entries done report.excused.items c.walk.ensures.so_far asked.1 c.walk.ensures.all lengths same excuses;
-                  asked = so_far-asked ms asked.0 plan ends entries done c.walk.ensures.so_far asked.1 same;
-                  told = told.1;
-                };
-          };
+      reported = record { requests = asked.0; are_requests = asked.1; done = done; outputs = told.0; is_report = is_report };
       journal =
           record {
             in_order = subst (λ es. IsInOrder (predecessors_of c.args.plan.now.order) (actions_of es)) (sym written) allowed;

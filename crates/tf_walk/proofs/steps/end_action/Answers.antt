@@ -1,6 +1,4 @@
-use Rattle.std.proofs.Common.{ℕ, Result, Some, map, option_map, refl, sym, subst}
-use Rattle.tf_graph.specs.Digraph.{predecessors_of}
-use Rattle.tf_graph.specs.Solutions.{seen_by}
+use Rattle.std.proofs.Common.{map, option_map, refl}
 use Rattle.tf_plan_data.specs.Plan.{plan_of}
 use Rattle.tf_plan_object.specs.Instance.{instance_fault_of}
 use Rattle.tf_walk_action.specs.AskedBy.{asked_by}
@@ -8,9 +6,6 @@ use Rattle.tf_walk_action.specs.Excuse.{before_call, by_stop}
 use Rattle.tf_walk_action.specs.Outcome.{comes_of, excused, faulted}
 use Rattle.tf_walk_action.specs.ResultViews.{action_result_of}
 use Rattle.tf_walk_action.specs.Run.{IsRun}
-use Rattle.tf_walk_action.specs.declared.action_result.Faulted.{Faulted}
-use Rattle.tf_walk_action.specs.declared.prepared_call.PreparedCall.{PreparedCall}
-use Rattle.tf_walk.specs.Ends.{IsEnd, done_in}
 use Rattle.tf_walk.proofs.EndedAction.{ends_run, ends_skipped}
 use Rattle.tf_walk.proofs.Entered.{may_record}
 use Rattle.tf_walk.proofs.steps.end_action.Goals as goal
