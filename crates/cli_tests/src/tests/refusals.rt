@@ -2,10 +2,7 @@
 
 use crate::tests::applying::check_refused;
 use std::alloc::{AllocError, Global};
-use std::process::Abort;
-use std::sync::Wait;
 use std::test::Fail;
-use std::thread::Threads;
 use test_texts::series;
 use test_watching::{Texts, planned};
 
@@ -53,24 +50,6 @@ const LATE: &str =
 
 const VALUES: &str = r#"{"v": {"a": "é", "b": [0, -1, {"k": true}]}, "w": [null]}"#;
 
-// Checks that a configuration which is cut off is refused, wherever that is.
-fn check_beginnings<R: Abort + Threads + Wait + Sync>(
-    rt: &R,
-    alloc: Global,
-    config: &str,
-    vars: Option<&[u8]>,
-) -> Result<(), Fail> {
-    for length in 0..config.len() {
-        let texts = Texts {
-            config: &config.as_bytes()[..length],
-            vars,
-            state: None,
-        };
-        check_refused(rt, alloc, texts, "error 1 at configuration: NotJson\n")?;
-    }
-    Ok(())
-}
-
 #[test]
 fn refuses_each_beginning(rt: HostRuntime) -> Result<(), Fail> {
     let said = planned(rt.alloc(), Texts::of(EVERYTHING))?;
@@ -78,8 +57,32 @@ fn refuses_each_beginning(rt: HostRuntime) -> Result<(), Fail> {
         said.ends_with("\nPlan: 3 to add, 0 to change, 0 to destroy.\n"),
         "{said}"
     );
-    check_beginnings(&rt, rt.alloc(), EVERYTHING, Some(VALUES.as_bytes()))?;
-    check_beginnings(&rt, rt.alloc(), LATE, None)?;
+    for length in 0..EVERYTHING.len() {
+        let texts = Texts {
+            config: &EVERYTHING.as_bytes()[..length],
+            vars: Some(VALUES.as_bytes()),
+            state: None,
+        };
+        check_refused(
+            &rt,
+            rt.alloc(),
+            texts,
+            "error 1 at configuration: NotJson\n",
+        )?;
+    }
+    for length in 0..LATE.len() {
+        let texts = Texts {
+            config: &LATE.as_bytes()[..length],
+            vars: None,
+            state: None,
+        };
+        check_refused(
+            &rt,
+            rt.alloc(),
+            texts,
+            "error 1 at configuration: NotJson\n",
+        )?;
+    }
     for length in 0..VALUES.len() {
         let texts = Texts {
             config: EVERYTHING.as_bytes(),
