@@ -1,9 +1,6 @@
-//! Tests of the order of whole plans, and of what is planned by other schemas, over public calls.
+//! Tests of what is read of configurations, of the order of whole plans, and of what is planned by other schemas, over public
+//! calls.
 #![tactic(auto)]
 
 #[cfg(test)]
-mod door;
-#[cfg(test)]
-mod orders;
-#[cfg(test)]
-mod schemas;
+mod tests;

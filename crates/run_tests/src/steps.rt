@@ -1,11 +1,11 @@
 //! Walks over the orders of plans, by the shared claims alone: each claim, each end and each edge let go of is one step.
 
 use crate::runs::{BEFORE, BOTH_LATE, BROKEN, DIAMOND, LATE, plan_texts};
-use claim_walks::walk_by;
 use std::alloc::Global;
 use std::process::Abort;
 use std::test::Fail;
 use std::thread::Threads;
+use test_helpers::walk_by;
 use tf_graph::Graph;
 use tf_provider::Provider;
 use tf_sim::Sim;

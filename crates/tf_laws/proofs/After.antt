@@ -9,7 +9,7 @@ use Rattle.std.specs.Prelude.{Contains, slice_get}
 use Rattle.std.specs.Str.{bytes_eq}
 use Rattle.tf_plan_data.specs.Action.{ActionView, StepView, create, update, replacement, replaced, deposed_destroyed}
 use Rattle.tf_walk_report.specs.Change.{applies_in, changes_in, destroys_in}
-use Rattle.tf_walk_report.specs.Head.{IsKeyFor, given_with, is_replacement}
+use Rattle.tf_walk_buffers.specs.Head.{IsKeyFor, given_with, is_replacement}
 use Rattle.tf_address.specs.Label.{LabelView}
 use Rattle.tf_address.specs.ObjectId.{InstanceKeyView, ObjectIdView}
 use Rattle.tf_config_data.specs.Config.{BlockView}
@@ -31,7 +31,7 @@ use Rattle.tf_plan_data.specs.Fits.{deposed_key, is_apply}
 use Rattle.tf_plan_data.specs.Plan.{plan_names}
 use Rattle.tf_protocol.specs.Meaning.{Meaning}
 use Rattle.tf_protocol.specs.Schema.{SchemaView}
-use Rattle.tf_walk_report.specs.Events.{metadata_updates}
+use Rattle.tf_walk_buffers.specs.MetadataUpdates.{metadata_updates}
 use Rattle.tf_state_next.proofs.Places.{found_id}
 use Rattle.tf_state_next.specs.After.{after_destroy, current_after, deposed_anew, destroy_under, object_at, record_of_saved, renewed}
 use Rattle.tf_state_next.specs.Ends.{ApplyResultView, RecordInputView, LeftView, gone, saved, unplanned, unwanted}

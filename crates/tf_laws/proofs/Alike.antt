@@ -4,8 +4,8 @@ use Rattle.std.proofs.lemmas.Bool.{ltb-true}
 use Rattle.std.specs.List.{AllByRecursion, flat_map, range_with_len}
 use Rattle.std.specs.Prelude.{nat_lt}
 use Rattle.tf_plan_data.specs.Action.{ActionView}
-use Rattle.tf_walk_report.specs.Dependencies.{address_of, dependencies, with_address}
-use Rattle.tf_walk_report.specs.Head.{AreHeads, Head, IsHeadOf, IsKeyFor, Target, an_instance, an_object, key_in, target_with}
+use Rattle.tf_walk_buffers.specs.Dependencies.{address_of, dependencies, with_address}
+use Rattle.tf_walk_buffers.specs.Head.{AreHeads, Head, IsHeadOf, IsKeyFor, Target, an_instance, an_object, key_in, target_with}
 use Rattle.tf_address.specs.Label.{LabelView}
 use Rattle.tf_address.specs.ObjectId.{InstanceKeyView}
 use Rattle.tf_config_data.specs.Config.{BlockView}
@@ -30,7 +30,8 @@ use Rattle.tf_plan.proofs.Tied.{block_found}
 use Rattle.tf_plan_data.specs.Fits.{IsDeclared, deposed_key, is_apply}
 use Rattle.tf_plan_data.specs.Plan.{PlanView, plan_names}
 use Rattle.tf_protocol.specs.Meaning.{Meaning}
-use Rattle.tf_walk_report.specs.Events.{events, metadata_update_of_record, metadata_updates, metadata_updates_at, metadata_updates_of, stays}
+use Rattle.tf_walk_report.specs.Events.{events}
+use Rattle.tf_walk_buffers.specs.MetadataUpdates.{metadata_update_of_record, metadata_updates, metadata_updates_at, metadata_updates_of, stays}
 use Rattle.tf_walk_report.specs.Report.{IsReported, IsStateOf, IsTold, objects_after}
 use Rattle.tf_walk_report.specs.declared.report.Report.{Report}
 use Rattle.tf_plan_order.proofs.Standing.{blocks-first, resources-apart}

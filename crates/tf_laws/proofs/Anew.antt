@@ -4,8 +4,8 @@ use Rattle.std.proofs.Common.{◌≡◌, ◌∙◌, ℕ, Bool, List, [], Option,
 use Rattle.std.specs.Option.{option_map_or}
 use Rattle.std.specs.Prelude.{Contains}
 use Rattle.tf_plan_data.specs.Action.{ActionView}
-use Rattle.tf_walk_report.specs.Dependencies.{dependencies}
-use Rattle.tf_walk_report.specs.Head.{AreHeads, Head}
+use Rattle.tf_walk_buffers.specs.Dependencies.{dependencies}
+use Rattle.tf_walk_buffers.specs.Head.{AreHeads, Head}
 use Rattle.tf_address.specs.Label.{LabelView}
 use Rattle.tf_address.specs.ObjectId.{InstanceKeyView, ObjectIdView}
 use Rattle.tf_config_data.specs.Config.{BlockView}
@@ -17,7 +17,8 @@ use Rattle.tf_state_next.specs.StateAfter.{IsStateAfter}
 use Rattle.tf_walk_action.specs.Outcome.{ActionResultView}
 use Rattle.tf_plan_data.specs.Plan.{PlanView, plan_names}
 use Rattle.tf_protocol.specs.Meaning.{Meaning}
-use Rattle.tf_walk_report.specs.Events.{events, metadata_updates}
+use Rattle.tf_walk_report.specs.Events.{events}
+use Rattle.tf_walk_buffers.specs.MetadataUpdates.{metadata_updates}
 use Rattle.tf_walk_report.specs.Report.{IsStateOf}
 use Rattle.tf_plan_order.proofs.Standing.{each-placed, resources-apart}
 use Rattle.tf_plan_order.specs.ResourceLaws as resources_laws

@@ -6,7 +6,7 @@ use Rattle.std.specs.List.{AllByRecursion, flat_map}
 use Rattle.std.specs.Option.{option_and_then, option_map_or, unwrap_or}
 use Rattle.tf_plan_data.specs.Action.{ActionView, StepView, create, update, replacement}
 use Rattle.tf_address.specs.ObjectId.{InstanceKeyView}
-use Rattle.tf_walk_action.specs.AskingLaws.{IsAnsweredPlan, planned_object}
+use Rattle.tf_laws.specs.AskingLaws.{IsAnsweredPlan, planned_object}
 use Rattle.tf_plan_object.proofs.Locals.{instances_local}
 use Rattle.tf_plan_object.specs.Instance.{InstanceFaultView, instance_object}
 use Rattle.tf_config_data.specs.Config.{BlockView}

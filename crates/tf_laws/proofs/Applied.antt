@@ -1,7 +1,7 @@
 -- An apply that went well, and what it starts from.
 use Rattle.std.proofs.Common.{◌≡◌, ℕ, true, List, Some, map}
 use Rattle.std.specs.List.{AllByRecursion}
-use Rattle.tf_walk_report.specs.Head.{AreHeads, Head}
+use Rattle.tf_walk_buffers.specs.Head.{AreHeads, Head}
 use Rattle.tf_config_data.specs.Names.{directly_before}
 use Rattle.tf_plan_decision.specs.Stage.{deciding}
 use Rattle.tf_expand.specs.Resolved.{ResolvedView, AreResolvedNames}

@@ -3,7 +3,7 @@ use Rattle.std.proofs.Common.{◌≡◌, ◌∙◌, ◌<◌, ◌+◌, inl, inr, 
 use Rattle.std.specs.List.{AllByRecursion, range_with_len}
 use Rattle.std.specs.Prelude.{slice_get}
 use Rattle.tf_plan_data.specs.Action.{ActionView}
-use Rattle.tf_walk_action.specs.AskingLaws.{RefinesWhere, planned_object}
+use Rattle.tf_laws.specs.AskingLaws.{RefinesWhere, planned_object}
 use Rattle.tf_plan_object.proofs.Named.{instances_named}
 use Rattle.tf_config_data.specs.Names.{a_block, directly_before, meant_at}
 use Rattle.tf_laws.proofs.After.{at_index}

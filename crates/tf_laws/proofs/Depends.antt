@@ -4,8 +4,8 @@ use Rattle.std.proofs.lemmas.Bool.{eqb-true}
 use Rattle.std.specs.Option.{option_map_or}
 use Rattle.std.specs.Prelude.{Contains, slice_get}
 use Rattle.tf_plan_data.specs.Action.{ActionView}
-use Rattle.tf_walk_report.specs.Dependencies.{dependencies}
-use Rattle.tf_walk_report.specs.Head.{given_with}
+use Rattle.tf_walk_buffers.specs.Dependencies.{dependencies}
+use Rattle.tf_walk_buffers.specs.Head.{given_with}
 use Rattle.tf_address.specs.Label.{LabelView}
 use Rattle.tf_address.specs.ObjectId.{InstanceKeyView, ObjectIdView}
 use Rattle.tf_address.specs.Same.{same_instance_key}
@@ -22,7 +22,7 @@ use Rattle.tf_plan.proofs.Distinct.{at-contained}
 use Rattle.tf_plan.proofs.Objects.{one_key}
 use Rattle.tf_plan_data.specs.Fits.{IsPlaced, deposed_key}
 use Rattle.tf_plan_data.specs.Plan.{plan_names}
-use Rattle.tf_walk_report.specs.Events.{is_about, is_none, metadata_updates}
+use Rattle.tf_walk_buffers.specs.MetadataUpdates.{is_about, is_none, metadata_updates}
 use Rattle.tf_plan_order.proofs.Standing.{each-placed, places-differ, resources-apart}
 use Rattle.tf_plan_order.specs.ResourceIndex.{numbered, place_in}
 use Rattle.tf_state_next.proofs.Places.{found_id}

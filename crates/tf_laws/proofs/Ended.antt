@@ -7,7 +7,7 @@ use Rattle.tf_plan_data.specs.Action.{ActionView, StepView, create, update, repl
 use Rattle.tf_address.specs.ObjectId.{InstanceKeyView}
 use Rattle.tf_plan_object.specs.Instance.{InstanceFaultView}
 use Rattle.tf_config_data.specs.Names.{NameView, directly_before, meant_at, places}
-use Rattle.tf_plan_decision.specs.Kept.{kept_object}
+use Rattle.tf_plan_object.specs.Kept.{kept_object}
 use Rattle.tf_expand.proofs.Places.{all_places}
 use Rattle.tf_expand.specs.InstanceKeys.{InstanceKeysView}
 use Rattle.tf_graph.proofs.Solving.{seen_by-same, solution-unique}

@@ -6,7 +6,7 @@ use Rattle.std.specs.Prelude.{Contains, slice_get}
 use Rattle.std.specs.Str.{bytes_eq}
 use Rattle.tf_plan_data.specs.Action.{ActionView}
 use Rattle.tf_walk_report.specs.Change.{ChangeView, applied_of_done, applies_in, change_by, changes_in, destroys_in, left_of_done}
-use Rattle.tf_walk_report.specs.Head.{AreHeads, Head, IsHeadOf, IsKeyFor, Target, an_instance, an_object, given_with, key_in}
+use Rattle.tf_walk_buffers.specs.Head.{AreHeads, Head, IsHeadOf, IsKeyFor, Target, an_instance, an_object, given_with, key_in}
 use Rattle.tf_address.specs.Label.{LabelView}
 use Rattle.tf_address.specs.ObjectId.{InstanceKeyView, ObjectIdView}
 use Rattle.tf_address.specs.Same.{label_Decides, object_id_Decides, same_instance_key, same_label, same_object_id}

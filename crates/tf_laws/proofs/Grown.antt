@@ -16,11 +16,11 @@ use Rattle.tf_config_data.specs.Names.{Meant, a_block, block_refers, directly_be
 use Rattle.tf_plan_decision.specs.Stage.{all_can_go, decided_object, deciding, object_beside, object_of, object_unless_refused}
 use Rattle.tf_plan_decision.specs.Steps.{current_steps, decided_steps, deposed_step}
 use Rattle.tf_plan_decision.proofs.Causes.{creates_first, replaces_caused, updates_differ}
-use Rattle.tf_plan_decision.proofs.Growing.{updates_grow}
-use Rattle.tf_plan_decision.proofs.Keeping.{updates_named}
+use Rattle.tf_plan_object.proofs.KeptGrowing.{updates_grow}
+use Rattle.tf_plan_object.proofs.Keeping.{updates_named}
 use Rattle.tf_plan_decision.specs.Decision as decision
 use Rattle.tf_plan_decision.specs.Decision.{DecisionView, change, current}
-use Rattle.tf_plan_decision.specs.Kept.{kept_object}
+use Rattle.tf_plan_object.specs.Kept.{kept_object}
 use Rattle.tf_expand.proofs.Refining.{together_grows}
 use Rattle.tf_expand.proofs.Seen.{agree_on, same_seen}
 use Rattle.tf_expand.specs.StandingLaws.{Grows, HaveGrown, ResolvedNamesGrow}

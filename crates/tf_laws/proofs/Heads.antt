@@ -2,7 +2,7 @@
 use Rattle.std.proofs.Common.{◌≡◌, ◌∙◌, ◌+◌, ℕ, List, [], ◌∷◌, Option, Some, None, refl, sym, ap, ap₂}
 use Rattle.std.proofs.lemmas.Bool.{true≢false}
 use Rattle.tf_plan_data.specs.Action.{ActionView}
-use Rattle.tf_walk_report.specs.Head.{AreHeads, Head, IsHeadOf, IsKeyFor, IsTargetOf, Target, key_in, records_at, target_with}
+use Rattle.tf_walk_buffers.specs.Head.{AreHeads, Head, IsHeadOf, IsKeyFor, IsTargetOf, Target, key_in, records_at, target_with}
 use Rattle.tf_plan_data.specs.Plan.{PlanView}
 use Rattle.tf_state_next.specs.ObjectLaws.{KeyIsOne}
 

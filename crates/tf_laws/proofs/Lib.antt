@@ -92,3 +92,6 @@ mod Schemas
 mod Unplanned
 mod OwnParts
 mod Needing
+mod KnownParts
+mod AskedGrowing
+mod AskedAsPlanned

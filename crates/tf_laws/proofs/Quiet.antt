@@ -3,7 +3,7 @@ use Rattle.std.proofs.Common.{◌≡◌, ◌∙◌, ◌⊎◌, inl, inr, ℕ, Bo
 use Rattle.std.specs.Option.{option_map_or, option_or}
 use Rattle.tf_plan_data.specs.Action.{ActionView}
 use Rattle.tf_walk_report.specs.Change.{applies_in, changes_in}
-use Rattle.tf_walk_report.specs.Head.{AreHeads, Head}
+use Rattle.tf_walk_buffers.specs.Head.{AreHeads, Head}
 use Rattle.tf_address.specs.Label.{LabelView}
 use Rattle.tf_address.specs.ObjectId.{InstanceKeyView}
 use Rattle.tf_state_next.specs.Events.{ApplyView, apply_of_instance, as_apply, ends_in, given_in, nothing_given}
@@ -11,7 +11,8 @@ use Rattle.tf_state_next.specs.StateAfter.{IsStateAfter}
 use Rattle.tf_walk_action.specs.Outcome.{ActionResultView}
 use Rattle.tf_plan_data.specs.Plan.{PlanView}
 use Rattle.tf_protocol.specs.Meaning.{Meaning}
-use Rattle.tf_walk_report.specs.Events.{events, metadata_updates}
+use Rattle.tf_walk_report.specs.Events.{events}
+use Rattle.tf_walk_buffers.specs.MetadataUpdates.{metadata_updates}
 use Rattle.tf_state_next.specs.After.{current_after, deposed_anew, object_at, renewed}
 use Rattle.tf_state_next.specs.Ends.{ApplyResultView, unplanned, unwanted}
 use Rattle.tf_state_data.specs.Record.{RecordView}

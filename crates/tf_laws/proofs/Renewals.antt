@@ -4,7 +4,7 @@ use Rattle.std.proofs.lemmas.Bool.{lt-ltb}
 use Rattle.std.specs.List.{list_any}
 use Rattle.std.specs.Prelude.{Contains, nat_lt}
 use Rattle.tf_plan_data.specs.Action.{ActionView}
-use Rattle.tf_walk_report.specs.Dependencies.{dependencies}
+use Rattle.tf_walk_buffers.specs.Dependencies.{dependencies}
 use Rattle.tf_address.specs.Label.{LabelView}
 use Rattle.tf_address.specs.ObjectId.{InstanceKeyView}
 use Rattle.tf_address.specs.Same.{label_Decides, same_instance_key, same_label}
@@ -15,7 +15,7 @@ use Rattle.tf_state_next.proofs.Finding.{found_passes}
 use Rattle.tf_state_next.specs.Events.{ApplyView, MetadataUpdateView, apply_of_instance, as_apply, is_instance}
 use Rattle.tf_plan.proofs.Distinct.{in_map, in_flat_map, to_map}
 use Rattle.tf_plan_data.specs.Plan.{PlanView, plan_names}
-use Rattle.tf_walk_report.specs.Events.{is_about, is_none, metadata_update_of_record, metadata_updates, metadata_updates_at, metadata_updates_of, stays}
+use Rattle.tf_walk_buffers.specs.MetadataUpdates.{is_about, is_none, metadata_update_of_record, metadata_updates, metadata_updates_at, metadata_updates_of, stays}
 use Rattle.tf_plan_order.proofs.Standing.{places-true}
 use Rattle.tf_plan_order.specs.ResourceLaws as resources_laws
 use Rattle.tf_plan_order.specs.ResourceIndex.{a_name, block_address, numbered, place_in}

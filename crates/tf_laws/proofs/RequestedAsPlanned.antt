@@ -4,7 +4,7 @@ use Rattle.std.specs.Prelude.{option_and_then}
 use Rattle.tf_plan_data.specs.Action.{ActionView}
 use Rattle.tf_address.specs.Label.{LabelView}
 use Rattle.tf_address.specs.ObjectId.{InstanceKeyView}
-use Rattle.tf_walk_action.specs.AskingLaws.{KnownAttributesStay, PlannedObjectsAreAsked, RefinesWhere, RequestsRefine, asked_in_plan, planned_object}
+use Rattle.tf_laws.specs.AskingLaws.{KnownAttributesStay, PlannedObjectsAreAsked, RefinesWhere, RequestsRefine, asked_in_plan, planned_object}
 use Rattle.tf_plan_object.specs.Instance.{InstanceFaultView}
 use Rattle.tf_config_data.specs.Names.{NameView, meant_at}
 use Rattle.tf_laws.proofs.Declared.{records_in}

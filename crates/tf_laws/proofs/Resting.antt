@@ -9,12 +9,12 @@ use Rattle.tf_plan_data.specs.Action.{ActionView, StepView, create, update, repl
 use Rattle.tf_plan_object.specs.Instance.{InstanceFaultView}
 use Rattle.tf_plan_decision.proofs.Aligned.{same_name}
 use Rattle.tf_plan_decision.proofs.Equal.{beside_equal_nothing, none_names, nothing_beside_equal, nothing_where_none_differs}
-use Rattle.tf_plan_decision.proofs.Growing.{updates_grow}
-use Rattle.tf_plan_decision.proofs.Keeping.{updates_argue, updates_named}
+use Rattle.tf_plan_object.proofs.KeptGrowing.{updates_grow}
+use Rattle.tf_plan_object.proofs.Keeping.{updates_argue, updates_named}
 use Rattle.tf_plan_decision.proofs.Replies.{good_is, replies_stay}
 use Rattle.tf_plan_decision.specs.Decision.{beside, change, nothing, replace}
 use Rattle.tf_plan_decision.specs.Differing.{differing}
-use Rattle.tf_plan_decision.specs.Kept.{is_kept, kept_entries, kept_object}
+use Rattle.tf_plan_object.specs.Kept.{is_kept, kept_entries, kept_object}
 use Rattle.tf_plan_decision.specs.Laws.{is_settled}
 use Rattle.tf_walk_action.specs.Asked.{asked_by_step, create_of, update_of}
 use Rattle.tf_plan_data.specs.Fits.{is_apply}

@@ -15,7 +15,7 @@ use Rattle.tf_plan_object.specs.declared.argument.ArgumentFault.{ArgumentFault}
 use Rattle.tf_config_data.specs.Config.{RepetitionView, single, count, for_each}
 use Rattle.tf_plan_decision.proofs.Aligned.{apart, same_name}
 use Rattle.tf_plan_decision.proofs.Equal.{known_at}
-use Rattle.tf_plan_decision.specs.Kept.{is_computed, is_ignored}
+use Rattle.tf_plan_object.specs.Kept.{is_computed, is_ignored}
 use Rattle.tf_plan_decision.specs.Laws.{is_settled}
 use Rattle.tf_expand.specs.Instance.{bound, count_index, each_key, each_value, instance_constants, instance_environment, value_under}
 use Rattle.tf_eval.proofs.Alone.{split}

@@ -1,10 +1,10 @@
 -- What the steps of actions ask.
 use Rattle.std.proofs.Common.{◌≡◌, ◌∙◌, ℕ, true, false, List, Some, None, Result, Ok, Err, refl, sym, ap, subst}
 use Rattle.tf_plan_data.specs.Action.{ActionView, StepView, create, update, replacement, replaced, destroyed, deposed_destroyed}
-use Rattle.tf_walk_action.specs.AskingLaws.{planned_object}
+use Rattle.tf_laws.specs.AskingLaws.{planned_object}
 use Rattle.tf_plan_object.specs.Instance.{InstanceFaultView}
-use Rattle.tf_plan_decision.proofs.Keeping.{updates_named}
-use Rattle.tf_plan_decision.specs.Kept.{kept_object}
+use Rattle.tf_plan_object.proofs.Keeping.{updates_named}
+use Rattle.tf_plan_object.specs.Kept.{kept_object}
 use Rattle.tf_walk_action.specs.Asked.{asked_by_step, create_of, destroy_of, op_of, update_of}
 use Rattle.tf_plan_data.specs.Address.{address_text}
 use Rattle.tf_plan_data.specs.Fits.{deposed_key, is_apply}

@@ -1,7 +1,7 @@
 -- Two plans of one configuration: records are given the same dependencies by both.
 use Rattle.std.proofs.Common.{◌≡◌, ◌∙◌, ℕ, Bool, true, false, cond, List, [], ◌∷◌, Some, filter, fold, length, refl, sym, ap}
 use Rattle.std.specs.List.{range_with_len}
-use Rattle.tf_walk_report.specs.Dependencies as additions
+use Rattle.tf_walk_buffers.specs.Dependencies as additions
 use Rattle.tf_config_data.specs.Names.{NameView, meant_at, place_of}
 use Rattle.tf_config_names.specs.Needs.{IsDependence, needs_in}
 use Rattle.tf_config_names.specs.declared.dependence.Dependence.{Dependence}

@@ -1,7 +1,7 @@
 -- What two reports tell of the same ends is the same.
 use Rattle.std.proofs.Common.{◌≡◌, ◌∙◌, List, map, sym, subst}
 use Rattle.std.proofs.lemmas.List.{append_cancel_left}
-use Rattle.tf_walk_report.specs.Head.{Head}
+use Rattle.tf_walk_buffers.specs.Head.{Head}
 use Rattle.tf_config_data.specs.Names.{directly_before}
 use Rattle.tf_graph.specs.Solutions.{Ranked}
 use Rattle.tf_state_next.specs.Events.{ends_in, given_in}

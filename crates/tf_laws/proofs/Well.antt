@@ -7,7 +7,7 @@ use Rattle.tf_walk_report.specs.Change.{applied_of_done, as_applied, left_of_don
 use Rattle.tf_address.specs.ObjectId.{InstanceKeyView}
 use Rattle.tf_plan_object.specs.Instance.{InstanceFaultView}
 use Rattle.tf_config_data.specs.Names.{meant_at}
-use Rattle.tf_plan_decision.specs.Kept.{kept_object}
+use Rattle.tf_plan_object.specs.Kept.{kept_object}
 use Rattle.tf_graph.specs.Digraph.{predecessors_of}
 use Rattle.tf_graph.specs.Solutions.{seen_by}
 use Rattle.tf_walk_action.specs.Asked.{Requests, asked_by_step, asked_for, create_of, destroy_of, ignored_by, op_of, update_of}

@@ -22,3 +22,4 @@ pub mod Success
 pub mod Applies
 pub mod OneOfTwo
 pub mod ReapplyTexts
+pub mod AskingLaws

@@ -2,7 +2,7 @@
 use Rattle.std.specs.Prelude.{◌≡◌, ℕ, true, false, List, Option, Some, None, option_and_then, slice_get, Ok, Contains}
 use Rattle.tf_plan_data.specs.Action.{ActionView, StepView, update, replaced, destroyed, deposed_destroyed}
 use Rattle.tf_address.specs.ObjectId.{InstanceKeyView}
-use Rattle.tf_walk_action.specs.AskingLaws.{RefinesWhere, planned_object}
+use Rattle.tf_laws.specs.AskingLaws.{RefinesWhere, planned_object}
 use Rattle.tf_config_data.specs.Config.{ConfigView}
 use Rattle.tf_config_data.specs.Names.{meant_at}
 use Rattle.tf_laws.specs.Reapply.{IsSound}

@@ -2,6 +2,7 @@
 //! to its plan, and the same configuration plans nothing again over what an apply that went well left.
 #![tactic(auto)]
 
+pub mod asking;
 pub mod convergence;
 pub mod plans;
 pub mod reports;

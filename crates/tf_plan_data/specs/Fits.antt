@@ -1,13 +1,15 @@
 -- What each plan that is made of a configuration and a prior state keeps to.
 use Rattle.std.specs.Prelude.{◌≡◌, ◌+◌, ◌<◌, ◌^◌, ℕ, Bool, true, false, List, Option, None, Some, map, slice_get, ⊤}
 use Rattle.std.specs.List.{AllByRecursion}
-use Rattle.tf_plan_data.specs.Action.{ActionView, StepView, replaced, destroyed, deposed_destroyed, action_of}
+use Rattle.tf_plan_data.specs.Action.{ActionView, StepView, create, update, replacement, replaced, destroyed, deposed_destroyed, action_of}
 use Rattle.tf_address.specs.Label.{LabelView}
 use Rattle.tf_address.specs.ObjectId.{InstanceKeyView, single, number, name}
 use Rattle.tf_config_data.specs.Config.{BlockView, config_of}
 use Rattle.tf_config_data.specs.Names.{NameView, a_block, meant_at, names_of}
 use Rattle.tf_config_names.specs.Needs.{IsAcyclic, IsDependence}
 use Rattle.tf_plan_order.specs.ResourceIndex.{ResourceRefView, numbered, place_in}
+use Rattle.tf_protocol.specs.declared.request.Op.{Op}
+use Rattle.tf_protocol.specs.declared.request.Op.TheVariants.{Create, Update, Destroy}
 use Rattle.tf_state_data.specs.State.{state_of}
 use Rattle.tf_plan_data.specs.declared.plan.Plan.{Plan}
 
@@ -17,6 +19,13 @@ is_apply (replaced prior) = false
 is_apply (destroyed prior) = false
 is_apply (deposed_destroyed key prior) = false
 is_apply _ = true
+
+-- what a provider is to do for a step
+abbrev pub op_of : StepView → Op
+op_of (create asked) = Create
+op_of (update prior asked names) = Update
+op_of (replacement asked names) = Create
+op_of _ = Destroy
 
 -- the key of the deposed object that a step destroys; none where it is about the current object
 abbrev pub deposed_key : StepView → Option (List ℕ)

@@ -6,12 +6,15 @@ pub use Rattle.serde_json.specs.Written.{comma_if}
 pub use Rattle.tf_plan_data.specs.Action.{action_of, step_of}
 pub use Rattle.tf_plan_data.specs.Precedence.{ordered}
 pub use Rattle.tf_config_names.specs.Needs.{needs_in}
-pub use Rattle.tf_plan_data.specs.Fits.{deposed_key, FitsTogether, is_apply, IsDeclared, IsOfBlock}
+pub use Rattle.tf_plan_data.specs.Fits.{deposed_key, FitsTogether, is_apply, IsDeclared, IsOfBlock, op_of}
+pub use Rattle.tf_address.specs.Label.{label_text}
 pub use Rattle.tf_plan_data.specs.Plan.{plan_names, plan_of}
 pub use Rattle.tf_plan_data.specs.Served.{AreServed, IsServedBy}
 pub use Rattle.tf_plan_order.specs.OrderInput.{AreSound}
 pub use Rattle.tf_plan_order.specs.ResourceLaws.{AreApart}
 pub use Rattle.tf_plan_order.specs.ResourceIndex.{a_name, numbered}
 pub use Rattle.tf_plan_order.specs.Table.{numbered_in, resources_in}
+pub use Rattle.tf_state_data.specs.Record.{record_of}
+pub use Rattle.tf_state_data.specs.Resource.{resource_of}
 pub use Rattle.tf_state_data.specs.State.{state_of}
 pub use Rattle.tf_value.specs.Tree.{boolean, items_view, null, texts_view}

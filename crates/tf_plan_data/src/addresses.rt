@@ -19,7 +19,7 @@ pub fn address_text(alloc: Global, label: &Label, key: &InstanceKey) -> Result<S
     ensures { IfOk result (λ text. string_bytes text ≡ address_text (label_of label.now) (instance_key_of key.now)) }
 {
     match key {
-        InstanceKey::Single => label.to_string(alloc),
+        InstanceKey::Single => label_text(alloc, label),
         InstanceKey::Number(number) => numbered(alloc, label, *number),
         InstanceKey::Name(name) => named(alloc, label, name.as_str()),
     }
@@ -39,11 +39,40 @@ fn named(alloc: Global, label: &Label, name: &str) -> Result<String, AllocError>
     in_brackets(alloc, label, quoted.as_str())
 }
 
+/// The address `TYPE.NAME` of a resource.
+///
+/// # Errors
+///
+/// Only where memory runs out.
+pub fn label_text(alloc: Global, label: &Label) -> Result<String, AllocError>
+    ensures { IfOk result (λ text. string_bytes text ≡ label_text (label_of label.now)) }
+{
+    with_room(alloc, label, 0)
+}
+
 /// A resource's address, and behind it a text in brackets.
 fn in_brackets(alloc: Global, label: &Label, text: &str) -> Result<String, AllocError>
     ensures { IfOk result (λ whole. string_bytes whole ≡ label_text (label_of label.now) ++ 91 ∷ (text.now ++ 93 ∷ [])) }
 {
-    format!(in alloc; "{label}[{text}]")
+    let mut whole = with_room(alloc, label, text.len().saturating_add(2))?;
+    whole.push('[')?;
+    whole.push_str(text)?;
+    whole.push(']')?;
+    Ok(whole)
+}
+
+/// A resource's address, in a text with room for so many bytes behind it: so the whole takes memory once.
+fn with_room(alloc: Global, label: &Label, more: usize) -> Result<String, AllocError>
+    ensures { IfOk result (λ text. string_bytes text ≡ label_text (label_of label.now)) }
+{
+    let type_name = label.type_name.as_str();
+    let name = label.name.as_str();
+    let own = type_name.len() + 1 + name.len();
+    let mut text = String::with_capacity(alloc, own.saturating_add(more))?;
+    text.push_str(type_name)?;
+    text.push('.')?;
+    text.push_str(name)?;
+    Ok(text)
 }
 
 /// A text in quotes, with JSON's escapes.

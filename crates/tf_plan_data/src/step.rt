@@ -2,10 +2,11 @@
 
 ghost use Rattle.std.specs.Prelude.{◌≡◌};
 ghost use Rattle.tf_plan_data.specs.Action.{step_of};
-ghost use Rattle.tf_plan_data.specs.Fits.{is_apply};
+ghost use Rattle.tf_plan_data.specs.Fits.{is_apply, op_of};
 ghost use Rattle.tf_plan_data.specs.Precedence.{is_half, kind_of};
 
 use tf_plan_order::ActionKind;
+use tf_protocol::Op;
 use tf_state_data::Object;
 use tf_value::Value;
 
@@ -38,6 +39,17 @@ impl Step {
                 ActionKind::Apply,
             Step::DestroyReplaced(_) | Step::Destroy(_) => ActionKind::Destroy,
             Step::DestroyDeposed(_, _) => ActionKind::DestroyDeposed,
+        }
+    }
+
+    /// What a provider is asked to do for it.
+    pub fn op(&self) -> Op
+        ensures { result ≡ op_of (step_of self.now) }
+    {
+        match self {
+            Step::Create(_) | Step::CreateReplacement(_, _) => Op::Create,
+            Step::Update(_, _, _) => Op::Update,
+            Step::DestroyReplaced(_) | Step::Destroy(_) | Step::DestroyDeposed(_, _) => Op::Destroy,
         }
     }
 

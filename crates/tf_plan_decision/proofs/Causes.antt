@@ -8,7 +8,7 @@ use Rattle.tf_value.proofs.Conjunction.{and-both}
 use Rattle.tf_plan_decision.specs.Decision.{DecisionView, nothing, create, update, replace, update_or_replace, by_differing, beside, change, DecisionFaultView, unless_prevented, decided, unless_unfit, current}
 use Rattle.tf_plan_decision.specs.Differing.{differing, forces_new, forcing}
 use Rattle.tf_plan_decision.specs.Ignored.{heeding, ignored_fault}
-use Rattle.tf_plan_decision.specs.Kept.{kept_object}
+use Rattle.tf_plan_object.specs.Kept.{kept_object}
 use Rattle.tf_plan_decision.specs.Laws.{CreatesAreFirst, UpdatesDiffer, IsForced, ReplacesHaveACause, PreventedStay}
 use Rattle.tf_plan_decision.specs.Prior.{PriorFaultView, first_unfit}
 

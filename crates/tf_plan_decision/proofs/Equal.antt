@@ -11,10 +11,10 @@ use Rattle.tf_value.specs.Tree.{Tree, null, boolean, whole, text, list, map, set
 use Rattle.tf_value.proofs.Conjunction.{and-first, and-second, and-both}
 use Rattle.tf_plan_decision.specs.Decision.{nothing, replace, update_or_replace, by_differing, beside}
 use Rattle.tf_plan_decision.specs.Differing.{differs, differing, forcing}
-use Rattle.tf_plan_decision.specs.Kept.{kept_object}
+use Rattle.tf_plan_object.specs.Kept.{kept_object}
 use Rattle.tf_plan_decision.specs.Laws.{BesideEqualNothingIsDone, NothingIsDoneBesideEqual}
 use Rattle.tf_plan_decision.proofs.Aligned.{passes, none_differs, same_entries_where_none_differs}
-use Rattle.tf_plan_decision.proofs.Keeping.{updates_named}
+use Rattle.tf_plan_object.proofs.Keeping.{updates_named}
 
 forced_no_nothing : (planned kept : Tree) (names forces : List (List ℕ)) → update_or_replace planned kept names forces ≡ nothing → ⊥
 forced_no_nothing planned kept names [] e = cc

@@ -9,12 +9,9 @@ pub mod Equal
 pub mod Exact
 pub mod Finding
 pub mod Fitting
-pub mod Growing
-pub mod Keeping
 pub mod Listed
 pub mod Local
 pub mod Looking
 pub mod Planned
 pub mod Replies
-pub mod Shown
 pub mod Standing

@@ -8,7 +8,7 @@ use Rattle.tf_value.specs.Known.{known, known_entries}
 use Rattle.tf_value.specs.Tree.{Tree, map, Entries, get}
 use Rattle.tf_value.proofs.Conjunction.{and-both}
 use Rattle.tf_plan_decision.specs.Differing.{differing}
-use Rattle.tf_plan_decision.specs.Kept.{is_kept, kept_object}
+use Rattle.tf_plan_object.specs.Kept.{is_kept, kept_object}
 use Rattle.tf_plan_decision.specs.Laws.{BesidePlannedNothingIsDone}
 use Rattle.tf_plan_decision.proofs.Equal.{known_at, nothing_where_none_differs}
 use Rattle.tf_plan_decision.proofs.Replies.{no_difference, object_stays, stays}

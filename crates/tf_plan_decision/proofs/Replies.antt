@@ -16,11 +16,11 @@ use Rattle.tf_value.proofs.Order.{Refines-known}
 use Rattle.tf_value.proofs.Refining.{refined_Decides}
 use Rattle.tf_plan_decision.specs.Decision.{replace, update_or_replace, by_differing, beside, change}
 use Rattle.tf_plan_decision.specs.Differing.{differs, differing, differing_entries, forcing}
-use Rattle.tf_plan_decision.specs.Kept.{is_kept, kept_entries, kept_object, kept_value}
+use Rattle.tf_plan_object.specs.Kept.{is_kept, kept_entries, kept_object, kept_value}
 use Rattle.tf_plan_decision.specs.Laws.{GoodRepliesStay, asked, is_settled}
 use Rattle.tf_plan_decision.proofs.Aligned.{each_entry, passes}
 use Rattle.tf_plan_decision.proofs.Equal.{nothing_where_none_differs}
-use Rattle.tf_plan_decision.proofs.Keeping.{updates_argue}
+use Rattle.tf_plan_object.proofs.Keeping.{updates_argue}
 
 some_is : (t u : Tree) → Some t ≡ Some u → t ≡ u
 some_is t u e = cc

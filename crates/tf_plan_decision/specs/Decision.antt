@@ -8,7 +8,7 @@ use Rattle.tf_state_data.specs.Record.{RecordView}
 use Rattle.tf_value.specs.Tree.{Tree}
 use Rattle.tf_plan_decision.specs.Differing.{differing, forcing}
 use Rattle.tf_plan_decision.specs.Ignored.{heeding, ignored_fault}
-use Rattle.tf_plan_decision.specs.Kept.{kept_object}
+use Rattle.tf_plan_object.specs.Kept.{kept_object}
 use Rattle.tf_plan_decision.specs.Prior.{PriorFaultView, first_unfit}
 
 -- What is done: nothing, or a create, an update or a replace with the object that is asked for. An update names the

@@ -1,5 +1,5 @@
 -- What holds of decisions, whatever was there and is planned.
-use Rattle.std.specs.Prelude.{◌≡◌, ℕ, Bool, true, false, ◌||◌, ◌⊎◌, not, List, [], ◌∷◌, Option, Some, None, option_map, Result, Ok}
+use Rattle.std.specs.Prelude.{◌≡◌, ℕ, Bool, true, false, ◌||◌, ◌⊎◌, not, List, [], ◌∷◌, Option, Some, None, Result, Ok}
 use Rattle.std.specs.List.{list_all}
 use Rattle.std.specs.Option.{option_map_or}
 use Rattle.tf_plan_object.specs.Instance.{InstanceFaultView}
@@ -8,11 +8,10 @@ use Rattle.tf_protocol.specs.Schema.{AttributeView, SchemaView, IsSchema}
 use Rattle.tf_protocol.specs.Verdict.{has_attributes, is_allowed, is_good_verdict, verdict_on_object, well_formed}
 use Rattle.tf_state_data.specs.Record.{RecordView}
 use Rattle.tf_value.specs.Known.{known}
-use Rattle.tf_value.specs.Refinement.{Refines}
 use Rattle.tf_value.specs.Tree.{Tree, IsSorted, part_at}
 use Rattle.tf_plan_decision.specs.Decision.{DecisionView, nothing, create, update, replace, change, decision}
 use Rattle.tf_plan_decision.specs.Differing.{differing, forces_new, forcing}
-use Rattle.tf_plan_decision.specs.Kept.{is_kept, kept_object, kept_value}
+use Rattle.tf_plan_object.specs.Kept.{is_kept, kept_object}
 use Rattle.tf_plan_decision.specs.Prior.{prior_fault}
 
 -- A create has no prior object, and asks for what is planned.
@@ -57,24 +56,6 @@ abbrev pub PreventedStay : Type 0
 PreventedStay =
     (schema : SchemaView) (lifecycle : LifecycleView) (records : List RecordView) (planned : Result Tree InstanceFaultView) (t : Tree) (names : List (List ℕ))
     → decision schema lifecycle records planned ≡ Ok (replace t names) → lifecycle.prevent_destroy ≡ false
-
--- An update has at each name what is kept there of the planned value and the prior one. So it has each configured value
--- of an attribute whose changes aren't ignored.
-abbrev pub UpdatesKeep : Type 0
-UpdatesKeep =
-    (schema : SchemaView) (ignored : List (List ℕ)) (prior planned : Tree) (name : List ℕ)
-    → part_at name (kept_object schema ignored prior planned) ≡ option_map (kept_value schema ignored prior name) (part_at name planned)
-
-abbrev pub UpdatesHaveArguments : Type 0
-UpdatesHaveArguments =
-    (schema : SchemaView) (ignored : List (List ℕ)) (prior planned : Tree) (name : List ℕ)
-    → is_kept schema ignored name ≡ false → part_at name (kept_object schema ignored prior planned) ≡ part_at name planned
-
--- An update's object has exactly the schema's attributes where the planned one has.
-abbrev pub UpdatesHaveAttributes : Type 0
-UpdatesHaveAttributes =
-    (schema : SchemaView) (ignored : List (List ℕ)) (prior planned : Tree)
-    → has_attributes schema planned ≡ true → has_attributes schema (kept_object schema ignored prior planned) ≡ true
 
 -- the object that is asked for
 abbrev pub asked : DecisionView → Option Tree
@@ -130,12 +111,6 @@ AnswersStay =
     → decision schema lifecycle records (Ok planned) ≡ Ok d → asked d ≡ Some t → IsAnswer schema t r
     → list_all (is_settled schema lifecycle.ignore_changes planned) schema.attributes ≡ true
     → decision schema lifecycle (r ∷ []) (Ok planned) ≡ Ok nothing
-
--- Where what is planned refines to what is planned once more is known, so does the object that an update asks for.
-abbrev pub UpdatesGrow : Type 0
-UpdatesGrow =
-    (schema : SchemaView) (ignored : List (List ℕ)) (prior planned later : Tree)
-    → Refines planned later → Refines (kept_object schema ignored prior planned) (kept_object schema ignored prior later)
 
 -- Nothing is done only beside an object that isn't tainted and is the planned one with what is kept.
 abbrev pub NothingIsDoneBesideEqual : Type 0

@@ -3,7 +3,6 @@ pub mod Deciding
 pub mod Decision
 pub mod Differing
 pub mod Ignored
-pub mod Kept
 pub mod Laws
 pub mod Locality
 pub mod Names

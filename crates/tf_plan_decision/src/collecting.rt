@@ -83,6 +83,7 @@ impl Decided {
     ) -> Result<(), AllocError>
         ensures { OnOk result (decided_of self.new ≡ with_settled (of_view of.now) (map settled_of settled.entry.items) (decided_of self.old)) }
     {
+        self.actions.reserve_exact(settled.len())?;
         for one in settled {
             let Settled {
                 instance,

@@ -10,11 +10,10 @@ ghost use Rattle.tf_plan_decision.specs.Decision.{beside, change, current, decis
 
 use crate::differing::{differing, forcing};
 use crate::ignored::{heeding, ignored_fault};
-use crate::kept::kept_object;
 use crate::prior::{PriorFault, first_unfit};
 use std::alloc::{AllocError, Global};
 use tf_config_data::Lifecycle;
-use tf_plan_object::InstanceFault;
+use tf_plan_object::{InstanceFault, kept_object};
 use tf_protocol::Schema;
 use tf_state_data::Record;
 use tf_value::Value;

@@ -1,12 +1,10 @@
 //! Names in `ignore_changes`, beside what is wrong with arguments.
 
-ghost use Rattle.std.specs.List.{list_any};
 ghost use Rattle.std.specs.Prelude.{◌≡◌, IfOk, map, option_map, string_bytes};
 ghost use Rattle.tf_plan_object.specs.Instance.{argument_fault, instance_fault_of, instance_of};
 ghost use Rattle.tf_plan_object.specs.Object.{named_fault_of};
 ghost use Rattle.tf_plan_object.specs.declared.argument.ArgumentFault.TheVariants.{BadArgument};
 ghost use Rattle.tf_plan_decision.specs.Ignored.{heeding, ignored_fault, sooner_fault};
-ghost use Rattle.tf_plan_decision.specs.Kept.{is_ignored};
 
 use crate::names::sooner;
 use std::alloc::{AllocError, Global};
@@ -25,18 +23,6 @@ pub fn ignored_fault<'a>(schema: &Schema, ignored: &'a [String]) -> Option<&'a s
         }
     }
     first
-}
-
-/// Whether the changes of an attribute are ignored.
-pub(crate) fn is_ignored(ignored: &[String], name: &str) -> bool
-    ensures { result ≡ is_ignored (map string_bytes ignored.now) name.now }
-{
-    for other in ignored {
-        if other.as_str() == name {
-            return true;
-        }
-    }
-    false
 }
 
 /// What is planned for an instance, where the first name in `ignore_changes` that is no attribute's, if there is one, is a

@@ -1,6 +1,6 @@
 //! Laws on decisions.
 
-ghost use Rattle.tf_plan_decision.specs.Laws.{AnswersStay, BesideEqualNothingIsDone, BesidePlannedNothingIsDone, CreatesAreFirst, FitsExactly, GoodRepliesFit, GoodRepliesStay, NothingIsDoneBesideEqual, PreventedStay, ReplacesHaveACause, UpdatesDiffer, UpdatesGrow, UpdatesHaveArguments, UpdatesHaveAttributes, UpdatesKeep};
+ghost use Rattle.tf_plan_decision.specs.Laws.{AnswersStay, BesideEqualNothingIsDone, BesidePlannedNothingIsDone, CreatesAreFirst, FitsExactly, GoodRepliesFit, GoodRepliesStay, NothingIsDoneBesideEqual, PreventedStay, ReplacesHaveACause, UpdatesDiffer};
 
 /// A create has no prior object. An update differs from the prior object in some attribute, and in none whose change
 /// replaces the object. A replace asks for what is planned, and its prior object is tainted, or it names an attribute that
@@ -14,14 +14,6 @@ pub fn changes_have_a_cause()
 /// With `prevent_destroy` no decision replaces an object.
 pub fn prevented_objects_stay()
     ensures { PreventedStay }
-{}
-
-/// An update's object has at each name the planned value, or the prior one where it is kept; so it has each configured value
-/// of an attribute whose changes aren't ignored, and exactly the attributes of the planned object.
-pub fn updates_keep_what_is_configured()
-    ensures values { UpdatesKeep }
-    ensures arguments { UpdatesHaveArguments }
-    ensures attributes { UpdatesHaveAttributes }
 {}
 
 /// A prior object that fits its schema was written with its version, and has exactly its attributes, each with a value that is
@@ -44,9 +36,4 @@ pub fn good_replies_stay()
     ensures fits { GoodRepliesFit }
     ensures change { GoodRepliesStay }
     ensures decision { AnswersStay }
-{}
-
-/// Where what is planned refines to what is planned once more is known, so does the object that an update asks for.
-pub fn updates_grow()
-    ensures { UpdatesGrow }
 {}

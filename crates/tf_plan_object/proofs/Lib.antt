@@ -1,6 +1,9 @@
 pub mod Attributes
 pub mod Entries
 pub mod Growing
+pub mod Keeping
+pub mod KeptGrowing
 pub mod Locals
 pub mod Named
+pub mod Shown
 pub mod Within

@@ -2,6 +2,8 @@ pub mod Argument
 pub mod Bounded
 pub mod Gives
 pub mod Instance
+pub mod Kept
+pub mod KeptLaws
 pub mod Laws
 pub mod Object
 pub mod Planned

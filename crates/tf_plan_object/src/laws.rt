@@ -1,5 +1,6 @@
 //! Laws on planned objects.
 
+ghost use Rattle.tf_plan_object.specs.KeptLaws.{UpdatesGrow, UpdatesHaveArguments, UpdatesHaveAttributes, UpdatesKeep};
 ghost use Rattle.tf_plan_object.specs.Laws.{ConversionGrows, InstancesAreLocal, InstancesGrow, InstancesHaveAttributes};
 
 use tf_eval::{expr_knowledge_grows, meaning_is_local};
@@ -28,4 +29,17 @@ pub fn objects_grow()
 /// The object of an instance has exactly the schema's attributes.
 pub fn objects_have_attributes()
     ensures { InstancesHaveAttributes }
+{}
+
+/// An update's object has at each name the planned value, or the prior one where it is kept; so it has each configured value
+/// of an attribute whose changes aren't ignored, and exactly the attributes of the planned object.
+pub fn updates_keep_what_is_configured()
+    ensures values { UpdatesKeep }
+    ensures arguments { UpdatesHaveArguments }
+    ensures attributes { UpdatesHaveAttributes }
+{}
+
+/// Where what is planned refines to what is planned once more is known, so does the object that an update asks for.
+pub fn updates_grow()
+    ensures { UpdatesGrow }
 {}

@@ -10,9 +10,11 @@
 
 mod argument;
 mod instance;
+mod kept;
 pub mod laws;
 mod object;
 
 pub use argument::{ArgumentFault, ValueFault, attribute_value};
 pub use instance::{InstanceFault, plan_instance};
+pub use kept::kept_object;
 pub use object::{NamedFault, plan_object};

@@ -1,16 +1,22 @@
 -- There is one list of members.
-use Rattle.std.proofs.Common.{◌≡◌, ◌||◌, List, [], ◌∷◌, map, ◌++◌, get_or, append_assoc, Result, Ok, Err, IfOk, Vec, Global, refl, sym, ap, ap₂, ◌∙◌, subst}
+use Rattle.std.proofs.Common.{◌≡◌, ◌||◌, true, false, List, [], ◌∷◌, map, ◌++◌, get_or, length, append_assoc, Result, Ok, Err, IfOk, Vec, Global, refl, sym, ap, ap₂, ◌∙◌, subst, arith}
+use Rattle.std.specs.Prelude.{◌==◌}
+use Rattle.std.proofs.lemmas.Bool.Decides.{nat_tests}
 use Rattle.std.specs.List.{AllByRecursion}
 use Rattle.std.specs.List.Sorted.{IsStrictlySortedBy}
 use Rattle.std.proofs.lemmas.List.{map-append}
 use Rattle.std.proofs.lemmas.List.Elements.{All-contains, All-map, Contains-get_or, recursion_from_All}
-use Rattle.tf_address.specs.ObjectId.{InstanceKeyView, instance_key_cmp, instance_key_of}
+use Rattle.std.specs.Cmp.{unsigned_Decides}
+use Rattle.std.proofs.lemmas.Slice.Eq.{bytes_eq-Decides}
+use Rattle.tf_address.specs.ObjectId.{InstanceKeyView, single, number, name, instance_key_cmp, instance_key_of}
+use Rattle.tf_address.specs.Same.{same_instance_key}
 use Rattle.tf_address.specs.declared.object_id.InstanceKey.{InstanceKey}
 use Rattle.tf_plan_order.proofs.Known.{among-with, among-recorded, nothing-sorted, sorted-with, same_keys}
-use Rattle.tf_plan_order.specs.Members.{InstanceToPlanView, AreMembers, is_among, is_recorded, records_of, keys_of, member, with_keys, recorded_keys, all_keys, members}
+use Rattle.tf_plan_order.specs.Members.{InstanceToPlanView, AreMembers, declared_alone, is_among, is_recorded, records_of, keys_of, member, with_keys, recorded_keys, all_keys, members}
 use Rattle.tf_plan_order.specs.MemberViews.{member_of}
 use Rattle.tf_plan_order.specs.declared.instance_to_plan.InstanceToPlan.{InstanceToPlan}
 use Rattle.tf_state_data.specs.Record.{RecordView, record_of}
+use Rattle.tf_state_data.specs.declared.record.Record.{Record}
 
 module _ (keys : List InstanceKeyView) (records : List RecordView) where
   of_members : (ks : List InstanceKeyView) → keys_of (map (member keys records) ks) ≡ ks
@@ -88,3 +94,26 @@ made_members keys declared all records (Ok ms) e f made =
     let is : map member_of ms.items ≡ members keys records = made ∙ (ap₂ (λ ds ks. map (member ds records) ks) e f ∙ once keys records (all_keys keys records)) in
     subst (AreMembers keys records) (sym is) (are_there keys records)
 made_members keys declared all records (Err why) e f made = made
+
+-- a key is its own
+own_key : (k : InstanceKeyView) → same_instance_key k k ≡ true
+own_key single = refl
+own_key (number n) = (unsigned_Decides n n).1 refl
+own_key (name s) = (bytes_eq-Decides s s).1 refl
+
+alone_members : {E : Type 0} (key : InstanceKeyView) (result : Result (Vec InstanceToPlan Global) E) → IfOk result (λ ms. map member_of ms.items ≡ declared_alone key ∷ [])
+    → IfOk result (λ ms. AreMembers (key ∷ []) [] (map member_of ms.items))
+alone_members key (Ok ms) made =
+    let among : is_among (key ∷ []) key ≡ true = ap (λ b. b || false) (own_key key) in
+    let is : map member_of ms.items ≡ members (key ∷ []) [] = made ∙ ap (λ b. record { key = key; is_declared = b; records = [] } ∷ []) (sym among) in
+    subst (AreMembers (key ∷ []) []) (sym is) (are_there (key ∷ []) [])
+alone_members key (Err why) made = made
+
+-- the one instance of a resource of which nothing exists is its list of members
+pub only_member : {E : Type 0} (keys : List InstanceKey) (records : List Record) (key : InstanceKey) (result : Result (Vec InstanceToPlan Global) E)
+    → length keys ≡ 1 → key ≡ get_or keys 0 key → true ≡ (length records == 0) → IfOk result (λ ms. map member_of ms.items ≡ declared_alone (instance_key_of key) ∷ [])
+    → IfOk result (λ ms. AreMembers (map instance_key_of keys) (map record_of records) (map member_of ms.items))
+only_member [] records key result one is none made = absurd (cc)
+only_member (k ∷ []) [] key result one is none made = rw (sym is) (alone_members (instance_key_of key) result made)
+only_member (k ∷ []) (r ∷ records) key result one is none made = absurd (grind (arith, nat_tests))
+only_member (k ∷ l ∷ keys) records key result one is none made = absurd (cc)

@@ -1,5 +1,5 @@
 -- The instances of a resource, by its configuration and by what its state has, together.
-use Rattle.std.specs.Prelude.{◌≡◌, Bool, ◌||◌, List, [], map, filter, fold, Contains}
+use Rattle.std.specs.Prelude.{◌≡◌, Bool, true, ◌||◌, List, [], map, filter, fold, Contains}
 use Rattle.std.specs.BTreeSet.{insert_key}
 use Rattle.std.specs.List.{list_any}
 use Rattle.std.specs.List.Sorted.{IsStrictlySortedBy}
@@ -44,6 +44,10 @@ pub record AreMembers (keys : List InstanceKeyView) (records : List RecordView) 
   pub declared : (m : InstanceToPlanView) → Contains members m → m.is_declared ≡ is_among keys m.key
   -- and has exactly the records of its objects, in their order
   pub recorded : (m : InstanceToPlanView) → Contains members m → m.records ≡ records_of m.key records
+
+-- the one instance of a resource of which nothing exists
+abbrev pub declared_alone : InstanceKeyView → InstanceToPlanView
+declared_alone key = record { key = key; is_declared = true; records = [] }
 
 -- The same as a list.
 

@@ -1,8 +1,8 @@
 //! All instances of a resource.
 
-ghost use Rattle.std.specs.Prelude.{◌≡◌, [], IfOk, OnOk, map};
+ghost use Rattle.std.specs.Prelude.{◌≡◌, ◌∷◌, [], IfOk, OnOk, map};
 ghost use Rattle.tf_address.specs.ObjectId.{instance_key_of};
-ghost use Rattle.tf_plan_order.specs.Members.{AreMembers, all_keys, member, recorded_keys, with_keys};
+ghost use Rattle.tf_plan_order.specs.Members.{AreMembers, all_keys, declared_alone, member, recorded_keys, with_keys};
 ghost use Rattle.tf_plan_order.specs.MemberViews.{keys_in, member_of};
 ghost use Rattle.tf_state_data.specs.Ids.{AreById};
 ghost use Rattle.tf_state_data.specs.Record.{record_of};
@@ -28,11 +28,30 @@ pub fn members<'a>(
     requires { AreById (map record_of records.now) }
     ensures { IfOk result (λ members. AreMembers (map instance_key_of keys.now) (map record_of records.now) (map member_of members.items)) }
 {
+    if keys.len() == 1 && records.is_empty() {
+        return only_declared(alloc, &keys[0]);
+    }
     let mut declared = BTreeSet::new(alloc);
     add_keys(&mut declared, keys)?;
     let mut all = declared.clone()?;
     add_recorded(&mut all, records)?;
     each_member(alloc, &declared, &all, records)
+}
+
+/// The one instance of a resource of which nothing exists.
+fn only_declared<'a>(
+    alloc: Global,
+    key: &InstanceKey,
+) -> Result<Vec<InstanceToPlan<'a>>, AllocError>
+    ensures { IfOk result (λ members. map member_of members.items ≡ declared_alone (instance_key_of key.now) ∷ []) }
+{
+    let key = key.clone()?;
+    let only = InstanceToPlan {
+        key,
+        is_declared: true,
+        records: &[],
+    };
+    Ok(vec![in alloc; only]?)
 }
 
 /// Adds keys to a set.
@@ -66,7 +85,7 @@ fn each_member<'a>(
     ensures { IfOk result (λ members. map member_of members.items
         ≡ map (member (keys_in declared.now) (map record_of records.now)) (keys_in all.now)) }
 {
-    let mut members = Vec::new(alloc);
+    let mut members = Vec::with_capacity(alloc, all.len())?;
     for key in all.iter() {
         members.push(InstanceToPlan {
             key: key.clone()?,

@@ -88,14 +88,30 @@ fn all_pairs(
     ensures few { IfOk result (λ found. length found.items ≤ MAX_PAIRS) }
     ensures too_many { IsErrOf result OrderFault.TooMany → MAX_PAIRS < length (pairs (order_input_of ties.now) actions.now) }
 {
-    let mut found = Vec::new(alloc);
     let Ok(near) = Near::new(alloc, ties, actions) else {
+        return Err(OrderFault::OutOfMemory);
+    };
+    let Ok(mut found) = Vec::with_capacity(alloc, listed(&near, actions)) else {
         return Err(OrderFault::OutOfMemory);
     };
     for second in 0..actions.len() {
         add_pairs_into(alloc, &mut found, &near, ties, actions, second)?;
     }
     Ok(found)
+}
+
+/// How many pairs are put down from lists, but no more than there may be: the list of all pairs has room for so many from
+/// the first on.
+fn listed(near: &Near, actions: &[OrderedAction]) -> usize
+    ensures { result ≤ MAX_PAIRS }
+{
+    let mut count = 0usize;
+    for action in actions {
+        if let Some(early) = near.early_for(action) {
+            count = count.saturating_add(early.len());
+        }
+    }
+    count.min(MAX_PAIRS)
 }
 
 /// Adds an action's pairs with those that are before it.

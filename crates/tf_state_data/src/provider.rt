@@ -10,7 +10,11 @@ pub fn provider_address(alloc: Global, type_name: &str) -> Result<String, AllocE
     ensures { IfOk result (λ s. string_bytes s ≡ provider_text type_name.now) }
 {
     let name = name_of(type_name);
-    format!(in alloc; "provider[\"registry.terraform.io/hashicorp/{name}\"]")
+    let mut text = String::with_capacity(alloc, name.len().saturating_add(44))?;
+    text.push_str("provider[\"registry.terraform.io/hashicorp/")?;
+    text.push_str(name)?;
+    text.push_str("\"]")?;
+    Ok(text)
 }
 
 fn name_of(type_name: &str) -> &str

@@ -89,7 +89,7 @@ impl Resource {
         ensures same { resource_of self.new ≡ resource_of self.old }
         ensures room { OnOk result (HasRoomForRecords additional self.new) }
     {
-        self.records.reserve(additional)
+        self.records.reserve_exact(additional)
     }
 
     /// Puts a record in, and gives the one of the same object that was there. It takes no memory, since there has to

@@ -10,7 +10,7 @@ use Rattle.tf_walk_action.specs.Journal.{op_at}
 use Rattle.tf_walk_action.specs.Outcome.{ActionResultView, skipped, excused, faulted, called, Requests, all_good, call_at}
 use Rattle.tf_walk_action.specs.Run.{IsRun}
 use Rattle.tf_walk_report.proofs.JudgedAsAsked.{call-judged}
-use Rattle.tf_walk.specs.Ends.{IsEnd}
+use Rattle.tf_walk_single.specs.Ends.{IsEnd}
 
 judged_where : (ms : List Meaning) (requests : Requests) (plan : PlanView) (n : ℕ) (seen : List (ℕ × ActionResultView)) (op : Op) (b : Bool) (q : Asked) (a : Option Answer) (v : Verdict)
     → op_at plan.actions n ≡ Some op → MatchBool b (IsRun (call_at ms requests plan n seen) (called q a v)) (called q a v ≡ skipped) → IsJudged ms op (called q a v)

@@ -1,13 +1,7 @@
 pub mod Carried
-pub mod EndedAction
-pub mod Entered
 pub mod Judged
 pub mod Judging
-pub mod Memos
 pub mod Reported
-pub mod Seen
 pub mod Settling
 pub mod SharedPlan
-pub mod SoFar
-pub mod Stages
 pub mod Taking

@@ -22,10 +22,10 @@ use Rattle.tf_walk_report.specs.Outputs.{OutputResultView, end_of}
 use Rattle.tf_walk_report.specs.Report.{IsReport, IsTold}
 use Rattle.tf_walk_report.specs.declared.report.Report.{Report}
 use Rattle.tf_walk_action.specs.Run.{IsRun}
-use Rattle.tf_walk.specs.Ends.{IsSoFar, IsStaged, AllHaveEnded, end_at, done_in, stage_of}
+use Rattle.tf_walk_single.specs.Ends.{IsSoFar, IsStaged, AllHaveEnded, end_at, done_in, stage_of}
 use Rattle.tf_walk_report.proofs.JudgedAsAsked.{all-judged, ops-read}
 use Rattle.tf_walk.proofs.Judged.{ended-judged}
-use Rattle.tf_walk.proofs.Seen.{all_of}
+use Rattle.tf_walk_single.proofs.Seen.{all_of}
 
 is_there : (o : Option ActionResultView) → is_some o ≡ true → (d : ActionResultView) × (o ≡ Some d)
 is_there None e = absurd (cc)

@@ -1,10 +1,7 @@
-pub mod Ends
 pub mod Fitting
-pub mod Next
 pub mod Post
 pub mod Prepared
 pub mod PreparedMany
-pub mod ResolvedMemo
 pub mod Run
 pub mod Sharing
 pub mod Walk

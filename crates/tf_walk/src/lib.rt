@@ -6,8 +6,6 @@
 #![tactic(auto)]
 
 mod bound;
-mod calls;
-mod claims;
 mod ending;
 mod fitting;
 mod hinting;
@@ -15,13 +13,10 @@ mod many;
 mod prepared;
 mod prepared_many;
 mod progress;
-mod resolved_memo;
 mod result_cells;
 mod shared;
 mod sharing;
 mod single;
-mod steps;
-mod walk;
 mod worker;
 
 pub use many::{MOST_WORKERS, run, run_and_close};

@@ -7,7 +7,6 @@ ghost use Rattle.tf_walk_report.specs.Report.{IsWalked, IsWhole, report_of};
 ghost use Rattle.tf_walk.specs.Prepared.{IsPrepared};
 
 use crate::prepared::{Prepared, prepare};
-use crate::walk::walk;
 use std::alloc::{AllocError, Global};
 use tf_expand::Module;
 use tf_plan_data::{Plan, Planned};
@@ -15,6 +14,7 @@ use tf_provider::Provider;
 use tf_refusal::Refusal;
 use tf_walk_action::Stop;
 use tf_walk_report::{Report, Walked, report_of};
+use tf_walk_single::walk;
 
 /// Carries out a plan by one thread, without waiting: every action is ended once, after all that stand before
 /// it. Some provider in the list has the type of each action. Of an action that may be called the flag is looked at once,

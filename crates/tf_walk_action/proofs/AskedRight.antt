@@ -95,3 +95,8 @@ pub asked-with : (ms : List Meaning) (requests : Requests) (plan : PlanView) (ob
 asked-with ms requests plan objects a schema made there e =
     ap (comes_of ms) e
     ∙ sym (ap (λ (o : Option SchemaView). option_map_or {U = ActionResultView} (λ s. comes_of ms (asked_for (plan_names plan) s a (requests objects a s))) o skipped) there)
+
+-- what follows of a value follows where there is one
+pub if_ok-onward : {T E : Type 0} → {P Q : T → Type 0} → (r : Result T E) → IfOk r P → ((x : T) → P x → Q x) → IfOk r Q
+if_ok-onward (Ok x) h onward = onward x h
+if_ok-onward (Err e) h onward = tt

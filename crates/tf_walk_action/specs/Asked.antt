@@ -4,22 +4,15 @@ use Rattle.tf_plan_data.specs.Action.{ActionView, StepView, create, update, repl
 use Rattle.tf_address.specs.ObjectId.{InstanceKeyView}
 use Rattle.tf_plan_object.specs.Instance.{InstanceFaultView}
 use Rattle.tf_config_data.specs.Names.{NameView, Meant, a_block, meant_at}
-use Rattle.tf_plan_decision.specs.Kept.{kept_object}
+use Rattle.tf_plan_object.specs.Kept.{kept_object}
 use Rattle.tf_plan_data.specs.Address.{address_text}
+pub use Rattle.tf_plan_data.specs.Fits.{op_of}
 use Rattle.tf_plan_data.specs.Plan.{PlanView, plan_names}
 use Rattle.tf_protocol.specs.Meaning.{Asked}
 use Rattle.tf_protocol.specs.Schema.{SchemaView}
-use Rattle.tf_protocol.specs.declared.request.Op.{Op}
 use Rattle.tf_protocol.specs.declared.request.Op.TheVariants.{Create, Update, Destroy}
 use Rattle.tf_walk_action.specs.Requests.{IsRequest}
 use Rattle.tf_value.specs.Tree.{Tree}
-
--- what a provider is to do for a step
-abbrev pub op_of : StepView → Op
-op_of (create asked) = Create
-op_of (update prior asked names) = Update
-op_of (replacement asked names) = Create
-op_of _ = Destroy
 
 -- ---- the objects that are asked for
 

@@ -1,7 +1,6 @@
 pub mod ActionResult
 pub mod Asked
 pub mod AskedBy
-pub mod AskingLaws
 pub mod Excuse
 pub mod Storable
 pub mod Journal

@@ -6,7 +6,7 @@ pub use Rattle.tf_plan_data.specs.Action.{prior_of}
 pub use Rattle.tf_address.specs.Label.{label_text}
 pub use Rattle.tf_plan_object.specs.Bounded.{has_planned_attributes}
 pub use Rattle.tf_plan_object.specs.Instance.{instance_fault_of, instance_of}
-pub use Rattle.tf_plan_decision.specs.Kept.{kept_object}
+pub use Rattle.tf_plan_object.specs.Kept.{kept_object}
 pub use Rattle.tf_graph.specs.Digraph.{predecessors_of}
 pub use Rattle.tf_provider.specs.Entries.{fault_of}
 pub use Rattle.tf_config_names.specs.Texts.{put_text}

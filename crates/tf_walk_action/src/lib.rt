@@ -8,7 +8,6 @@
 
 mod action_result;
 mod answered;
-pub mod asking_laws;
 mod asks;
 mod ends;
 mod excuse;

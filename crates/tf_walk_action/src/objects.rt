@@ -10,8 +10,7 @@ use std::alloc::{AllocError, Global};
 use tf_config_names::{Declaration, Declarations};
 use tf_expand::{Module, Resolved};
 use tf_plan_data::{Action, Plan};
-use tf_plan_decision::kept_object;
-use tf_plan_object::InstanceFault;
+use tf_plan_object::{InstanceFault, kept_object};
 use tf_protocol::Schema;
 use tf_value::Value;
 

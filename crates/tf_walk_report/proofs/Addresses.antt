@@ -11,7 +11,7 @@ use Rattle.tf_address.specs.ObjectId.{InstanceKeyView, single, number, name}
 use Rattle.tf_config_data.specs.Config.{BlockView}
 use Rattle.tf_config_data.specs.Names.{NameView, Meant, a_local, a_block, meant_at, block_name, label_pair, local_names}
 use Rattle.tf_config_names.specs.Texts.{put_text}
-use Rattle.tf_walk_report.specs.Dependencies.{address_of, dependencies, with_address}
+use Rattle.tf_walk_buffers.specs.Dependencies.{address_of, dependencies, with_address}
 use Rattle.tf_plan_data.specs.Fits.{IsNumbered}
 use Rattle.tf_plan_data.specs.Plan.{PlanView, plan_names}
 use Rattle.tf_state.specs.Valid.{AreAddresses, IsKey}

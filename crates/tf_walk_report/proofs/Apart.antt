@@ -9,7 +9,7 @@ use Rattle.std.specs.Cmp.{IsTotalOrder}
 use Rattle.std.specs.Prelude.{Option, Some, None, if◌then◌else◌, nat_lt, slice_get}
 use Rattle.tf_plan_data.specs.Action.{ActionView, StepView, create, update, replacement, replaced, destroyed, deposed_destroyed}
 use Rattle.tf_walk_report.specs.Change.{ChangeView, applies_in, change_by, changes_in, destroys_in, applied_of_done, left_of_done}
-use Rattle.tf_walk_report.specs.Head.{AreHeads, Head, Target, an_instance, an_object, given_with, key_in}
+use Rattle.tf_walk_buffers.specs.Head.{AreHeads, Head, Target, an_instance, an_object, given_with, key_in}
 use Rattle.tf_address.proofs.Totals.{label_total, object_id_total}
 use Rattle.tf_address.specs.Label.{LabelView, label_cmp}
 use Rattle.tf_address.specs.ObjectId.{InstanceKeyView, single, number, name, ObjectIdView, object_id_cmp}
@@ -26,7 +26,8 @@ use Rattle.tf_state_data.specs.Addresses.{AreByAddress}
 use Rattle.tf_state_data.specs.Ids.{AreById}
 use Rattle.tf_state_data.specs.Record.{RecordView}
 use Rattle.tf_state_data.specs.Resource.{ResourceView}
-use Rattle.tf_walk_report.specs.Events.{events, is_about, is_none, metadata_update_of_record, metadata_updates, metadata_updates_at, metadata_updates_of, stays}
+use Rattle.tf_walk_report.specs.Events.{events}
+use Rattle.tf_walk_buffers.specs.MetadataUpdates.{is_about, is_none, metadata_update_of_record, metadata_updates, metadata_updates_at, metadata_updates_of, stays}
 
 -- an object, and an instance, at an address
 abbrev the_object : LabelView → ObjectIdView → LabelView × ObjectIdView

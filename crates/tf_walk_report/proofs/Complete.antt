@@ -3,7 +3,7 @@ use Rattle.std.proofs.Common.{◌≡◌, ◌∙◌, ◌<◌, ◌++◌, ℕ, suc,
 use Rattle.tf_plan_data.specs.Action.{ActionView}
 use Rattle.tf_walk_report.specs.ActionReport.{told_in}
 use Rattle.tf_walk_report.specs.Diagnostics.{action_diagnostics, diagnostics_at}
-use Rattle.tf_walk_report.specs.Head.{AreHeads, Head}
+use Rattle.tf_walk_buffers.specs.Head.{AreHeads, Head}
 use Rattle.tf_config_data.specs.Names.{NameView, directly_before, meant_at}
 use Rattle.tf_graph.specs.Solutions.{seen_by}
 use Rattle.tf_walk_action.specs.Outcome.{ActionResultView, op_of}

@@ -9,7 +9,7 @@ use Rattle.tf_plan_object.specs.Instance.{InstanceFaultView}
 use Rattle.tf_config_data.specs.Names.{meant_at}
 use Rattle.tf_graph.specs.Digraph.{predecessors_of}
 use Rattle.tf_graph.specs.Solutions.{seen_by}
-use Rattle.tf_plan_decision.specs.Kept.{kept_object}
+use Rattle.tf_plan_object.specs.Kept.{kept_object}
 use Rattle.tf_plan_data.specs.Plan.{PlanView, plan_names}
 use Rattle.tf_protocol.specs.Meaning.{Asked, Answer, Meaning, first_with, schema_in}
 use Rattle.tf_protocol.specs.Schema.{SchemaView}

@@ -3,7 +3,7 @@ use Rattle.std.proofs.Common.{◌≡◌, ◌∙◌, Bool, true, false, cond, Lis
 use Rattle.std.specs.Prelude.{if◌then◌else◌}
 use Rattle.tf_plan_data.specs.Action.{ActionView}
 use Rattle.tf_walk_report.specs.Change.{ChangeView, applies_in, change_by, changes_in, applied_of_done, left_of_done}
-use Rattle.tf_walk_report.specs.Head.{AreHeads, Head, Target, an_instance, an_object, given_with, key_in}
+use Rattle.tf_walk_buffers.specs.Head.{AreHeads, Head, Target, an_instance, an_object, given_with, key_in}
 use Rattle.tf_address.specs.Label.{LabelView}
 use Rattle.tf_address.specs.ObjectId.{ObjectIdView}
 use Rattle.tf_state_next.specs.Events.{ApplyView}

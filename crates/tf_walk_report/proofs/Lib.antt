@@ -1,6 +1,5 @@
 pub mod Addresses
 pub mod Apart
-pub mod Asking
 pub mod Assembled
 pub mod Called
 pub mod Complete
@@ -11,7 +10,6 @@ pub mod Filled
 pub mod Fine
 pub mod Formed
 pub mod Gathered
-pub mod Heads
 pub mod Joined
 pub mod Judged
 pub mod JudgedAsAsked
@@ -19,16 +17,10 @@ pub mod Kept
 pub mod Labels
 pub mod Leading
 pub mod Lines
-pub mod Listed
-pub mod Lists
 pub mod Matching
 pub mod Named
-pub mod Ordered
-pub mod Pairs
 pub mod Solved
 pub mod Sound
-pub mod Spread
 pub mod Stored
 pub mod TellingWhatWasCalled
 pub mod Told
-pub mod Updated

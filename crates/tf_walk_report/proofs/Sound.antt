@@ -4,7 +4,7 @@ use Rattle.std.specs.List.{AllByRecursion}
 use Rattle.std.specs.Prelude.{Option, Some, None, if◌then◌else◌}
 use Rattle.tf_plan_data.specs.Action.{ActionView}
 use Rattle.tf_walk_report.specs.Change.{ChangeView, an_apply, a_destroy, MayBeLeft, MayBeStored, applied_of_done, applies_in, change_by, changes_in, destroys_in, left_of_done}
-use Rattle.tf_walk_report.specs.Head.{AreHeads, Head, IsKeyFor, Target, an_instance, an_object, given_with, key_in, records_at}
+use Rattle.tf_walk_buffers.specs.Head.{AreHeads, Head, IsKeyFor, Target, an_instance, an_object, given_with, key_in, records_at}
 use Rattle.tf_address.specs.Label.{LabelView}
 use Rattle.tf_address.specs.Name.{is_name}
 use Rattle.tf_address.specs.ObjectId.{ObjectIdView}
@@ -21,7 +21,8 @@ use Rattle.tf_state_next.specs.Ends.{LeftView, gone, changed, unchanged, ApplyRe
 use Rattle.tf_state_data.specs.Resource.{ResourceView}
 use Rattle.tf_walk_report.proofs.Addresses.{NameFits, block_named, dependencies-addresses, names_fit, numbered-key}
 use Rattle.tf_walk_report.proofs.Apart.{IsOfEach, metadata_updates-all}
-use Rattle.tf_walk_report.specs.Events.{events, metadata_updates}
+use Rattle.tf_walk_report.specs.Events.{events}
+use Rattle.tf_walk_buffers.specs.MetadataUpdates.{metadata_updates}
 use Rattle.tf_walk_report.specs.Savable.{HasNames, IsNamed}
 
 -- ---- destroys

@@ -6,7 +6,7 @@ use Rattle.tf_protocol.specs.Meaning.{Meaning}
 use Rattle.tf_protocol.specs.declared.request.Op.{Op}
 use Rattle.tf_walk_report.specs.Change.{ChangeView, an_apply, a_destroy, MayBeStored, change_at}
 use Rattle.tf_walk_report.specs.Diagnostics.{DiagnosticView, diagnostic_of, diagnostics_at}
-use Rattle.tf_walk_report.specs.Head.{Head}
+use Rattle.tf_walk_buffers.specs.Head.{Head}
 use Rattle.tf_walk_report.specs.declared.action_reports.ActionReport.{ActionReport}
 use Rattle.tf_walk_report.specs.declared.action_reports.Change.{Change}
 use Rattle.tf_walk_report.specs.declared.action_reports.Change.TheVariants as rust

@@ -13,7 +13,7 @@ use Rattle.tf_protocol.specs.declared.verdict.Verdict.{Verdict}
 use Rattle.tf_state.specs.Valid.{IsAttributes}
 use Rattle.tf_state_next.specs.Ends.{SavedView, LeftView, gone, changed, unchanged, ApplyResultView, unwanted, unplanned, nothing, saved}
 use Rattle.tf_state_next.specs.Saved.{saved_by_create, saved_by_update, left_by_destroy}
-use Rattle.tf_walk_report.specs.Head.{Head, Target, an_instance, an_object}
+use Rattle.tf_walk_buffers.specs.Head.{Head, Target, an_instance, an_object}
 
 -- What a call saves: a create saves as creates do, also of what takes the place of an object; an update as updates do.
 abbrev pub saved_by : Op → SchemaView → Asked → Option Answer → Verdict → Option SavedView

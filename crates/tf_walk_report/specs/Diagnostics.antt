@@ -10,7 +10,7 @@ use Rattle.tf_protocol.specs.declared.verdict.Verdict.{Verdict}
 use Rattle.tf_protocol.specs.declared.verdict.Verdict.TheVariants as verdict
 use Rattle.tf_value.specs.Tree.{keys_of}
 use Rattle.tf_value.specs.Tree as tree
-use Rattle.tf_walk_report.specs.Place.{place_of}
+use Rattle.tf_walk_buffers.specs.Place.{place_of}
 use Rattle.tf_walk_report.specs.declared.diagnostic.Diagnostic.{Diagnostic}
 
 -- a diagnostic: its code, the address that it speaks of, what was to be done there, and its message

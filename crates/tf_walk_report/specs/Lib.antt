@@ -1,22 +1,17 @@
 pub mod ActionReport
 pub mod Buffers
-pub mod BuffersHead
 pub mod Change
-pub mod Dependencies
 pub mod Diagnostics
 pub mod Events
 pub mod Formed
 pub mod Good
-pub mod Head
 pub mod JournalTold
 pub mod Keeping
-pub mod Needed
 pub mod Outcomes
 pub mod OutputLaws
 pub mod Outputs
 pub mod OutputsBuffers
 pub mod OutputsTold
-pub mod Place
 pub mod Replied
 pub mod Report
 pub mod Reserved
@@ -24,4 +19,3 @@ pub mod Savable
 pub mod Settled
 pub mod Settling
 pub mod Told
-pub mod Unchanged

@@ -2,7 +2,7 @@
 use Rattle.std.specs.Prelude.{◌≡◌, ℕ, Bool, false, List, ◌++◌, length, map}
 use Rattle.std.specs.List.{range_with_len}
 use Rattle.tf_walk_report.specs.Diagnostics.{action_diagnostics, diagnostic_of}
-use Rattle.tf_walk_report.specs.Head.{AreHeads, Head}
+use Rattle.tf_walk_buffers.specs.Head.{AreHeads, Head}
 use Rattle.tf_address.specs.ObjectId.{InstanceKeyView}
 use Rattle.tf_graph.specs.Digraph.{predecessors_of}
 use Rattle.tf_graph.specs.Solutions.{seen_by}

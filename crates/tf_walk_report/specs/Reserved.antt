@@ -2,8 +2,8 @@
 use Rattle.std.specs.Prelude.{◌≡◌, ◌≤◌, ◌+◌, ℕ, List, [], filter, map, vec_len, vec_capacity}
 use Rattle.std.specs.List.{range_with_len}
 use Rattle.tf_plan_data.specs.Action.{ActionView}
-use Rattle.tf_walk_report.specs.Head.{AreHeads}
-use Rattle.tf_walk_report.specs.BuffersHead.{buffers_head}
+use Rattle.tf_walk_buffers.specs.Head.{AreHeads}
+use Rattle.tf_walk_buffers.specs.BuffersHead.{buffers_head}
 use Rattle.tf_address.specs.Label.{LabelView}
 use Rattle.tf_state_next.specs.Events.{metadata_update_of}
 use Rattle.tf_state_next.specs.StateDraft.{IsStateDraft}
@@ -14,7 +14,7 @@ use Rattle.tf_plan_data.specs.Plan.{plan_names, plan_of}
 use Rattle.tf_plan_data.specs.declared.plan.Plan.{Plan}
 use Rattle.tf_state_data.specs.State.{outputs_of}
 use Rattle.tf_value.specs.Stored.{IsTable}
-use Rattle.tf_walk_report.specs.Events.{metadata_updates}
+use Rattle.tf_walk_buffers.specs.MetadataUpdates.{metadata_updates}
 use Rattle.tf_walk_report.specs.OutputsBuffers.{places_in, places_of}
 use Rattle.tf_walk_report.specs.Settling.{IsReady}
 use Rattle.tf_walk_report.specs.declared.reserving.ReportLists.{ReportLists}

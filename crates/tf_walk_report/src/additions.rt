@@ -7,15 +7,15 @@ ghost use Rattle.tf_walk_action.specs.ResultViews.{action_results_of};
 ghost use Rattle.tf_walk_report.specs.ActionReport.{AreJudged, change_of, listed, told_in};
 ghost use Rattle.tf_walk_report.specs.Change.{MayBeStored, applies_in, changes_in, destroys_in};
 ghost use Rattle.tf_walk_report.specs.Diagnostics.{diagnostic_of};
-ghost use Rattle.tf_walk_report.specs.BuffersHead.{buffers_head};
+ghost use Rattle.tf_walk_buffers.specs.BuffersHead.{buffers_head};
 
 use crate::action_reports::{ActionReport, Change};
-use crate::buffers::ActionBuffers;
 use crate::diagnostic::Diagnostic;
 use crate::reporting::report_action;
 use tf_provider::Provider;
 use tf_state_next::{Apply, Destroy};
 use tf_walk_action::ActionResult;
+use tf_walk_buffers::ActionBuffers;
 
 /// What actions change. As it may hold what providers made, it can be neither copied nor let go.
 pub(crate) struct Changes<'p> {

@@ -110,39 +110,13 @@ fn shared_value<R: Results>(
     ensures output { IfOk result (λ output. IsOutput (entries_view declared.now.variables.now.entries) (names_in declared.now.names.now)
         (shapes_of shapes.now) (R.objects results.now) (expr_of expr.now) output) }
 {
-    if stood.is_empty() {
-        return value_by(alloc, declared, shapes, expr, results, stood);
-    }
-    match value_by(alloc, declared, shapes, expr, results, stood) {
-        Ok(answer) => Ok(answer),
-        Err(_) => value_by(alloc, declared, shapes, expr, results, stood),
-    }
-}
-
-/// The same, without a second try. Where memory runs out, what stood is let go.
-fn value_by<R: Results>(
-    alloc: Global,
-    declared: &Module,
-    shapes: &[InstanceKeys],
-    expr: &Expr,
-    results: &R,
-    stood: &mut Vec<Resolved>,
-) -> Result<Result<Value, EvalFault>, AllocError>
-    requires dependence { IsDependence (names_in declared.now.names.now) declared.now.dependence.now }
-    requires acyclic { IsAcyclic declared.now.dependence.now }
-    requires answered { AreResolvedSoFar (entries_view declared.now.variables.now.entries) (names_in declared.now.names.now)
-        (shapes_of shapes.now) (R.objects results.now) (resolved_names_of stood.old.items) }
-    ensures answered { AreResolvedSoFar (entries_view declared.now.variables.now.entries) (names_in declared.now.names.now)
-        (shapes_of shapes.now) (R.objects results.now) (resolved_names_of stood.new.items) }
-    ensures output { IfOk result (λ output. IsOutput (entries_view declared.now.variables.now.entries) (names_in declared.now.names.now)
-        (shapes_of shapes.now) (R.objects results.now) (expr_of expr.now) output) }
-{
+    let is_shared = !stood.is_empty();
     match output_value(alloc, declared, shapes, expr, results, stood) {
-        Ok(answer) => Ok(answer),
-        Err(fault) => {
+        Err(_) if is_shared => {
             stood.clear();
-            Err(fault)
+            output_value(alloc, declared, shapes, expr, results, stood)
         }
+        answer => answer,
     }
 }
 

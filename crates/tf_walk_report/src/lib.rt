@@ -9,17 +9,14 @@
 
 mod action_reports;
 mod additions;
-mod buffers;
 mod calls_told;
 mod comparing;
-mod dependencies;
 mod diagnostic;
 mod ending;
 mod ends;
 mod gather;
 mod good;
 mod keeping;
-mod needed;
 mod one_line;
 mod operations;
 mod output_buffers;
@@ -29,17 +26,12 @@ mod replied;
 mod report;
 mod reporting;
 mod reserving;
-mod reserving_actions;
 mod settled;
 mod settling;
-mod spreading;
 mod telling;
 mod texts;
-mod unchanged;
-mod updating;
 mod whole;
 
-pub use buffers::Target;
 pub use comparing::settle;
 pub use diagnostic::Diagnostic;
 pub use ends::OutputResult;

@@ -4,7 +4,6 @@ ghost use Rattle.std.specs.List.{AllByRecursion};
 ghost use Rattle.std.specs.Prelude.{◌≡◌, ◌↔◌, IsTrue, false, map};
 ghost use Rattle.tf_walk_action.specs.Words.{action_of, IsOfAction, op_at};
 
-use crate::reserving_actions::op_of;
 use tf_plan_data::Action;
 use tf_protocol::Op;
 use tf_provider::Entry;
@@ -35,7 +34,7 @@ fn op_at(actions: &[Action], place: usize) -> Option<Op>
     ensures { result ≡ op_at (map action_of actions.now) place }
 {
     match actions.get(place) {
-        Some(action) => Some(op_of(&action.step)),
+        Some(action) => Some(action.step.op()),
         None => None,
     }
 }

@@ -10,11 +10,10 @@ ghost use Rattle.tf_state_next.specs.Saved.{formed_in, left_by_destroy};
 ghost use Rattle.tf_walk_report.specs.ActionReport.{IsActionReportOf, IsJudged, change_of, listed};
 ghost use Rattle.tf_walk_report.specs.Change.{MayBeStored, as_applied, change_by, saved_by};
 ghost use Rattle.tf_walk_report.specs.Diagnostics.{diagnostic_of, diagnostics_of_verdict};
-ghost use Rattle.tf_walk_report.specs.Head.{HasVersion};
-ghost use Rattle.tf_walk_report.specs.BuffersHead.{buffers_head, target_of};
+ghost use Rattle.tf_walk_buffers.specs.Head.{HasVersion};
+ghost use Rattle.tf_walk_buffers.specs.BuffersHead.{buffers_head, target_of};
 
 use crate::action_reports::{ActionReport, Change};
-use crate::buffers::{ActionBuffers, Target};
 use crate::diagnostic::Diagnostic;
 use crate::replied::{Replied, has_stored_attributes, open_reply};
 use crate::telling::telling;
@@ -26,6 +25,7 @@ use tf_state_next::{
 };
 use tf_value::{Value, with_nulls};
 use tf_walk_action::{ActionResult, Faulted, Served};
+use tf_walk_buffers::{ActionBuffers, Target};
 
 /// What an action adds to the report.
 pub fn report_action<'p>(

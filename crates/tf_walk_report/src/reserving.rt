@@ -10,21 +10,19 @@ ghost use Rattle.tf_walk_report.specs.Reserved.{AreEmptyLists, AreReserved, appl
 ghost use Rattle.tf_walk_report.specs.Settling.{IsReady};
 
 use crate::additions::Changes;
-use crate::buffers::ActionBuffers;
 use crate::diagnostic::Diagnostic;
 use crate::keeping::kept_outputs;
 use crate::output_buffers::reserve_outputs;
 use crate::outputs::texts_for;
-use crate::reserving_actions::reserve_actions;
 use crate::settling::Settling;
 use crate::texts::OutputTexts;
-use crate::updating::metadata_updates_for;
 use std::alloc::{AllocError, Global};
 use tf_address::Label;
 use tf_config_names::Declarations;
 use tf_plan_data::{Action, Plan};
 use tf_state_next::{MetadataUpdate, StateDraft, draft_state};
 use tf_walk_action::{Excuse, Outcome};
+use tf_walk_buffers::{ActionBuffers, metadata_updates_for, reserve_actions};
 
 /// All that the report on a plan needs memory for. What actions change may not be let go, so neither may the lists that are
 /// for it.

@@ -1,5 +1,5 @@
 -- What came of an action whose predecessors are seen is true.
-use Rattle.std.proofs.Common.{◌≡◌, ◌<◌, ◌∙◌, ℕ, List, length, Some, Result, Ok, Err, IfOk, refl, sym, ap, subst}
+use Rattle.std.proofs.Common.{◌≡◌, ◌<◌, ◌∙◌, ℕ, List, length, Some, refl, sym, ap, subst}
 use Rattle.std.specs.Prelude.{slice_get}
 use Rattle.tf_plan_data.specs.Action.{ActionView}
 use Rattle.tf_address.specs.ObjectId.{InstanceKeyView}
@@ -44,8 +44,3 @@ asked_true named ms walk plan n names prior actions seen a call d meanings own s
     runs_true ms plan n seen d below shown_here
     (λ requests are. run_at ms requests plan n seen a call d here (asked requests are ∙ ap (λ (o : ℕ → InstanceKeyView → Tree). call_with ms requests plan o a) objects) run) in
     subst (λ (x : List Meaning). IsTrueTo x walk n d) (sym meanings) (subst (λ (p : PlanView). IsTrueTo ms p n d) (sym own) fits)
-
--- what follows of a value follows where there is one
-pub if_ok-onward : {T E : Type 0} → {P Q : T → Type 0} → (r : Result T E) → IfOk r P → ((x : T) → P x → Q x) → IfOk r Q
-if_ok-onward (Ok x) h onward = onward x h
-if_ok-onward (Err e) h onward = tt

@@ -4,7 +4,7 @@ use crate::tests::applying::check_refused;
 use std::alloc::{AllocError, Global};
 use std::process::Abort;
 use std::test::Fail;
-use test_texts::series;
+use test_helpers::series;
 use test_watching::{Seen, Texts, WORKERS, planned, watch_apply};
 
 const BEYOND: &str = "error 14 at configuration: Limit\n";

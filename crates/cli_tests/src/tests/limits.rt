@@ -6,7 +6,7 @@ use std::process::Abort;
 use std::sync::Wait;
 use std::test::Fail;
 use std::thread::Threads;
-use test_texts::series;
+use test_helpers::series;
 use test_watching::{Texts, WORKERS, planned, watch_apply};
 
 const BEYOND: &str = "error 14 at configuration: Limit\n";

@@ -3,7 +3,7 @@
 use crate::tests::applying::check_refused;
 use std::alloc::{AllocError, Global};
 use std::test::Fail;
-use test_texts::series;
+use test_helpers::series;
 use test_watching::{Texts, planned};
 
 #[test]

@@ -2,9 +2,9 @@
 
 ghost use Rattle.std.specs.Prelude.{◌<◌};
 
-use claim_walks::{Walked, perform, walk_by};
 use std::alloc::Global;
 use std::test::Fail;
+use test_helpers::{Walked, perform, walk_by};
 use tf_claim::Claims;
 use tf_graph::Graph;
 

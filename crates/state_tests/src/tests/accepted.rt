@@ -3,7 +3,7 @@
 use std::alloc::Global;
 use std::process::Abort;
 use std::test::Fail;
-use test_texts::series;
+use test_helpers::series;
 use tf_state::{StateFault, read, write};
 
 // The texts of states, as they are written.

@@ -2,7 +2,7 @@
 
 use std::alloc::Global;
 use std::test::Fail;
-use test_texts::series;
+use test_helpers::series;
 use tf_state::{StateFault, read};
 
 fn is_bad(alloc: Global, bytes: &[u8]) -> bool {

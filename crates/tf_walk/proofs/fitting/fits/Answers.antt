@@ -5,7 +5,7 @@ use Rattle.tf_graph.specs.Digraph.{predecessors_of}
 use Rattle.tf_graph.specs.Solutions.{seen_by}
 use Rattle.tf_walk_action.specs.ResultViews.{action_results_of}
 use Rattle.tf_walk_action.specs.Outcome.{all_good, done_at, is_good}
-use Rattle.tf_walk.proofs.Seen.{all_good-seen}
+use Rattle.tf_walk_single.proofs.Seen.{all_good-seen}
 use Rattle.tf_walk.proofs.fitting.fits.Goals as goal
 
 -- one of two that differ is what the other isn't

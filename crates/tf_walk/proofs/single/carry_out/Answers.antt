@@ -10,11 +10,11 @@ use Rattle.tf_walk_action.specs.ResultViews.{action_result_of, result_or_skipped
 use Rattle.tf_walk_action.specs.Journal.{IsOfAction, verdict_in}
 use Rattle.tf_walk_action.specs.Outcome.{done_at, op_of}
 use Rattle.tf_walk_report.specs.ActionReport.{AreJudged}
-use Rattle.tf_walk.specs.Ends.{done_in}
+use Rattle.tf_walk_single.specs.Ends.{done_in}
 use Rattle.tf_walk_action.proofs.AskedRight.{some_requests}
 use Rattle.tf_walk.proofs.Carried.{left_by_walk}
 use Rattle.tf_walk.proofs.Reported.{is_report-told, so_far-asked, so_far-entered, so_far-judged, so_far-none, so_far-solves, staged-none}
-use Rattle.tf_walk.proofs.Seen.{dones-are}
+use Rattle.tf_walk_single.proofs.Seen.{dones-are}
 use Rattle.tf_walk.proofs.single.carry_out.Goals as goal
 
 pub walk-requires-clause-so_far : goal.walk-requires-clause-so_far

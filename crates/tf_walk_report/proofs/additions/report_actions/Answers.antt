@@ -6,7 +6,7 @@ use Rattle.tf_walk_action.specs.ResultViews.{result_or_skipped, action_results_o
 use Rattle.tf_walk_report.specs.ActionReport.{AreJudged, change_of, told_in}
 use Rattle.tf_walk_report.specs.Change.{MayBeStored, applies_in, change_at, changes_in, destroys_in}
 use Rattle.tf_walk_report.specs.Diagnostics.{diagnostic_of, diagnostics_at}
-use Rattle.tf_walk_report.specs.BuffersHead.{buffers_head}
+use Rattle.tf_walk_buffers.specs.BuffersHead.{buffers_head}
 use Rattle.tf_walk_report.proofs.Gathered.{applies-more, destroys-more, told-more, paired-more, one-less, one-more}
 use Rattle.tf_walk_report.proofs.additions.report_actions.Goals as goal
 

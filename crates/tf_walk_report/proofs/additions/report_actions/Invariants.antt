@@ -8,7 +8,7 @@ use Rattle.tf_walk_action.specs.ResultViews.{action_results_of}
 use Rattle.tf_walk_report.specs.ActionReport.{AreJudged, told_in}
 use Rattle.tf_walk_report.specs.Change.{MayBeStored, applies_in, changes_in, destroys_in}
 use Rattle.tf_walk_report.specs.Diagnostics.{diagnostic_of}
-use Rattle.tf_walk_report.specs.BuffersHead.{buffers_head}
+use Rattle.tf_walk_buffers.specs.BuffersHead.{buffers_head}
 use Rattle.tf_walk_report.proofs.additions.report_actions.Given as goal
 
 abbrev pub invariant-loop-room : goal.invariant-loop-room

@@ -3,7 +3,7 @@ use Rattle.tf_address.specs.Label.{label_of}
 use Rattle.tf_state_next.specs.Ends.{ApplyResultView, record_input_of}
 use Rattle.tf_state_next.specs.Saved.{left_by_destroy}
 use Rattle.tf_walk_report.specs.Change.{an_apply, as_applied, change_by, saved_by}
-use Rattle.tf_walk_report.specs.BuffersHead.{target_of}
+use Rattle.tf_walk_buffers.specs.BuffersHead.{target_of}
 use Rattle.tf_walk_report.proofs.reporting.change.Goals as goal
 
 pub returns-in-Instance-clause-changes : goal.returns-in-Instance-clause-changes

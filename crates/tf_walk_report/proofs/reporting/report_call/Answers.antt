@@ -14,7 +14,7 @@ use Rattle.tf_walk_action.proofs.Storable.{planned-there, planned-stored}
 use Rattle.tf_walk_action.specs.Storable.{has_stored_attributes}
 use Rattle.tf_walk_report.specs.ActionReport.{change_of}
 use Rattle.tf_walk_report.specs.Change.{MayBeStored, as_applied, change_by, saved_by}
-use Rattle.tf_walk_report.specs.BuffersHead.{target_of}
+use Rattle.tf_walk_buffers.specs.BuffersHead.{target_of}
 use Rattle.tf_walk_report.proofs.Called.{change-stored}
 use Rattle.tf_walk_report.proofs.Stored.{left-stored, saved-stored, stored_of, tested_stored, there_of}
 use Rattle.tf_walk_report.proofs.reporting.report_call.Goals as goal

@@ -1,5 +1,5 @@
 use Rattle.std.proofs.Common.{◌∙◌, sym, ap, ◌++◌, ◌∷◌, []}
-use Rattle.tf_walk_report.proofs.Lists.{range-next}
+use Rattle.tf_walk_buffers.proofs.Lists.{range-next}
 use Rattle.tf_walk_report.proofs.reserving.places.Goals as goal
 
 pub loop-place-preserved : goal.loop-place-preserved

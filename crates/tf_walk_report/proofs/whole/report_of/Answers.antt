@@ -5,7 +5,7 @@ use Rattle.tf_plan_data.specs.Action.{action_of}
 use Rattle.tf_plan_data.specs.declared.action.Action.{Action}
 use Rattle.tf_walk_report.specs.ActionReport.{AreJudged, told_in}
 use Rattle.tf_walk_report.specs.Diagnostics.{action_diagnostics, diagnostic_of}
-use Rattle.tf_walk_report.specs.BuffersHead.{buffers_head}
+use Rattle.tf_walk_buffers.specs.BuffersHead.{buffers_head}
 use Rattle.tf_address.specs.Label.{LabelView}
 use Rattle.tf_graph.specs.Solutions.{seen_by}
 use Rattle.tf_state_next.specs.Events.{AreEachAboutOne, ApplyView, EventsView, apply_of, ends_in, given_in}

@@ -3,7 +3,7 @@ use Rattle.tf_plan_data.specs.Action.{action_of, prior_of, step_of}
 use Rattle.tf_plan_data.specs.declared.step.Step.{Step}
 use Rattle.tf_config_data.specs.Config.{config_of}
 use Rattle.tf_config_data.specs.Names.{meant_at, names_of}
-use Rattle.tf_plan_decision.specs.Kept.{kept_object}
+use Rattle.tf_plan_object.specs.Kept.{kept_object}
 use Rattle.tf_plan_data.specs.Plan.{plan_of}
 use Rattle.tf_walk_action.proofs.AskedRight.{if_ok-weaker}
 use Rattle.tf_walk_action.specs.AskedBy.{asked_by}

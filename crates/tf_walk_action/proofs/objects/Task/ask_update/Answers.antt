@@ -3,7 +3,7 @@ use Rattle.tf_plan_data.specs.Action.{action_of, prior_of}
 use Rattle.tf_plan_object.specs.declared.instance.InstanceFault.{InstanceFault}
 use Rattle.tf_config_data.specs.Config.{config_of}
 use Rattle.tf_config_data.specs.Names.{NameView, meant_at, names_of}
-use Rattle.tf_plan_decision.proofs.Keeping.{updates_named}
+use Rattle.tf_plan_object.proofs.Keeping.{updates_named}
 use Rattle.tf_config_names.specs.Table.{names_in}
 use Rattle.tf_protocol.specs.Meaning.{Asked}
 use Rattle.tf_protocol.specs.Verdict.{asks_fully, has_attributes}

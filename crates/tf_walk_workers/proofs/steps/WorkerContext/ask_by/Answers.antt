@@ -14,7 +14,8 @@ use Rattle.tf_plan_data.specs.Plan.{plan_of}
 use Rattle.tf_plan_data.specs.Served.{IsServedBy}
 use Rattle.tf_state_data.specs.State.{state_of}
 use Rattle.tf_walk_workers.proofs.Remembered.{seen_too}
-use Rattle.tf_walk_workers.proofs.Truth.{asked_true, if_ok-onward}
+use Rattle.tf_walk_action.proofs.AskedRight.{if_ok-onward}
+use Rattle.tf_walk_workers.proofs.Truth.{asked_true}
 use Rattle.tf_walk_workers.proofs.steps.WorkerContext.ask_by.Goals as goal
 
 pub ask_provider-requires-clause-declared : goal.ask_provider-requires-clause-declared

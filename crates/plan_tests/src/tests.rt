@@ -1,0 +1,5 @@
+mod config;
+mod door;
+mod orders;
+mod schemas;
+mod whole;

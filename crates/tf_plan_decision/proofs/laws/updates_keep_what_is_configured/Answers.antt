@@ -1,5 +1,0 @@
-use Rattle.tf_plan_decision.proofs.Keeping.{updates_argue, updates_keep, updates_named}
-use Rattle.tf_plan_decision.proofs.laws.updates_keep_what_is_configured.Goals as goal
-
-pub returns : goal.returns
-returns c = record { values = updates_keep; arguments = updates_argue; attributes = updates_named }

@@ -1,7 +1,0 @@
-use Rattle.tf_walk_action.proofs.Growing.{known_stay, requests_refine}
-use Rattle.tf_walk_action.proofs.asking_laws.requests_grow.Goals as goal
-
-pub returns : goal.returns
-returns c =
-    let refine = requests_refine c.resolved_names_are_one.ensures.exist c.resolved_names_grow.ensures.resolved_names c.objects_grow.ensures.instances c.updates_grow.ensures in
-    record { refine = refine; known = known_stay c.known_values_stay.ensures refine }

@@ -1,0 +1,18 @@
+-- What room is for.
+use Rattle.std.specs.Prelude.{string_bytes}
+use Rattle.tf_address.specs.Label.{label_of}
+use Rattle.tf_address.specs.ObjectId.{object_id_of}
+use Rattle.tf_state_next.specs.Ends.{record_input_of}
+use Rattle.tf_walk_buffers.specs.Head.{Head, Target, an_instance, an_object}
+use Rattle.tf_walk_buffers.specs.declared.buffers.ActionBuffers.{ActionBuffers}
+use Rattle.tf_walk_buffers.specs.declared.buffers.Target.{Target as Aim}
+use Rattle.tf_walk_buffers.specs.declared.buffers.Target.TheVariants as rust
+
+-- what an action is about
+abbrev pub target_of : Aim → Target
+target_of (rust.Instance given) = an_instance (record_input_of given)
+target_of (rust.Object id) = an_object (object_id_of id)
+
+-- the action that the room is for
+abbrev pub buffers_head : ActionBuffers → Head
+buffers_head r = record { place = string_bytes r.place; op = r.op; label = label_of r.label.now; target = target_of r.target }

@@ -1,0 +1,88 @@
+-- What is known of an action before its call, so that what comes of it is reported without taking memory.
+use Rattle.std.specs.Prelude.{◌≡◌, ◌+◌, ◌<◌, ◌^◌, ℕ, Bool, true, false, ◌&&◌, if◌then◌else◌, List, [], ◌∷◌, Option, Some, None, ⊤}
+use Rattle.std.specs.Option.{option_map_or}
+use Rattle.tf_plan_data.specs.Action.{ActionView, StepView, replacement}
+use Rattle.tf_address.specs.Label.{LabelView}
+use Rattle.tf_address.specs.ObjectId.{ObjectIdView}
+use Rattle.tf_plan_data.specs.Fits.{is_apply, deposed_key, op_of}
+use Rattle.tf_plan_data.specs.Plan.{PlanView, plan_names}
+use Rattle.tf_protocol.specs.declared.request.Op.{Op}
+use Rattle.tf_state_next.specs.After.{object_at}
+use Rattle.tf_state_next.specs.DeposedKey.{IsDeposedKey}
+use Rattle.tf_state_next.specs.Ends.{RecordInputView}
+use Rattle.tf_state_data.specs.Record.{RecordView}
+use Rattle.tf_state_data.specs.State.{StateView, resource_at}
+use Rattle.tf_walk_buffers.specs.Dependencies.{dependencies}
+use Rattle.tf_walk_buffers.specs.Place.{place_of}
+
+-- What an action is about: an instance, of which it makes or changes the current object, with what the record of that
+-- object is given; or an object that it destroys.
+pub data Target : Type 0 where
+  an_instance : RecordInputView → Target
+  an_object : ObjectIdView → Target
+
+-- Where a diagnostic of the action stands and what is to be done there; its resource, and what it is about.
+pub record Head : Type 0 where
+  pub place : List ℕ
+  pub op : Op
+  pub label : LabelView
+  pub target : Target
+
+-- What the records of a resource's objects are given, where its instance has a key, a new object follows a version of the
+-- schema, and an old one gets a key if it becomes deposed: what the resource needs by the configuration, and whether it is
+-- late.
+abbrev pub given_with : PlanView → ActionView → Option (List ℕ) → RecordInputView
+given_with plan a deposed =
+    record {
+      key = a.key;
+      schema_version = a.version;
+      dependencies = dependencies plan.needs (plan_names plan) a.resource;
+      create_before_destroy = plan.late a.resource;
+      deposed_key = deposed;
+    }
+
+-- what an action is about, where its old object gets a key if it becomes deposed
+abbrev pub target_with : PlanView → ActionView → Option (List ℕ) → Target
+target_with plan a deposed = if is_apply a.step then an_instance (given_with plan a deposed) else an_object (object_at a.key (deposed_key a.step))
+
+abbrev pub is_replacement : StepView → Bool
+is_replacement (replacement asked names) = true
+is_replacement _ = false
+
+-- the records that a state has at an address
+abbrev pub records_at : LabelView → StateView → List RecordView
+records_at label s = option_map_or (λ r. r.records) (resource_at label s.resources) []
+
+-- An old object gets a key in a replace that creates first, and there alone: the key by the new serial that no deposed
+-- object of the instance has.
+abbrev pub IsKeyFor : PlanView → ActionView → Option (List ℕ) → Type 0
+IsKeyFor plan a None = (is_replacement a.step && plan.late a.resource) ≡ false
+IsKeyFor plan a (Some key) = ((is_replacement a.step && plan.late a.resource) ≡ true) × IsDeposedKey (plan.prior.serial + 1) a.key (records_at a.label plan.prior) key
+
+-- what a record is given has a version that a text can hold
+abbrev pub HasVersion : Target → Type 0
+HasVersion (an_instance given) = given.schema_version < 2 ^ 32
+HasVersion (an_object id) = ⊤
+
+-- the key that an old object gets, where it gets one
+abbrev pub key_in : Target → Option (List ℕ)
+key_in (an_instance given) = given.deposed_key
+key_in (an_object id) = None
+
+-- what an action is about
+pub record IsTargetOf (plan : PlanView) (a : ActionView) (t : Target) : Type 0 where
+  pub same : t ≡ target_with plan a (key_in t)
+  pub key : IsKeyFor plan a (key_in t)
+
+-- what is known of an action
+pub record IsHeadOf (plan : PlanView) (a : ActionView) (h : Head) : Type 0 where
+  pub place : h.place ≡ place_of a
+  pub op : h.op ≡ op_of a.step
+  pub label : h.label ≡ a.label
+  pub target : IsTargetOf plan a h.target
+
+-- the same of each of some actions
+abbrev pub AreHeads : PlanView → List ActionView → List Head → Type 0
+AreHeads plan [] [] = ⊤
+AreHeads plan (a ∷ actions) (h ∷ heads) = IsHeadOf plan a h × AreHeads plan actions heads
+AreHeads plan _ _ = ⊥

@@ -1,0 +1,127 @@
+//! The records of a prior state about which there is no action.
+
+ghost use Rattle.std.specs.Prelude.{◌≡◌, ◌++◌, IfOk, OnOk, filter, length, map};
+ghost use Rattle.std.specs.List.{list_any};
+ghost use Rattle.tf_plan_data.specs.Words.{action_of, deposed_key, instance_key_of, label_of, names_in, plan_names, plan_of, record_of, resource_of, step_of};
+ghost use Rattle.tf_walk_buffers.specs.MetadataUpdates.{is_about, is_none, stays};
+ghost use Rattle.tf_walk_buffers.specs.Unchanged.{unchanged_record, unchanged_record_of, unchanged_records, unchanged_records_at};
+
+use std::alloc::{AllocError, Global};
+use tf_address::{InstanceKey, Label};
+use tf_config_names::Declarations;
+use tf_plan_data::{Action, Plan, Step};
+use tf_plan_order::ResourceIndex;
+use tf_state_data::{Record, Resource};
+
+/// The record of an object about which there is no action and whose block stands.
+#[derive(Drop)]
+pub(crate) struct UnchangedRecord<'p> {
+    /// The address of its resource.
+    pub(crate) label: &'p Label,
+    /// The number of its resource, which is that of a name.
+    pub(crate) number: usize,
+    /// What the prior state has of it.
+    pub(crate) kept: &'p Record,
+}
+
+/// The records of a plan's prior state that stay, by the names of the plan's configuration. Each is looked up once, as that
+/// goes through all actions.
+///
+/// # Errors
+///
+/// Only where memory runs out.
+pub(crate) fn unchanged_records<'p>(
+    alloc: Global,
+    plan: &'p Plan,
+    names: &Declarations<'p>,
+) -> Result<Vec<UnchangedRecord<'p>>, AllocError>
+    requires names { names_in names.now ≡ plan_names (plan_of plan.now) }
+    ensures { IfOk result (λ found. map unchanged_record_of found.items ≡ unchanged_records (plan_of plan.now)) }
+{
+    let mut found = Vec::new(alloc);
+    if plan.prior.resources().is_empty() {
+        return Ok(found);
+    }
+    let resource_index = ResourceIndex::new(alloc, names, &plan.prior)?;
+    for resource in plan.prior.resources() {
+        let number = resource_index.place(resource.label());
+        add_resource(&mut found, plan, names.len(), resource, number)?;
+    }
+    Ok(found)
+}
+
+/// Adds the records of a resource that stay, by its number and the count of names.
+fn add_resource<'p>(
+    found: &mut Vec<UnchangedRecord<'p>>,
+    plan: &Plan,
+    count: usize,
+    resource: &'p Resource,
+    number: Option<usize>,
+) -> Result<(), AllocError>
+    requires { count ≡ length (plan_names (plan_of plan.now)) }
+    ensures { OnOk result (map unchanged_record_of found.new.items ≡ map unchanged_record_of found.old.items
+        ++ unchanged_records_at (plan_of plan.now) (resource_of resource.now) number) }
+{
+    match number {
+        Some(number) if number < count => {
+            add_records(found, plan, resource.label(), number, resource.records())
+        }
+        _ => Ok(()),
+    }
+}
+
+/// Adds the records that stay, of a resource whose block stands.
+fn add_records<'p>(
+    found: &mut Vec<UnchangedRecord<'p>>,
+    plan: &Plan,
+    label: &'p Label,
+    number: usize,
+    records: &'p [Record],
+) -> Result<(), AllocError>
+    ensures { OnOk result (map unchanged_record_of found.new.items ≡ map unchanged_record_of found.old.items
+        ++ map (unchanged_record (label_of label.now) number) (filter (stays (plan_of plan.now) number) (map record_of records.now))) }
+{
+    for kept in records {
+        if stays(plan, number, kept) {
+            found.push(UnchangedRecord {
+                label,
+                number,
+                kept,
+            })?;
+        }
+    }
+    Ok(())
+}
+
+/// Whether a record of an object of the resource of a number stays.
+fn stays(plan: &Plan, number: usize, kept: &Record) -> bool
+    ensures { result ≡ stays (plan_of plan.now) number (record_of kept.now) }
+{
+    kept.id.deposed.is_none() && !is_any_about(plan.actions.as_slice(), number, &kept.id.key)
+}
+
+/// Whether an action is about the current object of an instance.
+fn is_any_about(actions: &[Action], number: usize, key: &InstanceKey) -> bool
+    ensures { result ≡ list_any (is_about number (instance_key_of key.now)) (map action_of actions.now) }
+{
+    for action in actions {
+        if is_about(number, key, action) {
+            return true;
+        }
+    }
+    false
+}
+
+/// Whether an action is about the current object of an instance.
+fn is_about(number: usize, key: &InstanceKey, action: &Action) -> bool
+    ensures { result ≡ is_about number (instance_key_of key.now) (action_of action.now) }
+{
+    action.resource == number && is_current(&action.step) && action.key == *key
+}
+
+/// Whether a step is about the current object of an instance.
+fn is_current(step: &Step) -> bool
+    ensures { result ≡ is_none (deposed_key (step_of step.now)) }
+{
+    !matches!(step, Step::DestroyDeposed(_, _))
+}
