@@ -14,9 +14,8 @@ use std::process::ExitCode;
 use std::sync::{Arc, Wait};
 use std::thread::Threads;
 use tf_cli::Stop;
-use tf_cli_program::{
-    LogSink, Options, Place, Program, ProgramInput, Seen, carry_out_logged, hold, run,
-};
+use tf_cli_options::{Options, Program};
+use tf_cli_program::{LogSink, Place, ProgramInput, Seen, carry_out_logged, hold, run};
 use tf_local::LocalFile;
 use tf_log::{Logged, OpenLog};
 use tf_progress::Progress;

@@ -6,9 +6,9 @@ use std::io::Write;
 use std::process::ExitCode;
 use std::sync::Wait;
 use std::thread::Threads;
+use tf_cli_options::{GraphForm, Options, Program};
 use tf_cli_program::{
-    GraphForm, Options, Past, Place, Program, ProgramInput, Seen, both_replayed, foresee,
-    print_graph, print_plan, run, see,
+    Past, Place, ProgramInput, Seen, both_replayed, foresee, print_graph, print_plan, run, see,
 };
 use tf_local::LocalFile;
 use tf_log::{Entry, split};

@@ -1,9 +1,7 @@
-pub mod Command
 pub mod Kept
 pub mod Laws
 pub mod Past
 pub mod Program
-pub mod Reads
 pub mod Recovered
 pub mod Settled
 pub mod Unrecovered

@@ -2,7 +2,7 @@
 
 ghost use Rattle.std.specs.Prelude.{◌≡◌, option_map};
 
-use crate::words::Options;
+use tf_cli_options::Options;
 
 /// What a program was given.
 #[derive(Drop)]

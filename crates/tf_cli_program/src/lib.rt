@@ -1,5 +1,4 @@
-//! What the programs `plan` and `apply` share: the words of their command lines, what they read, what they do with it, and
-//! how the state stands on the disk.
+//! What the programs `plan` and `apply` share: what they read, what they do with it, and how the state stands on the disk.
 //!
 //! What an apply that was cut off did is told by its log: one more apply of the same texts, in which what was answered is
 //! answered again from the log, and nothing is called.
@@ -12,7 +11,6 @@ mod laws;
 mod log_file;
 mod logging;
 mod looking;
-mod option_reading;
 mod past;
 mod place;
 mod program;
@@ -23,7 +21,6 @@ mod replaying;
 mod seeing;
 mod taking;
 mod telling;
-pub mod words;
 mod work;
 
 pub use given::ProgramInput;
@@ -31,7 +28,6 @@ pub use keeping::keep;
 pub use laws::{what_a_cut_log_leaves_is_recovered, what_is_recovered_is_applied};
 pub use log_file::{LogFile, LogSink};
 pub use logging::{carry_out_logged, foresee, settle};
-pub use option_reading::options;
 pub use past::Past;
 pub use place::Place;
 pub use program::run;
@@ -39,5 +35,4 @@ pub use replacing::keep_state;
 pub use replaying::both_replayed;
 pub use seeing::{Seen, hold, see};
 pub use taking::Recovered;
-pub use words::{GraphForm, Options, Program};
 pub use work::{carry_out, print_graph, print_plan};

@@ -1,18 +1,15 @@
 //! What both programs do around their work: they read their words, and tell that there is no memory.
 
 ghost use Rattle.std.specs.IoError.{error_kind};
-ghost use Rattle.std.specs.Prelude.{◌≡◌, ◌≤◌, ◌⊎◌, IfErr, IfOk};
-ghost use Rattle.std.specs.Process.{exit_status};
+ghost use Rattle.std.specs.Prelude.{◌≡◌, ◌⊎◌};
 ghost use Rattle.tf_cli_program.specs.Program.{Ends, IsEarly, TellsEnd};
 
-use crate::option_reading::options;
-use crate::words::{Options, Program};
-use std::alloc::Global;
+use std::io;
 use std::io::{ErrorKind, Write};
 use std::process::ExitCode;
 use std::rt::Env;
-use std::{env, io};
 use tf_cli::{Refused, print_refused};
+use tf_cli_options::{Options, Program, asked_of};
 
 /// Runs a program: reads its words, by the options that it has, and does its work with what they say. Where the words are refused or help is asked for, that
 /// is told in place of the work, and so is want of memory, whatever had none of it.
@@ -36,45 +33,6 @@ pub fn run<
         }
         Ok(Err(status)) => Ok(status),
         Err(error) => end(Err(error), err),
-    }
-}
-
-/// What a program's own words ask for. Where they are refused, or ask for help, that has been told, and this is the program's
-/// status.
-fn asked_of<R: Env + AllocGlobal, O: Write, E: Write>(
-    rt: &R,
-    program: Program,
-    out: &mut O,
-    err: &mut E,
-) -> io::Result<Result<Options, ExitCode>>
-    ensures { IfOk result (λ asked. IfErr asked (λ status. exit_status status ≤ 1)) }
-{
-    let words: Vec<String> = env::args(rt)?.collect(rt.alloc())?;
-    Ok(read_options(rt.alloc(), program, words.as_slice(), out, err))
-}
-
-/// The options that words say. Where they are refused, or ask for help, that has been told.
-fn read_options<O: Write, E: Write>(
-    alloc: Global,
-    program: Program,
-    words: &[String],
-    out: &mut O,
-    err: &mut E,
-) -> Result<Options, ExitCode>
-    ensures workers { IfOk result (λ o. (1 ≤ o.parallelism) × (o.parallelism ≤ 64)) }
-    ensures status { IfErr result (λ status. exit_status status ≤ 1) }
-{
-    match options(alloc, program, words) {
-        Ok(options) => Ok(options),
-        Err(error) => {
-            if error.use_stderr() {
-                let _ = write!(err, "{error}");
-                Err(ExitCode::FAILURE)
-            } else {
-                let _ = write!(out, "{error}");
-                Err(ExitCode::SUCCESS)
-            }
-        }
     }
 }
 

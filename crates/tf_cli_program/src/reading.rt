@@ -7,11 +7,11 @@ ghost use Rattle.tf_cli.specs.Saved.{AppendsStart};
 ghost use Rattle.tf_cli_program.specs.Program.{AreReads, GoesOn, IsFailure, ReadsNamed, ReadsOptional, TellsUnread, unread_line};
 
 use crate::given::ProgramInput;
-use crate::words::Options;
 use std::io;
 use std::io::{ErrorKind, Write};
 use std::process::ExitCode;
 use tf_cli::save_all;
+use tf_cli_options::Options;
 
 /// Reads the files that options name, the configuration and then the variables; the state is none yet. Where one can't be read
 /// that has been told, no other one is read, and this is the program's status.

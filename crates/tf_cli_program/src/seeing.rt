@@ -9,12 +9,12 @@ use crate::past::{Past, read_past};
 use crate::place::Place;
 use crate::reading::{read_files, read_optional, tell_unread};
 use crate::telling::{tell_locked, tell_no_log};
-use crate::words::Options;
 use std::fs::OpenFile;
 use std::io::Write;
 use std::process::ExitCode;
 use std::rt::Files;
 use std::{fs, io};
+use tf_cli_options::Options;
 use tf_log::Entry;
 
 /// What a program was given, where its state stands, and an apply of this state that did not end.

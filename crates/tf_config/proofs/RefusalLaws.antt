@@ -12,8 +12,8 @@ use Rattle.tf_expr.specs.declared.fault.Cause.{Cause}
 use Rattle.tf_expr.specs.declared.fault.Cause.TheVariants.{BadShape, At, TooDeep}
 use Rattle.tf_json_path.proofs.Checks.{IsFirst-unmet}
 use Rattle.tf_json_path.specs.Check.{IsFirst}
-use Rattle.tf_refusal.specs.OfExpression.{Way, way_of}
-use Rattle.tf_refusal.specs.Refusal.{DetailView, RefusalView, fault}
+use Rattle.tf_expr.specs.Refusing.{way_of}
+use Rattle.tf_refusal.specs.Refusal.{DetailView, RefusalView, fault, Way}
 
 -- ---- demands
 

@@ -12,7 +12,7 @@ use Rattle.tf_json_path.proofs.Checks.{IsFirst-left, IsFirst-right}
 use Rattle.tf_json_path.proofs.Walks.{fails_at, fails_at_item}
 use Rattle.tf_json_path.specs.Walk.{each, each_item}
 use Rattle.tf_config.specs.Demand.{Checks, AreMet, IsMet, Fails, Refuses, of_expression}
-use Rattle.tf_refusal.specs.OfExpression.{refused_expression, way_of}
+use Rattle.tf_expr.specs.Refusing.{refused_expression, way_of}
 use Rattle.tf_refusal.specs.Refusal.{RefusalView, no_memory, workers, fault}
 
 pub Refuses-left : (xs ys : Checks) (t : RefusalView) → Refuses xs t → Refuses (xs ++ ys) t

@@ -5,8 +5,8 @@ use Rattle.tf_expr.specs.Demand as expr
 use Rattle.tf_expr.specs.declared.fault.Cause.{Cause}
 use Rattle.tf_json_path.specs.Check.{Check, AllMet, IsFirst}
 use Rattle.tf_refusal.specs.Code as code
-use Rattle.tf_refusal.specs.OfExpression.{Way, way_of}
-use Rattle.tf_refusal.specs.Refusal.{bare, RefusalView, no_memory, workers, fault, refusal_of}
+use Rattle.tf_expr.specs.Refusing.{way_of}
+use Rattle.tf_refusal.specs.Refusal.{bare, RefusalView, no_memory, workers, fault, refusal_of, Way}
 use Rattle.tf_config.specs.Words.{is_type_name}
 use Rattle.tf_refusal.specs.declared.refusal.Refusal.{Refusal}
 

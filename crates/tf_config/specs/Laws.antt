@@ -13,9 +13,9 @@ use Rattle.tf_config_data.specs.Config.{BlockView, ConfigView}
 use Rattle.tf_config_data.specs.Names.{names_of}
 use Rattle.tf_config.specs.Configuration.{configuration_checks, IsConfiguration}
 use Rattle.tf_config.specs.Demand.{Demand, of_expression, AreMet, IsMet}
-use Rattle.tf_refusal.specs.OfExpression.{Way, bad_template, too_deep}
+use Rattle.tf_expr.specs.Refusing.{bad_template, too_deep}
 use Rattle.tf_config.specs.Reading.{IsTree, IsRefused, max_bytes, IsWithinCounts}
-use Rattle.tf_refusal.specs.Refusal.{DetailView, fault}
+use Rattle.tf_refusal.specs.Refusal.{DetailView, fault, Way}
 
 -- All checks of a tree that stands for a configuration are met.
 abbrev pub StandingIsFaultless : Type 0

@@ -7,8 +7,7 @@ use Rattle.tf_config.specs.Parts.{literal_checks}
 use Rattle.tf_config_data.specs.Config.{VariableView}
 use Rattle.tf_json_path.specs.Check.{Check, demanded}
 use Rattle.tf_refusal.specs.Code.{bad_argument}
-use Rattle.tf_refusal.specs.OfExpression.{Way}
-use Rattle.tf_refusal.specs.Refusal.{RefusalView, bare}
+use Rattle.tf_refusal.specs.Refusal.{RefusalView, bare, Way}
 use Rattle.tf_value.specs.Json.{value_from}
 use Rattle.tf_value.specs.Tree.{Tree, Entries, no_entries, entry}
 use Rattle.tf_config.specs.Types.{fitted}

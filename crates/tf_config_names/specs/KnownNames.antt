@@ -11,8 +11,7 @@ use Rattle.tf_config_data.specs.Names.{NameView, names_of, place_of, same_pair, 
 use Rattle.tf_json_path.specs.Check.{Check, AllMet, IsFirst, demanded}
 use Rattle.tf_operators.specs.Functions.{function_named}
 use Rattle.tf_refusal.specs.Code as code
-use Rattle.tf_refusal.specs.OfExpression.{Way}
-use Rattle.tf_refusal.specs.Refusal.{bare, RefusalView, no_memory, workers, fault, refusal_of}
+use Rattle.tf_refusal.specs.Refusal.{bare, RefusalView, no_memory, workers, fault, refusal_of, Way}
 use Rattle.tf_refusal.specs.declared.refusal.Refusal.{Refusal}
 use Rattle.tf_syntax.specs.ExprTree.{Tree, null, boolean, whole, template, list, map, Trees, no_trees, tree, Entries, no_entries, entry}
 use Rattle.tf_syntax.specs.TemplateNames.{Pair, called, named}

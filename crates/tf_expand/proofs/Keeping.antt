@@ -1,7 +1,9 @@
 -- The resolved names, kept one after another.
-use Rattle.std.proofs.Common.{◌≡◌, ◌≢◌, ◌<◌, ◌≤◌, ◌+◌, ℕ, zero, suc, Bool, true, false, if◌then◌else◌, List, [], ◌∷◌, ◌++◌, map, length, get_or, set, take, None, refl, sym, ap, subst, ◌∙◌, arith, inl, inr}
+use Rattle.std.proofs.Common.{◌≡◌, ◌≢◌, ◌<◌, ◌≤◌, ◌+◌, ℕ, zero, suc, Bool, true, false, if◌then◌else◌, List, [], ◌∷◌, ◌++◌, map, length, get_or, set, take, None, refl, sym, ap, ◌∙◌, arith, add-one, inl, inr}
 use Rattle.std.proofs.lemmas.Bool.{cases_eq}
-use Rattle.std.proofs.lemmas.List.{get_or-set_same, get_or-set_other, map-set, length-map, length-set, length-take, get_or-take, get_or_default, take_all}
+use Rattle.std.proofs.lemmas.List.{get_or-set_same, get_or-set_other, map-set, length-map, length-set, length_push, take_all}
+use Rattle.std.proofs.lemmas.List.Elements.{Contains-push_cases}
+use Rattle.std.proofs.Math.Seq.{take-suc}
 use Rattle.std.specs.Prelude.{Contains, slice_index}
 use Rattle.std.specs.List.{AllByRecursion}
 use Rattle.tf_config_data.specs.Names.{NameView, meant_at, directly_before}
@@ -31,11 +33,7 @@ none_more (k ∷ kept) zero h = h
 none_more (k ∷ kept) (suc n) h = none_more kept n h
 
 pub nothing_more : (count : ℕ) (kept now : List Resolved) → now ≡ kept ++ Nothing ∷ [] → AreNothing count kept → AreNothing (count + 1) now
-nothing_more count kept now is h = rw is (record { long = length-push kept ∙ ap (λ n. n + 1) h.long; none = λ n. none_more kept n (h.none n) })
-  where
-    length-push : (xs : List Resolved) → length (xs ++ Nothing ∷ []) ≡ length xs + 1
-    length-push [] = refl
-    length-push (x ∷ xs) = let rest : length (xs ++ Nothing ∷ []) ≡ length xs + 1 = length-push xs in omega arith
+nothing_more count kept now is h = rw is (record { long = length_push kept Nothing ∙ ap (λ n. n + 1) h.long; none = λ n. none_more kept n (h.none n) })
 
 -- what is kept once the names before a place of the order are done
 pub record AreKept (stage : ResourceValuesView) (variables : Entries) (names : List NameView) (order : List ℕ) (wanted : List Bool) (i : ℕ) (kept : List Resolved) : Type 0 where
@@ -60,44 +58,21 @@ next_standing stage variables names kept p =
 pub next_is : (stage : ResourceValuesView) (variables : Entries) (names : List NameView) (kept resolved_names : ℕ → ResolvedView) (p : ℕ) → IsLocal stage → AreResolvedNames stage variables names resolved_names → p < length names
     → AllByRecursion (λ a. kept a ≡ resolved_names a) (directly_before names p) → next_standing stage variables names kept p ≡ resolved_names p
 next_is stage variables names kept resolved_names p local solves h same =
-    let seen : seen_by kept (directly_before names p) ≡ seen_by resolved_names (directly_before names p) = seen_by-same kept resolved_names (directly_before names p) same in
-    let stood : stands_at stage p (meant_at names p) (environment variables names kept) ≡ stands_at stage p (meant_at names p) (environment variables names resolved_names) =
-    sees expressions_local stage variables names kept resolved_names local p same in
-    ap (λ x. where_all (all_stand x) (stands_at stage p (meant_at names p) (environment variables names kept))) seen
-    ∙ ap (where_all (all_stand (seen_by resolved_names (directly_before names p)))) stood
-    ∙ sym (all_seen expressions_local stage variables names resolved_names local solves p h)
+    rw (seen_by-same kept resolved_names (directly_before names p) same, sees expressions_local stage variables names kept resolved_names local p same)
+    (sym (all_seen expressions_local stage variables names resolved_names local solves p h))
 
 pub stand_same : (kept : List Resolved) (p : ℕ) (s : Resolved) → p < length kept → resolved_names_of (set kept p s) p ≡ resolved_of s
-stand_same kept p s h =
-    let inside : p < length (map resolved_of kept) = rw (length-map kept resolved_of) h in
-    ap (λ xs. get_or xs p None) (map-set resolved_of kept p s) ∙ get_or-set_same (map resolved_of kept) p (resolved_of s) None inside
+stand_same kept p s h = rw (map-set resolved_of kept p s) (get_or-set_same (map resolved_of kept) p (resolved_of s) None (rw (length-map kept resolved_of) h))
 
 pub stand_other : (kept : List Resolved) (p n : ℕ) (s : Resolved) → n ≢ p → resolved_names_of (set kept p s) n ≡ resolved_names_of kept n
-stand_other kept p n s h = ap (λ xs. get_or xs n None) (map-set resolved_of kept p s) ∙ get_or-set_other (map resolved_of kept) p n (resolved_of s) None h
-
-pub chosen : (b : Bool) (x y : ResolvedView) → b ≡ true → ◌≡◌ {A = ResolvedView} (if b then x else y) x
-chosen true x y h = refl
-chosen false x y h = absurd (cc)
-
-pub left_out : (b : Bool) (x y : ResolvedView) → b ≡ false → ◌≡◌ {A = ResolvedView} (if b then x else y) y
-left_out false x y h = refl
-left_out true x y h = absurd (cc)
+stand_other kept p n s h = rw (map-set resolved_of kept p s) (get_or-set_other (map resolved_of kept) p n (resolved_of s) None h)
 
 -- a member of a longer front is one of the shorter one, or the last
 pub earlier : (order : List ℕ) (i p n : ℕ) → i < length order → p ≡ slice_index order i → n ≢ p → Contains (take (i + 1) order) n → Contains (take i order) n
 earlier order i p n h is other held =
-    let k : ℕ = held.0 in
-    let short = length-take (i + 1) order in
-    let shorter = length-take i order in
-    let bounds : k < i + 1 = omega (arith, held.1, short) in
-    elim (cases_eq k i) [
-      | inl last ↦
-          let read : get_or (take (i + 1) order) k n ≡ n = held.2 in
-          let there : n ≡ p = sym read ∙ get_or-take (i + 1) order k n (omega arith) ∙ get_or_default order k n 0 (omega arith) ∙ ap (λ j. slice_index order j) last ∙ sym is in
-          absurd (other there)
-      | inr before ↦
-          let below : k < i = omega arith in
-          (k, omega (arith, shorter), get_or-take i order k n below ∙ sym (get_or-take (i + 1) order k n (omega arith)) ∙ held.2)
+    elim (Contains-push_cases (take i order) p n (rw (add-one, take-suc order i 0 h, ← is) at held)) [
+      | inl before ↦ before
+      | inr last ↦ absurd (other (sym last))
     ]
 
 -- one name more
@@ -109,21 +84,19 @@ kept_more stage variables names order wanted i p kept now s local ordered closed
   long = length-set kept p s ∙ inv.long;
   have = λ resolved_names solves n held wants. elim (cases_eq n p) [
     | inl here ↦
-        let wanted_here : has wanted p ≡ true = ap (has wanted) (sym here) ∙ wants in
+        let wanted_here : has wanted p ≡ true = rw here at wants in
         let before : AllByRecursion (λ a. resolved_names_of kept a ≡ resolved_names a) (directly_before names p) =
         all_by_both (λ a. Contains (take i order) a) (λ a. has wanted a ≡ true) (λ a. resolved_names_of kept a ≡ resolved_names a) (directly_before names p)
-        (λ a held_before wants_before. inv.have resolved_names solves a held_before wants_before) (rw is (ordered.after i h)) (closed p wanted_here) in
-        ap (resolved_names_of (set kept p s)) here ∙ stand_same kept p s (omega (arith, inv.long)) ∙ stood ∙ chosen (has wanted p) (next_standing stage variables names (resolved_names_of kept) p) None wanted_here
-        ∙ next_is stage variables names (resolved_names_of kept) resolved_names p local solves inside before ∙ ap resolved_names (sym here)
-    | inr other ↦
-        stand_other kept p n s other ∙ inv.have resolved_names solves n (earlier order i p n h is other held) wants
+        (inv.have resolved_names solves) (rw is (ordered.after i h)) (closed p wanted_here) in
+        rw (here, stand_same kept p s (omega (arith, inv.long)), stood, wanted_here)
+        (next_is stage variables names (resolved_names_of kept) resolved_names p local solves inside before)
+    | inr other ↦ stand_other kept p n s other ∙ inv.have resolved_names solves n (earlier order i p n h is other held) wants
   ];
   only = λ n unwanted. elim (cases_eq n p) [
     | inl here ↦
-        ap (resolved_names_of (set kept p s)) here ∙ stand_same kept p s (omega (arith, inv.long)) ∙ stood
-        ∙ left_out (has wanted p) (next_standing stage variables names (resolved_names_of kept) p) None (ap (has wanted) (sym here) ∙ unwanted)
-    | inr other ↦
-        stand_other kept p n s other ∙ inv.only n unwanted
+        let unwanted_here : has wanted p ≡ false = rw here at unwanted in
+        rw (here, stand_same kept p s (omega (arith, inv.long)), stood, unwanted_here) refl
+    | inr other ↦ stand_other kept p n s other ∙ inv.only n unwanted
   ];
 })
 
@@ -131,12 +104,10 @@ kept_more stage variables names order wanted i p kept now s local ordered closed
 pub stood_is : (stage : ResourceValuesView) (variables : Entries) (names : List NameView) (wanted : List Bool) (p : ℕ) (is_wanted : Bool) (xs ys : List Resolved) (s : ResolvedView)
     → s ≡ (if is_wanted then next_standing stage variables names (resolved_names_of xs) p else None) → is_wanted ≡ has wanted p → xs ≡ ys
     → s ≡ (if has wanted p then next_standing stage variables names (resolved_names_of ys) p else None)
-stood_is stage variables names wanted p is_wanted xs ys s h e f =
-    h ∙ ap (λ b. if b then next_standing stage variables names (resolved_names_of xs) p else None) e
-    ∙ ap (λ zs. if has wanted p then next_standing stage variables names (resolved_names_of zs) p else None) f
+stood_is stage variables names wanted p is_wanted xs ys s h e f = rw (h, e, f) refl
 
 -- all names are done
 pub kept_all : (stage : ResourceValuesView) (variables : Entries) (names : List NameView) (order : List ℕ) (wanted : List Bool) (i : ℕ) (kept : List Resolved) → length order ≤ i
     → AreKept stage variables names order wanted i kept → AreResolved stage variables names order wanted (resolved_names_of kept)
 kept_all stage variables names order wanted i kept h inv resolved_names solves n held wants =
-    inv.have resolved_names solves n (subst (λ xs. Contains xs n) (sym (take_all i order h)) held) wants
+    inv.have resolved_names solves n (rw (take_all i order h) held) wants

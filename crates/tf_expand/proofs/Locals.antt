@@ -1,27 +1,23 @@
 -- What blocks and names stand for depends on what they refer to alone.
 use Rattle.std.proofs.Common.{◌≡◌, ◌++◌, ℕ, List, [], ◌∷◌, map as each, Option, Some, None, option_map, refl, sym, ap, ◌∙◌}
 use Rattle.std.specs.List.{AllByRecursion}
-use Rattle.tf_address.specs.ObjectId as keys
 use Rattle.tf_address.specs.ObjectId.{InstanceKeyView}
-use Rattle.tf_config_data.specs.Config.{RepetitionView, single, count, for_each}
-use Rattle.tf_config_data.specs.Names.{NameView, Meant, a_local, a_block, meant_at, refers_at, named_in_repetition, label_pair, directly_before}
+use Rattle.tf_config_data.specs.Config.{BlockView, RepetitionView, single, count, for_each}
+use Rattle.tf_config_data.specs.Names.{NameView, Meant, a_local, a_block, meant_at, refers_at, block_refers, named_in_repetition, label_pair, directly_before}
 use Rattle.tf_graph.specs.Solutions.{seen_by}
 use Rattle.tf_syntax.specs.ExprNames.{named_below}
 use Rattle.tf_syntax.specs.TemplateNames.{Pair}
-use Rattle.tf_value.specs.Tree.{Tree, Entries, list, map, unknown, items_of, no_entries}
+use Rattle.tf_value.specs.Tree.{Tree, Entries, unknown}
 use Rattle.tf_operators.specs.Answer.{limited}
 use Rattle.tf_eval.specs.Environment.{Environment}
 use Rattle.tf_eval.specs.Locality.{AgreeOn, ExpressionsAreLocal}
 use Rattle.tf_eval.proofs.Locality.{both_halves}
 use Rattle.tf_expand.specs.StandingLaws.{IsLocal, AllAreSeen, ExpansionIsLocal, PlanningIsLocal, ApplyingIsLocal}
 use Rattle.tf_expand.specs.Repetition.{instances, counted, keyed}
-use Rattle.tf_expand.specs.InstanceKeys.{InstanceKeysView, one, many, named, instance_keys, objects_at, put_each, collected}
+use Rattle.tf_expand.specs.InstanceKeys.{InstanceKeysView, one, many, named, instance_keys, objects_at, list_of, map_under, collected}
 use Rattle.tf_expand.specs.Stages.{fine}
 use Rattle.tf_expand.specs.Resolved.{ResolvedView, ResourceValuesView, stands_at, together, where_all, all_stand, environment, result_in}
 use Rattle.tf_expand.proofs.Seen.{agree_on, same_seen}
-
-agree_halves : (e f : Environment) (xs ys : List Pair) → AgreeOn e f (xs ++ ys) → AgreeOn e f xs × AgreeOn e f ys
-agree_halves e f xs ys h = both_halves (λ (pair : Pair). e pair.0 pair.1 ≡ f pair.0 pair.1) xs ys h
 
 -- what `count` or `for_each` names decides the instances
 pub instances_local : ExpressionsAreLocal → (repetition : RepetitionView) (e f : Environment) → AgreeOn e f (named_in_repetition repetition) → instances repetition e ≡ instances repetition f
@@ -31,25 +27,27 @@ instances_local law (for_each t) e f h = ap keyed (law e f t h)
 
 objects_same : (f g : InstanceKeyView → Option Tree) (ks : List InstanceKeyView) → ((key : InstanceKeyView) → f key ≡ g key) → objects_at f ks ≡ objects_at g ks
 objects_same f g [] h = refl
-objects_same f g (k ∷ ks) h =
-    let first : f k ≡ g k = h k in
-    let rest : objects_at f ks ≡ objects_at g ks = objects_same f g ks h in
-    rw (first, rest) refl
+objects_same f g (k ∷ ks) h = rw (h k, objects_same f g ks h) refl
 
 laid_same : (f g : InstanceKeyView → Option Tree) (shape : InstanceKeysView) → ((key : InstanceKeyView) → f key ≡ g key) → collected shape f ≡ collected shape g
-laid_same f g one h = h keys.single
-laid_same f g (many n) h = ap (λ o. option_map (λ ts. list (items_of ts)) o) (objects_same f g (instance_keys (many n)) h)
-laid_same f g (named names) h = ap (λ o. option_map (λ ts. map (put_each names ts no_entries)) o) (objects_same f g (instance_keys (named names)) h)
+laid_same f g one h = h _
+laid_same f g (many n) h = ap (option_map list_of) (objects_same f g (instance_keys (many n)) h)
+laid_same f g (named names) h = ap (option_map (map_under names)) (objects_same f g (instance_keys (named names)) h)
 
 pub together_same : (f g : InstanceKeyView → Option Tree) (shape : Option InstanceKeysView) → ((key : InstanceKeyView) → f key ≡ g key) → together shape f ≡ together shape g
 together_same f g None h = refl
 together_same f g (Some shape) h = ap (λ o. option_map limited o) (laid_same f g shape h)
 
+-- a block's instances depend on what it refers to alone
+pub block_local : ExpressionsAreLocal → (block : BlockView) (e f : Environment) → AgreeOn e f (block_refers block)
+    → instances block.repetition e ≡ instances block.repetition f
+block_local law block e f h =
+    let agree : Pair → Type 0 = λ pair. e pair.0 pair.1 ≡ f pair.0 pair.1 in
+    let outer = both_halves agree (named_in_repetition block.repetition ++ named_below block.arguments) (each label_pair block.depends_on) h in
+    instances_local law block.repetition e f (both_halves agree (named_in_repetition block.repetition) (named_below block.arguments) outer.0).0
+
 pub expansion_local : ExpressionsAreLocal → ExpansionIsLocal
-expansion_local law n block e f h =
-    let outer = agree_halves e f (named_in_repetition block.repetition ++ named_below block.arguments) (each label_pair block.depends_on) h in
-    let inner = agree_halves e f (named_in_repetition block.repetition) (named_below block.arguments) outer.0 in
-    ap (λ r. together (fine r) (λ key. Some unknown)) (instances_local law block.repetition e f inner.0)
+expansion_local law n block e f h = ap (λ r. together (fine r) (λ key. Some unknown)) (block_local law block e f h)
 
 pub planning_local : PlanningIsLocal
 planning_local shapes planned local n block e f h =

@@ -1,9 +1,8 @@
 -- The names that are needed, and what they stand for.
-use Rattle.std.proofs.Common.{◌≡◌, ◌<◌, ◌≤◌, ℕ, zero, suc, ◌+◌, Bool, true, false, List, [], ◌∷◌, ◌++◌, length, None, Result, Ok, Err, IfOk, Vec, Global, refl, sym, ap, subst, ◌∙◌, arith, inl, inr}
-use Rattle.std.proofs.lemmas.Bool.{cases_eq, cases_lt}
+use Rattle.std.proofs.Common.{◌≡◌, ◌<◌, ◌≤◌, ℕ, zero, suc, ◌+◌, Bool, true, false, List, [], ◌∷◌, ◌++◌, length, None, Result, Ok, Err, IfOk, Vec, Global, refl, sym, ap, ◌∙◌, arith, inl, inr}
+use Rattle.std.proofs.lemmas.Bool.{cases_eq, cases_lt, false_from_ne_true}
 use Rattle.std.proofs.lemmas.List.{get_or_append_left, get_or_past, get_or_push}
 use Rattle.std.specs.declared.alloc.AllocError.{AllocError}
-use Rattle.std.specs.List.{AllByRecursion}
 use Rattle.std.specs.Prelude.{◌↔◌}
 use Rattle.tf_config_data.specs.Names.{NameView, meant_at, directly_before}
 use Rattle.tf_expand.specs.Kept.{AreClosed, AreResolved, OnlyWanted}
@@ -39,16 +38,12 @@ needed_closed names d wanted is marked n wants = elim (cases_lt n (length names)
   | inr past ↦ rw (before-past names n past) tt
 ]
 
-unmarked : (b : Bool) → (b ≡ true → ⊥) → b ≡ false
-unmarked true denied = absurd (denied refl)
-unmarked false denied = refl
-
 -- what is kept of the names that resources need, and of no others
 pub needed_kept : (variables : Entries) (names : List NameView) (d : Dependence) (wanted : List Bool) (kept : ℕ → ResolvedView) → IsDependence names d → IsAcyclic d → AreMarked names d wanted
     → AreResolved expansion variables names (order_in d) wanted kept → OnlyWanted wanted kept → AreNeededNamesResolved variables names d kept
 needed_kept variables names d wanted kept is acyclic marked have only = record {
   needed = λ resolved_names solves n needed. have resolved_names solves n (is.whole acyclic n (needed_below names d is needed.name n needed.needs)) (needed-wanted names d wanted is marked n needed);
-  only = λ n h none. only n (unmarked (has wanted n) (λ yes. none ((marked n h).0 yes)));
+  only = λ n h none. only n (false_from_ne_true (has wanted n) (λ yes. none ((marked n h).0 yes)));
 }
 
 meant_past : (names : List NameView) (n : ℕ) → length names ≤ n → meant_at names n ≡ None
@@ -68,8 +63,8 @@ all_marked names found long each n = elim (cases_lt n (length names)) [
 pub marked_more : (P : ℕ → Bool → Type 0) (count : ℕ) (found now : List Bool) (b : Bool) → now ≡ found ++ b ∷ [] → length found ≡ count → ((n : ℕ) → n < count → P n (has found n)) → P count b
     → (n : ℕ) → n < count + 1 → P n (has now n)
 marked_more P count found now b is long each last n h = rw is (elim (cases_eq n count) [
-  | inl here ↦ subst (λ x. P n x) (sym (get_or_push found b false n (long ∙ sym here))) (subst (λ k. P k b) (sym here) last)
-  | inr other ↦ subst (λ x. P n x) (sym (get_or_append_left found (b ∷ []) false n (omega (arith, h, long, other)))) (each n (omega (arith, h, other)))
+  | inl here ↦ rw (get_or_push found b false n (long ∙ sym here), here) last
+  | inr other ↦ rw (get_or_append_left found (b ∷ []) false n (omega (arith, h, long, other))) (each n (omega (arith, h, other)))
 ])
 
 -- what some names need, others do that are the same
@@ -82,8 +77,8 @@ pub by_resources : (names : List NameView) (d : Dependence) (found slice : List 
     → IfOk result (λ needed. (n : ℕ) → n < length names → (has needed.items n ≡ true) ↔ IsNeeded names d n)
 by_resources names d found slice is same marked (Ok needed) each = λ n h.
     let there = each n (omega (arith, h, is.count)) in
-    let is_one : (a : ℕ) → has slice a ≡ is_resource (meant_at names a) = λ a. ap (λ xs. has xs a) same ∙ marked a in (
-      λ wants. needed_same (λ a. has slice a ≡ true) (λ a. is_resource (meant_at names a) ≡ true) d n (λ a e. sym (is_one a) ∙ e) (there.0 wants),
-      λ needs. there.1 (needed_same (λ a. is_resource (meant_at names a) ≡ true) (λ a. has slice a ≡ true) d n (λ a e. is_one a ∙ e) needs),
+    let is_one : (a : ℕ) → has slice a ≡ is_resource (meant_at names a) = rw same marked in (
+      λ wants. needed_same _ (λ a. is_resource (meant_at names a) ≡ true) d n (λ a e. sym (is_one a) ∙ e) (there.0 wants),
+      λ needs. there.1 (needed_same _ (λ a. has slice a ≡ true) d n (λ a e. is_one a ∙ e) needs),
     )
 by_resources names d found slice is same marked (Err e) each = each

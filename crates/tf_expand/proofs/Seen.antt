@@ -5,7 +5,8 @@ use Rattle.std.specs.List.{AllByRecursion}
 use Rattle.std.specs.Str.{bytes_eq}
 use Rattle.tf_config_data.specs.Names.{NameView, place_of, place_before, places}
 use Rattle.tf_graph.specs.Solutions.{seen_by}
-use Rattle.tf_operators.specs.Answer.{Answer, present_value}
+use Rattle.tf_graph.proofs.Solving.{all_by_weaker}
+use Rattle.tf_operators.specs.Answer.{present_value}
 use Rattle.tf_value.specs.Tree.{Entries, get}
 use Rattle.tf_syntax.specs.TemplateNames.{Pair}
 use Rattle.tf_eval.specs.Locality.{AgreeOn}
@@ -16,37 +17,24 @@ agree_at : (resolved_names others : ℕ → ResolvedView) (place : Option ℕ) (
 agree_at resolved_names others None ns h = (refl, h)
 agree_at resolved_names others (Some n) ns h = (ap or_missing h.0, h.1)
 
-agree_either : (b : Bool) (x y z : Answer) → y ≡ z → ◌≡◌ {A = Answer} (if b then x else y) (if b then x else z)
-agree_either true x y z h = refl
-agree_either false x y z h = h
-
 -- environments of resolved names that agree on what some names stand for agree on these
 pub agree_on : (variables : Entries) (names : List NameView) (resolved_names others : ℕ → ResolvedView) (pairs : List Pair)
     → AllByRecursion (λ n. resolved_names n ≡ others n) (places names pairs) → AgreeOn (environment variables names resolved_names) (environment variables names others) pairs
 agree_on variables names resolved_names others [] h = tt
 agree_on variables names resolved_names others (pair ∷ pairs) h =
     let both = agree_at resolved_names others (place_of names pair) (places names pairs) h in (
-      agree_either (bytes_eq pair.0 (codes "var")) (present_value (get pair.1 variables)) (answer_at resolved_names (place_of names pair)) (answer_at others (place_of names pair)) both.0,
+      ap (λ a. if bytes_eq pair.0 (codes "var") then present_value (get pair.1 variables) else a) both.0,
       agree_on variables names resolved_names others pairs both.1,
     )
-
-weaker_along : (P R : ℕ → Type 0) (xs : List ℕ) → ((x : ℕ) → P x → R x) → AllByRecursion P xs → AllByRecursion R xs
-weaker_along P R [] f p = tt
-weaker_along P R (x ∷ xs) f p = (f x p.0, weaker_along P R xs f p.1)
 
 seen_again : (resolved_names : ℕ → ResolvedView) (a n : ℕ) (here : Bool) (rest : ResolvedView) → (here ≡ true → a ≡ n) → resolved_names n ≡ rest → resolved_names n ≡ (if here then resolved_names a else rest)
 seen_again resolved_names a n true rest same h = ap resolved_names (sym (same refl))
 seen_again resolved_names a n false rest same h = h
 
-seen_first : (x rest : ResolvedView) (here : Bool) → here ≡ true → x ≡ (if here then x else rest)
-seen_first x rest true h = refl
-seen_first x rest false h = absurd (cc)
-
 -- what is seen of each node is its result
 pub same_seen : (resolved_names : ℕ → ResolvedView) (nodes : List ℕ) → AllByRecursion (λ n. resolved_names n ≡ result_in (seen_by resolved_names nodes) n) nodes
 same_seen resolved_names [] = tt
 same_seen resolved_names (a ∷ nodes) = (
-  seen_first (resolved_names a) (result_in (seen_by resolved_names nodes) a) (a == a) (eq-eqb a a refl),
-  weaker_along (λ n. resolved_names n ≡ result_in (seen_by resolved_names nodes) n) (λ n. resolved_names n ≡ (if a == n then resolved_names a else result_in (seen_by resolved_names nodes) n)) nodes
-      (λ n h. seen_again resolved_names a n (a == n) (result_in (seen_by resolved_names nodes) n) (eqb-true a n) h) (same_seen resolved_names nodes),
+  rw (eq-eqb a a refl) refl,
+  all_by_weaker _ _ nodes (λ n h. seen_again resolved_names a n (a == n) (result_in (seen_by resolved_names nodes) n) (eqb-true a n) h) (same_seen resolved_names nodes),
 )

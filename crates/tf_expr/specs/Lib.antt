@@ -4,6 +4,7 @@ pub mod FaultText
 pub mod Laws
 pub mod Opening
 pub mod Reading
+pub mod Refusing
 pub mod Within
 pub use Rattle.tf_syntax.specs.ExprNames as Named
 pub use Rattle.tf_syntax.specs.ExprTree as Tree

@@ -10,6 +10,7 @@ mod demand;
 pub mod fault;
 pub mod laws;
 mod reading;
+mod refusing;
 
 pub use fault::{Cause, ExprFault};
 pub use reading::{read_expr, read_expr_at};

@@ -23,9 +23,9 @@ use Rattle.tf_config_names.specs.Cyclic.{RefusesCycle}
 use Rattle.tf_config_names.specs.Judging.{RefusesItsNames}
 use Rattle.tf_config_names.specs.KnownNames.{Declared, IsKnown, IsUnknown, NameChecks, RefusesNames, config_checks, declared_in}
 use Rattle.tf_config_names.specs.Needs.{AreCyclic}
-use Rattle.tf_refusal.specs.OfExpression.{Way, way_of}
+use Rattle.tf_expr.specs.Refusing.{way_of}
 use Rattle.tf_refusal.specs.Refusal as refusals
-use Rattle.tf_refusal.specs.Refusal.{DetailView, RefusalView, fault, no_memory, workers}
+use Rattle.tf_refusal.specs.Refusal.{DetailView, RefusalView, fault, no_memory, workers, Way}
 use Rattle.tf_state.proofs.Permuted.{one_order}
 use Rattle.tf_state.specs.Table.{IsUnread}
 use Rattle.tf_state.specs.declared.fault.StateFault.{StateFault}

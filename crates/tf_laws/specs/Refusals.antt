@@ -8,8 +8,7 @@ use Rattle.tf_cli_inputs.specs.Refusals.{IsToldOf}
 use Rattle.tf_cli_inputs.specs.Texts.{ReadAs, Texts}
 use Rattle.tf_plan_data.specs.Plan.{PlanView}
 use Rattle.tf_protocol.specs.Meaning.{Meaning}
-use Rattle.tf_refusal.specs.OfExpression.{Way}
-use Rattle.tf_refusal.specs.Refusal.{RefusalView, fault, no_memory}
+use Rattle.tf_refusal.specs.Refusal.{RefusalView, fault, no_memory, Way}
 use Rattle.tf_state_data.specs.State.{StateView}
 use Rattle.tf_value.specs.Tree.{Entries}
 

@@ -1,5 +1,6 @@
 pub mod Beyond
 pub mod Dot
+pub mod Plain
 pub mod Quoted
 pub mod Reduction
 pub mod Shown

@@ -1,7 +1,10 @@
 //! How a plan's text shows a value.
 
-ghost use Rattle.std.specs.Prelude.{◌≡◌, ◌++◌, ◌∷◌, false, OnOk, string_bytes};
+ghost use Rattle.json.specs.Print.{escape};
+ghost use Rattle.std.specs.List.{list_all};
+ghost use Rattle.std.specs.Prelude.{◌≡◌, ◌++◌, ◌∷◌, false, true, OnOk, string_bytes};
 ghost use Rattle.tf_plan_data.specs.Words.{boolean, comma_if, entries_view, items_view, quoted, texts_view, tree_of, unknown};
+ghost use Rattle.tf_plan_text.specs.Plain.{is_plain};
 ghost use Rattle.tf_plan_text.specs.Shown.{shown, shown_items, shown_entries, shown_texts};
 
 use serde_json::Value as Json;
@@ -101,8 +104,39 @@ fn comma(text: &mut String, later: bool) -> Result<(), AllocError>
     if later { text.push(',') } else { Ok(()) }
 }
 
-/// A text in quotes, with JSON's escapes.
+/// A text in quotes, with JSON's escapes. One that needs none is written as it stands.
 fn show_text(alloc: Global, text: &mut String, content: &str) -> Result<(), AllocError>
+    ensures { OnOk result (string_bytes text.new ≡ string_bytes text.old ++ quoted content.now) }
+{
+    if stands_for_itself(content) {
+        text.push('"')?;
+        text.push_str(content)?;
+        text.push('"')
+    } else {
+        show_escaped(alloc, text, content)
+    }
+}
+
+/// Whether no byte of a text is written otherwise between quotes.
+fn stands_for_itself(content: &str) -> bool
+    ensures { result ≡ true → escape content.now ≡ content.now }
+{
+    all_plain(content.as_bytes())
+}
+
+fn all_plain(bytes: &[u8]) -> bool
+    ensures { result ≡ list_all is_plain bytes.now }
+{
+    bytes.iter().all(|byte| is_plain(*byte))
+}
+
+fn is_plain(byte: u8) -> bool
+    ensures { result ≡ is_plain byte }
+{
+    byte >= b' ' && byte != b'"' && byte != b'\\'
+}
+
+fn show_escaped(alloc: Global, text: &mut String, content: &str) -> Result<(), AllocError>
     ensures { OnOk result (string_bytes text.new ≡ string_bytes text.old ++ quoted content.now) }
 {
     let json = Json::String(String::from_str(alloc, content)?);

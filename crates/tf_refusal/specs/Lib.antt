@@ -1,4 +1,3 @@
 pub mod Code
-pub mod OfExpression
 pub mod Refusal
 pub mod Text

@@ -21,6 +21,10 @@ pub data RefusalView : Type 0 where
   workers : RefusalView
   fault : ℕ → List ℕ → DetailView → RefusalView
 
+-- a refusal's code, and what stands behind its name
+abbrev pub Way : Type 0
+Way = ℕ × DetailView
+
 abbrev pub detail_of : Detail → DetailView
 detail_of details.Bare = bare
 detail_of (details.At offset) = at offset

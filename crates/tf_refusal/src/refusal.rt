@@ -1,14 +1,11 @@
 ghost use Rattle.tf_refusal.specs.declared.refusal.Refusal.TheVariants.{OutOfMemory};
 ghost use Rattle.std.specs.Prelude.{◌≡◌, Some};
-ghost use Rattle.tf_refusal.specs.OfExpression.{way_of};
 ghost use Rattle.tf_refusal.specs.Refusal.{detail_of};
 ghost use Rattle.tf_refusal.specs.Text.{refusal_name};
 
-use crate::code::{BAD_SHAPE, BAD_TEMPLATE, LIMIT};
 use crate::names::NameList;
 use std::alloc::{AllocError, AllocFailed};
 use std::fmt;
-use tf_expr::{Cause as ExprCause, ExprFault};
 use tf_operators::EvalFault;
 
 /// Why nothing was called: what was wrong with what the user gave, or with the machine.
@@ -56,40 +53,6 @@ impl<T: Drop> From<AllocFailed<T>> for Refusal {
 
     fn from(_error: AllocFailed<T>) -> Refusal {
         Refusal::OutOfMemory
-    }
-}
-
-/// A fault of an expression, as it is refused.
-impl From<ExprFault> for Refusal {
-    ghost use Rattle.tf_expr.specs.Fault.{told as told_of_expression};
-    ghost use Rattle.tf_refusal.specs.Refusal.{refusal_of};
-    ghost use Rattle.tf_refusal.specs.OfExpression.{refused_expression};
-
-    ghost from_gives = { λ fault refusal. refusal_of refusal ≡ refused_expression (told_of_expression fault) };
-
-    fn from(fault: ExprFault) -> Refusal {
-        match fault {
-            ExprFault::OutOfMemory => Refusal::OutOfMemory,
-            ExprFault::Refused { place, cause } => {
-                let (code, detail) = way_of(cause);
-                Refusal::Fault {
-                    code,
-                    place,
-                    detail,
-                }
-            }
-        }
-    }
-}
-
-/// The code of a fault of an expression, and what stands behind its name.
-fn way_of(cause: ExprCause) -> (u8, Detail)
-    ensures { (result.0, detail_of result.1) ≡ way_of cause }
-{
-    match cause {
-        ExprCause::BadShape => (BAD_SHAPE, Detail::Bare),
-        ExprCause::At(offset) => (BAD_TEMPLATE, Detail::At(offset)),
-        ExprCause::TooDeep => (LIMIT, Detail::Bare),
     }
 }
 

@@ -123,7 +123,8 @@ fn is_large(value: Option<&Value>) -> bool
 fn joined(alloc: Global, first: &str, second: &str) -> Result<String, AllocError>
     ensures { IfOk result (λ text. string_bytes text ≡ first.now ++ second.now) }
 {
-    let mut text = String::from_str(alloc, first)?;
+    let mut text = String::with_capacity(alloc, first.len().saturating_add(second.len()))?;
+    text.push_str(first)?;
     text.push_str(second)?;
     Ok(text)
 }

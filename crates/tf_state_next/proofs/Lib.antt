@@ -11,6 +11,7 @@ pub mod Added
 pub mod Changing
 pub mod Composed
 mod Counted
+mod Near
 pub mod Finding
 pub mod One
 pub mod OneByOne

@@ -7,7 +7,7 @@ ghost use Rattle.tf_state_data.specs.Addresses.{AreByAddress};
 ghost use Rattle.tf_state_data.specs.Resource.{resource_of};
 ghost use Rattle.tf_state_data.specs.State.{state_of};
 
-use crate::recording::search;
+use crate::recording::search_near;
 use std::alloc::{AllocError, Global};
 use tf_address::Label;
 use tf_state_data::{Resource, State, provider_address};
@@ -82,7 +82,7 @@ fn add_missing(
     requires { AreByAddress (map resource_of resources.old.items) }
     ensures { OnOk result (AreAdded (label_of label.now ∷ []) (map resource_of resources.old.items) (map resource_of resources.new.items)) }
 {
-    if let Err(index) = search(resources, label) {
+    if let Err(index) = search_near(resources, label, resources.len()) {
         let provider = provider_address(alloc, label.type_name.as_str())?;
         let resource = Resource::empty(alloc, label.clone()?, provider);
         resources.insert(index, resource)?;
@@ -113,9 +113,13 @@ fn counts_of(
     ensures { IfOk result (λ counts. counts.items ≡ counts_at (map (λ l. label_of l.now) labels.now) (map resource_of resources.now)) }
 {
     let mut counts = no_counts(alloc, resources.len())?;
+    let mut place = 0;
     for label in labels {
-        match search(resources, label) {
-            Ok(index) => counts[index] += 1,
+        match search_near(resources, label, place) {
+            Ok(index) => {
+                counts[index] += 1;
+                place = index;
+            }
             Err(_) => {}
         }
     }

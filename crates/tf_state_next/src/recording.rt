@@ -1,6 +1,6 @@
 //! What came of the actions is recorded in the resources, without taking memory.
 
-ghost use Rattle.std.specs.Prelude.{◌≡◌, ℕ, List, [], ◌∷◌, ◌++◌, IfErr, IfOk, map};
+ghost use Rattle.std.specs.Prelude.{◌≡◌, ℕ, List, [], ◌∷◌, ◌++◌, IfErr, IfOk, length, map, true};
 ghost use Rattle.tf_address.specs.Label.{LabelView, label_cmp, label_of};
 ghost use Rattle.tf_state_next.specs.Events.{AreApart, apply_of, as_apply, destroy_of, instance_of, object_of, metadata_update_of};
 ghost use Rattle.tf_state_next.specs.StateDraft.{HaveRoom, count_of};
@@ -22,6 +22,54 @@ pub(crate) fn search(resources: &[Resource], label: &Label) -> Result<usize, usi
     ensures absent { IfErr result (IsGapFor (λ r. r.label) label_cmp (label_of label.now) (map resource_of resources.now)) }
 {
     resources.binary_search_by(|resource| resource.label().cmp(label))
+}
+
+/// The same, looked for first where it is likely to be: at the place of another, beside it, or behind all. Addresses that
+/// are looked for in order, one after another, are so found without a search.
+pub(crate) fn search_near(
+    resources: &[Resource],
+    label: &Label,
+    place: usize,
+) -> Result<usize, usize>
+    requires { AreByAddress (map resource_of resources.now) }
+    ensures found { IfOk result (IsAt (λ r. r.label) label_cmp (label_of label.now) (map resource_of resources.now)) }
+    ensures absent { IfErr result (IsGapFor (λ r. r.label) label_cmp (label_of label.now) (map resource_of resources.now)) }
+{
+    let next = place.saturating_add(1);
+    let last = place.saturating_sub(1);
+    if stands_at(resources, label, place) {
+        Ok(place)
+    } else if stands_at(resources, label, next) {
+        Ok(next)
+    } else if stands_at(resources, label, last) {
+        Ok(last)
+    } else if is_behind(resources, label) {
+        Err(resources.len())
+    } else {
+        search(resources, label)
+    }
+}
+
+/// Whether the resource at an address stands at a place.
+fn stands_at(resources: &[Resource], label: &Label, place: usize) -> bool
+    requires { AreByAddress (map resource_of resources.now) }
+    ensures { result ≡ true → IsAt (λ r. r.label) label_cmp (label_of label.now) (map resource_of resources.now) place }
+{
+    match resources.get(place) {
+        Some(resource) => resource.label().cmp(label).is_eq(),
+        None => false,
+    }
+}
+
+/// Whether an address comes behind those of all resources.
+fn is_behind(resources: &[Resource], label: &Label) -> bool
+    requires { AreByAddress (map resource_of resources.now) }
+    ensures { result ≡ true → IsGapFor (λ r. r.label) label_cmp (label_of label.now) (map resource_of resources.now) (length resources.now) }
+{
+    match resources.last() {
+        Some(last) => last.label().cmp(label).is_lt(),
+        None => true,
+    }
 }
 
 /// Records what each destroy left of its object.
@@ -90,14 +138,15 @@ pub(crate) fn apply_all(resources: &mut [Resource], mut applies: Vec<Apply<'_>>)
     requires room { HaveRoom (count_of (map (λ a. a.label) (map apply_of applies.items))) resources.old }
     ensures { AreApplied (map apply_of applies.entry.items) (map resource_of resources.old) (map resource_of resources.new) }
 {
+    let mut place = resources.len();
     while let Some(event) = applies.pop() {
-        apply(resources, event);
+        place = apply(resources, event, place);
     }
     applies.destroy_empty();
 }
 
-/// Records what came of a create or an update.
-fn apply(resources: &mut [Resource], event: Apply<'_>)
+/// Records what came of a create or an update, and tells where its resource stands, which is looked for near a place.
+fn apply(resources: &mut [Resource], event: Apply<'_>, near: usize) -> usize
     requires ordered { AreByAddress (map resource_of resources.old) }
     requires there { AreThere (label_of event.label.now ∷ []) (map resource_of resources.old) }
     requires room { HaveRoom (count_of (label_of event.label.now ∷ [])) resources.old }
@@ -109,8 +158,9 @@ fn apply(resources: &mut [Resource], event: Apply<'_>)
         given,
         applied,
     } = event;
-    let Ok(index) = search(resources, label) else {
+    let Ok(index) = search_near(resources, label, near) else {
         unreachable!()
     };
     record_apply(&mut resources[index], given, applied);
+    index
 }

@@ -1,4 +1,4 @@
-//! Tests over public calls.
+//! Tests over public calls: values and graphs, what is read from texts, and what it means.
 #![tactic(auto)]
 
 #[cfg(test)]

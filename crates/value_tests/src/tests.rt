@@ -1,5 +1,11 @@
+mod expression;
 mod fixtures;
 mod graph;
+mod json_text;
+mod limits;
 mod operators;
 mod sizes;
+mod template;
+mod texts;
+mod value;
 mod values;

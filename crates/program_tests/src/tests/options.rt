@@ -1,6 +1,6 @@
 use std::alloc::Global;
 use std::test::Fail;
-use tf_cli_program::{GraphForm, Options, Program, options};
+use tf_cli_options::{GraphForm, Options, Program, options};
 
 fn read(alloc: Global, program: Program, words: &[&str]) -> Result<Options, clap::Error> {
     let mut owned = Vec::new(alloc);

@@ -12,9 +12,8 @@ use std::sync::{Arc, Wait};
 use std::test::Fail;
 use std::thread::Threads;
 use tf_cli::Stop;
-use tf_cli_program::{
-    LogSink, Options, Program, carry_out_logged, hold, print_graph, print_plan, run, see,
-};
+use tf_cli_options::{Options, Program};
+use tf_cli_program::{LogSink, carry_out_logged, hold, print_graph, print_plan, run, see};
 use tf_log::OpenLog;
 use tf_provider::Provider;
 use tf_sim::Sim;

@@ -1,8 +1,9 @@
-use Rattle.std.proofs.Common.{◌≡◌, Some, map as each, string_bytes, ap, ◌∙◌, arith}
+use Rattle.std.proofs.Common.{◌≡◌, Some, option_map, map as each, string_bytes, sym, ap, ◌∙◌, arith}
+use Rattle.std.proofs.lemmas.List.{drop_all}
 use Rattle.tf_address.specs.ObjectId as keys
-use Rattle.tf_value.specs.Tree.{tree_of, no_entries}
+use Rattle.tf_value.specs.Tree.{entries_view, tree_of, no_entries}
 use Rattle.tf_value.proofs.Views.{tree_of-Map}
-use Rattle.tf_expand.proofs.Laying.{found_is, put_rest, put_more, put_all}
+use Rattle.tf_expand.proofs.Laying.{put_rest, put_more, put_all}
 use Rattle.tf_expand.proofs.collecting.mapped.Goals as goal
 
 pub loop-name-preserved : goal.loop-name-preserved
@@ -10,11 +11,12 @@ loop-name-preserved g c =
     let object = g.K.Keyed.object c.args.keyed.now in
     let name = c.name-item.result in
     let found : object (keys.name (string_bytes name)) ≡ Some (tree_of c.in-Some.object) =
-    found_is object (string_bytes c.in_ok-clone.field-0) (string_bytes name) c.in_ok-object.field-0 c.in-Some.object c.in-Some.is c.in_ok-object.ensures c.in_ok-clone.ensures.cases in
+    ap (λ n. object (keys.name n)) (sym c.in_ok-clone.ensures.cases) ∙ sym c.in_ok-object.ensures ∙ ap (option_map tree_of) c.in-Some.is in
     put_more object c.args.names.now c.loop-name.name-index name c.in_ok-clone-2.field-0 c.in-Some.object c.loop-name.objects.entries c.insert.new.self.entries
     (put_rest object (each string_bytes c.args.names.now) no_entries) c.loop-name-test.true c.name-item.is c.in_ok-clone-2.ensures.cases c.in_ok-insert.ensures.entries found c.loop-name.invariant
 
 pub returns : goal.returns
 returns g c =
     ap Some (tree_of-Map c.loop-name.objects)
-    ∙ put_all (g.K.Keyed.object c.args.keyed.now) c.args.names.now c.loop-name.name-index c.loop-name.objects.entries (omega (arith, c.loop-name-test.false)) c.loop-name.invariant
+    ∙ put_all (each string_bytes c.args.names.now) _ (entries_view c.loop-name.objects.entries)
+    (rw (drop_all c.loop-name.name-index c.args.names.now (omega (arith, c.loop-name-test.false))) at c.loop-name.invariant)

@@ -1,4 +1,4 @@
-use Rattle.std.proofs.Common.{◌≡◌, ◌+◌, ℕ, Bool, true, length, ap, ◌∙◌}
+use Rattle.std.proofs.Common.{◌≡◌, ◌+◌, Bool, true, refl}
 use Rattle.std.proofs.lemmas.List.{length_push}
 use Rattle.std.specs.Prelude.{◌↔◌}
 use Rattle.tf_expand.proofs.Needing.{marked_more}
@@ -8,11 +8,9 @@ use Rattle.tf_expand.proofs.needed.needed_by.Goals as goal
 
 pub loop-place-preserved : goal.loop-place-preserved
 loop-place-preserved c =
-    let found = c.loop-place.needed.items in
-    let d = c.args.dependence.now in
-    let marks = c.args.marked.now in
+    let before = c.loop-place.invariant in
     record {
-      long = ap (λ xs. length xs) c.in_ok-push.ensures.items ∙ length_push found c.is_needed.result ∙ ap (λ k. k + 1) c.loop-place.invariant.long;
-      marked = marked_more (λ n (b : Bool). (b ≡ true) ↔ IsNeededBy (λ a. has marks a ≡ true) d n) c.loop-place.place found c.push.new.self.items c.is_needed.result c.in_ok-push.ensures.items c.loop-place.invariant.long
-          c.loop-place.invariant.marked c.is_needed.ensures;
+      long = rw (c.in_ok-push.ensures.items, length_push, before.long) refl;
+      marked = marked_more (λ n (b : Bool). (b ≡ true) ↔ IsNeededBy (λ a. has c.args.marked.now a ≡ true) c.args.dependence.now n) _ _ _ c.is_needed.result
+          c.in_ok-push.ensures.items before.long before.marked c.is_needed.ensures;
     }

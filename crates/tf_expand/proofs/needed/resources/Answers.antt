@@ -1,4 +1,4 @@
-use Rattle.std.proofs.Common.{length, ◌∙◌, arith}
+use Rattle.std.proofs.Common.{arith}
 use Rattle.tf_config_names.specs.Table.{names_in}
 use Rattle.tf_expand.proofs.Needing.{all_marked}
 use Rattle.tf_expand.proofs.needed.resources.Goals as goal

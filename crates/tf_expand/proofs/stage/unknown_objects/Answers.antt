@@ -1,6 +1,6 @@
 use Rattle.std.proofs.Common.{ap, arith}
 use Rattle.tf_expand.specs.Views.{shape_of}
-use Rattle.tf_expand.proofs.TooMany.{shape_too_many}
+use Rattle.tf_expand.proofs.Unknowns.{shape_too_many}
 use Rattle.tf_expand.proofs.stage.unknown_objects.Goals as goal
 
 pub returns-in-Many : goal.returns-in-Many

@@ -1,5 +1,4 @@
-use Rattle.tf_expand.proofs.Growing.{Known}
-use Rattle.tf_expand.proofs.Stages.{instances_stay, environments_grow}
+use Rattle.tf_expand.proofs.Growing.{Known, instances_stay, environments_grow}
 use Rattle.tf_expand.proofs.standing_laws.instances_stay.Goals as goal
 
 pub returns : goal.returns

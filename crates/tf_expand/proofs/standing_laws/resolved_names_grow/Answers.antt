@@ -1,5 +1,4 @@
-use Rattle.tf_expand.proofs.Growing.{Known, resolved_names_grow}
-use Rattle.tf_expand.proofs.Stages.{expansion_grows, plan_grows}
+use Rattle.tf_expand.proofs.Growing.{Known, resolved_names_grow, expansion_grows, plan_grows}
 use Rattle.tf_expand.proofs.standing_laws.resolved_names_grow.Goals as goal
 
 pub returns : goal.returns

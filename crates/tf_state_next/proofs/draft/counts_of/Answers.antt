@@ -32,7 +32,7 @@ loop-label-preserved c =
     let l = label_of c.label-item.result.now in
     let within : i < length labels = omega (arith, c.loop-label-test.true, length-map c.args.labels.now (λ l. label_of l.now)) in
     let is : get_or labels i l ≡ l = get_or-map (λ l. label_of l.now) c.args.labels.now i c.label-item.result ∙ ap (λ r. label_of r.now) (sym c.label-item.is) in
-    elim c.match-search.branch [
+    elim c.match-search_near.branch [
       | in-Ok w ↦
           let k = w.in-Ok.index in
           let at = w.in-Ok.ensures.found in

@@ -18,15 +18,15 @@ labels_last all front a e =
     ap (λ (xs : List Apply). map (λ (a : ApplyView). a.label) (map apply_of xs)) e ∙ ap (map (λ (a : ApplyView). a.label)) (map-append apply_of front (a ∷ []))
     ∙ map-append (λ (a : ApplyView). a.label) (map apply_of front) (apply_of a ∷ [])
 
-pub apply-requires-clause-there : goal.apply-requires-clause-there
-apply-requires-clause-there c =
+pub apply-place-requires-clause-there : goal.apply-place-requires-clause-there
+apply-place-requires-clause-there c =
     let old = c.loop-event in
     let labels = labels_last old.applies.items c.pop.new.self.items c.in-Some.event c.in-Some.ensures.items in
     (there_front (map (λ (a : ApplyView). a.label) (map apply_of c.pop.new.self.items)) ((apply_of c.in-Some.event).label ∷ []) (map resource_of old.resources)
     (subst (λ (ls : List LabelView). AreThere ls (map resource_of old.resources)) labels old.invariant.there)).1
 
-pub apply-requires-clause-room : goal.apply-requires-clause-room
-apply-requires-clause-room c =
+pub apply-place-requires-clause-room : goal.apply-place-requires-clause-room
+apply-place-requires-clause-room c =
     let old = c.loop-event in
     let labels = labels_last old.applies.items c.pop.new.self.items c.in-Some.event c.in-Some.ensures.items in
     room_last (map (λ (a : ApplyView). a.label) (map apply_of c.pop.new.self.items)) (apply_of c.in-Some.event).label old.resources
@@ -38,17 +38,17 @@ loop-event-preserved c =
     let front = map apply_of c.pop.new.self.items in
     let a = apply_of c.in-Some.event in
     let now = map resource_of old.resources in
-    let next = map resource_of c.apply.new.resources in
+    let next = map resource_of c.apply-place.new.resources in
     let all : map apply_of old.applies.items ≡ front ++ a ∷ [] = ap (map apply_of) c.in-Some.ensures.items ∙ map-append apply_of c.pop.new.self.items (c.in-Some.event ∷ []) in
     let labels = labels_last old.applies.items c.pop.new.self.items c.in-Some.event c.in-Some.ensures.items in
     let apart = subst (λ (ds : List ApplyView). AreApart instance_of ds) all old.invariant.apart in
     let there = there_front (map (λ (a : ApplyView). a.label) front) (a.label ∷ []) now (subst (λ (ls : List LabelView). AreThere ls now) labels old.invariant.there) in
     record {
-      recorded = λ after h. old.invariant.recorded after (subst (λ (ds : List ApplyView). AreApplied ds now after) (sym all) (applied_joined front (a ∷ []) now next after apart c.apply.ensures.recorded h));
-      ordered = heads_ordered now next c.apply.ensures.recorded.heads old.invariant.ordered;
+      recorded = λ after h. old.invariant.recorded after (subst (λ (ds : List ApplyView). AreApplied ds now after) (sym all) (applied_joined front (a ∷ []) now next after apart c.apply-place.ensures.recorded h));
+      ordered = heads_ordered now next c.apply-place.ensures.recorded.heads old.invariant.ordered;
       apart = apart_front instance_of front (a ∷ []) apart;
-      there = all_there (map (λ (a : ApplyView). a.label) front) now next c.apply.ensures.recorded.heads there.0;
-      room = c.apply.ensures.room (map (λ (a : ApplyView). a.label) front) (subst (λ (ls : List LabelView). HaveRoom (count_of ls) old.resources) labels old.invariant.room);
+      there = all_there (map (λ (a : ApplyView). a.label) front) now next c.apply-place.ensures.recorded.heads there.0;
+      room = c.apply-place.ensures.room (map (λ (a : ApplyView). a.label) front) (subst (λ (ls : List LabelView). HaveRoom (count_of ls) old.resources) labels old.invariant.room);
     }
 
 -- none is left

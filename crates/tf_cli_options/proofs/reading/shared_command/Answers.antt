@@ -1,0 +1,18 @@
+-- Each argument that is added adds its rule.
+use Rattle.std.proofs.Common.{◌∙◌, ap₂}
+use Rattle.std.proofs.lemmas.Result.{IfOk-weaker}
+use Rattle.clap.specs.Words.{with_rule}
+use Rattle.tf_cli_options.specs.Command.{shared_app}
+use Rattle.tf_cli_options.proofs.reading.shared_command.Goals as goal
+
+pub returns : goal.returns
+unfolding shared_app
+returns c = IfOk-weaker c.arg-6.result _ _
+    (λ r adds. adds.shape c.stop_option.ensures.local
+    ∙ ap₂ with_rule (c.in_ok-arg-5.ensures.shape c.workers_option.ensures.local
+    ∙ ap₂ with_rule (c.in_ok-arg-4.ensures.shape c.default_option-3.ensures.local
+    ∙ ap₂ with_rule (c.in_ok-arg-3.ensures.shape c.default_option-2.ensures.local
+    ∙ ap₂ with_rule (c.in_ok-arg-2.ensures.shape c.option.ensures.local
+    ∙ ap₂ with_rule (c.in_ok-arg.ensures.shape c.default_option.ensures.local
+    ∙ ap₂ with_rule c.new.ensures.app c.default_option.ensures.rule) c.option.ensures.rule) c.default_option-2.ensures.rule) c.default_option-3.ensures.rule) c.workers_option.ensures.rule) c.stop_option.ensures.rule)
+    c.arg-6.ensures

@@ -1,0 +1,10 @@
+//! The words of a command line: what the programs `plan` and `apply` are asked for, as `clap` reads it.
+#![tactic(auto)]
+
+mod asking;
+mod reading;
+pub mod words;
+
+pub use asking::asked_of;
+pub use reading::options;
+pub use words::{GraphForm, Options, Program};

@@ -1,0 +1,26 @@
+-- How a fault of an expression is refused.
+use Rattle.std.specs.Prelude.{ℕ}
+use Rattle.tf_expr.specs.Fault as faults
+use Rattle.tf_expr.specs.declared.fault.Cause.{Cause}
+use Rattle.tf_expr.specs.declared.fault.Cause.TheVariants as causes
+use Rattle.tf_refusal.specs.Code as code
+use Rattle.tf_refusal.specs.Refusal.{RefusalView, Way, at, bare, fault, no_memory}
+
+-- BadTemplate, with the byte offset
+abbrev pub bad_template : ℕ → Way
+bad_template offset = (code.bad_template, at offset)
+
+-- Limit: a template that is too deep
+abbrev pub too_deep : Way
+too_deep = (code.limit, bare)
+
+-- the way in which a fault of an expression is refused
+abbrev pub way_of : Cause → Way
+way_of causes.BadShape = (code.bad_shape, bare)
+way_of (causes.At offset) = bad_template offset
+way_of causes.TooDeep = too_deep
+
+-- what is told of an expression, as it is refused
+abbrev pub refused_expression : faults.Told → RefusalView
+refused_expression faults.no_memory = no_memory
+refused_expression (faults.wrong place cause) = fault (way_of cause).0 place (way_of cause).1

@@ -1,0 +1,40 @@
+//! How a fault of an expression is refused.
+
+ghost use Rattle.std.specs.Prelude.{◌≡◌};
+ghost use Rattle.tf_expr.specs.Fault.{told};
+ghost use Rattle.tf_expr.specs.Refusing.{refused_expression, way_of};
+ghost use Rattle.tf_refusal.specs.Refusal.{detail_of, refusal_of};
+
+use crate::fault::{Cause, ExprFault};
+use tf_refusal::code::{BAD_SHAPE, BAD_TEMPLATE, LIMIT};
+use tf_refusal::{Detail, Refusal};
+
+/// A fault of an expression, as it is refused.
+impl From<ExprFault> for Refusal {
+    ghost from_gives = { λ fault refusal. refusal_of refusal ≡ refused_expression (told fault) };
+
+    fn from(fault: ExprFault) -> Refusal {
+        match fault {
+            ExprFault::OutOfMemory => Refusal::OutOfMemory,
+            ExprFault::Refused { place, cause } => {
+                let (code, detail) = way_of(cause);
+                Refusal::Fault {
+                    code,
+                    place,
+                    detail,
+                }
+            }
+        }
+    }
+}
+
+/// The code of a fault of an expression, and what stands behind its name.
+fn way_of(cause: Cause) -> (u8, Detail)
+    ensures { (result.0, detail_of result.1) ≡ way_of cause }
+{
+    match cause {
+        Cause::BadShape => (BAD_SHAPE, Detail::Bare),
+        Cause::At(offset) => (BAD_TEMPLATE, Detail::At(offset)),
+        Cause::TooDeep => (LIMIT, Detail::Bare),
+    }
+}
