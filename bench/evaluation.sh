@@ -1,10 +1,10 @@
 #!/usr/bin/env bash
-# Times the evaluation of templates by tf_eval beside the kit's serde_json reading a JSON text, in one run of one program.
+# Times the evaluation of templates by tf_expr_eval beside the kit's serde_json reading a JSON text, in one run of one program.
 exec "$(dirname "$0")/beside_json.sh" evaluation "short long join concat json" \
-    'tf_address:' \
+    'tf_config_address:' \
     'tf_value: serde serde_json' \
-    'tf_syntax:' \
-    'tf_template: tf_address tf_syntax' \
-    'tf_operators: tf_value tf_syntax' \
-    'tf_eval: tf_value tf_syntax tf_operators' \
-    'bench_evaluation: tf_value tf_syntax tf_template tf_eval serde_json anyhow'
+    'tf_expr_syntax:' \
+    'tf_expr_template: tf_config_address tf_expr_syntax' \
+    'tf_expr_operators: tf_value tf_expr_syntax' \
+    'tf_expr_eval: tf_value tf_expr_syntax tf_expr_operators' \
+    'bench_evaluation: tf_value tf_expr_syntax tf_expr_template tf_expr_eval serde_json anyhow'

@@ -10,7 +10,7 @@ trap 'rm -rf "$work"' EXIT
 cp -r "$here/.." "$work/repo"
 mkdir -p "$work/repo/crates/bench_runs/src"
 cp "$here/runs/main.rt.txt" "$work/repo/crates/bench_runs/src/main.rt"
-echo 'bench_runs: tf_cli tf_provider tf_sim serde_json anyhow' >> "$work/repo/crates.txt"
+echo 'bench_runs: tf_cli tf_provider tf_provider_sim serde_json anyhow' >> "$work/repo/crates.txt"
 "$work/repo/tools/prove" bench_runs > "$work/log" 2>&1 || { tail -20 "$work/log"; exit 1; }
 program="$work/repo/crates/bench_runs/out/bench_runs"
 python3 "$here/runs/make.py" independent 1 > "$work/config"

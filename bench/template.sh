@@ -1,7 +1,7 @@
 #!/usr/bin/env bash
-# Times tf_template beside the kit's serde_json, each on a megabyte of text in one run of one program.
+# Times tf_expr_template beside the kit's serde_json, each on a megabyte of text in one run of one program.
 exec "$(dirname "$0")/beside_json.sh" template "short long json" \
-    'tf_address:' \
-    'tf_syntax:' \
-    'tf_template: tf_address tf_syntax' \
-    'bench_template: tf_template serde_json anyhow'
+    'tf_config_address:' \
+    'tf_expr_syntax:' \
+    'tf_expr_template: tf_config_address tf_expr_syntax' \
+    'bench_template: tf_expr_template serde_json anyhow'

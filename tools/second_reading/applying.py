@@ -47,7 +47,7 @@ class Walk:
             return "Skipped"
         if self.is_stopped:
             return self.tell(action, "Left", 27, "left")
-        prior = self.plan.record(action.label, action.key, action.deposed)
+        prior = self.plan.record(action.addr, action.key, action.deposed)
         if action.verb == "destroy":
             message, _ = provided(prior.attributes, "destroy")
             return self.tell(action, "Failed", 21, message) if message else "Good"
@@ -68,18 +68,18 @@ class Walk:
 
     def requested(self, action, prior):
         """Returns the object that is asked for: its arguments anew, by what was answered so far."""
-        label, key, verb, _ = action
-        values = self.plan.arguments(label, key, self.plan.standing(self.plan.needs[label], self.object_of))
+        addr, key, verb, _ = action
+        values = self.plan.arguments(addr, key, self.plan.standing(self.plan.needs[addr], self.object_of))
         if verb == "update":
-            return self.plan.with_ignored(label, values, prior) | {"id": prior.attributes["id"]}
+            return self.plan.with_ignored(addr, values, prior) | {"id": prior.attributes["id"]}
         return values | {"id": UNKNOWN}
 
-    def object_of(self, label, key):
+    def object_of(self, addr, key):
         """Returns an instance's object once all that is to be applied to it is good."""
-        change = self.plan.changes[label, key]
+        change = self.plan.changes[addr, key]
         if change == "none":
-            return self.plan.record(label, key).attributes
-        return self.objects[Action(label, key, "update" if change == "update" else "create")]
+            return self.plan.record(addr, key).attributes
+        return self.objects[Action(addr, key, "update" if change == "update" else "create")]
 
     def diagnostics(self):
         lines = []
@@ -87,7 +87,7 @@ class Walk:
             if action in self.told:
                 code, message = self.told[action]
                 deposed = f" (deposed {action.deposed})" if action.deposed else ""
-                lines.append(f"error {code} at {address(action.label, action.key)}{deposed} {action.verb}: {message}")
+                lines.append(f"error {code} at {address(action.addr, action.key)}{deposed} {action.verb}: {message}")
         return lines + [f"error 24 at output.{name}: Evaluate({kind})" for name, kind in self.outputs()[1].items()]
 
     def counts(self):
@@ -100,38 +100,38 @@ class Walk:
         """Returns the state after; its serial is one more where the rest changed."""
         prior = self.plan.prior
         resources = {}
-        for label, key in self.plan.instances():
-            if records := self.records_after(label, key):
-                resource = resources.setdefault(label, Resource({}, prior.resources[label].provider) if label in prior.resources else Resource({}))
+        for addr, key in self.plan.instances():
+            if records := self.records_after(addr, key):
+                resource = resources.setdefault(addr, Resource({}, prior.resources[addr].provider) if addr in prior.resources else Resource({}))
                 resource.records.update({(key, deposed): it for deposed, it in records.items()})
         after = replace(prior, outputs=self.outputs()[0], resources=resources)
         same_outputs = are_same(after.outputs, prior.outputs)
         return after if same_outputs and resources == prior.resources else replace(after, serial=prior.serial + 1)
 
-    def records_after(self, label, key):
+    def records_after(self, addr, key):
         """Returns an instance's records after, by deposed key."""
-        plan, change = self.plan, self.plan.changes.get((label, key))
-        prior = {deposed: it for (of, deposed), it in plan.prior.resources[label].records.items() if of == key} if label in plan.prior.resources else {}
-        kept = {deposed: it for deposed, it in prior.items() if self.outcomes.get(Action(label, key, "destroy", deposed)) != "Good"}
+        plan, change = self.plan, self.plan.changes.get((addr, key))
+        prior = {deposed: it for (of, deposed), it in plan.prior.resources[addr].records.items() if of == key} if addr in plan.prior.resources else {}
+        kept = {deposed: it for deposed, it in prior.items() if self.outcomes.get(Action(addr, key, "destroy", deposed)) != "Good"}
         if change == "none":
-            kept[None] = self.anew(label, prior[None])
-        if saved := self.saved(label, key, change):
+            kept[None] = self.anew(addr, prior[None])
+        if saved := self.saved(addr, key, change):
             if None in kept and change == "replace":
                 kept[self.new_deposed_key(prior)] = kept[None]
             kept[None] = saved
         return kept
 
-    def saved(self, label, key, change):
+    def saved(self, addr, key, change):
         """Returns the record that a create or update saved, if it saved one."""
-        action = Action(label, key, "update" if change == "update" else "create")
+        action = Action(addr, key, "update" if change == "update" else "create")
         if action not in self.objects:
             return None
         is_tainted = action.verb == "create" and self.outcomes[action] == "Contradicted"
-        return self.anew(label, Record(self.objects[action], is_tainted))
+        return self.anew(addr, Record(self.objects[action], is_tainted))
 
-    def anew(self, label, record):
+    def anew(self, addr, record):
         """Returns a record with what the configuration says of its resource."""
-        return replace(record, dependencies=tuple(sorted(self.plan.needs[label])), create_before_destroy=label in self.plan.late)
+        return replace(record, dependencies=tuple(sorted(self.plan.needs[addr])), create_before_destroy=addr in self.plan.late)
 
     def new_deposed_key(self, prior):
         number = self.plan.prior.serial + 1
@@ -143,18 +143,18 @@ class Walk:
         """Returns the outputs after, and the fault of each that has one."""
         after, faults, kept = {}, {}, self.plan.prior.outputs
         for name, output in sorted(self.plan.config.get("output", {}).items()):
-            labels = self.plan.resources_of(output["value"])
-            is_anew = all(it == "Good" for action, it in self.outcomes.items() if action.label in labels and action.verb != "destroy")
+            addrs = self.plan.resources_of(output["value"])
+            is_anew = all(it == "Good" for action, it in self.outcomes.items() if action.addr in addrs and action.verb != "destroy")
             try:
-                value = self.output_value(output["value"], labels) if is_anew else kept.get(name)
+                value = self.output_value(output["value"], addrs) if is_anew else kept.get(name)
             except Fault as fault:
                 faults[name], value = fault.kind, kept.get(name)
             if value is not None:
                 after[name] = value
         return after, faults
 
-    def output_value(self, expression, labels):
-        return with_lists(value_of(expression, self.plan.scope.with_more(self.plan.standing(labels, self.object_of))))
+    def output_value(self, expression, addrs):
+        return with_lists(value_of(expression, self.plan.scope.with_more(self.plan.standing(addrs, self.object_of))))
 
     def is_whole(self):
         return all(it == "Good" for it in self.outcomes.values()) and not self.outputs()[1]

@@ -92,32 +92,32 @@ class Site:
             "output": {},
         }
 
-    def block(self, label):
-        return self.config["resource"][label[0]].get(label[1])
+    def block(self, addr):
+        return self.config["resource"][addr[0]].get(addr[1])
 
-    def blocks_before(self, label):
-        before = self.order[: self.order.index(label)] if label else self.order
+    def blocks_before(self, addr):
+        before = self.order[: self.order.index(addr)] if addr else self.order
         return [it for it in before if self.block(it) is not None]
 
-    def attribute(self, label, names):
+    def attribute(self, addr, names):
         """Returns a reference to an attribute of one of these names; the instance that it names may not be there."""
-        block, at = self.block(label), ""
+        block, at = self.block(addr), ""
         if "count" in block:
             at = "[0]"
         elif "for_each" in block:
             at = self.chance.choice(['["k"]'] * 4 + [".x"])
-        return f"{label[0]}.{label[1]}{at}.{self.chance.choice(names)}"
+        return f"{addr[0]}.{addr[1]}{at}.{self.chance.choice(names)}"
 
-    def reference(self, label):
+    def reference(self, addr):
         """Returns a reference to an attribute of a block before this one, or None."""
-        if not (before := self.blocks_before(label)):
+        if not (before := self.blocks_before(addr)):
             return None
         named = self.chance.choice(before)
         return self.attribute(named, [*SCHEMAS[named[0]], "id", "id"])
 
-    def text(self, label, own):
+    def text(self, addr, own):
         """Returns an expression of a text, or now and then of a fault; `own` is what only this block may name."""
-        named = self.reference(label)
+        named = self.reference(addr)
         plain = self.chance.choice(["x", "y", "z", "bad", "${var.t}", "${local.l}"]) + self.chance.choice(["", own])
         if named is None:
             return plain
@@ -126,8 +126,8 @@ class Site:
         same = f"${{{named} == \"net-x\" ? \"t\" : {named}}}"
         return self.chance.choice([plain, plain, f"${{{named}}}", f"${{{named}}}", f"p-${{{named}}}{own}", same, "${local.first}"])
 
-    def new_block(self, label):
-        chance, before, block, own = self.chance, self.blocks_before(label), {}, ""
+    def new_block(self, addr):
+        chance, before, block, own = self.chance, self.blocks_before(addr), {}, ""
         many = [it for it in before if self.block(it).keys() & {"count", "for_each"}]
         repetition = chance.random()
         if repetition < 0.2:
@@ -136,17 +136,17 @@ class Site:
         elif repetition < 0.45:
             keys = chance.sample(["k", "k", "x", "é'\"", ""], chance.randint(0, 4))
             maps = [f"${{{kind}.{name}}}" for kind, name in many if isinstance(self.block((kind, name)).get("for_each"), dict)]
-            block["for_each"] = chance.choice([{key: self.text(label, "") for key in keys}, "${toset(var.l)}", '${toset(["k"])}', *maps])
+            block["for_each"] = chance.choice([{key: self.text(addr, "") for key in keys}, "${toset(var.l)}", '${toset(["k"])}', *maps])
             own = "${each.value.id}" if block["for_each"] in maps else chance.choice(["${each.key}", "${each.value}"])
-        for name, attribute in SCHEMAS[label[0]].items():
+        for name, attribute in SCHEMAS[addr[0]].items():
             if attribute.mode == "required" or attribute.mode == "optional" and chance.random() < 0.6:
-                texts = [self.text(label, own)] * 3 + (["lie", "stuck", "stuck", None, 5, True] if name == "tag" else [])
+                texts = [self.text(addr, own)] * 3 + (["lie", "stuck", "stuck", None, 5, True] if name == "tag" else [])
                 block[name] = chance.choice(texts if attribute.kind == "text" else [1, 7, 100, 101, "${50 + 51}", "${var.i}", None])
         if before and chance.random() < 0.3:
             block["depends_on"] = [".".join(it) for it in chance.sample(before, 1)]
         if chance.random() < 0.45:
             lifecycle = {"create_before_destroy": chance.random() < 0.7, "prevent_destroy": chance.random() < 0.06}
-            block["lifecycle"] = lifecycle | {"ignore_changes": chance.sample([*SCHEMAS[label[0]]], chance.choice([0, 1, 1, 2]))}
+            block["lifecycle"] = lifecycle | {"ignore_changes": chance.sample([*SCHEMAS[addr[0]]], chance.choice([0, 1, 1, 2]))}
         return block
 
     def change(self):
@@ -156,20 +156,20 @@ class Site:
             # (what is stored may then need in a ring what is made now)
             self.order = chance.sample(LABELS, len(LABELS))
             config["resource"] = {kind: {} for kind in SCHEMAS}
-        for label in self.order:
-            block, named = self.block(label), config["resource"][label[0]]
+        for addr in self.order:
+            block, named = self.block(addr), config["resource"][addr[0]]
             what = chance.random()
             if block is None and what < 0.5 or block is not None and 0.15 < what < 0.35:
-                named[label[1]] = self.new_block(label)
+                named[addr[1]] = self.new_block(addr)
             elif block is not None and what < 0.15:
-                del named[label[1]]
+                del named[addr[1]]
             elif block is not None and what < 0.55:
-                new = self.new_block(label)
+                new = self.new_block(addr)
                 is_alike = not (block.keys() | new.keys()) & {"count", "for_each"}
                 block.update({name: it for name, it in new.items() if name == "lifecycle" or is_alike and name not in ("cidr", "name")})
-        for label in self.order:
-            if self.block(label) is not None and not self.is_whole(self.block(label)):
-                del config["resource"][label[0]][label[1]]
+        for addr in self.order:
+            if self.block(addr) is not None and not self.is_whole(self.block(addr)):
+                del config["resource"][addr[0]][addr[1]]
         first = next(iter(self.blocks_before(None)), None)
         names_itself = first and ("local", "first") in references(self.block(first))
         config["locals"]["first"] = f"${{{self.attribute(first, ['id'])}}}" if first and not names_itself else "none"

@@ -3,7 +3,7 @@ from dataclasses import dataclass, field
 from typing import NamedTuple
 
 from meaning import UNKNOWN, Fault, Scope, TextSet, are_same, is_whole, text_of, value_of
-from states import State, address, json_text, key_order, label_text
+from states import State, address, json_text, key_order, addr_text
 from templates import Reference, nodes, read
 
 META = {"count", "for_each", "depends_on", "lifecycle", "//"}
@@ -45,7 +45,7 @@ class Wrong(Exception):
 class Action(NamedTuple):
     """`verb` is create, update or destroy."""
 
-    label: tuple
+    addr: tuple
     key: object
     verb: str
     deposed: object = None
@@ -89,12 +89,12 @@ class Plan:
         self.blocks = {(kind, name): block for kind, named in self.config.get("resource", {}).items() for name, block in named.items()}
         constants = {("var", name): it.get("default") for name, it in self.config.get("variable", {}).items()}
         self.scope = Scope(constants, self.config.get("locals", {}))
-        named = {label: self.named_by_block(block) for label, block in self.blocks.items()}
-        stored = {label: {it for record in resource.records.values() for it in record.dependencies} for label, resource in self.prior.resources.items()}
+        named = {addr: self.named_by_block(block) for addr, block in self.blocks.items()}
+        stored = {addr: {it for record in resource.records.values() for it in record.dependencies} for addr, resource in self.prior.resources.items()}
         self.needs, self.needed = closure(named), closure(stored)
-        both = {label: named.get(label, set()) | stored.get(label, set()) for label in {*named, *stored}}
-        flagged = {label for label in both if self.creates_first(label)}
-        self.late = flagged.union(*(reached for label, reached in closure(both).items() if label in flagged))
+        both = {addr: named.get(addr, set()) | stored.get(addr, set()) for addr in {*named, *stored}}
+        flagged = {addr for addr in both if self.creates_first(addr)}
+        self.late = flagged.union(*(reached for addr, reached in closure(both).items() if addr in flagged))
 
     def named_by_block(self, block):
         depends_on = {tuple(it.split(".")) for it in block.get("depends_on", [])}
@@ -110,31 +110,31 @@ class Plan:
                 found |= self.resources_of(self.config["locals"][name], (*through, name))
         return found
 
-    def creates_first(self, label):
+    def creates_first(self, addr):
         """Whether a resource itself has `create_before_destroy`: by its block, or where that is gone by the state."""
-        if label in self.blocks:
-            return self.blocks[label].get("lifecycle", {}).get("create_before_destroy", False)
-        return any(it.create_before_destroy for it in self.prior.resources[label].records.values())
+        if addr in self.blocks:
+            return self.blocks[addr].get("lifecycle", {}).get("create_before_destroy", False)
+        return any(it.create_before_destroy for it in self.prior.resources[addr].records.values())
 
-    def record(self, label, key, deposed=None):
-        resource = self.prior.resources.get(label)
+    def record(self, addr, key, deposed=None):
+        resource = self.prior.resources.get(addr)
         return resource and resource.records.get((key, deposed))
 
     def by_needs(self):
-        """Returns the blocks' labels, each behind those that it needs."""
-        return sorted(self.blocks, key=lambda label: len(self.needs[label]))
+        """Returns the blocks' addrs, each behind those that it needs."""
+        return sorted(self.blocks, key=lambda addr: len(self.needs[addr]))
 
-    def standing(self, labels, object_of):
+    def standing(self, addrs, object_of):
         """Returns what references to resources stand for, by the object of each instance."""
         found = {}
-        for label in labels:
-            block, keys = self.blocks[label], self.keys[label]
+        for addr in addrs:
+            block, keys = self.blocks[addr], self.keys[addr]
             if "count" in block:
-                found[label] = [object_of(label, key) for key in keys]
+                found[addr] = [object_of(addr, key) for key in keys]
             elif "for_each" in block:
-                found[label] = {key: object_of(label, key) for key in keys}
+                found[addr] = {key: object_of(addr, key) for key in keys}
             else:
-                found[label] = object_of(label, None)
+                found[addr] = object_of(addr, None)
         return found
 
     # Instances
@@ -142,13 +142,13 @@ class Plan:
     def expand(self):
         """Gives each resource its keys, or refuses the first one, by address, that has none though all that it needs do."""
         refusals = {}
-        for label in self.by_needs():
-            if self.needs[label] <= self.keys.keys():
-                scope = self.scope.with_more(self.standing(self.needs[label], lambda *_: UNKNOWN))
+        for addr in self.by_needs():
+            if self.needs[addr] <= self.keys.keys():
+                scope = self.scope.with_more(self.standing(self.needs[addr], lambda *_: UNKNOWN))
                 try:
-                    self.keys[label] = self.keys_of(self.blocks[label], scope)
+                    self.keys[addr] = self.keys_of(self.blocks[addr], scope)
                 except Wrong as why:
-                    refusals[label] = f"error {why.code} at {label_text(label)}: {why.told}"
+                    refusals[addr] = f"error {why.code} at {addr_text(addr)}: {why.told}"
         if refusals:
             raise Refused([refusals[min(refusals)]])
 
@@ -173,15 +173,15 @@ class Plan:
 
     def instances(self):
         """Returns the instances of configuration and state in address order."""
-        found = {(label, key) for label, keys in self.keys.items() for key in keys}
-        found |= {(label, key) for label, resource in self.prior.resources.items() for key, _ in resource.records}
+        found = {(addr, key) for addr, keys in self.keys.items() for key in keys}
+        found |= {(addr, key) for addr, resource in self.prior.resources.items() for key, _ in resource.records}
         return sorted(found, key=lambda it: (it[0], key_order(it[1])))
 
     # Planned objects
 
-    def arguments(self, label, key, objects):
+    def arguments(self, addr, key, objects):
         """Returns the values of all attributes but the computed ones, or raises what is wrong first: `for_each`, then by name."""
-        block, schema = self.blocks[label], SCHEMAS[label[0]]
+        block, schema = self.blocks[addr], SCHEMAS[addr[0]]
         scope, values, at = self.scope.with_more(objects), {}, "for_each"
         ignored = block.get("lifecycle", {}).get("ignore_changes", [])
         try:
@@ -212,76 +212,76 @@ class Plan:
         """Plans each instance, or refuses those, and the outputs, at fault, each where nothing that it needs was refused."""
         self.expand()
         refusals, refused = {}, set()
-        for label in [*self.by_needs(), *(it for it in self.prior.resources if it not in self.blocks)]:
-            if self.needs.get(label, set()) & refused:
-                refused.add(label)
+        for addr in [*self.by_needs(), *(it for it in self.prior.resources if it not in self.blocks)]:
+            if self.needs.get(addr, set()) & refused:
+                refused.add(addr)
                 continue
-            objects = self.standing(self.needs.get(label, ()), lambda *it: self.planned[it])
-            for key in [key for it, key in self.instances() if it == label]:
-                if why := self.refusal_of(label, key, objects):
-                    refusals[label, key] = why
-                    refused.add(label)
+            objects = self.standing(self.needs.get(addr, ()), lambda *it: self.planned[it])
+            for key in [key for it, key in self.instances() if it == addr]:
+                if why := self.refusal_of(addr, key, objects):
+                    refusals[addr, key] = why
+                    refused.add(addr)
         lines = [refusals[it] for it in self.instances() if it in refusals]
         for name, output in sorted(self.config.get("output", {}).items()):
-            labels = self.resources_of(output["value"])
-            if not labels & refused:
+            addrs = self.resources_of(output["value"])
+            if not addrs & refused:
                 try:
-                    value_of(output["value"], self.scope.with_more(self.standing(labels, lambda *it: self.planned[it])))
+                    value_of(output["value"], self.scope.with_more(self.standing(addrs, lambda *it: self.planned[it])))
                 except Fault as fault:
                     lines.append(f"error 9 at output.{name}: Evaluate({fault.kind})")
         if lines:
             raise Refused(lines)
         self.actions = list(self.listed_actions())
 
-    def refusal_of(self, label, key, objects):
+    def refusal_of(self, addr, key, objects):
         """Plans an instance, and returns the line that refuses it, if one does."""
-        block, is_kept, where = self.blocks.get(label, {}), key in self.keys.get(label, []), address(label, key)
+        block, is_kept, where = self.blocks.get(addr, {}), key in self.keys.get(addr, []), address(addr, key)
         is_protected = block.get("lifecycle", {}).get("prevent_destroy", False)
         if is_kept:
             try:
-                self.changes[label, key], self.planned[label, key] = self.change_of(label, key, self.arguments(label, key, objects))
+                self.changes[addr, key], self.planned[addr, key] = self.change_of(addr, key, self.arguments(addr, key, objects))
             except Wrong as why:
                 return f"error {why.code} at {where}{'' if why.name == 'for_each' else '.' + why.name}: {why.told}"
-        elif self.record(label, key):
-            self.changes[label, key] = "delete"
-        if is_protected and self.changes.get((label, key)) in ("replace", "delete"):
+        elif self.record(addr, key):
+            self.changes[addr, key] = "delete"
+        if is_protected and self.changes.get((addr, key)) in ("replace", "delete"):
             return f"error 12 at {where}: PreventDestroy"
         return None
 
-    def change_of(self, label, key, values):
+    def change_of(self, addr, key, values):
         """Returns an instance's change and its planned object."""
-        schema, prior = SCHEMAS[label[0]], self.record(label, key)
+        schema, prior = SCHEMAS[addr[0]], self.record(addr, key)
         computed = [name for name, it in schema.items() if it.mode == "computed"]
         anew = values | dict.fromkeys(computed, UNKNOWN)
         if not prior or prior.is_tainted:
             return "replace" if prior else "create", anew
-        kept = self.with_ignored(label, values, prior)
+        kept = self.with_ignored(addr, values, prior)
         differing = [name for name in values if not are_same(kept[name], prior.attributes[name])]
         if any(schema[name].force_new for name in differing):
             return "replace", anew
         return "update" if differing else "none", kept | {name: prior.attributes[name] for name in computed}
 
-    def with_ignored(self, label, values, prior):
+    def with_ignored(self, addr, values, prior):
         """Returns the values, those whose changes are ignored as they were."""
-        ignored = self.blocks[label].get("lifecycle", {}).get("ignore_changes", [])
+        ignored = self.blocks[addr].get("lifecycle", {}).get("ignore_changes", [])
         return {name: prior.attributes[name] if name in ignored else it for name, it in values.items()}
 
     # Actions and their order
 
     def listed_actions(self):
-        for label, key in self.instances():
-            change = self.changes.get((label, key))
+        for addr, key in self.instances():
+            change = self.changes.get((addr, key))
             if change in ("create", "update", "replace"):
-                yield Action(label, key, "update" if change == "update" else "create")
+                yield Action(addr, key, "update" if change == "update" else "create")
             if change in ("replace", "delete"):
-                yield Action(label, key, "destroy")
-            records = self.prior.resources[label].records if label in self.prior.resources else {}
+                yield Action(addr, key, "destroy")
+            records = self.prior.resources[addr].records if addr in self.prior.resources else {}
             for deposed in sorted(it for of, it in records if of == key and it):
-                yield Action(label, key, "destroy", deposed)
+                yield Action(addr, key, "destroy", deposed)
 
     def is_before(self, first, second):
         """The five cases in which one action waits for another."""
-        one, other = first.label, second.label
+        one, other = first.addr, second.addr
         is_pair = (one, first.key) == (other, second.key) and not first.deposed and not second.deposed
         match first.verb == "destroy", second.verb == "destroy":
             case False, False:
@@ -299,22 +299,22 @@ class Plan:
         signs = {"create": "+", "update": "~", "delete": "-"}
         lines, counts = [], {"create": 0, "update": 0, "destroy": 0}
         for action in self.actions:
-            label, key, verb, deposed = action
-            change = self.changes.get((label, key))
+            addr, key, verb, deposed = action
+            change = self.changes.get((addr, key))
             counts[verb] += 1
             if deposed:
-                lines.append(f"- {address(label, key)} (deposed {deposed})")
+                lines.append(f"- {address(addr, key)} (deposed {deposed})")
             elif verb != "destroy" or change == "delete":
-                sign = signs.get(change) or ("+/-" if label in self.late else "-/+")
-                lines += [f"{sign} {address(label, key)}", *self.attribute_lines(action)]
+                sign = signs.get(change) or ("+/-" if addr in self.late else "-/+")
+                lines += [f"{sign} {address(addr, key)}", *self.attribute_lines(action)]
         counted = ", ".join(f"{it} to {word}" for it, word in zip(counts.values(), ("add", "change", "destroy")))
         return "\n".join([*lines, f"Plan: {counted}."]) + "\n"
 
     def attribute_lines(self, action):
         if action.verb == "destroy":
             return
-        prior = self.record(action.label, action.key)
-        for name, value in sorted(self.planned[action.label, action.key].items()):
+        prior = self.record(action.addr, action.key)
+        for name, value in sorted(self.planned[action.addr, action.key].items()):
             differs = value is not None if action.verb == "create" else not are_same(value, prior.attributes[name])
             if differs:
                 yield f"    {name} = {'(known after apply)' if value is UNKNOWN else json_text(value)}"

@@ -36,12 +36,12 @@ def json_text(value):
     return json.dumps(value, ensure_ascii=False)
 
 
-def label_text(label):
-    return ".".join(label)
+def addr_text(addr):
+    return ".".join(addr)
 
 
-def address(label, key):
-    return label_text(label) + ("" if key is None else f"[{json_text(key)}]")
+def address(addr, key):
+    return addr_text(addr) + ("" if key is None else f"[{json_text(key)}]")
 
 
 def key_order(key):
@@ -65,7 +65,7 @@ def written_record(key, deposed, record):
         "index_key": key,
         "deposed": deposed,
         "status": "tainted" if record.is_tainted else None,
-        "dependencies": [label_text(it) for it in sorted(record.dependencies)] or None,
+        "dependencies": [addr_text(it) for it in sorted(record.dependencies)] or None,
         "create_before_destroy": record.create_before_destroy or None,
     }
     return {name: it for name, it in properties.items() if it is not None}

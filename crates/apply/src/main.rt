@@ -16,11 +16,11 @@ use std::thread::Threads;
 use tf_cli::Stop;
 use tf_cli_options::{Options, Program};
 use tf_cli_program::{LogSink, Place, ProgramInput, Seen, carry_out_logged, hold, run};
-use tf_local::LocalFile;
-use tf_log::{Logged, OpenLog};
-use tf_progress::Progress;
 use tf_provider::Provider;
-use tf_sim::Sim;
+use tf_provider_local::LocalFile;
+use tf_provider_log::{Logged, OpenLog};
+use tf_provider_progress::Progress;
+use tf_provider_sim::Sim;
 
 fn main(rt: HostRuntime) -> io::Result<ExitCode> {
     run(

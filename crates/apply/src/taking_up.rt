@@ -7,10 +7,10 @@ use std::process::ExitCode;
 use std::sync::Wait;
 use std::thread::Threads;
 use tf_cli_program::{Past, Place, ProgramInput, both_replayed, settle};
-use tf_local::LocalFile;
-use tf_log::{Entry, split};
 use tf_provider::Provider;
-use tf_sim::Sim;
+use tf_provider_local::LocalFile;
+use tf_provider_log::{LogEntry, split};
+use tf_provider_sim::Sim;
 
 /// Settles what an apply left that did not end, by providers that answer from the entries of its log. Where the program isn't to
 /// go on, that has been told, and this is its status.
@@ -21,7 +21,7 @@ pub fn take_up<T: Threads + Wait + Sync, O: Write, E: Write>(
     file: &File,
     given: &mut ProgramInput,
     past: &Past,
-    entries: Vec<Entry>,
+    entries: Vec<LogEntry>,
     out: &mut O,
     err: &mut E,
 ) -> io::Result<Result<(), ExitCode>> {
@@ -45,7 +45,7 @@ pub fn take_up<T: Threads + Wait + Sync, O: Write, E: Write>(
 }
 
 /// The entries of each of the providers that there are.
-fn own_entries(rt: &HostRuntime, entries: Vec<Entry>) -> io::Result<Vec<Vec<Entry>>> {
+fn own_entries(rt: &HostRuntime, entries: Vec<LogEntry>) -> io::Result<Vec<Vec<LogEntry>>> {
     let alloc = rt.alloc();
     let mut providers: Vec<Box<dyn Provider + Sync>> = Vec::new(alloc);
     providers.push(Box::new(alloc, Sim::new(alloc)?)?)?;

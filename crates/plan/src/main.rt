@@ -10,10 +10,10 @@ use tf_cli_options::{GraphForm, Options, Program};
 use tf_cli_program::{
     Past, Place, ProgramInput, Seen, both_replayed, foresee, print_graph, print_plan, run, see,
 };
-use tf_local::LocalFile;
-use tf_log::{Entry, split};
 use tf_provider::Provider;
-use tf_sim::Sim;
+use tf_provider_local::LocalFile;
+use tf_provider_log::{LogEntry, split};
+use tf_provider_sim::Sim;
 
 fn main(rt: HostRuntime) -> io::Result<ExitCode> {
     run(
@@ -67,7 +67,7 @@ fn look_back<T: Threads + Wait + Sync, E: Write>(
     place: &Place,
     given: &mut ProgramInput,
     past: &Past,
-    own: Vec<Vec<Entry>>,
+    own: Vec<Vec<LogEntry>>,
     err: &mut E,
 ) -> io::Result<Result<(), ExitCode>> {
     let alloc = rt.alloc();

@@ -5,4 +5,4 @@ mod texts;
 mod walks;
 
 pub use texts::series;
-pub use walks::{Walked, perform, walk_by};
+pub use walks::{WalkedGraph, perform, walk_by};

@@ -11,11 +11,11 @@ use tf_graph::Graph;
 
 /// Counts the actions that it hears of.
 #[derive(Drop)]
-struct Count {
+struct HeardCount {
     heard: u64,
 }
 
-impl Listener for Count {
+impl Listener for HeardCount {
     ghost bound = { 8000 };
 
     ghost heard = { λ c. c.heard };
@@ -35,7 +35,7 @@ pub fn perform(claims: &Claims, seat: &mut Seat, action: usize) -> Option<u64>
     let Some(permit) = claims.claim(seat, action) else {
         return None;
     };
-    let mut count = Count { heard: 0 };
+    let mut count = HeardCount { heard: 0 };
     let _nodes = claims.graph().nodes();
     claims.finish(seat, waive(permit));
     claims.let_go_from(seat, action, &mut count);
@@ -93,7 +93,7 @@ fn joined(claims: &Claims, mut seat: Seat, mut others: Vec<Seat>) -> Seat
 
 /// What came of a walk.
 #[derive(Clone, Copy, Debug, PartialEq, Eq)]
-pub struct Walked {
+pub struct WalkedGraph {
     /// The steps of all threads together.
     pub by_threads: u64,
     /// Their steps, and those of the seat that they were joined to, which does what they left.
@@ -114,7 +114,7 @@ pub fn walk_by<R: Threads + Sync>(
     alloc: Global,
     graph: &Graph,
     threads: usize,
-) -> Result<Walked, AllocError> {
+) -> Result<WalkedGraph, AllocError> {
     let (claims, mut seat) = Claims::new(alloc, graph)?;
     let others = seats(alloc, &claims, &mut seat, threads)?;
     let freed = AtomicU64::new(0);
@@ -130,7 +130,7 @@ pub fn walk_by<R: Threads + Sync>(
     let by_threads = claims.steps(&seat);
     let seat = walk(&claims, seat, &freed);
     let steps = claims.steps(&seat);
-    Ok(Walked {
+    Ok(WalkedGraph {
         by_threads,
         steps,
         freed: freed.load(Ordering::SeqCst),

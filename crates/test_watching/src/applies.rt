@@ -10,7 +10,7 @@ use std::test::Fail;
 use std::thread::Threads;
 use tf_cli::{Applied, Refused, Stop, apply_text, plan_text, print_refused, show};
 use tf_provider::Provider;
-use tf_sim::Sim;
+use tf_provider_sim::Sim;
 
 /// By how many workers what is applied is applied.
 pub const WORKERS: [usize; 3] = [1, 2, 64];
@@ -51,7 +51,7 @@ impl<'a> Texts<'a> {
 
 /// What an apply prints and answers.
 #[derive(Drop)]
-pub struct Seen {
+pub struct SeenApply {
     pub output: String,
     pub errors: String,
     pub status: u8,
@@ -77,7 +77,7 @@ pub fn watch_apply<R: Threads + Wait + Sync>(
     alloc: Global,
     texts: Texts<'_>,
     workers: usize,
-) -> Result<Seen, Fail> {
+) -> Result<SeenApply, Fail> {
     watch_manner(rt, alloc, texts, workers, Manner::Plain)
 }
 
@@ -88,7 +88,7 @@ pub fn watch_manner<R: Threads + Wait + Sync>(
     texts: Texts<'_>,
     workers: usize,
     manner: Manner,
-) -> Result<Seen, Fail> {
+) -> Result<SeenApply, Fail> {
     let calls = Arc::new(alloc, AtomicUsize::new(0))?;
     let stop = Arc::new(alloc, Stop::new())?;
     if manner == Manner::Stops(0) {
@@ -115,7 +115,7 @@ pub fn apply_by<R: Threads + Wait + Sync>(
     providers: &[Box<dyn Provider + Sync>],
     workers: usize,
     stop: &Stop,
-) -> Result<Seen, Fail> {
+) -> Result<SeenApply, Fail> {
     let answer = apply_text(
         rt,
         alloc,
@@ -131,7 +131,7 @@ pub fn apply_by<R: Threads + Wait + Sync>(
     let mut errors = Vec::new(alloc);
     let status = show(&answer, &mut output, &mut errors);
     let after = state_after(alloc, answer)?;
-    Ok(Seen {
+    Ok(SeenApply {
         output: String::from_utf8(output)?,
         errors: String::from_utf8(errors)?,
         status,

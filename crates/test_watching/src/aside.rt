@@ -1,11 +1,11 @@
 //! The provider `sim` with something done beside each of its calls.
 
 ghost use Rattle.std.specs.Prelude.{◌≡◌, IfSome};
-ghost use Rattle.tf_protocol.specs.Meaning.{answered, asked};
-ghost use Rattle.tf_sim.specs.Table.{sim_meaning};
+ghost use Rattle.tf_provider_protocol.specs.Meaning.{answered, asked};
+ghost use Rattle.tf_provider_sim.specs.Table.{sim_meaning};
 
 use tf_provider::{Provider, Reply, Request, Schema};
-use tf_sim::Sim;
+use tf_provider_sim::Sim;
 
 /// What is done beside a call, and whether it is handed on to `sim`.
 pub trait Aside: Drop {

@@ -9,10 +9,10 @@ mod telling;
 mod watched;
 
 pub use applies::{
-    After, Seen, Texts, WORKERS, apply_by, planned, state_after, watch_apply, watch_manner,
+    After, SeenApply, Texts, WORKERS, apply_by, planned, state_after, watch_apply, watch_manner,
 };
 pub use aside::{Aside, Sided};
 pub use meeting::{Meeting, Meets, is_reached_within, meet};
 pub use scripted::scripted_reply;
-pub use telling::{Told, tell_of};
+pub use telling::{ToldWalk, tell_of};
 pub use watched::Manner;

@@ -24,7 +24,7 @@ pub struct Meets {
 impl Provider for Meets {
     ghost use Rattle.std.specs.Prelude.{Some, None, string_bytes, if◌then◌else◌};
     ghost use Rattle.std.specs.Str.{bytes_eq};
-    ghost use Rattle.tf_protocol.specs.Meaning.{object};
+    ghost use Rattle.tf_provider_protocol.specs.Meaning.{object};
     ghost use Rattle.tf_value.specs.Tree.{map, no_entries};
 
     ghost meaning = { λ m. record { answer = λ _. object (map no_entries); schema_of = λ name. if bytes_eq name (string_bytes m.type_name) then Some m.schema else None } };

@@ -2,7 +2,7 @@
 
 ghost use Rattle.std.specs.Option.{option_map_or};
 ghost use Rattle.std.specs.Prelude.{◌≡◌, IfOk, IfSome, option_map, string_bytes};
-ghost use Rattle.tf_protocol.specs.Meaning.{answered, failed, gone, object as object_of};
+ghost use Rattle.tf_provider_protocol.specs.Meaning.{answered, failed, gone, object as object_of};
 ghost use Rattle.tf_value.specs.Tree.{tree_of};
 
 use std::alloc::AllocError;

@@ -7,7 +7,7 @@ use tf_walk_report::{Report, Walked};
 
 /// What is told of a walk.
 #[derive(Drop)]
-pub struct Told {
+pub struct ToldWalk {
     /// Whether the journal can be relied on.
     pub whole: bool,
     pub state: State,
@@ -25,7 +25,7 @@ pub struct Told {
 /// # Errors
 ///
 /// Only where memory runs out.
-pub fn tell_of(alloc: Global, walked: Walked) -> Result<Told, AllocError> {
+pub fn tell_of(alloc: Global, walked: Walked) -> Result<ToldWalk, AllocError> {
     let whole = matches!(&walked, Walked::Whole(_));
     let Report {
         state,
@@ -39,7 +39,7 @@ pub fn tell_of(alloc: Global, walked: Walked) -> Result<Told, AllocError> {
     for entry in journal.entries() {
         called.push(entry.action)?;
     }
-    Ok(Told {
+    Ok(ToldWalk {
         whole,
         state,
         outcomes: listed(alloc, outcomes.as_slice())?,

@@ -5,7 +5,7 @@ use std::sync::Arc;
 use std::sync::atomic::{AtomicUsize, Ordering};
 use tf_cli::Stop;
 use tf_provider::{Provider, Reply, Request};
-use tf_sim::Sim;
+use tf_provider_sim::Sim;
 
 /// What is special about a provider.
 #[derive(Clone, Copy, PartialEq, Eq)]

@@ -4,7 +4,7 @@ use Rattle.std.specs.Prelude.{◌==◌, ◌+◌, ◌↔◌, IfOk}
 use Rattle.tf_state_next.specs.StateAfter.{is_same, next_serial}
 use Rattle.tf_plan_data.specs.Plan.{PlanView}
 use Rattle.tf_plan_text.specs.Text.{plan_text}
-use Rattle.tf_protocol.specs.Meaning.{Meaning}
+use Rattle.tf_provider_protocol.specs.Meaning.{Meaning}
 use Rattle.tf_walk_report.specs.Report.{IsReported, report_of}
 use Rattle.tf_walk_report.specs.Savable.{HasNames}
 use Rattle.tf_walk.specs.Run.{IsRun}

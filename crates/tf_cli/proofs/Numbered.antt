@@ -6,8 +6,8 @@ use Rattle.tf_plan.specs.Refused.{Tells}
 use Rattle.tf_plan.specs.declared.refused.Refused.{Refused}
 use Rattle.tf_plan.specs.declared.refused.Refused.TheVariants.{NoMemory, These}
 use Rattle.tf_plan_data.specs.Plan.{PlanView}
-use Rattle.tf_protocol.specs.Meaning.{Meaning}
-use Rattle.tf_refusal.specs.Refusal.{RefusalView, no_memory, workers}
+use Rattle.tf_provider_protocol.specs.Meaning.{Meaning}
+use Rattle.tf_config_refusal.specs.Refusal.{RefusalView, no_memory, workers}
 use Rattle.tf_walk.specs.Run.{are_workers}
 use Rattle.tf_cli.specs.Applies.{IsPlanOf}
 use Rattle.tf_cli.specs.Refusals.{AreApplyRefusals, AreRefusals, RefusesBy}

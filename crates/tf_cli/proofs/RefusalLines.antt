@@ -6,8 +6,8 @@ use Rattle.std.specs.Io.KnownBytes.{Appends}
 use Rattle.std.specs.Prelude.{OnOk}
 use Rattle.std.specs.List.{flat_map}
 use Rattle.std.specs.declared.string.String.{String}
-use Rattle.tf_refusal.specs.Refusal.{DetailView, fault}
-use Rattle.tf_refusal.specs.Text.{detail_text, names_text, refusal_name}
+use Rattle.tf_config_refusal.specs.Refusal.{DetailView, fault}
+use Rattle.tf_config_refusal.specs.Text.{detail_text, names_text, refusal_name}
 use Rattle.tf_cli.specs.Saved.{AppendsStart}
 use Rattle.tf_cli.specs.Shown.{fault_opening, refusal_line}
 use Rattle.tf_cli.proofs.Writes.{appends_as}

@@ -6,9 +6,9 @@ use Rattle.tf_cli_inputs.specs.Texts.{Texts, ReadAs}
 use Rattle.tf_plan.specs.Refused.{AreRefused}
 use Rattle.tf_plan.specs.declared.refused.Refused.{Refused}
 use Rattle.tf_plan.specs.declared.refused.Refused.TheVariants.{NoMemory, These}
-use Rattle.tf_protocol.specs.Meaning.{Meaning}
+use Rattle.tf_provider_protocol.specs.Meaning.{Meaning}
 use Rattle.tf_plan_data.specs.Plan.{PlanView}
-use Rattle.tf_refusal.specs.Refusal.{RefusalView, no_memory, refusal_of, workers}
+use Rattle.tf_config_refusal.specs.Refusal.{RefusalView, no_memory, refusal_of, workers}
 use Rattle.tf_walk.specs.Run.{are_workers}
 use Rattle.tf_state_data.specs.State.{StateView}
 use Rattle.tf_value.specs.Tree.{Entries}

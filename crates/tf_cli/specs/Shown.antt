@@ -1,13 +1,13 @@
 -- What an apply prints before it writes the state, and its status.
 use Rattle.std.specs.Prelude.{ℕ, Bool, true, false, not, ◌&&◌, if◌then◌else◌, List, [], ◌∷◌, ◌++◌, codes, decimal, Option, Some, None, Result, Ok, Err, is_err, string_bytes}
 use Rattle.std.specs.List.{flat_map, list_all}
-use Rattle.tf_refusal.specs.Refusal.{RefusalView, no_memory, refusal_of}
-use Rattle.tf_refusal.specs.Text.{refusal_text}
-use Rattle.tf_protocol.specs.declared.request.Op.{Op}
-use Rattle.tf_protocol.specs.declared.request.Op.TheVariants as op
+use Rattle.tf_config_refusal.specs.Refusal.{RefusalView, no_memory, refusal_of}
+use Rattle.tf_config_refusal.specs.Text.{refusal_text}
+use Rattle.tf_provider_protocol.specs.declared.request.Op.{Op}
+use Rattle.tf_provider_protocol.specs.declared.request.Op.TheVariants as op
 use Rattle.tf_plan.specs.declared.refused.Refused.{Refused}
 use Rattle.tf_plan.specs.declared.refused.Refused.TheVariants.{NoMemory, These}
-use Rattle.tf_protocol.specs.Verdict.{is_good_verdict}
+use Rattle.tf_provider_protocol.specs.Verdict.{is_good_verdict}
 use Rattle.tf_walk_action.specs.declared.excuse.Outcome.{Outcome}
 use Rattle.tf_walk_action.specs.declared.excuse.Outcome.TheVariants as outcome
 use Rattle.tf_walk_report.specs.Diagnostics.{DiagnosticView, diagnostic_of}

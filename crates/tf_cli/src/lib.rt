@@ -15,7 +15,7 @@ pub use lines::verb_text;
 pub use planning::{InputTexts, plan_of_texts, plan_text};
 pub use printing::{print, print_refused, show};
 pub use saving::{SaveFault, save, save_all};
+pub use tf_config_refusal::Refusal;
 pub use tf_plan::Refused;
-pub use tf_refusal::Refusal;
 pub use tf_walk_action::Stop;
 pub use tf_walk_report::{Report, Walked};

@@ -6,16 +6,16 @@ ghost use Rattle.tf_cli.specs.Applies.{IsPlanOf, IsPlanText};
 ghost use Rattle.tf_cli.specs.Refusals.{AreRefusals, RefusesBy};
 ghost use Rattle.tf_cli_inputs.specs.Texts.{the_texts};
 ghost use Rattle.tf_plan.specs.Refused.{Tells};
-ghost use Rattle.tf_refusal.specs.Refusal.{refusal_of};
+ghost use Rattle.tf_config_refusal.specs.Refusal.{refusal_of};
 ghost use Rattle.tf_state.specs.Valid.{IsValid};
 
 use std::alloc::Global;
 use tf_cli_inputs::{Inputs, read_texts};
+use tf_config_refusal::Refusal;
 use tf_plan::{Refused, plan};
 use tf_plan_data::Planned;
 use tf_plan_text::plan_text as text_of_plan;
 use tf_provider::Provider;
-use tf_refusal::Refusal;
 
 /// The texts that the user gives, and the lineage of a new state.
 #[derive(Clone, Copy)]

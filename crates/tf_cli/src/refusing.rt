@@ -5,14 +5,14 @@ ghost use Rattle.std.specs.List.{flat_map};
 ghost use Rattle.std.specs.Prelude.{◌≡◌, ◌++◌, OnOk, codes, decimal, map, string_bytes};
 ghost use Rattle.tf_cli.specs.Saved.{AppendsStart};
 ghost use Rattle.tf_cli.specs.Shown.{fault_opening, refusal_line};
-ghost use Rattle.tf_operators.specs.EvalFault.{eval_fault_name};
-ghost use Rattle.tf_refusal.specs.Refusal.{detail_of, refusal_of};
-ghost use Rattle.tf_refusal.specs.Text.{detail_text, names_text, refusal_name};
+ghost use Rattle.tf_expr_syntax.specs.EvalFault.{eval_fault_name};
+ghost use Rattle.tf_config_refusal.specs.Refusal.{detail_of, refusal_of};
+ghost use Rattle.tf_config_refusal.specs.Text.{detail_text, names_text, refusal_name};
 
 use crate::saving::{SaveFault, save, save_all};
 use itoa::Buffer;
 use std::io::Write;
-use tf_refusal::{Detail, EvalFault, Refusal};
+use tf_config_refusal::{Detail, EvalFault, Refusal};
 
 /// Prints each refusal in a line. Where a write fails, what was written is a beginning of that.
 pub fn print_refusals<E: Write>(refusals: &[Refusal], err: &mut E) -> Result<(), SaveFault>

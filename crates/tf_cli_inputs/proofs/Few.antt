@@ -8,7 +8,7 @@ use Rattle.tf_config_data.specs.Names.{block_name, local_names, names_of}
 use Rattle.tf_cli_inputs.specs.Texts.{IsPrior}
 use Rattle.tf_state.specs.Table.{IsPlannable}
 use Rattle.tf_state_data.specs.State.{StateView, empty_state}
-use Rattle.tf_syntax.specs.ExprTree.{Entries, no_entries, entry}
+use Rattle.tf_expr_syntax.specs.ExprTree.{Entries, no_entries, entry}
 
 mapped-length : {A B : Type 0} (f : A → B) (xs : List A) → length (map f xs) ≡ length xs
 mapped-length f [] = refl

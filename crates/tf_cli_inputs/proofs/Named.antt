@@ -7,8 +7,8 @@ use Rattle.tf_graph.specs.Path.{Path, direct, onward}
 use Rattle.tf_config_names.specs.Judging.{AllAreKnown}
 use Rattle.tf_config_names.specs.Needs.{IsAcyclic, IsDependence, Needs, RefersTo, needs_in}
 use Rattle.tf_config_names.specs.declared.dependence.Dependence.{Dependence}
-use Rattle.tf_refusal.specs.declared.refusal.Refusal.{Refusal}
-use Rattle.tf_syntax.specs.TemplateNames.{Pair}
+use Rattle.tf_config_refusal.specs.declared.refusal.Refusal.{Refusal}
+use Rattle.tf_expr_syntax.specs.TemplateNames.{Pair}
 use Rattle.tf_cli_inputs.specs.Texts.{AreNamesGood}
 
 -- what is needed is declared

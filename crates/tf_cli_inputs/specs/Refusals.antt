@@ -3,8 +3,8 @@ use Rattle.std.specs.Prelude.{◌≡◌, ◌⊎◌, ℕ, codes, List, Option, So
 use Rattle.tf_config.specs.Reading.{IsRefused}
 use Rattle.tf_config_data.specs.Config.{ConfigView}
 use Rattle.tf_config_names.specs.Judging.{RefusesItsNames}
-use Rattle.tf_refusal.specs.Code.{bad_state, limit}
-use Rattle.tf_refusal.specs.Refusal.{RefusalView, no_memory, fault, bare}
+use Rattle.tf_config_refusal.specs.Code.{bad_state, limit}
+use Rattle.tf_config_refusal.specs.Refusal.{RefusalView, no_memory, fault, bare}
 use Rattle.tf_state.specs.Table.{IsUnread}
 use Rattle.tf_state.specs.declared.fault.StateFault.{StateFault}
 use Rattle.tf_state.specs.declared.fault.StateFault.TheVariants.{BadState, Limit, OutOfMemory}

@@ -10,7 +10,7 @@ use Rattle.tf_config_names.specs.Judging.{AllAreKnown}
 use Rattle.tf_config_names.specs.Needs.{Needs}
 use Rattle.tf_state.specs.Table.{IsPlannable, Reads}
 use Rattle.tf_state_data.specs.State.{StateView, empty_state}
-use Rattle.tf_syntax.specs.TemplateNames.{Pair}
+use Rattle.tf_expr_syntax.specs.TemplateNames.{Pair}
 use Rattle.tf_value.specs.Tree.{Entries}
 use Rattle.tf_config.specs.VariablesRead.{IsFileOf}
 use Rattle.tf_config.specs.Values.{AreValues, file_checks}

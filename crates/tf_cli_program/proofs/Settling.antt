@@ -3,7 +3,7 @@ use Rattle.std.proofs.Common.{Global, Result, Ok, Err, ◌≡◌, ◌∙◌, ℕ
 use Rattle.std.specs.Prelude.{IfOk}
 use Rattle.std.specs.Option.{option_or}
 use Rattle.std.specs.declared.string.String.{String}
-use Rattle.tf_protocol.specs.Meaning.{Meaning}
+use Rattle.tf_provider_protocol.specs.Meaning.{Meaning}
 use Rattle.tf_cli_program.specs.Settled.{GoesOnFrom, IsLookedAt, IsPut, state_given}
 use Rattle.tf_cli_program.specs.declared.given.ProgramInput.{ProgramInput}
 use Rattle.tf_cli_program.specs.declared.looking.LogStanding.TheVariants.{Before, After}

@@ -4,8 +4,8 @@ use Rattle.std.specs.Prelude.{IfOk, IfErr}
 use Rattle.tf_cli.specs.Applies.{IsApplied}
 use Rattle.tf_cli.specs.declared.applied.Applied.{Applied}
 use Rattle.tf_cli_inputs.specs.Texts.{Texts, the_texts}
-use Rattle.tf_log.specs.Header.{HeaderView}
-use Rattle.tf_protocol.specs.Meaning.{Meaning}
+use Rattle.tf_provider_log.specs.Header.{HeaderView}
+use Rattle.tf_provider_protocol.specs.Meaning.{Meaning}
 use Rattle.tf_cli_program.specs.Recovered.{IsRecovered, IsTaken, texts_in}
 use Rattle.tf_cli_program.specs.Unrecovered.{IsNotTaken, IsUnrecovered}
 use Rattle.tf_cli_program.specs.declared.taking.Recovered.{Recovered}

@@ -6,7 +6,7 @@ use Rattle.std.specs.declared.string.String.{String}
 use Rattle.tf_cli_inputs.specs.Texts.{Texts, the_texts}
 use Rattle.tf_plan.specs.Refused.{Tells}
 use Rattle.tf_plan.specs.declared.refused.Refused.{Refused}
-use Rattle.tf_protocol.specs.Meaning.{Meaning}
+use Rattle.tf_provider_protocol.specs.Meaning.{Meaning}
 use Rattle.tf_walk.specs.Run.{are_workers}
 use Rattle.tf_cli.specs.Applies.{IsApplied, IsPlanText, to_write}
 use Rattle.tf_cli_program.specs.Kept.{EndsKept}

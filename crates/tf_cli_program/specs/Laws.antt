@@ -1,24 +1,24 @@
 -- What holds of what is recovered.
 use Rattle.std.specs.Prelude.{◌≡◌, ◌++◌, ◌⊎◌, ℕ, List, [], take, Option}
-use Rattle.tf_log.specs.Entry.{EntryView}
-use Rattle.tf_log.specs.Header.{HeaderView}
-use Rattle.tf_log.specs.Laws.{AreLines, ReadsAsFar, joined}
-use Rattle.tf_log.specs.Line.{IsHeaderLine, lines_of}
-use Rattle.tf_log.specs.Replayed.{all_replayed, own_entries}
-use Rattle.tf_log.specs.True.{AreTrue}
-use Rattle.tf_protocol.specs.Meaning.{Meaning}
+use Rattle.tf_provider_log.specs.LogEntry.{LogEntryView}
+use Rattle.tf_provider_log.specs.Header.{HeaderView}
+use Rattle.tf_provider_log.specs.Laws.{AreLines, ReadsAsFar, joined}
+use Rattle.tf_provider_log.specs.Line.{IsHeaderLine, lines_of}
+use Rattle.tf_provider_log.specs.Replayed.{all_replayed, own_entries}
+use Rattle.tf_provider_log.specs.True.{AreTrue}
+use Rattle.tf_provider_protocol.specs.Meaning.{Meaning}
 use Rattle.tf_cli_program.specs.Recovered.{IsRecovered}
 
 -- What is recovered by providers that answer what the entries of a log tell, each what its own entries tell, is recovered by the
 -- very providers, where the entries are true of them: it is taken of an apply of the same texts by them.
 abbrev pub RecoveredIsApplied : Type 0
 RecoveredIsApplied =
-    (ms : List Meaning) (es : List EntryView) (given : HeaderView) (answers : ℕ) (state : Option (List ℕ))
+    (ms : List Meaning) (es : List LogEntryView) (given : HeaderView) (answers : ℕ) (state : Option (List ℕ))
     → AreTrue ms es → IsRecovered (all_replayed (own_entries ms es) ms) given answers state → IsRecovered ms given answers state
 
 -- Of a beginning of a log with a whole first line just what stands whole in it is read; and what is recovered of these entries, by
 -- providers that answer what their own entries tell, is recovered by the very providers.
-pub record RecoversAsFar (ms : List Meaning) (given : HeaderView) (written : List ℕ) (es : List EntryView) (texts : List (List ℕ)) (bytes : List ℕ) : Type 0 where
+pub record RecoversAsFar (ms : List Meaning) (given : HeaderView) (written : List ℕ) (es : List LogEntryView) (texts : List (List ℕ)) (bytes : List ℕ) : Type 0 where
   pub read : ReadsAsFar given written es texts bytes
   pub recovered : (answers : ℕ) (state : Option (List ℕ)) → IsRecovered (all_replayed (own_entries ms (take read.n es)) ms) given answers state → IsRecovered ms given answers state
 
@@ -26,6 +26,6 @@ pub record RecoversAsFar (ms : List Meaning) (given : HeaderView) (written : Lis
 -- one in which no line is whole.
 abbrev pub CutLogsAreRecovered : Type 0
 CutLogsAreRecovered =
-    (ms : List Meaning) (given : HeaderView) (written : List ℕ) (es : List EntryView) (texts : List (List ℕ)) (bytes rest : List ℕ)
+    (ms : List Meaning) (given : HeaderView) (written : List ℕ) (es : List LogEntryView) (texts : List (List ℕ)) (bytes rest : List ℕ)
     → AreTrue ms es → IsHeaderLine given written → AreLines es texts → bytes ++ rest ≡ written ++ joined texts
     → (lines_of bytes ≡ []) ⊎ RecoversAsFar ms given written es texts bytes

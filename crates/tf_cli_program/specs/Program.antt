@@ -4,7 +4,7 @@ use Rattle.std.specs.Process.{exit_status}
 use Rattle.std.specs.declared.process.ExitCode.{ExitCode}
 use Rattle.tf_cli.specs.Saved.{AppendsStart}
 use Rattle.tf_cli.specs.Shown.{refusal_line}
-use Rattle.tf_refusal.specs.Refusal.{no_memory}
+use Rattle.tf_config_refusal.specs.Refusal.{no_memory}
 
 -- the status of a program that didn't do its work
 abbrev pub IsFailure : ExitCode → Type 0

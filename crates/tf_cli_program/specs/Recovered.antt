@@ -3,11 +3,11 @@ use Rattle.std.specs.Prelude.{◌≡◌, ℕ, Bool, true, false, List, Option, O
 use Rattle.tf_cli.specs.Applies.{IsApplied, to_write}
 use Rattle.tf_cli.specs.declared.applied.Applied.{Applied}
 use Rattle.tf_cli_inputs.specs.Texts.{Texts, the_texts}
-use Rattle.tf_log.specs.Header.{HeaderView}
+use Rattle.tf_provider_log.specs.Header.{HeaderView}
 use Rattle.tf_walk_action.specs.declared.excuse.Outcome.{Outcome}
 use Rattle.tf_walk_action.specs.declared.excuse.Outcome.TheVariants.{Judged}
-use Rattle.tf_protocol.specs.Meaning.{Meaning}
-use Rattle.tf_protocol.specs.declared.verdict.Verdict.TheVariants.{Excused}
+use Rattle.tf_provider_protocol.specs.Meaning.{Meaning}
+use Rattle.tf_provider_protocol.specs.declared.verdict.Verdict.TheVariants.{Excused}
 use Rattle.tf_walk_report.specs.Report.{report_of}
 
 -- the provider of an action was called, and answered

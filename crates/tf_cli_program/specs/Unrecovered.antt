@@ -3,9 +3,9 @@ use Rattle.std.specs.Prelude.{◌≡◌, ◌≢◌, ℕ, true, List, IsErr}
 use Rattle.tf_cli.specs.Applies.{IsApplied}
 use Rattle.tf_cli.specs.Refusals.{AreApplyRefusals}
 use Rattle.tf_cli.specs.declared.applied.Applied.{Applied}
-use Rattle.tf_log.specs.Header.{HeaderView}
+use Rattle.tf_provider_log.specs.Header.{HeaderView}
 use Rattle.tf_plan.specs.Refused.{Tells}
-use Rattle.tf_protocol.specs.Meaning.{Meaning}
+use Rattle.tf_provider_protocol.specs.Meaning.{Meaning}
 use Rattle.tf_cli_program.specs.Recovered.{texts_in, used_answers}
 use Rattle.tf_cli_program.specs.declared.taking.Unrecovered.{Unrecovered}
 use Rattle.tf_cli_program.specs.declared.taking.Unrecovered.TheVariants.{Refused, NotAll, OutOfMemory}

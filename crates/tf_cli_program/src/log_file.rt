@@ -6,7 +6,7 @@ use std::os::unix::fs::{OpenOptionsExt, PermissionsExt};
 use std::rt::Files;
 use std::sync::Arc;
 use std::{fs, io};
-use tf_log::{NotAdded, Sink};
+use tf_provider_log::{NotAdded, Sink};
 
 /// Who may read and write a log, and a new state: their owner alone, since configurations and states hold secrets.
 pub const OWNER_ALONE: u32 = 0o600;

@@ -21,8 +21,8 @@ use std::rt::Files;
 use std::sync::Wait;
 use std::thread::Threads;
 use tf_cli::Stop;
-use tf_log::{Header, NotStarted, OpenLog, Sink};
 use tf_provider::Provider;
+use tf_provider_log::{Header, NotStarted, OpenLog, Sink};
 
 /// The status where somebody is to look before anything is done.
 const TO_BE_LOOKED_AT: u8 = 2;

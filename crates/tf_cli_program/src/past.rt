@@ -1,7 +1,7 @@
 //! What the log of an apply that did not end tells.
 
 ghost use Rattle.std.specs.Prelude.{◌≡◌, IfErr, IfOk, map, option_map};
-ghost use Rattle.tf_log.specs.Entry.{entry_of, log_of};
+ghost use Rattle.tf_provider_log.specs.LogEntry.{log_entry_of, log_of};
 ghost use Rattle.tf_cli_program.specs.Past.{IsPastIn, IsTold};
 ghost use Rattle.tf_cli_program.specs.Program.{IsFailure};
 
@@ -9,8 +9,8 @@ use crate::telling::{tell_bad_line, tell_no_memory};
 use std::alloc::{AllocError, Global};
 use std::io::Write;
 use std::process::ExitCode;
-use tf_log::{Entry, Header, Log, LogFault, answer_count, in_flight, read_log};
-use tf_protocol::Request;
+use tf_provider_log::{Header, Log, LogEntry, LogFault, answer_count, in_flight, read_log};
+use tf_provider_protocol::Request;
 
 /// An apply that did not end, as its log tells it.
 #[derive(Drop)]
@@ -30,8 +30,8 @@ pub fn read_past<E: Write>(
     name: &str,
     bytes: &[u8],
     err: &mut E,
-) -> Result<Option<(Past, Vec<Entry>)>, ExitCode>
-    ensures past { IfOk result (λ told. IsPastIn bytes.now (option_map (λ t. (t.0, map entry_of t.1.items)) told)) }
+) -> Result<Option<(Past, Vec<LogEntry>)>, ExitCode>
+    ensures past { IfOk result (λ told. IsPastIn bytes.now (option_map (λ t. (t.0, map log_entry_of t.1.items)) told)) }
     ensures status { IfErr result IsFailure }
 {
     match read_log(alloc, bytes) {
@@ -45,8 +45,8 @@ pub fn read_past<E: Write>(
     }
 }
 
-fn past_of(alloc: Global, log: Log) -> Result<(Past, Vec<Entry>), AllocError>
-    ensures { IfOk result (λ told. IsTold (log_of log) told.0 (map entry_of told.1.items)) }
+fn past_of(alloc: Global, log: Log) -> Result<(Past, Vec<LogEntry>), AllocError>
+    ensures { IfOk result (λ told. IsTold (log_of log) told.0 (map log_entry_of told.1.items)) }
 {
     let Log { header, entries } = log;
     let past = Past {

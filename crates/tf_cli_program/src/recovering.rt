@@ -9,8 +9,8 @@ use std::alloc::Global;
 use std::sync::Wait;
 use std::thread::Threads;
 use tf_cli::{Stop, apply_text};
-use tf_log::Header;
-use tf_protocol::Provider;
+use tf_provider_log::Header;
+use tf_provider_protocol::Provider;
 
 /// Applies the texts of a log once more, by one worker and by providers that answer from the log, which has so many answers. What
 /// comes of it is the state that the log tells, where each answer is used.

@@ -15,7 +15,7 @@ use std::process::ExitCode;
 use std::rt::Files;
 use std::{fs, io};
 use tf_cli_options::Options;
-use tf_log::Entry;
+use tf_provider_log::LogEntry;
 
 /// What a program was given, where its state stands, and an apply of this state that did not end.
 #[derive(Drop)]
@@ -25,7 +25,7 @@ pub struct Seen {
     /// Where its state stands.
     pub place: Place,
     /// The apply that did not end, if there is one, and the entries of its log.
-    pub past: Option<(Past, Vec<Entry>)>,
+    pub past: Option<(Past, Vec<LogEntry>)>,
 }
 
 /// Reads the files that options name, and the log. Where one can't be read that has been told, and this is the program's status.

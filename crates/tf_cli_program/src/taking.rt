@@ -5,7 +5,7 @@ ghost use Rattle.tf_cli_program.specs.Recovered.{IsTaken, is_answered};
 ghost use Rattle.tf_cli_program.specs.Unrecovered.{IsNotTaken};
 
 use tf_cli::{Applied, Refused, Report};
-use tf_protocol::Verdict;
+use tf_provider_protocol::Verdict;
 use tf_walk_action::Outcome;
 
 /// What is recovered from a log.

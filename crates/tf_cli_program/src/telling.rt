@@ -10,8 +10,8 @@ use std::alloc::Global;
 use std::io::Write;
 use std::process::ExitCode;
 use tf_cli::{Refused, print_refused, save, save_all, verb_text};
-use tf_log::{LineFault, request_line};
-use tf_protocol::Request;
+use tf_provider_log::{LineFault, request_line};
+use tf_provider_protocol::Request;
 
 /// Tells that there was no memory. The answer is the program's status.
 pub fn tell_no_memory<E: Write>(err: &mut E) -> ExitCode

@@ -5,12 +5,12 @@ use Rattle.std.specs.Cmp.{IsTotalOrder}
 use Rattle.std.specs.Prelude.{not}
 use Rattle.std.specs.List.{AllByRecursion, list_any}
 use Rattle.std.specs.Str.{bytes_eq}
-use Rattle.tf_address.specs.Name.{is_name}
+use Rattle.tf_config_address.specs.Name.{is_name}
 use Rattle.std.specs.List.Sorted.{IsStrictlySortedBy}
 use Rattle.std.specs.Ordering.{match_ordering, ordering_reverse}
 use Rattle.serde_json.specs.Data.{Data, null, boolean, number, string, array, object}
-use Rattle.tf_json_path.proofs.Walks.{Builds-keeps}
-use Rattle.tf_address.specs.Label.{LabelView}
+use Rattle.tf_expr_path.proofs.Walks.{Builds-keeps}
+use Rattle.tf_config_address.specs.ResourceAddr.{ResourceAddrView}
 use Rattle.tf_config.specs.Config.{BlockBody, Blocks, address_cmp, block_with, put_block, plain_config}
 use Rattle.tf_config_data.specs.Config.{BlockView, ConfigView}
 use Rattle.tf_config.specs.Configuration.{BuildsFrom, AddsResource, AddsType, AddsOfSection, AddsSection, IsConfiguration}
@@ -35,7 +35,7 @@ first_of true b h = refl
 first_of false b h = absurd (cc)
 
 module _ (P : Blocks → Type 0)
-    (keeps : (label : LabelView) (body : BlockBody) (a : Blocks) → is_name label.type_name ≡ true → is_name label.name ≡ true → P a → P (put_block (block_with label body) a)) where
+    (keeps : (addr : ResourceAddrView) (body : BlockBody) (a : Blocks) → is_name addr.type_name ≡ true → is_name addr.name ≡ true → P a → P (put_block (block_with addr body) a)) where
   resource_keeps : (type_name : List ℕ) → is_name type_name ≡ true → (k : List ℕ) (d : Data) (a b : Blocks) → AddsResource type_name k d a b → P a → P b
   resource_keeps type_name named k d a b h p = subst P h.1.2 (keeps (record { type_name = type_name; name = k }) h.1.0 a named h.0 p)
 
@@ -56,13 +56,13 @@ module _ (P : Blocks → Type 0)
 -- ---- order
 
 addresses_total : IsTotalOrder address_cmp
-addresses_total = then_total (on_total (λ (b : BlockView). b.label.type_name) nat_list_cmp_total) (on_total (λ (b : BlockView). b.label.name) nat_list_cmp_total)
+addresses_total = then_total (on_total (λ (b : BlockView). b.addr.type_name) nat_list_cmp_total) (on_total (λ (b : BlockView). b.addr.name) nat_list_cmp_total)
 
 abbrev AreAfter : BlockView → Blocks → Type 0
 AreAfter first blocks = AllByRecursion (λ block. address_cmp first block ≡ Less) blocks
 
 after_put_at : (o : Ordering) (first block c : BlockView) (cs : Blocks) → address_cmp first block ≡ Less → AreAfter first (c ∷ cs) → AreAfter first (put_block block cs)
-    → AreAfter first (match_ordering o (block ∷ c ∷ cs) (record block { label = c.label } ∷ cs) (c ∷ put_block block cs))
+    → AreAfter first (match_ordering o (block ∷ c ∷ cs) (record block { addr = c.addr } ∷ cs) (c ∷ put_block block cs))
 after_put_at Less first block c cs h all later = (h, all)
 after_put_at Equal first block c cs h all later = all
 after_put_at Greater first block c cs h all later = (all.0, later)
@@ -76,7 +76,7 @@ after_later block c [] h all = tt
 after_later block c (d ∷ ds) h all = (addresses_total.trans block c d h all.0, after_later block c ds h all.1)
 
 order_put_at : (o : Ordering) (block c : BlockView) (cs : Blocks) → address_cmp block c ≡ o → AreAfter c cs → IsStrictlySortedBy address_cmp cs → IsStrictlySortedBy address_cmp (put_block block cs)
-    → IsStrictlySortedBy address_cmp (match_ordering o (block ∷ c ∷ cs) (record block { label = c.label } ∷ cs) (c ∷ put_block block cs))
+    → IsStrictlySortedBy address_cmp (match_ordering o (block ∷ c ∷ cs) (record block { addr = c.addr } ∷ cs) (c ∷ put_block block cs))
 unfolding IsStrictlySortedBy
 order_put_at Less block c cs is after sorted later = ((is, after_later block c cs is after), (after, sorted))
 order_put_at Equal block c cs is after sorted later = (after, sorted)
@@ -89,22 +89,22 @@ order_put block (c ∷ cs) sorted = order_put_at (address_cmp block c) block c c
 
 pub blocks_in_order : (tree : Data) (config : ConfigView) → IsConfiguration tree config → IsStrictlySortedBy address_cmp config.blocks
 unfolding IsStrictlySortedBy
-blocks_in_order tree config h = configuration_keeps (IsStrictlySortedBy address_cmp) (λ label body a of_type of_name sorted. order_put (block_with label body) a sorted) tree config h tt
+blocks_in_order tree config h = configuration_keeps (IsStrictlySortedBy address_cmp) (λ addr body a of_type of_name sorted. order_put (block_with addr body) a sorted) tree config h tt
 
 -- ---- names
 
 -- what holds of the address of each block and of one more holds with that put in
-module _ (P : LabelView → Type 0) where
-  put_all_at : (o : Ordering) (block c : BlockView) (cs : Blocks) → P block.label → AllByRecursion (λ b. P b.label) (c ∷ cs) → AllByRecursion (λ b. P b.label) (put_block block cs)
-      → AllByRecursion (λ b. P b.label) (match_ordering o (block ∷ c ∷ cs) (record block { label = c.label } ∷ cs) (c ∷ put_block block cs))
+module _ (P : ResourceAddrView → Type 0) where
+  put_all_at : (o : Ordering) (block c : BlockView) (cs : Blocks) → P block.addr → AllByRecursion (λ b. P b.addr) (c ∷ cs) → AllByRecursion (λ b. P b.addr) (put_block block cs)
+      → AllByRecursion (λ b. P b.addr) (match_ordering o (block ∷ c ∷ cs) (record block { addr = c.addr } ∷ cs) (c ∷ put_block block cs))
   put_all_at Less block c cs h all more = (h, all)
   put_all_at Equal block c cs h all more = all
   put_all_at Greater block c cs h all more = (all.0, more)
 
-  pub put_all : (block : BlockView) (cs : Blocks) → P block.label → AllByRecursion (λ b. P b.label) cs → AllByRecursion (λ b. P b.label) (put_block block cs)
+  pub put_all : (block : BlockView) (cs : Blocks) → P block.addr → AllByRecursion (λ b. P b.addr) cs → AllByRecursion (λ b. P b.addr) (put_block block cs)
   put_all block [] h all = (h, tt)
   put_all block (c ∷ cs) h all = put_all_at (address_cmp block c) block c cs h all (put_all block cs h all.1)
 
 pub blocks_named : (tree : Data) (config : ConfigView) → IsConfiguration tree config → AllByRecursion HasNames config.blocks
 blocks_named tree config h =
-    configuration_keeps (AllByRecursion HasNames) (λ label body a of_type of_name all. put_all (λ l. (is_name l.type_name ≡ true) × (is_name l.name ≡ true)) (block_with label body) a (of_type, of_name) all) tree config h tt
+    configuration_keeps (AllByRecursion HasNames) (λ addr body a of_type of_name all. put_all (λ l. (is_name l.type_name ≡ true) × (is_name l.name ≡ true)) (block_with addr body) a (of_type, of_name) all) tree config h tt

@@ -24,9 +24,9 @@ use Rattle.tf_config.specs.declared.words.VariableProperty.{VariableProperty}
 use Rattle.tf_config.specs.declared.words.VariableProperty.TheVariants as in_variable
 use Rattle.tf_config_data.specs.Config.{VariableView, count, for_each, LifecycleView, ConfigView}
 use Rattle.tf_config_data.specs.declared.variable.VariableType.{VariableType}
-use Rattle.tf_address.specs.Label.{LabelView}
+use Rattle.tf_config_address.specs.ResourceAddr.{ResourceAddrView}
 use Rattle.tf_expr.specs.Reading.{IsExpr}
-use Rattle.tf_syntax.specs.ExprTree.{Tree, Entries, put}
+use Rattle.tf_expr_syntax.specs.ExprTree.{Tree, Entries, put}
 use Rattle.tf_value.specs.Tree as values
 
 -- ---- variables
@@ -106,7 +106,7 @@ in_block_fits in_block.Comment k = nothing_fits BlockBody
 in_block_fits in_block.Count k = adds_fits Tree BlockBody expression_checks IsExpr (λ b e. record b { repetition = count e }) expression_fits
 in_block_fits in_block.ForEach k = adds_fits Tree BlockBody expression_checks IsExpr (λ b e. record b { repetition = for_each e }) expression_fits
 in_block_fits in_block.DependsOn k =
-    adds_fits (List LabelView) BlockBody (array_checks address_checks) (SaysList IsAddressText) (λ b labels. record b { depends_on = labels }) (list_fits LabelView address_checks IsAddressText address_fits)
+    adds_fits (List ResourceAddrView) BlockBody (array_checks address_checks) (SaysList IsAddressText) (λ b addrs. record b { depends_on = addrs }) (list_fits ResourceAddrView address_checks IsAddressText address_fits)
 in_block_fits in_block.Lifecycle k = adds_fits LifecycleView BlockBody (object_checks lifecycle_property_checks) IsLifecycle (λ b l. record b { lifecycle = l }) lifecycle_fits
 in_block_fits in_block.Refused k = wrong_fits BlockBody
 in_block_fits in_block.Argument k = named_fits Tree BlockBody expression_checks IsExpr k (λ b e. record b { arguments = put k e b.arguments }) expression_fits

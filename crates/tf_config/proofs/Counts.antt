@@ -4,8 +4,8 @@ use Rattle.std.proofs.lemmas.List.{length-append}
 use Rattle.tf_config.specs.Config.{names_in}
 use Rattle.tf_config.specs.Laws.{NamesAreFew}
 use Rattle.tf_config_data.specs.Names.{local_names, block_name}
-use Rattle.tf_syntax.specs.ExprTree.{Entries, no_entries, entry, entries_view}
-use Rattle.tf_syntax.specs.declared.expr.Expr.{Expr}
+use Rattle.tf_expr_syntax.specs.ExprTree.{Entries, no_entries, entry, entries_view}
+use Rattle.tf_expr_syntax.specs.declared.expr.Expr.{Expr}
 
 pub names_in-length : (es : List (String Global × Expr)) → length (names_in (entries_view es)) ≡ length es
 names_in-length [] = refl

@@ -5,14 +5,14 @@ use Rattle.serde_json.proofs.Views.{Entry}
 use Rattle.serde_json.specs.Data.{Data}
 use Rattle.serde_json.specs.View.{view, items_view, members_view}
 use Rattle.serde_json.specs.declared.value.Value.{Value}
-use Rattle.tf_json_path.proofs.Walks.{Builds-met, builds_more}
-use Rattle.tf_json_path.specs.Walk.{each, each_item, Builds}
+use Rattle.tf_expr_path.proofs.Walks.{Builds-met, builds_more}
+use Rattle.tf_expr_path.specs.Walk.{each, each_item, Builds}
 use Rattle.tf_config.proofs.Fits.{items_met}
 use Rattle.tf_config.proofs.Refusals.{Refuses-at, Refuses-at_item}
 use Rattle.tf_config.specs.Configuration.{PropertyChecks, below, IsSound}
 use Rattle.tf_config.specs.Demand.{IsMet, Refuses}
 use Rattle.tf_config.specs.Parts.{PartChecks, IsPartSound, element_checks, EachSays}
-use Rattle.tf_refusal.specs.Refusal.{RefusalView}
+use Rattle.tf_config_refusal.specs.Refusal.{RefusalView}
 
 -- some members were passed, left is what comes behind them, and this holds of those passed
 abbrev pub ArePassed : (List Entry → Type 0) → (all left : List Entry) → Type 0

@@ -2,13 +2,13 @@
 use Rattle.std.proofs.Common.{◌≡◌, ℕ, ◌+◌, Bool, true, false, cond, is_some, Option, None, Some, List, ◌∷◌, refl, sym, ◌∙◌}
 use Rattle.std.specs.Fmt.{decimal}
 use Rattle.serde_json.specs.Data.{Data, null, boolean, number, string, array, object, Items, no_items, item, Members, no_members, member}
-use Rattle.tf_address.specs.Label.{LabelView}
+use Rattle.tf_config_address.specs.ResourceAddr.{ResourceAddrView}
 use Rattle.tf_config_data.specs.declared.variable.VariableType.{VariableType}
 use Rattle.tf_expr.proofs.Faultless.{expr_met, expr_from_met, expr_one}
 use Rattle.tf_expr.proofs.Within.{AllMet-demanded_as, AllMet-from_demanded_as}
 use Rattle.tf_expr.specs.Reading.{expr_checks, IsExpr}
-use Rattle.tf_json_path.proofs.Checks.{AllMet-append, AllMet-left, AllMet-right}
-use Rattle.tf_syntax.specs.ExprTree.{Tree}
+use Rattle.tf_expr_path.proofs.Checks.{AllMet-append, AllMet-left, AllMet-right}
+use Rattle.tf_expr_syntax.specs.ExprTree.{Tree}
 use Rattle.tf_value.proofs.Conjunction.{and-first, and-second, and-both}
 use Rattle.tf_value.proofs.Storing.{within-true, within-limits}
 use Rattle.tf_value.specs.Json.{tree_from, items_from, entries_from, value_from}
@@ -17,7 +17,7 @@ use Rattle.tf_value.specs.Tree as values
 use Rattle.tf_config.proofs.Fits.{Fits}
 use Rattle.tf_config.specs.Demand.{AreMet, IsMet, of_expression}
 use Rattle.tf_config.specs.Parts.{expression_checks, text_checks, IsText, flag_checks, IsFlag, found_checks, Finds, type_text_checks, NamesType, number_checks, item_number_checks, member_number_checks, literal_checks, IsLiteral, name_checks, IsNameText, address_checks, IsAddressText}
-use Rattle.tf_config.specs.Words.{label_in, type_in}
+use Rattle.tf_config.specs.Words.{addr_in, type_in}
 
 pub expression_fits : Fits Tree expression_checks IsExpr
 expression_fits =
@@ -136,8 +136,8 @@ name_from_met place (object x) h = absurd h.0
 pub name_fits : Fits (List ℕ) name_checks IsNameText
 name_fits = record { met = name_met; from_met = name_from_met; same = λ d s t h j. one_text s t (sym h.0 ∙ j.0) }
 
-pub address_fits : Fits LabelView address_checks IsAddressText
-address_fits = found_fits label_in
+pub address_fits : Fits ResourceAddrView address_checks IsAddressText
+address_fits = found_fits addr_in
 
 -- ---- literal values
 

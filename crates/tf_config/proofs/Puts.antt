@@ -2,7 +2,7 @@
 use Rattle.std.proofs.Common.{◌≡◌, List, [], ◌∷◌, Ordering, Less, Equal, Greater, String, Global, map, refl, ◌∙◌, string_cmp}
 use Rattle.std.specs.BTreeMap.{insert_entry}
 use Rattle.std.specs.Ordering.{match_ordering, ordering_then}
-use Rattle.tf_address.specs.declared.label.Label.{Label}
+use Rattle.tf_config_address.specs.declared.addr.ResourceAddr.{ResourceAddr}
 use Rattle.tf_config.specs.Config.{put_variable, put_block}
 use Rattle.tf_config_data.specs.Config.{variable_of, block_of}
 use Rattle.tf_config_data.specs.declared.config.Block.{Block}
@@ -13,13 +13,13 @@ map-match_ordering f Less a b c = refl
 map-match_ordering f Equal a b c = refl
 map-match_ordering f Greater a b c = refl
 
--- the derived order of labels
-abbrev pub label_order : Label → Label → Ordering
-label_order a b = ordering_then (string_cmp a.type_name b.type_name) (string_cmp a.name b.name)
+-- the derived order of addresses
+abbrev pub addr_order : ResourceAddr → ResourceAddr → Ordering
+addr_order a b = ordering_then (string_cmp a.type_name b.type_name) (string_cmp a.name b.name)
 
-pub blocks-insert_entry : (es : List (Label × Block)) (label : Label) (block : Block) → map block_of (insert_entry label_order es label block) ≡ put_block (block_of (label, block)) (map block_of es)
-blocks-insert_entry [] label block = refl
-blocks-insert_entry (e ∷ es) label block = map-match_ordering block_of (label_order label e.0) _ _ _ ∙ rw (blocks-insert_entry es label block)
+pub blocks-insert_entry : (es : List (ResourceAddr × Block)) (addr : ResourceAddr) (block : Block) → map block_of (insert_entry addr_order es addr block) ≡ put_block (block_of (addr, block)) (map block_of es)
+blocks-insert_entry [] addr block = refl
+blocks-insert_entry (e ∷ es) addr block = map-match_ordering block_of (addr_order addr e.0) _ _ _ ∙ rw (blocks-insert_entry es addr block)
 
 pub variables-insert_entry : (es : List (String Global × Variable)) (name : String Global) (variable : Variable)
     → map variable_of (insert_entry string_cmp es name variable) ≡ put_variable (variable_of (name, variable)) (map variable_of es)

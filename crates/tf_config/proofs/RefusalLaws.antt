@@ -8,17 +8,17 @@ use Rattle.tf_config.specs.Laws.{SpellsNone, IsUnspelled, IsTemplateWay, Refused
 use Rattle.tf_config.specs.Reading.{IsTree, IsNotJson, IsMisshapen, HasTooMany, IsWithinCounts}
 use Rattle.tf_config_data.specs.Config.{ConfigView}
 use Rattle.tf_expr.specs.Demand as expr
-use Rattle.tf_expr.specs.declared.fault.Cause.{Cause}
-use Rattle.tf_expr.specs.declared.fault.Cause.TheVariants.{BadShape, At, TooDeep}
-use Rattle.tf_json_path.proofs.Checks.{IsFirst-unmet}
-use Rattle.tf_json_path.specs.Check.{IsFirst}
+use Rattle.tf_expr.specs.declared.fault.ExprCause.{ExprCause}
+use Rattle.tf_expr.specs.declared.fault.ExprCause.TheVariants.{BadShape, At, TooDeep}
+use Rattle.tf_expr_path.proofs.Checks.{IsFirst-unmet}
+use Rattle.tf_expr_path.specs.Check.{IsFirst}
 use Rattle.tf_expr.specs.Refusing.{way_of}
-use Rattle.tf_refusal.specs.Refusal.{DetailView, RefusalView, fault, Way}
+use Rattle.tf_config_refusal.specs.Refusal.{DetailView, RefusalView, fault, Way}
 
 -- ---- demands
 
 -- what is met of an expression does not fail
-pub expression_apart : (d : expr.Demand) (cause : Cause) → expr.IsMet d → expr.Fails d cause → ⊥
+pub expression_apart : (d : expr.Demand) (cause : ExprCause) → expr.IsMet d → expr.Fails d cause → ⊥
 expression_apart (expr.a_plain_name s) cause met fails = fails.0 met
 expression_apart (expr.a_whole_number n) cause met fails = absurd (cc (met, fails.0))
 expression_apart (expr.a_template s) BadShape met fails = fails
@@ -30,7 +30,7 @@ apart nothing_fits way met fails = met
 apart (holds condition) way met fails = absurd (cc (met, fails.0))
 apart (of_expression d) way met fails = expression_apart d fails.0 met fails.1
 
-template_ways : (s : List ℕ) (cause cause' : Cause) (way way' : Way) → expr.IsNoTemplate s cause → way ≡ way_of cause → expr.IsNoTemplate s cause' → way' ≡ way_of cause'
+template_ways : (s : List ℕ) (cause cause' : ExprCause) (way way' : Way) → expr.IsNoTemplate s cause → way ≡ way_of cause → expr.IsNoTemplate s cause' → way' ≡ way_of cause'
     → (way ≡ way') ⊎ (SpellsNone (of_expression (expr.a_template s)) tt × IsTemplateWay way × IsTemplateWay way')
 template_ways s BadShape cause' way way' h is k is' = absurd h
 template_ways s (At n) BadShape way way' h is k is' = absurd k

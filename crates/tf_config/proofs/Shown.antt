@@ -14,8 +14,8 @@ use Rattle.tf_value.specs.Tree.{Tree, Entries, no_entries, entry, put, entries_v
 use Rattle.tf_value.specs.declared.value.Value.{Value}
 use Rattle.tf_config.proofs.Walks.{IsLeft, left_more, left_refused}
 use Rattle.tf_config.specs.Demand.{AreMet, IsMet, Fails, Refuses}
-use Rattle.tf_refusal.specs.Refusal.{RefusalView, refusal_of}
-use Rattle.tf_refusal.specs.declared.refusal.Refusal.{Refusal}
+use Rattle.tf_config_refusal.specs.Refusal.{RefusalView, refusal_of}
+use Rattle.tf_config_refusal.specs.declared.refusal.Refusal.{Refusal}
 use Rattle.tf_config.specs.Values.{given, value_for, AreValues, literal_at, file_checks, value_check, value_checks, HasNone, RefusesValues}
 
 abbrev pub Entry : Type 0

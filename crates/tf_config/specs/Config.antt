@@ -3,14 +3,14 @@ use Rattle.std.specs.Prelude.{ℕ, false, Option, None, List, [], ◌∷◌, opt
 use Rattle.std.specs.Cmp.Lexicographic.{slice_cmp}
 use Rattle.std.specs.Ordering.{nat_cmp, match_ordering}
 use Rattle.std.specs.declared.cmp.Ordering.{Ordering}
-use Rattle.tf_address.specs.Label.{LabelView, label_cmp}
+use Rattle.tf_config_address.specs.ResourceAddr.{ResourceAddrView, addr_cmp}
 use Rattle.tf_config_data.specs.Config.{VariableView, RepetitionView, single, LifecycleView, BlockView, ConfigView, block_at}
 use Rattle.tf_config_data.specs.declared.config.Block.{Block}
 use Rattle.tf_config_data.specs.declared.variable.Element.TheVariants.{Any}
 use Rattle.tf_config_data.specs.declared.variable.Variable.{Variable}
 use Rattle.tf_config_data.specs.declared.variable.VariableType.{VariableType}
 use Rattle.tf_config_data.specs.declared.variable.VariableType.TheVariants.{One}
-use Rattle.tf_syntax.specs.ExprTree.{Entries, no_entries, entry}
+use Rattle.tf_expr_syntax.specs.ExprTree.{Entries, no_entries, entry}
 use Rattle.tf_value.specs.Tree as values
 
 -- ---- variables
@@ -49,7 +49,7 @@ plain_lifecycle = record { create_before_destroy = false; prevent_destroy = fals
 -- what the body of a resource says
 pub record BlockBody : Type 0 where
   pub repetition : RepetitionView
-  pub depends_on : List LabelView
+  pub depends_on : List ResourceAddrView
   pub lifecycle : LifecycleView
   pub arguments : Entries
 
@@ -58,9 +58,9 @@ abbrev pub plain_block : BlockBody
 plain_block = record { repetition = single; depends_on = []; lifecycle = plain_lifecycle; arguments = no_entries }
 
 -- the block of an address with a body
-abbrev pub block_with : LabelView → BlockBody → BlockView
-block_with label body =
-    record { label = label; repetition = body.repetition; depends_on = body.depends_on; lifecycle = body.lifecycle; arguments = body.arguments }
+abbrev pub block_with : ResourceAddrView → BlockBody → BlockView
+block_with addr body =
+    record { addr = addr; repetition = body.repetition; depends_on = body.depends_on; lifecycle = body.lifecycle; arguments = body.arguments }
 
 -- the body of a block
 abbrev pub body_of : BlockView → BlockBody
@@ -72,13 +72,13 @@ block_body block = body_of (block_at (record { type_name = []; name = [] }) bloc
 
 -- the order of addresses: by type, then by name, byte by byte
 abbrev pub address_cmp : BlockView → BlockView → Ordering
-address_cmp a b = label_cmp a.label b.label
+address_cmp a b = addr_cmp a.addr b.addr
 
 -- the blocks, with this one at its address
 abbrev pub put_block : BlockView → Blocks → Blocks
 put_block block [] = block ∷ []
 put_block block (first ∷ blocks) =
-    match_ordering (address_cmp block first) (block ∷ first ∷ blocks) (record block { label = first.label } ∷ blocks) (first ∷ put_block block blocks)
+    match_ordering (address_cmp block first) (block ∷ first ∷ blocks) (record block { addr = first.addr } ∷ blocks) (first ∷ put_block block blocks)
 
 -- ---- configurations
 

@@ -2,12 +2,12 @@
 use Rattle.std.specs.Prelude.{◌≡◌, ℕ, Bool, not, ◌&&◌, is_some, Option, Some, None, List, [], ◌∷◌, ◌++◌, IsTrue, codes}
 use Rattle.serde_json.specs.Data.{Data, object}
 use Rattle.serde_json.specs.Find.{get}
-use Rattle.tf_address.specs.Name.{is_name}
+use Rattle.tf_config_address.specs.Name.{is_name}
 use Rattle.tf_config_data.specs.Config.{VariableView, count, for_each, LifecycleView, ConfigView}
 use Rattle.tf_expr.specs.Reading.{IsExpr}
-use Rattle.tf_json_path.specs.Check.{demanded}
-use Rattle.tf_json_path.specs.Walk.{each, Builds}
-use Rattle.tf_syntax.specs.ExprTree.{Tree, Entries, put}
+use Rattle.tf_expr_path.specs.Check.{demanded}
+use Rattle.tf_expr_path.specs.Walk.{each, Builds}
+use Rattle.tf_expr_syntax.specs.ExprTree.{Tree, Entries, put}
 use Rattle.tf_config.specs.Config.{VariableBody, plain_variable, variable_with, put_variable, Blocks, plain_lifecycle, BlockBody, plain_block, block_with, put_block, plain_config}
 use Rattle.tf_config.specs.Demand.{Checks, AreMet, holds, a_name, a_type_name}
 use Rattle.tf_config.specs.Parts.{wrong, PartChecks, expression_checks, text_checks, IsText, flag_checks, IsFlag, type_text_checks, NamesType, literal_checks, IsLiteral, array_checks, SaysList, name_checks, IsNameText, address_checks, IsAddressText}
@@ -191,7 +191,7 @@ abbrev pub AddsInBlock : BlockProperty → List ℕ → Data → BlockBody → B
 AddsInBlock in_block.Comment name value before after = before ≡ after
 AddsInBlock in_block.Count name value before after = Adds IsExpr value (λ e. record before { repetition = count e }) after
 AddsInBlock in_block.ForEach name value before after = Adds IsExpr value (λ e. record before { repetition = for_each e }) after
-AddsInBlock in_block.DependsOn name value before after = Adds (SaysList IsAddressText) value (λ labels. record before { depends_on = labels }) after
+AddsInBlock in_block.DependsOn name value before after = Adds (SaysList IsAddressText) value (λ addrs. record before { depends_on = addrs }) after
 AddsInBlock in_block.Lifecycle name value before after = Adds IsLifecycle value (λ lifecycle. record before { lifecycle = lifecycle }) after
 AddsInBlock in_block.Refused name value before after = ⊥
 AddsInBlock in_block.Argument name value before after = AddsNamed IsExpr name value (λ e. record before { arguments = put name e before.arguments }) after

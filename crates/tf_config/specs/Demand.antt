@@ -1,14 +1,14 @@
 -- What the format of a configuration demands, and how a demand fails.
 use Rattle.std.specs.Prelude.{◌≡◌, ℕ, Bool, List, IsTrue, MatchResult, Result, false}
-use Rattle.tf_address.specs.Name.{is_name}
+use Rattle.tf_config_address.specs.Name.{is_name}
 use Rattle.tf_expr.specs.Demand as expr
-use Rattle.tf_expr.specs.declared.fault.Cause.{Cause}
-use Rattle.tf_json_path.specs.Check.{Check, AllMet, IsFirst}
-use Rattle.tf_refusal.specs.Code as code
+use Rattle.tf_expr.specs.declared.fault.ExprCause.{ExprCause}
+use Rattle.tf_expr_path.specs.Check.{Check, AllMet, IsFirst}
+use Rattle.tf_config_refusal.specs.Code as code
 use Rattle.tf_expr.specs.Refusing.{way_of}
-use Rattle.tf_refusal.specs.Refusal.{bare, RefusalView, no_memory, workers, fault, refusal_of, Way}
+use Rattle.tf_config_refusal.specs.Refusal.{bare, RefusalView, no_memory, workers, fault, refusal_of, Way}
 use Rattle.tf_config.specs.Words.{is_type_name}
-use Rattle.tf_refusal.specs.declared.refusal.Refusal.{Refusal}
+use Rattle.tf_config_refusal.specs.declared.refusal.Refusal.{Refusal}
 
 pub data Demand : Type 0 where
   -- nothing is allowed at the place
@@ -47,7 +47,7 @@ bad_shape = (code.bad_shape, bare)
 abbrev pub Fails : Demand → Way → Type 0
 Fails nothing_fits way = way ≡ bad_shape
 Fails (holds condition) way = (condition ≡ false) × (way ≡ bad_shape)
-Fails (of_expression demand) way = (cause : Cause) × expr.Fails demand cause × (way ≡ way_of cause)
+Fails (of_expression demand) way = (cause : ExprCause) × expr.Fails demand cause × (way ≡ way_of cause)
 
 -- The first fault of some checks is what is told, or there was no memory.
 abbrev pub RefusesBy : {D : Type 0} → (D → Type 0) → (D → Way → Type 0) → List (Check D) → RefusalView → Type 0

@@ -5,9 +5,9 @@ use Rattle.std.specs.List.Sorted.{IsStrictlySortedBy}
 use Rattle.serde_json.specs.Data.{Data}
 use Rattle.tf_expr.specs.Demand as expr
 use Rattle.tf_expr.specs.Spelling.{SpellsTemplate}
-use Rattle.tf_syntax.specs.TemplateTree.{Woven}
-use Rattle.tf_json_path.specs.Check.{IsFirst}
-use Rattle.tf_address.specs.Name.{is_name}
+use Rattle.tf_expr_syntax.specs.TemplateTree.{Woven}
+use Rattle.tf_expr_path.specs.Check.{IsFirst}
+use Rattle.tf_config_address.specs.Name.{is_name}
 use Rattle.tf_config.specs.Config.{address_cmp}
 use Rattle.tf_config_data.specs.Config.{BlockView, ConfigView}
 use Rattle.tf_config_data.specs.Names.{names_of}
@@ -15,7 +15,7 @@ use Rattle.tf_config.specs.Configuration.{configuration_checks, IsConfiguration}
 use Rattle.tf_config.specs.Demand.{Demand, of_expression, AreMet, IsMet}
 use Rattle.tf_expr.specs.Refusing.{bad_template, too_deep}
 use Rattle.tf_config.specs.Reading.{IsTree, IsRefused, max_bytes, IsWithinCounts}
-use Rattle.tf_refusal.specs.Refusal.{DetailView, fault, Way}
+use Rattle.tf_config_refusal.specs.Refusal.{DetailView, fault, Way}
 
 -- All checks of a tree that stands for a configuration are met.
 abbrev pub StandingIsFaultless : Type 0
@@ -35,7 +35,7 @@ BlocksAreInOrder = (tree : Data) (config : ConfigView) → IsConfiguration tree 
 
 -- a block's address is of names
 abbrev pub HasNames : BlockView → Type 0
-HasNames b = (is_name b.label.type_name ≡ true) × (is_name b.label.name ≡ true)
+HasNames b = (is_name b.addr.type_name ≡ true) × (is_name b.addr.name ≡ true)
 
 -- The address of each block is of names.
 abbrev pub BlocksHaveNames : Type 0

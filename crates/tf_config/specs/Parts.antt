@@ -2,21 +2,21 @@
 use Rattle.std.specs.Prelude.{◌≡◌, ℕ, ◌+◌, Bool, IsTrue, is_some, Option, Some, List, [], ◌∷◌, ◌++◌, MatchResult, Result, ⊤}
 use Rattle.std.specs.Fmt.{decimal}
 use Rattle.serde_json.specs.Data.{Data, null, boolean, number, string, array, object, Items, no_items, item, Members, no_members, member}
-use Rattle.tf_address.specs.Label.{LabelView}
-use Rattle.tf_address.specs.Name.{is_name}
+use Rattle.tf_config_address.specs.ResourceAddr.{ResourceAddrView}
+use Rattle.tf_config_address.specs.Name.{is_name}
 use Rattle.tf_config_data.specs.declared.variable.VariableType.{VariableType}
 use Rattle.tf_expr.specs.Demand.{a_whole_number}
 use Rattle.tf_expr.specs.Reading.{expr_checks}
 use Rattle.tf_expr.specs.Within.{demanded_as}
-use Rattle.tf_json_path.specs.Check.{demanded}
-use Rattle.tf_json_path.specs.Walk.{each_item}
+use Rattle.tf_expr_path.specs.Check.{demanded}
+use Rattle.tf_expr_path.specs.Walk.{each_item}
 use Rattle.tf_value.specs.Json.{tree_from, value_from}
 use Rattle.tf_value.specs.Measure.{is_within, IsWithinLimits}
 use Rattle.tf_value.specs.Tree as values
-use Rattle.tf_refusal.specs.Refusal.{refusal_of}
-use Rattle.tf_refusal.specs.declared.refusal.Refusal.{Refusal}
+use Rattle.tf_config_refusal.specs.Refusal.{refusal_of}
+use Rattle.tf_config_refusal.specs.declared.refusal.Refusal.{Refusal}
 use Rattle.tf_config.specs.Demand.{Checks, AreMet, Refuses, nothing_fits, holds, a_name, of_expression}
-use Rattle.tf_config.specs.Words.{label_in, type_in}
+use Rattle.tf_config.specs.Words.{addr_in, type_in}
 
 -- nothing is allowed here
 abbrev pub wrong : List (List ℕ) → Checks
@@ -132,7 +132,7 @@ IsNameText value text = (value ≡ string text) × IsTrue (is_name text)
 
 -- a text that is the address of a resource
 abbrev pub address_checks : PartChecks
-address_checks = found_checks label_in
+address_checks = found_checks addr_in
 
-abbrev pub IsAddressText : Data → LabelView → Type 0
-IsAddressText = Finds label_in
+abbrev pub IsAddressText : Data → ResourceAddrView → Type 0
+IsAddressText = Finds addr_in

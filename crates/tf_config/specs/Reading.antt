@@ -3,12 +3,12 @@ use Rattle.std.specs.Prelude.{◌≡◌, ◌⊎◌, ℕ, ◌<◌, ◌≤◌, Lis
 use Rattle.serde_json.specs.Data.{Data}
 use Rattle.serde_json.specs.Read.{read}
 use Rattle.tf_config_data.specs.Config.{ConfigView}
-use Rattle.tf_json_path.specs.Place.{dotted}
+use Rattle.tf_expr_path.specs.Place.{dotted}
 use Rattle.tf_config.specs.Config.{names_in}
 use Rattle.tf_config.specs.Configuration.{configuration_checks, whole_file, IsConfiguration}
 use Rattle.tf_config.specs.Demand.{Refuses}
-use Rattle.tf_refusal.specs.Code.{not_json, limit}
-use Rattle.tf_refusal.specs.Refusal.{bare, RefusalView, no_memory, workers, fault}
+use Rattle.tf_config_refusal.specs.Code.{not_json, limit}
+use Rattle.tf_config_refusal.specs.Refusal.{bare, RefusalView, no_memory, workers, fault}
 
 -- the text is UTF-8, and is this tree as `serde_json` reads it
 abbrev pub IsTree : List ℕ → Data → Type 0

@@ -2,8 +2,8 @@
 use Rattle.std.specs.Prelude.{ℕ, Bool, not, ◌&&◌, ◌==◌, if◌then◌else◌, List, [], ◌∷◌, Option, Some, None, codes}
 use Rattle.std.specs.List.{list_any, before_first, after_first}
 use Rattle.std.specs.Str.{bytes_eq}
-use Rattle.tf_address.specs.Label.{LabelView}
-use Rattle.tf_address.specs.Name.{is_name}
+use Rattle.tf_config_address.specs.ResourceAddr.{ResourceAddrView}
+use Rattle.tf_config_address.specs.Name.{is_name}
 use Rattle.tf_config.specs.declared.words.BlockProperty.{BlockProperty}
 use Rattle.tf_config.specs.declared.words.BlockProperty.TheVariants as in_block
 use Rattle.tf_config.specs.declared.words.LifecycleProperty.{LifecycleProperty}
@@ -81,12 +81,12 @@ abbrev pub is_type_name : List ℕ → Bool
 is_type_name text = is_name text && not (list_any (bytes_eq text) reserved_types)
 
 -- the resource of a type and a name; none where these are no resource type and no name
-abbrev pub label_of_names : List ℕ → List ℕ → Option LabelView
-label_of_names type_name name = if is_type_name type_name && is_name name then Some (record { type_name = type_name; name = name }) else None
+abbrev pub addr_of_names : List ℕ → List ℕ → Option ResourceAddrView
+addr_of_names type_name name = if is_type_name type_name && is_name name then Some (record { type_name = type_name; name = name }) else None
 
 -- the resource whose address a text is: a resource type, a dot, a name; none where it is no address
-abbrev pub label_in : List ℕ → Option LabelView
-label_in text = if list_any (λ c. c == 46) text then label_of_names (before_first (λ c. c == 46) text) (after_first (λ c. c == 46) text) else None
+abbrev pub addr_in : List ℕ → Option ResourceAddrView
+addr_in text = if list_any (λ c. c == 46) text then addr_of_names (before_first (λ c. c == 46) text) (after_first (λ c. c == 46) text) else None
 
 -- the type that a text names; none where it names none
 abbrev pub type_in : List ℕ → Option VariableType

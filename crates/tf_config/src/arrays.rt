@@ -3,22 +3,22 @@
 ghost use Rattle.serde_json.specs.Data.{Data};
 ghost use Rattle.serde_json.specs.View.{items_view, view};
 ghost use Rattle.std.specs.Prelude.{◌≡◌, IfErr, IfOk, List, ℕ, map, option_map, string_bytes};
-ghost use Rattle.tf_address.specs.Label.{label_of, LabelView};
+ghost use Rattle.tf_config_address.specs.ResourceAddr.{addr_of, ResourceAddrView};
 ghost use Rattle.tf_config.specs.Demand.{Refuses};
 ghost use Rattle.tf_config.specs.Parts.{address_checks, array_checks, element_checks, name_checks, EachSays, IsAddressText, IsNameText, IsPartSound, PartChecks, SaysList};
-ghost use Rattle.tf_config.specs.Words.{label_in, label_of_names};
-ghost use Rattle.tf_json_path.specs.Place.{place_of};
-ghost use Rattle.tf_json_path.specs.Walk.{each_item};
-ghost use Rattle.tf_refusal.specs.Refusal.{refusal_of};
+ghost use Rattle.tf_config.specs.Words.{addr_in, addr_of_names};
+ghost use Rattle.tf_expr_path.specs.Place.{place_of};
+ghost use Rattle.tf_expr_path.specs.Walk.{each_item};
+ghost use Rattle.tf_config_refusal.specs.Refusal.{refusal_of};
 
 use crate::demand::{bad_shape, demand_name};
 use crate::objects::Part;
 use crate::words::is_type_name;
 use serde_json::Value;
 use std::alloc::{AllocError, Global};
-use tf_address::{Label, is_name};
-use tf_json_path::Path;
-use tf_refusal::Refusal;
+use tf_config_address::{ResourceAddr, is_name};
+use tf_config_refusal::Refusal;
+use tf_expr_path::Path;
 
 /// What one kind of array holds.
 pub(crate) trait Listed: Drop + Sized {
@@ -98,19 +98,19 @@ impl Listed for String {
 }
 
 /// A text that is the address of a resource.
-impl Listed for Label {
-    ghost OutView = { LabelView };
+impl Listed for ResourceAddr {
+    ghost OutView = { ResourceAddrView };
 
-    ghost out_view = { λ label. label_of label };
+    ghost out_view = { λ addr. addr_of addr };
 
     ghost says = { IsAddressText };
 
     ghost checks = { address_checks };
 
-    fn read(part: &Part<'_>) -> Result<Label, Refusal> {
+    fn read(part: &Part<'_>) -> Result<ResourceAddr, Refusal> {
         match part.value {
-            Value::String(text) => match label_named(part.alloc, text.as_str())? {
-                Some(label) => Ok(label),
+            Value::String(text) => match addr_named(part.alloc, text.as_str())? {
+                Some(addr) => Ok(addr),
                 None => Err(bad_shape(part.alloc, part.path)),
             },
             _ => Err(bad_shape(part.alloc, part.path)),
@@ -120,22 +120,26 @@ impl Listed for Label {
 
 /// The resource whose address a text is.
 #[tactic(auto, using(crate::proofs::Addresses::no_address))]
-fn label_named(alloc: Global, text: &str) -> Result<Option<Label>, AllocError>
-    ensures { IfOk result (λ label. option_map label_of label ≡ label_in text.now) }
+fn addr_named(alloc: Global, text: &str) -> Result<Option<ResourceAddr>, AllocError>
+    ensures { IfOk result (λ addr. option_map addr_of addr ≡ addr_in text.now) }
 {
     match text.split_once('.') {
-        Some((type_name, name)) => label_of_names(alloc, type_name, name),
+        Some((type_name, name)) => addr_of_names(alloc, type_name, name),
         None => Ok(None),
     }
 }
 
-fn label_of_names(alloc: Global, type_name: &str, name: &str) -> Result<Option<Label>, AllocError>
-    ensures { IfOk result (λ label. option_map label_of label ≡ label_of_names type_name.now name.now) }
+fn addr_of_names(
+    alloc: Global,
+    type_name: &str,
+    name: &str,
+) -> Result<Option<ResourceAddr>, AllocError>
+    ensures { IfOk result (λ addr. option_map addr_of addr ≡ addr_of_names type_name.now name.now) }
 {
     if !is_type_name(type_name) || !is_name(name) {
         return Ok(None);
     }
     let type_name = String::from_str(alloc, type_name)?;
     let name = String::from_str(alloc, name)?;
-    Ok(Some(Label { type_name, name }))
+    Ok(Some(ResourceAddr { type_name, name }))
 }

@@ -8,8 +8,8 @@ ghost use Rattle.tf_config.specs.Demand.{FineOrRefuses};
 ghost use Rattle.tf_config.specs.Parts.{expression_checks, Reads};
 ghost use Rattle.tf_config_data.specs.Config.{lifecycle_of};
 ghost use Rattle.tf_expr.specs.Reading.{IsExpr};
-ghost use Rattle.tf_json_path.specs.Place.{place_of};
-ghost use Rattle.tf_syntax.specs.ExprTree.{entries_view, put, tree_of};
+ghost use Rattle.tf_expr_path.specs.Place.{place_of};
+ghost use Rattle.tf_expr_syntax.specs.ExprTree.{entries_view, put, tree_of};
 
 use crate::demand::{bad_shape, demand_name, demand_one_repetition, demand_value};
 use crate::kinds::{BlockProperties, LifecycleProperties, OutputProperties, VariableProperties};
@@ -18,8 +18,8 @@ use crate::objects::{Part, add_members};
 use std::alloc::Global;
 use std::collections::BTreeMap;
 use tf_config_data::{Block, Element, Lifecycle, Repetition, Variable, VariableType};
-use tf_refusal::Refusal;
-use tf_syntax::Expr;
+use tf_config_refusal::Refusal;
+use tf_expr_syntax::Expr;
 
 /// The body of a variable.
 #[tactic(auto, using(crate::proofs::Sound::variable_properties_sound))]

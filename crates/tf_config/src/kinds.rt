@@ -4,7 +4,7 @@ ghost use Rattle.std.specs.Prelude.{List, Option, option_map};
 ghost use Rattle.tf_config.specs.Config.{block_body, variable_body, BlockBody, Blocks, VariableBody};
 ghost use Rattle.tf_config.specs.Configuration.{block_property_checks, lifecycle_property_checks, local_checks, output_checks, output_property_checks, resource_checks, section_checks, type_checks, variable_checks, variable_property_checks, AddsBlockProperty, AddsLifecycleProperty, AddsLocal, AddsOutput, AddsOutputProperty, AddsResource, AddsSection, AddsType, AddsVariable, AddsVariableProperty};
 ghost use Rattle.tf_config_data.specs.Config.{blocks_of, config_of, lifecycle_of, variables_of, ConfigView, LifecycleView, VariableView};
-ghost use Rattle.tf_syntax.specs.ExprTree.{entries_view, tree_of, Entries, Tree};
+ghost use Rattle.tf_expr_syntax.specs.ExprTree.{entries_view, tree_of, Entries, Tree};
 
 use crate::arrays::read_array;
 use crate::bodies::{add_expression, read_body, read_lifecycle, read_output, read_variable};
@@ -17,10 +17,10 @@ use crate::words::{
     section_named, variable_property_named,
 };
 use std::collections::BTreeMap;
-use tf_address::Label;
+use tf_config_address::ResourceAddr;
 use tf_config_data::{Block, Config, Lifecycle, Repetition, Variable};
-use tf_refusal::Refusal;
-use tf_syntax::Expr;
+use tf_config_refusal::Refusal;
+use tf_expr_syntax::Expr;
 
 /// The properties at the top of a configuration.
 #[derive(Drop)]
@@ -200,7 +200,7 @@ impl Members for OutputProperties {
 struct Types;
 
 impl Members for Types {
-    type Out = BTreeMap<Label, Block>;
+    type Out = BTreeMap<ResourceAddr, Block>;
 
     ghost OutView = { Blocks };
 
@@ -214,7 +214,7 @@ impl Members for Types {
         &self,
         name: &str,
         part: &Part<'_>,
-        resources: &mut BTreeMap<Label, Block>,
+        resources: &mut BTreeMap<ResourceAddr, Block>,
     ) -> Result<(), Refusal> {
         demand_type_name(part.alloc, part.path, name)?;
         add_members(&Resources { type_name: name }, part, resources)
@@ -228,7 +228,7 @@ struct Resources<'a> {
 }
 
 impl Members for Resources<'_> {
-    type Out = BTreeMap<Label, Block>;
+    type Out = BTreeMap<ResourceAddr, Block>;
 
     ghost OutView = { Blocks };
 
@@ -242,13 +242,13 @@ impl Members for Resources<'_> {
         &self,
         name: &str,
         part: &Part<'_>,
-        resources: &mut BTreeMap<Label, Block>,
+        resources: &mut BTreeMap<ResourceAddr, Block>,
     ) -> Result<(), Refusal> {
         demand_name(part.alloc, part.path, name)?;
         let block = read_body(part)?;
         let type_name = String::from_str(part.alloc, self.type_name)?;
         let name = String::from_str(part.alloc, name)?;
-        drop(resources.insert(Label { type_name, name }, block)?);
+        drop(resources.insert(ResourceAddr { type_name, name }, block)?);
         Ok(())
     }
 }

@@ -5,9 +5,9 @@ ghost use Rattle.std.specs.Prelude.{IfErr, IfOk, List, OnOk, ℕ};
 ghost use Rattle.tf_config.specs.Demand.{Judges, Refuses};
 ghost use Rattle.tf_config.specs.Parts.{expression_checks, flag_checks, item_number_checks, literal_checks, member_number_checks, number_checks, text_checks, type_text_checks, IsFlag, IsLiteral, IsText, NamesType, Reads};
 ghost use Rattle.tf_expr.specs.Reading.{IsExpr};
-ghost use Rattle.tf_json_path.specs.Place.{place_of};
-ghost use Rattle.tf_refusal.specs.Refusal.{refusal_of};
-ghost use Rattle.tf_syntax.specs.ExprTree.{tree_of};
+ghost use Rattle.tf_expr_path.specs.Place.{place_of};
+ghost use Rattle.tf_config_refusal.specs.Refusal.{refusal_of};
+ghost use Rattle.tf_expr_syntax.specs.ExprTree.{tree_of};
 ghost use Rattle.tf_value.specs.Tree as values;
 
 use crate::demand::{bad_shape, demand_whole};
@@ -16,10 +16,10 @@ use crate::words::type_named;
 use serde_json::{Map, Value as Json};
 use std::alloc::Global;
 use tf_config_data::VariableType;
+use tf_config_refusal::Refusal;
 use tf_expr::read_expr_at;
-use tf_json_path::Path;
-use tf_refusal::Refusal;
-use tf_syntax::Expr;
+use tf_expr_path::Path;
+use tf_expr_syntax::Expr;
 use tf_value::{JsonFault, Value, from_json};
 
 /// An expression.

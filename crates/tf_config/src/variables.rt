@@ -5,7 +5,7 @@ ghost use Rattle.serde_json.specs.View.{view};
 ghost use Rattle.std.specs.Prelude.{IfErr, IfOk, Option, option_map};
 ghost use Rattle.tf_config.specs.Demand.{AreMet};
 ghost use Rattle.tf_config_data.specs.Config.{variables_of};
-ghost use Rattle.tf_refusal.specs.Refusal.{refusal_of};
+ghost use Rattle.tf_config_refusal.specs.Refusal.{refusal_of};
 ghost use Rattle.tf_value.specs.Tree.{entries_view};
 ghost use Rattle.tf_config.specs.VariablesRead.{IsFile, IsFileOf, IsRefused, TellsNoFile};
 ghost use Rattle.tf_config.specs.Values.{file_checks, AreValues};
@@ -17,8 +17,8 @@ use serde_json::Value as Json;
 use std::alloc::Global;
 use std::collections::BTreeMap;
 use tf_config_data::Config;
-use tf_refusal::Refusal;
-use tf_refusal::code::{BAD_SHAPE, LIMIT};
+use tf_config_refusal::Refusal;
+use tf_config_refusal::code::{BAD_SHAPE, LIMIT};
 use tf_value::Value;
 
 /// The longest variables file that is read, in bytes.

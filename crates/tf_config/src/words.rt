@@ -5,7 +5,7 @@ ghost use Rattle.std.specs.Prelude.{◌≡◌};
 ghost use Rattle.std.specs.Str.{bytes_eq};
 ghost use Rattle.tf_config.specs.Words.{block_property_of, is_type_name, lifecycle_property_of, locals_property_of, output_property_of, refused_properties, reserved_types, section_of, type_in, variable_property_of};
 
-use tf_address::is_name;
+use tf_config_address::is_name;
 use tf_config_data::{Element, VariableType};
 
 /// What a property at the top of a configuration is.

@@ -1,9 +1,9 @@
 -- A configuration without where it lies in memory.
 use Rattle.std.specs.Prelude.{ℕ, Bool, Option, option_map, List, map, string_bytes, String}
 use Rattle.std.specs.declared.alloc.Global.{Global}
-use Rattle.tf_address.specs.Label.{LabelView, label_of}
-use Rattle.tf_address.specs.declared.label.Label.{Label}
-use Rattle.tf_syntax.specs.ExprTree.{Tree, tree_of, Entries, entries_view}
+use Rattle.tf_config_address.specs.ResourceAddr.{ResourceAddrView, addr_of}
+use Rattle.tf_config_address.specs.declared.addr.ResourceAddr.{ResourceAddr}
+use Rattle.tf_expr_syntax.specs.ExprTree.{Tree, tree_of, Entries, entries_view}
 use Rattle.tf_value.specs.Tree as values
 use Rattle.tf_config_data.specs.declared.config.Block.{Block}
 use Rattle.tf_config_data.specs.declared.config.Config.{Config}
@@ -33,9 +33,9 @@ pub record LifecycleView : Type 0 where
 
 -- a resource block: its address, and what it says
 pub record BlockView : Type 0 where
-  pub label : LabelView
+  pub addr : ResourceAddrView
   pub repetition : RepetitionView
-  pub depends_on : List LabelView
+  pub depends_on : List ResourceAddrView
   pub lifecycle : LifecycleView
   pub arguments : Entries
 
@@ -66,20 +66,20 @@ lifecycle_of l =
     }
 
 -- a block at its address
-abbrev pub block_at : LabelView → Block → BlockView
-block_at label block =
+abbrev pub block_at : ResourceAddrView → Block → BlockView
+block_at addr block =
     record {
-      label = label;
+      addr = addr;
       repetition = repetition_of block.repetition;
-      depends_on = map label_of block.depends_on.items;
+      depends_on = map addr_of block.depends_on.items;
       lifecycle = lifecycle_of block.lifecycle;
       arguments = entries_view block.arguments.entries;
     }
 
-abbrev pub block_of : Label × Block → BlockView
-block_of entry = block_at (label_of entry.0) entry.1
+abbrev pub block_of : ResourceAddr × Block → BlockView
+block_of entry = block_at (addr_of entry.0) entry.1
 
-abbrev pub blocks_of : List (Label × Block) → List BlockView
+abbrev pub blocks_of : List (ResourceAddr × Block) → List BlockView
 blocks_of entries = map block_of entries
 
 abbrev pub config_of : Config → ConfigView

@@ -1,10 +1,10 @@
 -- What the names of a configuration stand for and refer to.
 use Rattle.std.specs.Prelude.{ℕ, zero, suc, Bool, ◌&&◌, if◌then◌else◌, Option, Some, None, option_map, List, [], ◌∷◌, ◌++◌, map, codes}
 use Rattle.std.specs.Str.{bytes_eq}
-use Rattle.tf_address.specs.Label.{LabelView}
-use Rattle.tf_syntax.specs.ExprNames.{named_by, named_below}
-use Rattle.tf_syntax.specs.ExprTree.{Tree, Entries, no_entries, entry}
-use Rattle.tf_syntax.specs.TemplateNames.{Pair}
+use Rattle.tf_config_address.specs.ResourceAddr.{ResourceAddrView}
+use Rattle.tf_expr_syntax.specs.ExprNames.{named_by, named_below}
+use Rattle.tf_expr_syntax.specs.ExprTree.{Tree, Entries, no_entries, entry}
+use Rattle.tf_expr_syntax.specs.TemplateNames.{Pair}
 use Rattle.tf_config_data.specs.Config.{RepetitionView, single, count, for_each, BlockView, ConfigView}
 
 -- What needs and can be needed: a local value, which is its expression, or a resource, which is its block.
@@ -22,15 +22,15 @@ abbrev pub local_pair : List ℕ → Pair
 local_pair name = (codes "local", name)
 
 -- `TYPE.NAME`
-abbrev pub label_pair : LabelView → Pair
-label_pair label = (label.type_name, label.name)
+abbrev pub addr_pair : ResourceAddrView → Pair
+addr_pair addr = (addr.type_name, addr.name)
 
 abbrev pub local_names : Entries → List NameView
 local_names no_entries = []
 local_names (entry name e es) = record { name = local_pair name; meant = a_local e } ∷ local_names es
 
 abbrev pub block_name : BlockView → NameView
-block_name b = record { name = label_pair b.label; meant = a_block b }
+block_name b = record { name = addr_pair b.addr; meant = a_block b }
 
 -- The names of a configuration that need and can be needed: locals in byte order, then resources in address order.
 -- Their places in this list number them.
@@ -54,7 +54,7 @@ named_in_repetition (for_each e) = named_by e
 -- What a block refers to: what `count` or `for_each` names, what its arguments name, both branches of a conditional
 -- included, and what stands in `depends_on`.
 abbrev pub block_refers : BlockView → List Pair
-block_refers b = named_in_repetition b.repetition ++ named_below b.arguments ++ map label_pair b.depends_on
+block_refers b = named_in_repetition b.repetition ++ named_below b.arguments ++ map addr_pair b.depends_on
 
 -- what a name refers to directly
 abbrev pub refers : Meant → List Pair

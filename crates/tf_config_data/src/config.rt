@@ -2,8 +2,8 @@
 
 use crate::variable::Variable;
 use std::collections::BTreeMap;
-use tf_address::Label;
-use tf_syntax::Expr;
+use tf_config_address::ResourceAddr;
+use tf_expr_syntax::Expr;
 
 /// A configuration: what it declares, by name.
 #[derive(Debug, Drop)]
@@ -14,8 +14,8 @@ pub struct Config {
     pub locals: BTreeMap<String, Expr>,
     /// The expression of each output's value.
     pub outputs: BTreeMap<String, Expr>,
-    /// Each block under its type and name. Labels are ordered by type, then by name.
-    pub resources: BTreeMap<Label, Block>,
+    /// Each block under its type and name. Addresses are ordered by type, then by name.
+    pub resources: BTreeMap<ResourceAddr, Block>,
 }
 
 /// What a resource block says.
@@ -24,7 +24,7 @@ pub struct Block {
     /// How many instances it has.
     pub repetition: Repetition,
     /// The resources that it names in `depends_on`, in the order of the text; one may stand there twice.
-    pub depends_on: Vec<Label>,
+    pub depends_on: Vec<ResourceAddr>,
     /// How its objects are replaced and kept.
     pub lifecycle: Lifecycle,
     /// The arguments by name.

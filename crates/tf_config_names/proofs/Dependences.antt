@@ -14,7 +14,7 @@ use Rattle.tf_config_names.proofs.Edging.{AreWithin, are-within, places-below}
 use Rattle.tf_config_names.proofs.Needing.{reaching-named, reaches-from_needs, needs-from_reaches, edge-from_before, before-from_edge, filled_some, some_filled}
 use Rattle.tf_config_names.specs.Needs.{IsDependence}
 use Rattle.tf_config_names.specs.Places.{found_in}
-use Rattle.tf_syntax.specs.TemplateNames.{Pair}
+use Rattle.tf_expr_syntax.specs.TemplateNames.{Pair}
 use Rattle.tf_config_names.specs.declared.dependence.Dependence.{Dependence}
 
 pub dependence : (names : List NameView) (d : Dependence) → ((pair : Pair) → found_in d.places pair ≡ place_of names pair) → d.graph.nodes ≡ length names → AreWithin (length names) d.graph.edges → ((n : ℕ) → predecessors_of d.graph n ≡ directly_before names n)

@@ -5,7 +5,7 @@ use Rattle.std.specs.List.{AllByRecursion}
 use Rattle.tf_config_data.specs.Names.{NameView, same_pair, place_of, place_before, places, meant_at, refers_at, directly_before}
 use Rattle.tf_graph.specs.Digraph.{IsWithin, HasOutside, edge_at, sources_into}
 use Rattle.tf_config_names.specs.Edges.{edges_into}
-use Rattle.tf_syntax.specs.TemplateNames.{Pair}
+use Rattle.tf_expr_syntax.specs.TemplateNames.{Pair}
 
 -- a place is below the count of the names
 pub place_of-below : (names : List NameView) (pair : Pair) (k : ℕ) → place_of names pair ≡ Some k → k < length names

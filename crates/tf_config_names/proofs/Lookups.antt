@@ -8,7 +8,7 @@ use Rattle.std.specs.Ordering.{nat_cmp}
 use Rattle.std.specs.Str.{bytes_eq}
 use Rattle.std.specs.Option.{option_and_then}
 use Rattle.tf_config_names.specs.Places.{found_in, found_in_maps, places_view, under}
-use Rattle.tf_syntax.specs.TemplateNames.{Pair}
+use Rattle.tf_expr_syntax.specs.TemplateNames.{Pair}
 
 -- a map's entries by the bytes of their texts, each with what it is worth
 abbrev pub seen : {A B : Type 0} → (A → B) → List (String Global × A) → List (List ℕ × B)

@@ -9,7 +9,7 @@ use Rattle.tf_graph.proofs.Edges.{contains_head, contains_tail, contains_cases, 
 use Rattle.tf_graph.specs.Digraph.{Digraph, predecessors_of}
 use Rattle.tf_graph.specs.Path.{direct, onward, HasEdge, Reaches, joined}
 use Rattle.tf_config_names.specs.Needs.{meant_by, RefersTo, Needs, is_filled}
-use Rattle.tf_syntax.specs.TemplateNames.{Pair}
+use Rattle.tf_expr_syntax.specs.TemplateNames.{Pair}
 
 pub bytes_eq-same : (xs ys : List ℕ) → bytes_eq xs ys ≡ true → xs ≡ ys
 bytes_eq-same xs ys h = (bytes_eq-Decides xs ys).0 h

@@ -4,7 +4,7 @@ use Rattle.std.proofs.lemmas.Bool.{both_ways, false_from_ne_true}
 use Rattle.std.specs.Cmp.Lexicographic.{bytes_decides}
 use Rattle.tf_config_data.specs.Names.{NameView, place_of, same_pair}
 use Rattle.tf_config_names.specs.Places.{PlacesView, found_in, under}
-use Rattle.tf_syntax.specs.TemplateNames.{Pair}
+use Rattle.tf_expr_syntax.specs.TemplateNames.{Pair}
 
 -- ---- another value under a text
 

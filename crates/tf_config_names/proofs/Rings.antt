@@ -15,7 +15,7 @@ use Rattle.tf_config_names.proofs.Needing.{bytes_eq-same, same_pair-same, needs-
 use Rattle.tf_config_names.specs.Needs.{pair_text, name_at, needs_in, AreCyclic, IsAcyclic, IsDependence, Needs}
 use Rattle.tf_config_names.specs.Texts.{put_text}
 use Rattle.tf_config_names.specs.declared.dependence.Dependence.{Dependence}
-use Rattle.tf_syntax.specs.TemplateNames.{Pair}
+use Rattle.tf_expr_syntax.specs.TemplateNames.{Pair}
 
 -- ---- texts in order
 

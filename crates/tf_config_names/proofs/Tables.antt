@@ -1,7 +1,7 @@
 -- The table of names: what is looked up in it, and what is found on the way through lists and maps.
 use Rattle.std.proofs.Common.{◌≡◌, ℕ, zero, suc, ◌+◌, ◌<◌, ◌≤◌, List, [], ◌∷◌, ◌++◌, Option, None, Some, option_map, length, get_or, drop, drop-cons, map, refl, sym, ap, ◌∙◌, add-one, arith, append_assoc}
 use Rattle.tf_config_data.specs.Names.{NameView, meant_at, place_of, place_before, places}
-use Rattle.tf_syntax.specs.TemplateNames.{Pair}
+use Rattle.tf_expr_syntax.specs.TemplateNames.{Pair}
 use Rattle.tf_config_names.specs.Table.{declaration_of}
 use Rattle.tf_config_names.specs.declared.declaration.Declaration.{Declaration}
 

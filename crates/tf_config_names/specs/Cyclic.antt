@@ -1,11 +1,11 @@
 -- How a configuration is refused whose names need themselves.
 use Rattle.std.specs.Prelude.{◌≡◌, ℕ, List, [], MatchResult, Result, codes}
 use Rattle.tf_config_data.specs.Names.{NameView}
-use Rattle.tf_refusal.specs.Code as code
-use Rattle.tf_refusal.specs.Refusal.{DetailView, RefusalView, no_memory, workers, fault, refusal_of}
-use Rattle.tf_refusal.specs.Refusal as refusals
-use Rattle.tf_refusal.specs.declared.refusal.Refusal.{Refusal}
-use Rattle.tf_syntax.specs.TemplateNames.{Pair}
+use Rattle.tf_config_refusal.specs.Code as code
+use Rattle.tf_config_refusal.specs.Refusal.{DetailView, RefusalView, no_memory, workers, fault, refusal_of}
+use Rattle.tf_config_refusal.specs.Refusal as refusals
+use Rattle.tf_config_refusal.specs.declared.refusal.Refusal.{Refusal}
+use Rattle.tf_expr_syntax.specs.TemplateNames.{Pair}
 use Rattle.tf_config_names.specs.Needs.{Needs, AreCyclic}
 
 -- 5, Cycle, of the whole file, with exactly the names that need themselves, one at least; or there was no memory

@@ -1,13 +1,13 @@
 -- A name of a table, without where it lies in memory.
 use Rattle.std.specs.Prelude.{string_bytes}
-use Rattle.tf_address.specs.Label.{label_of}
+use Rattle.tf_config_address.specs.ResourceAddr.{addr_of}
 use Rattle.tf_config_data.specs.Config.{block_at}
-use Rattle.tf_config_data.specs.Names.{NameView, local_pair, label_pair, a_local, a_block}
-use Rattle.tf_syntax.specs.ExprTree.{tree_of}
+use Rattle.tf_config_data.specs.Names.{NameView, local_pair, addr_pair, a_local, a_block}
+use Rattle.tf_expr_syntax.specs.ExprTree.{tree_of}
 use Rattle.tf_config_names.specs.declared.declaration.Declaration.{Declaration}
 use Rattle.tf_config_names.specs.declared.declaration.Declaration.TheVariants.{Local, Resource}
 
 -- a name with what it stands for
 abbrev pub declaration_of : Declaration → NameView
 declaration_of (Local name expr) = record { name = local_pair (string_bytes name.now); meant = a_local (tree_of expr.now) }
-declaration_of (Resource label block) = record { name = label_pair (label_of label.now); meant = a_block (block_at (label_of label.now) block.now) }
+declaration_of (Resource addr block) = record { name = addr_pair (addr_of addr.now); meant = a_block (block_at (addr_of addr.now) block.now) }

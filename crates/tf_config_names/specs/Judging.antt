@@ -2,7 +2,7 @@
 use Rattle.std.specs.Prelude.{◌⊎◌}
 use Rattle.tf_config_data.specs.Config.{ConfigView}
 use Rattle.tf_config_data.specs.Names.{names_of}
-use Rattle.tf_refusal.specs.Refusal.{RefusalView}
+use Rattle.tf_config_refusal.specs.Refusal.{RefusalView}
 use Rattle.tf_config_names.specs.Cyclic.{RefusesCycle}
 use Rattle.tf_config_names.specs.KnownNames.{declared_in, config_checks, AreKnown, RefusesNames}
 

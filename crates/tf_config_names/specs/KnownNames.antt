@@ -5,17 +5,17 @@ use Rattle.std.specs.Fmt.{decimal}
 use Rattle.std.specs.List.{list_all}
 use Rattle.std.specs.Ordering.{is_lt, nat_cmp}
 use Rattle.std.specs.Str.{bytes_eq}
-use Rattle.tf_address.specs.Label.{LabelView}
+use Rattle.tf_config_address.specs.ResourceAddr.{ResourceAddrView}
 use Rattle.tf_config_data.specs.Config.{VariableView, RepetitionView, single, count, for_each, BlockView, ConfigView, variables_of}
-use Rattle.tf_config_data.specs.Names.{NameView, names_of, place_of, same_pair, label_pair}
-use Rattle.tf_json_path.specs.Check.{Check, AllMet, IsFirst, demanded}
-use Rattle.tf_operators.specs.Functions.{function_named}
-use Rattle.tf_refusal.specs.Code as code
-use Rattle.tf_refusal.specs.Refusal.{bare, RefusalView, no_memory, workers, fault, refusal_of, Way}
-use Rattle.tf_refusal.specs.declared.refusal.Refusal.{Refusal}
-use Rattle.tf_syntax.specs.ExprTree.{Tree, null, boolean, whole, template, list, map, Trees, no_trees, tree, Entries, no_entries, entry}
-use Rattle.tf_syntax.specs.TemplateNames.{Pair, called, named}
-use Rattle.tf_syntax.specs.TemplateTree.{Woven}
+use Rattle.tf_config_data.specs.Names.{NameView, names_of, place_of, same_pair, addr_pair}
+use Rattle.tf_expr_path.specs.Check.{Check, AllMet, IsFirst, demanded}
+use Rattle.tf_expr_syntax.specs.Function.{function_named}
+use Rattle.tf_config_refusal.specs.Code as code
+use Rattle.tf_config_refusal.specs.Refusal.{bare, RefusalView, no_memory, workers, fault, refusal_of, Way}
+use Rattle.tf_config_refusal.specs.declared.refusal.Refusal.{Refusal}
+use Rattle.tf_expr_syntax.specs.ExprTree.{Tree, null, boolean, whole, template, list, map, Trees, no_trees, tree, Entries, no_entries, entry}
+use Rattle.tf_expr_syntax.specs.TemplateNames.{Pair, called, named}
+use Rattle.tf_expr_syntax.specs.TemplateTree.{Woven}
 use Rattle.tf_config_names.specs.Table.{names_in}
 use Rattle.tf_config_names.specs.declared.known_names.Context.{Context}
 use Rattle.tf_config_names.specs.declared.known_names.Context.TheVariants.{Plain, Counted, Keyed}
@@ -68,11 +68,11 @@ pub data NameDemand : Type 0 where
   -- all that the template names and calls is known where it stands
   only_known_names : Context → Woven → NameDemand
   -- the resource is declared
-  a_resource : LabelView → NameDemand
+  a_resource : ResourceAddrView → NameDemand
 
 abbrev pub holds : Declared → NameDemand → Bool
 holds declared (only_known_names context w) = knows_names declared context w
-holds declared (a_resource label) = is_some (place_of declared.names (label_pair label))
+holds declared (a_resource addr) = is_some (place_of declared.names (addr_pair addr))
 
 abbrev pub IsKnown : Declared → NameDemand → Type 0
 IsKnown declared demand = holds declared demand ≡ true
@@ -108,14 +108,14 @@ abbrev mutual
   entry_name_checks context place (entry name t es) = name_checks context (name ∷ place) t ++ entry_name_checks context place es
 
 -- each resource of a list, from a position on
-abbrev pub label_checks : List (List ℕ) → ℕ → List LabelView → NameChecks
-label_checks place position [] = []
-label_checks place position (label ∷ labels) = demanded (decimal position ∷ place) (a_resource label) ++ label_checks place (position + 1) labels
+abbrev pub addr_checks : List (List ℕ) → ℕ → List ResourceAddrView → NameChecks
+addr_checks place position [] = []
+addr_checks place position (addr ∷ addrs) = demanded (decimal position ∷ place) (a_resource addr) ++ addr_checks place (position + 1) addrs
 
 -- A property of a block whose names are checked: an expression, and what is known in it; or resources.
 pub data PropertyView : Type 0 where
   an_expression : Context → Tree → PropertyView
-  the_resources : List LabelView → PropertyView
+  the_resources : List ResourceAddrView → PropertyView
 
 abbrev pub Body : Type 0
 Body = List (List ℕ × PropertyView)
@@ -146,19 +146,19 @@ body_of b = put_repetition b.repetition (put_property (codes "depends_on", the_r
 
 abbrev pub property_checks : List (List ℕ) → PropertyView → NameChecks
 property_checks place (an_expression context t) = name_checks context place t
-property_checks place (the_resources labels) = label_checks place 0 labels
+property_checks place (the_resources addrs) = addr_checks place 0 addrs
 
 abbrev pub body_checks : List (List ℕ) → Body → NameChecks
 body_checks place [] = []
 body_checks place (p ∷ ps) = property_checks (p.0 ∷ place) p.1 ++ body_checks place ps
 
 -- the place of a block in the file: `resource`, its type, its name
-abbrev pub block_place : LabelView → List (List ℕ)
-block_place label = label.name ∷ label.type_name ∷ codes "resource" ∷ []
+abbrev pub block_place : ResourceAddrView → List (List ℕ)
+block_place addr = addr.name ∷ addr.type_name ∷ codes "resource" ∷ []
 
 abbrev pub block_checks : List BlockView → NameChecks
 block_checks [] = []
-block_checks (b ∷ bs) = body_checks (block_place b.label) (body_of b) ++ block_checks bs
+block_checks (b ∷ bs) = body_checks (block_place b.addr) (body_of b) ++ block_checks bs
 
 -- the value of each output
 abbrev pub output_checks : Entries → NameChecks

@@ -9,7 +9,7 @@ use Rattle.tf_graph.specs.Digraph.{predecessors_of, successors_of}
 use Rattle.tf_graph.specs.Order.{IsInOrder}
 use Rattle.tf_graph.specs.Path.{Path}
 use Rattle.tf_graph.specs.Solutions.{Ranked, StaysBelow}
-use Rattle.tf_syntax.specs.TemplateNames.{Pair}
+use Rattle.tf_expr_syntax.specs.TemplateNames.{Pair}
 use Rattle.tf_config_names.specs.Places.{found_in}
 use Rattle.tf_config_names.specs.declared.dependence.Dependence.{Dependence}
 

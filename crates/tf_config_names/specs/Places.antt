@@ -1,7 +1,7 @@
 -- The places of names, by the two texts around their dots.
 use Rattle.std.specs.Prelude.{ℕ, Bool, Option, None, Some, option_and_then, if◌then◌else◌, List, [], ◌∷◌, map, string_bytes, String}
 use Rattle.std.specs.Str.{bytes_eq}
-use Rattle.tf_syntax.specs.TemplateNames.{Pair}
+use Rattle.tf_expr_syntax.specs.TemplateNames.{Pair}
 use Rattle.std.specs.BTreeMap.{BTreeMap, get_by_text}
 use Rattle.std.specs.declared.alloc.Global.{Global}
 

@@ -1,7 +1,7 @@
 -- The properties of a block's body, without where they lie in memory.
 use Rattle.std.specs.Prelude.{ℕ, List, map}
-use Rattle.tf_address.specs.Label.{label_of}
-use Rattle.tf_syntax.specs.ExprTree.{tree_of}
+use Rattle.tf_config_address.specs.ResourceAddr.{addr_of}
+use Rattle.tf_expr_syntax.specs.ExprTree.{tree_of}
 use Rattle.tf_config_names.specs.KnownNames.{PropertyView, an_expression, the_resources}
 use Rattle.tf_config_names.specs.declared.properties.Property.{Property}
 use Rattle.tf_config_names.specs.declared.properties.PropertyValue.{PropertyValue}
@@ -9,7 +9,7 @@ use Rattle.tf_config_names.specs.declared.properties.PropertyValue.TheVariants.{
 
 abbrev pub value_view : PropertyValue → PropertyView
 value_view (Expression context expr) = an_expression context (tree_of expr.now)
-value_view (Resources labels) = the_resources (map label_of labels.now)
+value_view (Resources addrs) = the_resources (map addr_of addrs.now)
 
 abbrev pub property_view : Property → List ℕ × PropertyView
 property_view p = (p.name.now, value_view p.value)

@@ -1,6 +1,6 @@
 -- What a refusal tells of a place.
 use Rattle.std.specs.Prelude.{◌≡◌, ℕ, List}
-use Rattle.tf_refusal.specs.Refusal.{RefusalView, no_memory, workers, fault, Way}
+use Rattle.tf_config_refusal.specs.Refusal.{RefusalView, no_memory, workers, fault, Way}
 
 -- a fault at the place, or there was no memory to say so
 abbrev pub TellsAt : List ℕ → Way → RefusalView → Type 0

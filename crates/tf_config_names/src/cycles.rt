@@ -12,8 +12,8 @@ use crate::dependence::Dependence;
 use crate::table::Declarations;
 use std::alloc::{AllocError, Global};
 use std::collections::BTreeSet;
-use tf_refusal::code::CYCLE;
-use tf_refusal::{Detail, Refusal};
+use tf_config_refusal::code::CYCLE;
+use tf_config_refusal::{Detail, Refusal};
 
 impl Dependence {
     /// The names that need themselves, as `local.NAME` or `TYPE.NAME`, each once and in byte order of these texts.
@@ -88,7 +88,7 @@ fn text_of(alloc: Global, named: Declaration<'_>) -> Result<String, AllocError>
             let name = name.as_str();
             format!(in alloc; "local.{name}")
         }
-        Declaration::Resource(label, _) => format!(in alloc; "{label}"),
+        Declaration::Resource(addr, _) => format!(in alloc; "{addr}"),
     }
 }
 

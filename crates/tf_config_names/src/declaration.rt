@@ -3,9 +3,9 @@
 ghost use Rattle.std.specs.Prelude.{◌≡◌};
 ghost use Rattle.tf_config_names.specs.Declaration.{declaration_of};
 
-use tf_address::Label;
+use tf_config_address::ResourceAddr;
 use tf_config_data::Block;
-use tf_syntax::Expr;
+use tf_expr_syntax::Expr;
 
 /// A name of a configuration, with what it stands for.
 #[derive(Clone, Copy)]
@@ -13,7 +13,7 @@ pub enum Declaration<'a> {
     /// `local.NAME`: the name, and the expression that it stands for.
     Local(&'a String, &'a Expr),
     /// `TYPE.NAME`: the resource's type and name, and its block.
-    Resource(&'a Label, &'a Block),
+    Resource(&'a ResourceAddr, &'a Block),
 }
 
 impl<'a> Declaration<'a> {
@@ -23,7 +23,7 @@ impl<'a> Declaration<'a> {
     {
         match self {
             Declaration::Local(name, _) => ("local", name.as_str()),
-            Declaration::Resource(label, _) => (label.type_name.as_str(), label.name.as_str()),
+            Declaration::Resource(addr, _) => (addr.type_name.as_str(), addr.name.as_str()),
         }
     }
 }

@@ -10,7 +10,7 @@ ghost use Rattle.tf_config_names.specs.Edges.{edges_into};
 ghost use Rattle.tf_config_names.specs.Needs.{before_in, is_referred_to, needs_in, order_in, IsDependence};
 ghost use Rattle.tf_config_names.specs.Places.{found_in};
 ghost use Rattle.tf_config_names.specs.Table.{names_in};
-ghost use Rattle.tf_syntax.specs.TemplateNames.{Pair};
+ghost use Rattle.tf_expr_syntax.specs.TemplateNames.{Pair};
 
 use crate::declaration::Declaration;
 use crate::places::Places;

@@ -5,7 +5,7 @@ ghost use Rattle.tf_config_data.specs.Config.{config_of};
 ghost use Rattle.tf_config_data.specs.Names.{names_of};
 ghost use Rattle.tf_config_names.specs.Judging.{AllAreKnown, RefusesItsNames};
 ghost use Rattle.tf_config_names.specs.Needs.{IsAcyclic, IsDependence};
-ghost use Rattle.tf_refusal.specs.Refusal.{refusal_of};
+ghost use Rattle.tf_config_refusal.specs.Refusal.{refusal_of};
 
 use crate::cycles::demand_acyclic;
 use crate::dependence::Dependence;
@@ -13,7 +13,7 @@ use crate::known_names::demand_known_names;
 use crate::table::Declarations;
 use std::alloc::Global;
 use tf_config_data::Config;
-use tf_refusal::Refusal;
+use tf_config_refusal::Refusal;
 
 /// Which name of a configuration needs which, where each reference is to a known name and no name needs itself.
 ///

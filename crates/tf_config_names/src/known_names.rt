@@ -2,27 +2,26 @@
 
 ghost use Rattle.std.specs.List.{list_all};
 ghost use Rattle.std.specs.Prelude.{◌≡◌, ◌∷◌, [], IfOk, codes, map, string_bytes};
-ghost use Rattle.tf_config_data.specs.Words.{block_at, blocks_of, config_of, entries_view, label_of, LabelView, names_of, reference_of, template_view, tree_of, trees_view, variables_of};
-ghost use Rattle.tf_json_path.specs.Check.{demanded};
-ghost use Rattle.tf_json_path.specs.Place.{dotted, place_of as place_at};
-ghost use Rattle.tf_config_names.specs.KnownNames.{a_resource, binds, block_checks, block_place, body_checks, body_of, config_checks, declared_in, declared_of, entry_name_checks, has_variable, is_function, is_variable, item_name_checks, knows, knows_names, label_checks, name_checks, only_known_names, output_checks, property_checks, unknown_name, JudgesNames};
+ghost use Rattle.tf_config_data.specs.Words.{block_at, blocks_of, config_of, entries_view, addr_of, ResourceAddrView, names_of, reference_of, template_view, tree_of, trees_view, variables_of};
+ghost use Rattle.tf_expr_path.specs.Check.{demanded};
+ghost use Rattle.tf_expr_path.specs.Place.{dotted, place_of as place_at};
+ghost use Rattle.tf_config_names.specs.KnownNames.{a_resource, binds, block_checks, block_place, body_checks, body_of, config_checks, declared_in, declared_of, entry_name_checks, has_variable, is_function, is_variable, item_name_checks, knows, knows_names, addr_checks, name_checks, only_known_names, output_checks, property_checks, unknown_name, JudgesNames};
 ghost use Rattle.tf_config_names.specs.Properties.{property_view, value_view};
 ghost use Rattle.tf_config_names.specs.Table.{names_in};
 ghost use Rattle.tf_config_names.specs.declared.known_names.Context.TheVariants.{Plain};
 ghost use Rattle.tf_config_names.specs.Tells.{TellsAt};
-ghost use Rattle.tf_refusal.specs.Refusal.{refusal_of};
+ghost use Rattle.tf_config_refusal.specs.Refusal.{refusal_of};
 
 use crate::properties::{Property, PropertyValue, properties_of};
 use crate::table::Declarations;
 use std::alloc::{AllocError, Global};
 use std::collections::BTreeMap;
-use tf_address::Label;
+use tf_config_address::ResourceAddr;
 use tf_config_data::{Block, Config, Variable};
-use tf_json_path::Path;
-use tf_operators::Function;
-use tf_refusal::code::UNKNOWN_NAME;
-use tf_refusal::{Detail, Refusal};
-use tf_syntax::{Expr, Reference, Template, names_of};
+use tf_config_refusal::code::UNKNOWN_NAME;
+use tf_config_refusal::{Detail, Refusal};
+use tf_expr_path::Path;
+use tf_expr_syntax::{Expr, Function, Reference, Template, names_of};
 
 /// What an expression may name beside what is declared, by where it stands.
 #[derive(Clone, Copy, Debug, PartialEq, Eq)]
@@ -178,22 +177,25 @@ fn demand_output(known: Known<'_, '_>, name: &str, expr: &Expr) -> Result<(), Re
     demand_expr(known, Context::Plain, &value, expr)
 }
 
-fn demand_blocks(known: Known<'_, '_>, blocks: &BTreeMap<Label, Block>) -> Result<(), Refusal>
+fn demand_blocks(
+    known: Known<'_, '_>,
+    blocks: &BTreeMap<ResourceAddr, Block>,
+) -> Result<(), Refusal>
     ensures { JudgesNames (declared_of known.entry) (block_checks (blocks_of blocks.now.entries)) result }
 {
-    for (label, block) in blocks.iter() {
-        demand_resource(known, label, block)?;
+    for (addr, block) in blocks.iter() {
+        demand_resource(known, addr, block)?;
     }
     Ok(())
 }
 
 /// The block of a resource.
-fn demand_resource(known: Known<'_, '_>, label: &Label, block: &Block) -> Result<(), Refusal>
-    ensures { JudgesNames (declared_of known.entry) (body_checks (block_place (label_of label.now)) (body_of (block_at (label_of label.now) block.now))) result }
+fn demand_resource(known: Known<'_, '_>, addr: &ResourceAddr, block: &Block) -> Result<(), Refusal>
+    ensures { JudgesNames (declared_of known.entry) (body_checks (block_place (addr_of addr.now)) (body_of (block_at (addr_of addr.now) block.now))) result }
 {
     let resource = Path::Member(&Path::Root, "resource");
-    let kind = Path::Member(&resource, label.type_name.as_str());
-    let name = Path::Member(&kind, label.name.as_str());
+    let kind = Path::Member(&resource, addr.type_name.as_str());
+    let name = Path::Member(&kind, addr.name.as_str());
     demand_block(known, &name, block)
 }
 
@@ -203,8 +205,8 @@ fn demand_block<'a>(
     path: &'a Path<'a>,
     block: &'a Block,
 ) -> Result<(), Refusal>
-    ensures { (label : LabelView) → JudgesNames (declared_of known.entry)
-        (body_checks (place_at path.now) (body_of (block_at label block.now))) result }
+    ensures { (addr : ResourceAddrView) → JudgesNames (declared_of known.entry)
+        (body_checks (place_at path.now) (body_of (block_at addr block.now))) result }
 {
     let properties = properties_of(known.alloc, block)?;
     demand_properties(known, &*path, properties.as_slice())
@@ -232,29 +234,29 @@ fn demand_value<'a>(
 {
     match value {
         PropertyValue::Expression(context, expr) => demand_expr(known, *context, path, expr),
-        PropertyValue::Resources(labels) => demand_labels(known, path, labels),
+        PropertyValue::Resources(addrs) => demand_addrs(known, path, addrs),
     }
 }
 
-fn demand_labels<'a>(
+fn demand_addrs<'a>(
     known: Known<'_, '_>,
     path: &'a Path<'a>,
-    labels: &'a [Label],
+    addrs: &'a [ResourceAddr],
 ) -> Result<(), Refusal>
-    ensures { JudgesNames (declared_of known.entry) (label_checks (place_at path.now) 0 (map label_of labels.now)) result }
+    ensures { JudgesNames (declared_of known.entry) (addr_checks (place_at path.now) 0 (map addr_of addrs.now)) result }
 {
-    for (position, label) in labels.iter().enumerate() {
-        demand_label(known, &Path::Item(path, position), label)?;
+    for (position, addr) in addrs.iter().enumerate() {
+        demand_addr(known, &Path::Item(path, position), addr)?;
     }
     Ok(())
 }
 
-fn demand_label(known: Known<'_, '_>, path: &Path<'_>, label: &Label) -> Result<(), Refusal>
-    ensures { JudgesNames (declared_of known.entry) (demanded (place_at path.now) (a_resource (label_of label.now))) result }
+fn demand_addr(known: Known<'_, '_>, path: &Path<'_>, addr: &ResourceAddr) -> Result<(), Refusal>
+    ensures { JudgesNames (declared_of known.entry) (demanded (place_at path.now) (a_resource (addr_of addr.now))) result }
 {
     let place = known
         .names
-        .place(label.type_name.as_str(), label.name.as_str());
+        .place(addr.type_name.as_str(), addr.name.as_str());
     if place.is_some() {
         Ok(())
     } else {

@@ -4,7 +4,7 @@ ghost use Rattle.std.specs.Prelude.{◌≡◌, ℕ, None, Some, IfOk, OnOk, if�
 ghost use Rattle.tf_config_data.specs.Names.{place_of, same_pair};
 ghost use Rattle.tf_config_names.specs.Declaration.{declaration_of};
 ghost use Rattle.tf_config_names.specs.Places.{found_in, found_in_maps};
-ghost use Rattle.tf_syntax.specs.TemplateNames.{Pair};
+ghost use Rattle.tf_expr_syntax.specs.TemplateNames.{Pair};
 
 use crate::declaration::Declaration;
 use std::alloc::{AllocError, Global};

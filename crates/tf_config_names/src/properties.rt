@@ -3,7 +3,7 @@
 ghost use Rattle.std.specs.Prelude.{◌≡◌, ◌≤◌, ◌++◌, ◌∷◌, IfOk, OnOk, drop, length, map, take};
 ghost use Rattle.std.specs.Cmp.Lexicographic.{slice_cmp};
 ghost use Rattle.std.specs.Ordering.{is_lt, nat_cmp};
-ghost use Rattle.tf_config_data.specs.Words.{block_at, entries_view, LabelView, repetition_of, tree_of};
+ghost use Rattle.tf_config_data.specs.Words.{block_at, entries_view, ResourceAddrView, repetition_of, tree_of};
 ghost use Rattle.tf_config_names.specs.KnownNames.{PropertyView, an_expression, arguments_in, body_of, context_of, put_property, put_repetition};
 ghost use Rattle.tf_config_names.specs.declared.known_names.Context.TheVariants.{Plain};
 ghost use Rattle.tf_config_names.specs.Properties.{property_view};
@@ -11,9 +11,9 @@ ghost use Rattle.tf_config_names.specs.Properties.{property_view};
 use crate::known_names::Context;
 use std::alloc::{AllocError, Global};
 use std::collections::BTreeMap;
-use tf_address::Label;
+use tf_config_address::ResourceAddr;
 use tf_config_data::{Block, Repetition};
-use tf_syntax::Expr;
+use tf_expr_syntax::Expr;
 
 /// What a property of a block's body says.
 #[derive(Clone, Copy)]
@@ -21,7 +21,7 @@ pub(crate) enum PropertyValue<'a> {
     /// An expression, and what is known in it.
     Expression(Context, &'a Expr),
     /// Resources.
-    Resources(&'a [Label]),
+    Resources(&'a [ResourceAddr]),
 }
 
 /// A property of a block's body.
@@ -37,7 +37,7 @@ pub(crate) fn properties_of<'a>(
     alloc: Global,
     block: &'a Block,
 ) -> Result<Vec<Property<'a>>, AllocError>
-    ensures { IfOk result (λ body. (label : LabelView) → map property_view body.items ≡ body_of (block_at label block.now)) }
+    ensures { IfOk result (λ body. (addr : ResourceAddrView) → map property_view body.items ≡ body_of (block_at addr block.now)) }
 {
     let mut body = arguments_of(alloc, context_in(&block.repetition), &block.arguments)?;
     let depends_on = Property {

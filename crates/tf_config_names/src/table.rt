@@ -1,7 +1,7 @@
 //! The table of a configuration's names.
 
 ghost use Rattle.std.specs.Prelude.{◌≡◌, ◌<◌, ◌++◌, ◌∷◌, [], Some, IfOk, OnOk, length, map, slice_get};
-ghost use Rattle.tf_config_data.specs.Words.{block_at, block_refers, config_of, directly_before, entries_view, label_of, label_pair, LabelView, meant_at, named_below, named_by, named_in_repetition, names_of, Pair, place_of, places, refers, repetition_of, tree_of};
+ghost use Rattle.tf_config_data.specs.Words.{block_at, block_refers, config_of, directly_before, entries_view, addr_of, addr_pair, ResourceAddrView, meant_at, named_below, named_by, named_in_repetition, names_of, Pair, place_of, places, refers, repetition_of, tree_of};
 ghost use Rattle.tf_config_names.specs.Declaration.{declaration_of};
 ghost use Rattle.tf_config_names.specs.Needs.{IsDependence};
 ghost use Rattle.tf_config_names.specs.Places.{found_in};
@@ -11,9 +11,9 @@ use crate::dependence::Dependence;
 use crate::places::Places;
 use std::alloc::{AllocError, Global};
 use std::collections::BTreeMap;
-use tf_address::Label;
+use tf_config_address::ResourceAddr;
 use tf_config_data::{Block, Config, Repetition};
-use tf_syntax::Expr;
+use tf_expr_syntax::Expr;
 
 /// The names of a configuration that need and can be needed: its locals in byte order, then its resources in
 /// address order. Each stands at a place, from 0 on. Where they stand is looked up in a table that was made once.
@@ -121,12 +121,12 @@ impl<'a> Declarations<'a> {
 
     /// Adds the places of what a block refers to.
     fn add_block(&self, block: &Block, found: &mut Vec<usize>) -> Result<(), AllocError>
-        ensures { OnOk result ((label : LabelView) → found.new.items
-            ≡ found.old.items ++ places (names_in self.now) (block_refers (block_at label block.now))) }
+        ensures { OnOk result ((addr : ResourceAddrView) → found.new.items
+            ≡ found.old.items ++ places (names_in self.now) (block_refers (block_at addr block.now))) }
     {
         self.add_repetition(&block.repetition, found)?;
         self.add_named_below(&block.arguments, found)?;
-        self.add_labels(block.depends_on.as_slice(), found)?;
+        self.add_addrs(block.depends_on.as_slice(), found)?;
         Ok(())
     }
 
@@ -146,12 +146,12 @@ impl<'a> Declarations<'a> {
     }
 
     /// Adds the places of resources.
-    fn add_labels(&self, labels: &[Label], found: &mut Vec<usize>) -> Result<(), AllocError>
+    fn add_addrs(&self, addrs: &[ResourceAddr], found: &mut Vec<usize>) -> Result<(), AllocError>
         ensures { OnOk result (found.new.items
-            ≡ found.old.items ++ places (names_in self.now) (map label_pair (map label_of labels.now))) }
+            ≡ found.old.items ++ places (names_in self.now) (map addr_pair (map addr_of addrs.now))) }
     {
-        for label in labels {
-            self.add_place(label.type_name.as_str(), label.name.as_str(), found)?;
+        for addr in addrs {
+            self.add_place(addr.type_name.as_str(), addr.name.as_str(), found)?;
         }
         Ok(())
     }
@@ -205,8 +205,8 @@ pub(crate) fn declarations_of<'a>(
     for (name, expr) in config.locals.iter() {
         entries.push(Declaration::Local(name, expr))?;
     }
-    for (label, block) in config.resources.iter() {
-        entries.push(Declaration::Resource(label, block))?;
+    for (addr, block) in config.resources.iter() {
+        entries.push(Declaration::Resource(addr, block))?;
     }
     Ok(entries)
 }

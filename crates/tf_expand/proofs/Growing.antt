@@ -8,19 +8,19 @@ use Rattle.tf_graph.specs.Solutions.{seen_by}
 use Rattle.tf_graph.proofs.Solving.{solutions-related}
 use Rattle.tf_value.specs.Tree.{Tree, Entries, get, whole, text, map, set, unknown, keys_of}
 use Rattle.tf_value.specs.Refinement.{Refines}
-use Rattle.tf_operators.specs.Answer.{Answer, present_value, whole_value}
-use Rattle.tf_eval.specs.Environment.{Environment, RefinesTo}
-use Rattle.tf_eval.specs.Growth.{ExprKnowledgeGrows}
+use Rattle.tf_expr_operators.specs.Answer.{Answer, present_value, whole_value}
+use Rattle.tf_expr_eval.specs.Environment.{Environment, RefinesTo}
+use Rattle.tf_expr_eval.specs.Growth.{ExprKnowledgeGrows}
 use Rattle.tf_expand.specs.StandingLaws.{Grows, ResolvedNamesGrow, ExpansionGrows, PlanGrows, InstancesStay, InstanceEnvironmentsGrow}
 use Rattle.tf_expand.specs.Resolved.{ResolvedView, ResourceValuesView, stands, stands_at, or_missing, answer_at, environment, environment_at, result_in, where_all, all_stand, rule, together}
 use Rattle.tf_expand.proofs.Places.{IsPlaceBelow, place_below, all_places, names_stay}
 use Rattle.tf_expand.proofs.Refining.{AnswersRefine, either, together_grows, same_keys, get_refines}
-use Rattle.tf_address.specs.ObjectId as keys
-use Rattle.tf_address.specs.ObjectId.{InstanceKeyView}
-use Rattle.tf_operators.specs.declared.fault.EvalFault.{EvalFault}
-use Rattle.tf_eval.specs.Constants.{ConstantView}
-use Rattle.tf_eval.specs.ExprMeaning.{meaning}
-use Rattle.tf_eval.specs.Meaning.{and_then}
+use Rattle.tf_config_address.specs.ObjectId as keys
+use Rattle.tf_config_address.specs.ObjectId.{InstanceKeyView}
+use Rattle.tf_expr_syntax.specs.declared.fault.EvalFault.{EvalFault}
+use Rattle.tf_expr_eval.specs.Constants.{ConstantView}
+use Rattle.tf_expr_eval.specs.ExprMeaning.{meaning}
+use Rattle.tf_expr_eval.specs.Meaning.{and_then}
 use Rattle.tf_expand.specs.Instance.{bound, count_index, each_key, each_value, value_under, instance_constants}
 use Rattle.tf_expand.specs.Repetition.{instances, counted, keyed, or_bad_for_each}
 use Rattle.tf_expand.specs.declared.repetition.RepetitionFault.{RepetitionFault}

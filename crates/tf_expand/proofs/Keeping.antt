@@ -12,7 +12,7 @@ use Rattle.tf_graph.specs.Order.{IsInOrder}
 use Rattle.tf_graph.specs.Solutions.{seen_by}
 use Rattle.tf_graph.proofs.Solving.{seen_by-same, all_by_both}
 use Rattle.tf_value.specs.Tree.{Entries}
-use Rattle.tf_eval.proofs.Locality.{expressions_local}
+use Rattle.tf_expr_eval.proofs.Locality.{expressions_local}
 use Rattle.tf_expand.specs.Kept.{AreClosed, AreResolved, OnlyWanted}
 use Rattle.tf_expand.specs.StandingLaws.{IsLocal}
 use Rattle.tf_expand.specs.Resolved.{ResolvedView, ResourceValuesView, stands_at, where_all, all_stand, environment, AreResolvedNames}

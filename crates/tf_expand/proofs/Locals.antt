@@ -1,17 +1,17 @@
 -- What blocks and names stand for depends on what they refer to alone.
 use Rattle.std.proofs.Common.{◌≡◌, ◌++◌, ℕ, List, [], ◌∷◌, map as each, Option, Some, None, option_map, refl, sym, ap, ◌∙◌}
 use Rattle.std.specs.List.{AllByRecursion}
-use Rattle.tf_address.specs.ObjectId.{InstanceKeyView}
+use Rattle.tf_config_address.specs.ObjectId.{InstanceKeyView}
 use Rattle.tf_config_data.specs.Config.{BlockView, RepetitionView, single, count, for_each}
-use Rattle.tf_config_data.specs.Names.{NameView, Meant, a_local, a_block, meant_at, refers_at, block_refers, named_in_repetition, label_pair, directly_before}
+use Rattle.tf_config_data.specs.Names.{NameView, Meant, a_local, a_block, meant_at, refers_at, block_refers, named_in_repetition, addr_pair, directly_before}
 use Rattle.tf_graph.specs.Solutions.{seen_by}
-use Rattle.tf_syntax.specs.ExprNames.{named_below}
-use Rattle.tf_syntax.specs.TemplateNames.{Pair}
+use Rattle.tf_expr_syntax.specs.ExprNames.{named_below}
+use Rattle.tf_expr_syntax.specs.TemplateNames.{Pair}
 use Rattle.tf_value.specs.Tree.{Tree, Entries, unknown}
-use Rattle.tf_operators.specs.Answer.{limited}
-use Rattle.tf_eval.specs.Environment.{Environment}
-use Rattle.tf_eval.specs.Locality.{AgreeOn, ExpressionsAreLocal}
-use Rattle.tf_eval.proofs.Locality.{both_halves}
+use Rattle.tf_expr_operators.specs.Answer.{limited}
+use Rattle.tf_expr_eval.specs.Environment.{Environment}
+use Rattle.tf_expr_eval.specs.Locality.{AgreeOn, ExpressionsAreLocal}
+use Rattle.tf_expr_eval.proofs.Locality.{both_halves}
 use Rattle.tf_expand.specs.StandingLaws.{IsLocal, AllAreSeen, ExpansionIsLocal, PlanningIsLocal, ApplyingIsLocal}
 use Rattle.tf_expand.specs.Repetition.{instances, counted, keyed}
 use Rattle.tf_expand.specs.InstanceKeys.{InstanceKeysView, one, many, named, instance_keys, objects_at, list_of, map_under, collected}
@@ -43,7 +43,7 @@ pub block_local : ExpressionsAreLocal → (block : BlockView) (e f : Environment
     → instances block.repetition e ≡ instances block.repetition f
 block_local law block e f h =
     let agree : Pair → Type 0 = λ pair. e pair.0 pair.1 ≡ f pair.0 pair.1 in
-    let outer = both_halves agree (named_in_repetition block.repetition ++ named_below block.arguments) (each label_pair block.depends_on) h in
+    let outer = both_halves agree (named_in_repetition block.repetition ++ named_below block.arguments) (each addr_pair block.depends_on) h in
     instances_local law block.repetition e f (both_halves agree (named_in_repetition block.repetition) (named_below block.arguments) outer.0).0
 
 pub expansion_local : ExpressionsAreLocal → ExpansionIsLocal

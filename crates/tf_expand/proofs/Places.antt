@@ -3,7 +3,7 @@ use Rattle.std.proofs.Common.{◌≡◌, ◌<◌, ℕ, List, length, Option, Som
 use Rattle.std.specs.List.{AllByRecursion}
 use Rattle.tf_config_data.specs.Names.{NameView, meant_at, refers_at, place_of, places, directly_before}
 use Rattle.tf_config_names.proofs.Edging.{place_of-below, places-below}
-use Rattle.tf_syntax.specs.TemplateNames.{Pair}
+use Rattle.tf_expr_syntax.specs.TemplateNames.{Pair}
 use Rattle.tf_graph.proofs.Solving.{all_by_weaker, solutions-related}
 use Rattle.tf_graph.specs.Solutions.{Ranked, StaysBelow}
 

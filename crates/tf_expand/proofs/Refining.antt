@@ -6,12 +6,12 @@ use Rattle.std.specs.Ordering.{nat_cmp, match_ordering}
 use Rattle.std.specs.Str.{bytes_eq}
 use Rattle.std.specs.declared.cmp.Ordering.{Ordering}
 use Rattle.std.specs.declared.cmp.Ordering.TheVariants.{Less, Equal, Greater}
-use Rattle.tf_address.specs.ObjectId.{InstanceKeyView}
+use Rattle.tf_config_address.specs.ObjectId.{InstanceKeyView}
 use Rattle.tf_value.specs.Measure.{weight, depth, max_weight, max_depth}
 use Rattle.tf_value.specs.Tree.{Tree, items_of, Entries, no_entries, entry, keys_of, get, put}
 use Rattle.tf_value.specs.Refinement.{Refines, RefinesItems, RefinesEntries}
-use Rattle.tf_operators.specs.Answer.{Answer, limited}
-use Rattle.tf_operators.specs.declared.fault.EvalFault.TheVariants.{TooLarge}
+use Rattle.tf_expr_operators.specs.Answer.{Answer, limited}
+use Rattle.tf_expr_syntax.specs.declared.fault.EvalFault.TheVariants.{TooLarge}
 use Rattle.tf_expand.specs.StandingLaws.{Grows}
 use Rattle.tf_expand.specs.InstanceKeys.{InstanceKeysView, one, many, named, instance_keys, objects_at, put_each, list_of, map_under, collected}
 use Rattle.tf_expand.specs.Resolved.{together}

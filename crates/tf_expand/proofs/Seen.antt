@@ -6,10 +6,10 @@ use Rattle.std.specs.Str.{bytes_eq}
 use Rattle.tf_config_data.specs.Names.{NameView, place_of, place_before, places}
 use Rattle.tf_graph.specs.Solutions.{seen_by}
 use Rattle.tf_graph.proofs.Solving.{all_by_weaker}
-use Rattle.tf_operators.specs.Answer.{present_value}
+use Rattle.tf_expr_operators.specs.Answer.{present_value}
 use Rattle.tf_value.specs.Tree.{Entries, get}
-use Rattle.tf_syntax.specs.TemplateNames.{Pair}
-use Rattle.tf_eval.specs.Locality.{AgreeOn}
+use Rattle.tf_expr_syntax.specs.TemplateNames.{Pair}
+use Rattle.tf_expr_eval.specs.Locality.{AgreeOn}
 use Rattle.tf_expand.specs.Resolved.{ResolvedView, answer_at, or_missing, environment, result_in}
 
 agree_at : (resolved_names others : ℕ → ResolvedView) (place : Option ℕ) (ns : List ℕ) → AllByRecursion (λ n. resolved_names n ≡ others n) (place_before place ns)

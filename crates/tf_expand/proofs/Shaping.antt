@@ -10,7 +10,7 @@ use Rattle.tf_graph.proofs.Solving.{seen_by-same}
 use Rattle.tf_config_names.specs.Needs.{IsDependence}
 use Rattle.tf_config_names.specs.declared.dependence.Dependence.{Dependence}
 use Rattle.tf_value.specs.Tree.{Entries}
-use Rattle.tf_eval.proofs.Locality.{expressions_local}
+use Rattle.tf_expr_eval.proofs.Locality.{expressions_local}
 use Rattle.tf_expand.specs.InstanceKeys.{InstanceKeysView, one}
 use Rattle.tf_expand.specs.Resolved.{ResolvedView, all_stand, environment}
 use Rattle.tf_expand.specs.Views.{shape_of, shapes_of}

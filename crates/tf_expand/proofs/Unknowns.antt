@@ -2,18 +2,18 @@
 use Rattle.std.proofs.Common.{◌≡◌, ◌≤◌, ◌+◌, ℕ, false, nat_le, List, [], ◌∷◌, map as each, length, Some, Err, option_map, refl, arith, ◌<◌, zero, suc, true, if◌then◌else◌, Option, None, is_some, Result, Ok, sym, ap, ◌∙◌}
 use Rattle.std.proofs.lemmas.Bool.{lt-leb}
 use Rattle.std.proofs.lemmas.List.FromFn.{length-map-range_with_len}
-use Rattle.tf_address.specs.ObjectId.{InstanceKeyView, number}
+use Rattle.tf_config_address.specs.ObjectId.{InstanceKeyView, number}
 use Rattle.tf_value.specs.Measure.{weight_of_items, max_weight}
 use Rattle.tf_value.specs.Tree.{unknown, items_of, Tree}
-use Rattle.tf_operators.specs.Answer.{limited}
-use Rattle.tf_operators.specs.declared.fault.EvalFault.TheVariants.{TooLarge}
+use Rattle.tf_expr_operators.specs.Answer.{limited}
+use Rattle.tf_expr_syntax.specs.declared.fault.EvalFault.TheVariants.{TooLarge}
 use Rattle.tf_expand.specs.InstanceKeys.{InstanceKeysView, many, instance_keys, objects_at, collected, one, named, list_of, map_under}
 use Rattle.tf_expand.specs.Resolved.{ResolvedView, together, stands_at, where_all, all_stand, environment}
 use Rattle.std.specs.List.{AllByRecursion}
 use Rattle.tf_config_data.specs.Names.{NameView, Meant, a_local, a_block, meant_at, directly_before}
 use Rattle.tf_graph.specs.Solutions.{seen_by}
-use Rattle.tf_eval.specs.Environment.{Environment}
-use Rattle.tf_eval.proofs.Locality.{expressions_local}
+use Rattle.tf_expr_eval.specs.Environment.{Environment}
+use Rattle.tf_expr_eval.proofs.Locality.{expressions_local}
 use Rattle.tf_expand.specs.Repetition.{instances}
 use Rattle.tf_expand.specs.Stages.{expansion, fine}
 use Rattle.tf_expand.specs.declared.repetition.RepetitionFault.{RepetitionFault}

@@ -3,7 +3,7 @@ use Rattle.std.specs.Prelude.{◌≡◌, ◌≤◌, ◌<◌, ◌+◌, ℕ, zero,
 use Rattle.tf_config_data.specs.Names.{NameView, Meant, a_local, a_block, meant_at, directly_before}
 use Rattle.tf_graph.specs.Solutions.{seen_by}
 use Rattle.tf_value.specs.Tree.{Entries}
-use Rattle.tf_eval.specs.Environment.{Environment}
+use Rattle.tf_expr_eval.specs.Environment.{Environment}
 use Rattle.tf_expand.specs.Repetition.{instances}
 use Rattle.tf_expand.specs.InstanceKeys.{InstanceKeysView, one, many, named}
 use Rattle.tf_expand.specs.Resolved.{ResolvedView, all_stand, environment}

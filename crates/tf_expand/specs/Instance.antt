@@ -1,16 +1,16 @@
 -- What the arguments of one instance see.
 use Rattle.std.specs.Prelude.{ℕ, pos, Bool, true, false, ◌&&◌, if◌then◌else◌, List, [], ◌∷◌, codes, Result, Ok}
 use Rattle.std.specs.Str.{bytes_eq}
-use Rattle.tf_address.specs.ObjectId as keys
-use Rattle.tf_address.specs.ObjectId.{InstanceKeyView}
+use Rattle.tf_config_address.specs.ObjectId as keys
+use Rattle.tf_config_address.specs.ObjectId.{InstanceKeyView}
 use Rattle.tf_config_data.specs.Config.{RepetitionView, single, count, for_each}
 use Rattle.tf_value.specs.Tree.{Tree, text, set, part_at}
-use Rattle.tf_operators.specs.Answer.{Answer, present_value, whole_value}
-use Rattle.tf_operators.specs.declared.fault.EvalFault.{EvalFault}
-use Rattle.tf_eval.specs.Constants.{ConstantView}
-use Rattle.tf_eval.specs.Environment.{Environment}
-use Rattle.tf_eval.specs.ExprMeaning.{meaning}
-use Rattle.tf_eval.specs.Meaning.{and_then}
+use Rattle.tf_expr_operators.specs.Answer.{Answer, present_value, whole_value}
+use Rattle.tf_expr_syntax.specs.declared.fault.EvalFault.{EvalFault}
+use Rattle.tf_expr_eval.specs.Constants.{ConstantView}
+use Rattle.tf_expr_eval.specs.Environment.{Environment}
+use Rattle.tf_expr_eval.specs.ExprMeaning.{meaning}
+use Rattle.tf_expr_eval.specs.Meaning.{and_then}
 
 -- constants, and what other references stand for
 abbrev pub bound : List ConstantView → Environment → Environment

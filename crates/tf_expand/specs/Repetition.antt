@@ -2,9 +2,9 @@
 use Rattle.std.specs.Prelude.{ℕ, pos, List, Option, Some, None, Result, Ok, Err}
 use Rattle.tf_config_data.specs.Config.{RepetitionView, single, count, for_each}
 use Rattle.tf_value.specs.Tree.{Tree, whole, map, set, unknown, keys_of}
-use Rattle.tf_operators.specs.Answer.{Answer}
-use Rattle.tf_eval.specs.Environment.{Environment}
-use Rattle.tf_eval.specs.ExprMeaning.{meaning}
+use Rattle.tf_expr_operators.specs.Answer.{Answer}
+use Rattle.tf_expr_eval.specs.Environment.{Environment}
+use Rattle.tf_expr_eval.specs.ExprMeaning.{meaning}
 use Rattle.tf_expand.specs.InstanceKeys.{InstanceKeysView, one, many, named}
 use Rattle.tf_expand.specs.declared.repetition.RepetitionFault.{RepetitionFault}
 use Rattle.tf_expand.specs.declared.repetition.RepetitionFault.TheVariants.{BadCount, BadForEach, UnknownInstances, Evaluation}

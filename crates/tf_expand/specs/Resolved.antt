@@ -2,15 +2,15 @@
 use Rattle.std.specs.Prelude.{◌==◌, ℕ, Bool, if◌then◌else◌, List, [], ◌∷◌, length, codes, Option, Some, None, option_map, Err, is_some}
 use Rattle.std.specs.List.{list_all}
 use Rattle.std.specs.Str.{bytes_eq}
-use Rattle.tf_address.specs.ObjectId.{InstanceKeyView}
+use Rattle.tf_config_address.specs.ObjectId.{InstanceKeyView}
 use Rattle.tf_config_data.specs.Config.{BlockView}
 use Rattle.tf_config_data.specs.Names.{NameView, Meant, a_local, a_block, place_of, meant_at, directly_before}
 use Rattle.tf_graph.specs.Solutions.{Solves, seen_by}
 use Rattle.tf_value.specs.Tree.{Tree, Entries, get}
-use Rattle.tf_operators.specs.Answer.{Answer, limited, present_value}
-use Rattle.tf_operators.specs.declared.fault.EvalFault.TheVariants.{Missing}
-use Rattle.tf_eval.specs.Environment.{Environment}
-use Rattle.tf_eval.specs.ExprMeaning.{meaning}
+use Rattle.tf_expr_operators.specs.Answer.{Answer, limited, present_value}
+use Rattle.tf_expr_syntax.specs.declared.fault.EvalFault.TheVariants.{Missing}
+use Rattle.tf_expr_eval.specs.Environment.{Environment}
+use Rattle.tf_expr_eval.specs.ExprMeaning.{meaning}
 use Rattle.tf_expand.specs.InstanceKeys.{InstanceKeysView, collected}
 
 -- What a local or a resource stands for: a value or a fault, which is then the fault of whoever refers to it. None

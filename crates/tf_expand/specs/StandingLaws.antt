@@ -1,13 +1,13 @@
 -- What holds of resolved names, at every stage.
 use Rattle.std.specs.Prelude.{◌≡◌, ◌<◌, ℕ, List, length, Option, Some, Ok}
-use Rattle.tf_address.specs.ObjectId.{InstanceKeyView}
+use Rattle.tf_config_address.specs.ObjectId.{InstanceKeyView}
 use Rattle.tf_config_data.specs.Config.{BlockView, RepetitionView}
 use Rattle.tf_config_data.specs.Names.{NameView, a_block, meant_at, directly_before, block_refers}
 use Rattle.tf_graph.specs.Solutions.{Ranked, seen_by}
 use Rattle.tf_value.specs.Tree.{Tree, Entries}
 use Rattle.tf_value.specs.Refinement.{Refines}
-use Rattle.tf_eval.specs.Environment.{Environment, RefinesTo}
-use Rattle.tf_eval.specs.Locality.{AgreeOn}
+use Rattle.tf_expr_eval.specs.Environment.{Environment, RefinesTo}
+use Rattle.tf_expr_eval.specs.Locality.{AgreeOn}
 use Rattle.tf_expand.specs.Instance.{instance_environment}
 use Rattle.tf_expand.specs.Repetition.{instances}
 use Rattle.tf_expand.specs.InstanceKeys.{InstanceKeysView}

@@ -1,6 +1,6 @@
 -- Shapes and resolved names without where they lie in memory.
 use Rattle.std.specs.Prelude.{ℕ, List, map, slice_index_or, Some, None, Result, Ok, Err, string_bytes}
-use Rattle.tf_operators.specs.Bounded.{bounded_tree}
+use Rattle.tf_expr_operators.specs.Bounded.{bounded_tree}
 use Rattle.tf_expand.specs.InstanceKeys.{InstanceKeysView, one, many, named}
 use Rattle.tf_expand.specs.Resolved.{ResolvedView}
 use Rattle.tf_expand.specs.declared.repetition.RepetitionFault.{RepetitionFault}

@@ -1,10 +1,10 @@
 //! The objects of a resource as one value.
 
 ghost use Rattle.std.specs.Prelude.{◌≡◌, IfOk, List, Some, map as each, option_map, string_bytes};
-ghost use Rattle.tf_address.specs.ObjectId as keys;
-ghost use Rattle.tf_address.specs.ObjectId.{InstanceKeyView, instance_key_of};
+ghost use Rattle.tf_config_address.specs.ObjectId as keys;
+ghost use Rattle.tf_config_address.specs.ObjectId.{InstanceKeyView, instance_key_of};
 ghost use Rattle.tf_value.specs.Tree.{Tree, tree_of};
-ghost use Rattle.tf_operators.specs.Answer.{limited as limited_value};
+ghost use Rattle.tf_expr_operators.specs.Answer.{limited as limited_value};
 ghost use Rattle.tf_expand.specs.InstanceKeys.{list_of, map_under, objects_at};
 ghost use Rattle.tf_expand.specs.Resolved.{together};
 ghost use Rattle.tf_expand.specs.Views.{shape_of, resolved_of};
@@ -13,8 +13,8 @@ use crate::resolved::Resolved;
 use crate::shape::InstanceKeys;
 use std::alloc::{AllocError, Global};
 use std::collections::BTreeMap;
-use tf_address::InstanceKey;
-use tf_operators::Bounded;
+use tf_config_address::InstanceKey;
+use tf_expr_operators::Bounded;
 use tf_value::Value;
 
 /// The objects of one resource by the keys of its instances.

@@ -1,13 +1,13 @@
 //! Values of expressions, apart from want of memory.
 
 ghost use Rattle.std.specs.Prelude.{IfOk};
-ghost use Rattle.tf_operators.specs.Found.{FindsExactly};
-ghost use Rattle.tf_syntax.specs.ExprTree.{tree_of};
-ghost use Rattle.tf_eval.specs.ExprMeaning.{meaning};
+ghost use Rattle.tf_expr_operators.specs.Found.{FindsExactly};
+ghost use Rattle.tf_expr_syntax.specs.ExprTree.{tree_of};
+ghost use Rattle.tf_expr_eval.specs.ExprMeaning.{meaning};
 
 use std::alloc::{AllocError, Global};
-use tf_eval::{EvalFault, Found, Scope, find_expr};
-use tf_syntax::Expr;
+use tf_expr_eval::{EvalFault, Found, Scope, find_expr};
+use tf_expr_syntax::Expr;
 
 /// The value or the fault of an expression, for who only reads it. Want of memory is no fault, and leaves at once.
 pub(crate) fn valued<'a, S: Scope>(

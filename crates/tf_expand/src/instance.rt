@@ -2,19 +2,19 @@
 
 ghost use Rattle.std.specs.Prelude.{◌≡◌, IfOk, Ok, [], ◌∷◌, pos, string_bytes};
 ghost use Rattle.tf_config_data.specs.Words.{instance_key_of, repetition_of};
-ghost use Rattle.tf_operators.specs.Answer.{Gives, whole_value};
+ghost use Rattle.tf_expr_operators.specs.Answer.{Gives, whole_value};
 ghost use Rattle.tf_value.specs.Tree.{tree_of};
-ghost use Rattle.tf_eval.specs.Answering.{GivesAs};
-ghost use Rattle.tf_eval.specs.Constants.{ConstantView, constant_of, constants_of};
-ghost use Rattle.tf_eval.specs.Meaning.{and_then};
+ghost use Rattle.tf_expr_eval.specs.Answering.{GivesAs};
+ghost use Rattle.tf_expr_eval.specs.Constants.{ConstantView, constant_of, constants_of};
+ghost use Rattle.tf_expr_eval.specs.Meaning.{and_then};
 ghost use Rattle.tf_expand.specs.Instance.{bound, count_index, each_key, each_value, instance_constants as constants_at, is_set, value_under};
 
 use std::alloc::{AllocError, Global};
-use tf_address::InstanceKey;
+use tf_config_address::InstanceKey;
 use tf_config_data::Repetition;
-use tf_eval::{Constant, Constants, EvalFault, Scope, find_expr};
-use tf_operators::limited_at;
-use tf_syntax::Reference;
+use tf_expr_eval::{Constant, Constants, EvalFault, Scope, find_expr};
+use tf_expr_operators::limited_at;
+use tf_expr_syntax::Reference;
 use tf_value::Value;
 
 /// Constants, and a scope around them in which all other references are looked up.

@@ -11,7 +11,7 @@ use crate::shape::InstanceKeys;
 use std::alloc::{AllocError, Global};
 use std::collections::{BTreeMap, BTreeSet};
 use tf_config_data::Repetition;
-use tf_eval::{EvalFault, Scope};
+use tf_expr_eval::{EvalFault, Scope};
 use tf_value::Value;
 
 /// Why the instances of a resource can't be told.

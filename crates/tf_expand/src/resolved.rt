@@ -1,14 +1,14 @@
 //! What names stand for.
 
 ghost use Rattle.std.specs.Prelude.{◌≡◌, IfOk, Some, is_some};
-ghost use Rattle.tf_eval.specs.Meaning.{and_then};
-ghost use Rattle.tf_operators.specs.Answer.{Shows, limited};
-ghost use Rattle.tf_syntax.specs.ExprTree.{tree_of as expr_of};
+ghost use Rattle.tf_expr_eval.specs.Meaning.{and_then};
+ghost use Rattle.tf_expr_operators.specs.Answer.{Shows, limited};
+ghost use Rattle.tf_expr_syntax.specs.ExprTree.{tree_of as expr_of};
 ghost use Rattle.tf_expand.specs.Words.{meaning, or_missing, resolved_of};
 
 use std::alloc::{AllocError, Global};
-use tf_eval::{Bounded, EvalFault, Scope, eval_bounded};
-use tf_syntax::Expr;
+use tf_expr_eval::{Bounded, EvalFault, Scope, eval_bounded};
+use tf_expr_syntax::Expr;
 use tf_value::Value;
 
 /// What a local or a resource stands for.

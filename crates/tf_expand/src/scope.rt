@@ -1,8 +1,8 @@
 //! What references stand for, by the resolved names.
 
 ghost use Rattle.tf_config_names.specs.Table.{names_in};
-ghost use Rattle.tf_eval.specs.Meaning.{and_then};
-ghost use Rattle.tf_operators.specs.Answer.{Shows, limited};
+ghost use Rattle.tf_expr_eval.specs.Meaning.{and_then};
+ghost use Rattle.tf_expr_operators.specs.Answer.{Shows, limited};
 ghost use Rattle.tf_value.specs.Tree.{entries_view};
 ghost use Rattle.tf_expand.specs.Resolved.{answer_at, environment};
 ghost use Rattle.tf_expand.specs.Views.{resolved_names_of};
@@ -10,9 +10,9 @@ ghost use Rattle.tf_expand.specs.Views.{resolved_names_of};
 use crate::resolved::Resolved;
 use std::collections::BTreeMap;
 use tf_config_names::Declarations;
-use tf_eval::{EvalFault, Scope};
-use tf_operators::limited_at;
-use tf_syntax::Reference;
+use tf_expr_eval::{EvalFault, Scope};
+use tf_expr_operators::limited_at;
+use tf_expr_syntax::Reference;
 use tf_value::{Value, find};
 
 /// What references stand for: variables for their values, locals and resources for what they stand for.

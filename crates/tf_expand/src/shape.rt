@@ -1,12 +1,12 @@
 //! How the objects of a resource stand together.
 
 ghost use Rattle.std.specs.Prelude.{◌≡◌, IfOk, map as each, string_bytes};
-ghost use Rattle.tf_address.specs.ObjectId.{instance_key_of};
+ghost use Rattle.tf_config_address.specs.ObjectId.{instance_key_of};
 ghost use Rattle.tf_expand.specs.InstanceKeys.{instance_keys, many, named};
 ghost use Rattle.tf_expand.specs.Views.{shape_of};
 
 use std::alloc::{AllocError, Global};
-use tf_address::InstanceKey;
+use tf_config_address::InstanceKey;
 
 /// How the objects of a resource stand together.
 #[derive(Debug, Drop)]

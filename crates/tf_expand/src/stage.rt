@@ -1,9 +1,9 @@
 //! The stages of the engine.
 
 ghost use Rattle.std.specs.Prelude.{◌≡◌, IfOk, Option, Some, option_map, ℕ};
-ghost use Rattle.tf_config_data.specs.Words.{a_block, block_at, BlockView, instance_key_of, InstanceKeyView, label_of, Tree, unknown};
+ghost use Rattle.tf_config_data.specs.Words.{a_block, block_at, BlockView, instance_key_of, InstanceKeyView, addr_of, Tree, unknown};
 ghost use Rattle.tf_value.specs.Tree.{tree_of};
-ghost use Rattle.tf_eval.specs.Environment.{Environment};
+ghost use Rattle.tf_expr_eval.specs.Environment.{Environment};
 ghost use Rattle.tf_expand.specs.Stages.{expansion, planning};
 ghost use Rattle.tf_expand.specs.Resolved.{ResourceValuesView, stands, together};
 ghost use Rattle.tf_expand.specs.Views.{shape_of, shapes_of, resolved_of};
@@ -13,10 +13,10 @@ use crate::repetition::instances;
 use crate::resolved::Resolved;
 use crate::shape::InstanceKeys;
 use std::alloc::{AllocError, Global};
-use tf_address::{InstanceKey, Label};
+use tf_config_address::{InstanceKey, ResourceAddr};
 use tf_config_data::Block;
-use tf_eval::Scope;
-use tf_operators::EvalFault;
+use tf_expr_eval::Scope;
+use tf_expr_syntax::EvalFault;
 use tf_value::Value;
 
 /// A resource, and what references stand for where it is looked at.
@@ -25,7 +25,7 @@ pub struct ResourceInScope<'a, S> {
     /// The place of its name.
     pub place: usize,
     /// Its address.
-    pub label: &'a Label,
+    pub addr: &'a ResourceAddr,
     /// Its block.
     pub block: &'a Block,
     /// What references stand for.
@@ -47,7 +47,7 @@ pub trait ResourceValues {
         resource: &ResourceInScope<'_, S>,
     ) -> Result<Resolved, AllocError>
         ensures { IfOk result (λ resolved. resolved_of resolved
-            ≡ stands (stage self.now) resource.now.place (a_block (block_at (label_of resource.now.label.now) resource.now.block.now)) (S.environment resource.now.scope.now)) };
+            ≡ stands (stage self.now) resource.now.place (a_block (block_at (addr_of resource.now.addr.now) resource.now.block.now)) (S.environment resource.now.scope.now)) };
 }
 
 /// The expansion: the instances are worked out, and no object is known.
@@ -110,7 +110,7 @@ pub trait Objects {
         key: &InstanceKey,
     ) -> Result<Option<Value>, AllocError>
         ensures { IfOk result (λ value. option_map tree_of value
-            ≡ planned self.now resource.now.place (block_at (label_of resource.now.label.now) resource.now.block.now) (S.environment resource.now.scope.now) (instance_key_of key.now)) };
+            ≡ planned self.now resource.now.place (block_at (addr_of resource.now.addr.now) resource.now.block.now) (S.environment resource.now.scope.now) (instance_key_of key.now)) };
 }
 
 /// The plan and the apply: each resource has the instances that the expansion gave it, and their objects.
@@ -130,7 +130,7 @@ struct ResourceObjects<'o, 'r, 'a, O, S> {
 }
 
 impl<O: Objects, S: Scope> Keyed for ResourceObjects<'_, '_, '_, O, S> {
-    ghost object = { λ k. O.planned k.objects.now k.resource.now.place (block_at (label_of k.resource.now.label.now) k.resource.now.block.now) (S.environment k.resource.now.scope.now) };
+    ghost object = { λ k. O.planned k.objects.now k.resource.now.place (block_at (addr_of k.resource.now.addr.now) k.resource.now.block.now) (S.environment k.resource.now.scope.now) };
 
     fn object(&self, alloc: Global, key: &InstanceKey) -> Result<Option<Value>, AllocError> {
         self.objects.object(alloc, self.resource, key)

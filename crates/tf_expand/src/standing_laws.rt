@@ -2,7 +2,7 @@
 
 ghost use Rattle.tf_expand.specs.StandingLaws.{AllAreSeen, ApplyingIsLocal, ExpansionGrows, ExpansionIsLocal, InstanceEnvironmentsGrow, InstancesStay, PlanGrows, PlanningIsLocal, ResolvedNamesAreOne, ResolvedNamesExist, ResolvedNamesGrow};
 
-use tf_eval::{expr_knowledge_grows, meaning_is_local};
+use tf_expr_eval::{expr_knowledge_grows, meaning_is_local};
 use tf_graph::laws::{solution_exists, solution_is_unique};
 use tf_value::refinement_is_an_order;
 

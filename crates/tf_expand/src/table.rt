@@ -143,10 +143,10 @@ pub fn resolved_at<T: ResourceValues>(
     };
     match declared.names.at(place) {
         Declaration::Local(_, expr) => evaluated(alloc, expr, &scope),
-        Declaration::Resource(label, block) => {
+        Declaration::Resource(addr, block) => {
             let resource = ResourceInScope {
                 place,
-                label,
+                addr,
                 block,
                 scope: &scope,
             };

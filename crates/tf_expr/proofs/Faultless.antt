@@ -2,17 +2,17 @@
 use Rattle.std.proofs.Common.{◌≡◌, ◌^◌, ℕ, ℤ, pos, negsuc, ◌+◌, Bool, true, false, List, [], ◌∷◌, inl, inr, cond, nat_lt, refl, sym, ap, ◌∙◌, arith}
 use Rattle.std.specs.Fmt.{decimal}
 use Rattle.serde_json.specs.Data as json
-use Rattle.tf_template.proofs.Alone.{one_template}
-use Rattle.tf_json_path.proofs.Checks.{AllMet-append, AllMet-left, AllMet-right, IsFirst-unmet}
-use Rattle.tf_json_path.specs.Check.{Check, IsFirst}
+use Rattle.tf_expr_template.proofs.Alone.{one_template}
+use Rattle.tf_expr_path.proofs.Checks.{AllMet-append, AllMet-left, AllMet-right, IsFirst-unmet}
+use Rattle.tf_expr_path.specs.Check.{Check, IsFirst}
 use Rattle.tf_value.specs.Json.{whole_from}
 use Rattle.tf_value.specs.Known.{known}
 use Rattle.tf_value.specs.Tree as values
 use Rattle.tf_expr.specs.Demand.{Demand, a_plain_name, a_whole_number, a_template, AreMet, IsMet, Fails}
 use Rattle.tf_expr.specs.Reading.{expr_checks, item_checks, member_checks, IsExpr, AreExprs, HoldExprs}
-use Rattle.tf_syntax.specs.ExprTree.{Tree, null, boolean, whole, template, list, map, Trees, no_trees, tree, Entries, no_entries, entry}
-use Rattle.tf_expr.specs.declared.fault.Cause.{Cause}
-use Rattle.tf_expr.specs.declared.fault.Cause.TheVariants.{BadShape, At, TooDeep}
+use Rattle.tf_expr_syntax.specs.ExprTree.{Tree, null, boolean, whole, template, list, map, Trees, no_trees, tree, Entries, no_entries, entry}
+use Rattle.tf_expr.specs.declared.fault.ExprCause.{ExprCause}
+use Rattle.tf_expr.specs.declared.fault.ExprCause.TheVariants.{BadShape, At, TooDeep}
 
 -- ---- an expression's checks are met
 
@@ -103,17 +103,17 @@ mutual
 
 -- ---- a first fault
 
-apart : (d : Demand) (cause : Cause) → IsMet d → Fails d cause → ⊥
+apart : (d : Demand) (cause : ExprCause) → IsMet d → Fails d cause → ⊥
 apart (a_plain_name s) cause met fails = fails.0 met
 apart (a_whole_number n) cause met fails = absurd (cc (met, fails.0))
 apart (a_template s) BadShape met fails = fails
 apart (a_template s) (At offset) met fails = fails met.0 met.1.0
 apart (a_template s) TooDeep met fails = let deep = fails met.0 met.1.0 in absurd (omega (arith, deep, met.1.1))
 
-pub faulty_none : (place : List (List ℕ)) (d : json.Data) (e : Tree) (at : List ℕ) (cause : Cause) → IsFirst IsMet Fails at cause (expr_checks place d) → ¬ IsExpr d e
+pub faulty_none : (place : List (List ℕ)) (d : json.Data) (e : Tree) (at : List ℕ) (cause : ExprCause) → IsFirst IsMet Fails at cause (expr_checks place d) → ¬ IsExpr d e
 faulty_none place d e at cause first is = IsFirst-unmet IsMet Fails apart (expr_checks place d) at cause (expr_met place d e is) first
 
-pub first_place : (checks : List (Check Demand)) (at at' : List ℕ) (cause cause' : Cause) → IsFirst IsMet Fails at cause checks → IsFirst IsMet Fails at' cause' checks → at ≡ at'
+pub first_place : (checks : List (Check Demand)) (at at' : List ℕ) (cause cause' : ExprCause) → IsFirst IsMet Fails at cause checks → IsFirst IsMet Fails at' cause' checks → at ≡ at'
 first_place [] at at' cause cause' h k = absurd h
 first_place (x ∷ xs) at at' cause cause' h k =
     elim h [

@@ -7,17 +7,17 @@ use Rattle.serde_json.proofs.Views.{Entry}
 use Rattle.serde_json.specs.Data.{Data, Items, no_items, item, Members, no_members, member}
 use Rattle.serde_json.specs.View.{view, items_view, members_view}
 use Rattle.serde_json.specs.declared.value.Value.{Value}
-use Rattle.tf_json_path.specs.Check.{demanded}
-use Rattle.tf_json_path.specs.Walk.{each, each_item}
+use Rattle.tf_expr_path.specs.Check.{demanded}
+use Rattle.tf_expr_path.specs.Walk.{each, each_item}
 use Rattle.tf_expr.proofs.Faultless.{items_met, members_met}
 use Rattle.tf_expr.proofs.Refusals.{Refuses-at, Refuses-at_item}
-use Rattle.tf_syntax.proofs.ExprViews.{is_above}
+use Rattle.tf_expr_syntax.proofs.ExprViews.{is_above}
 use Rattle.tf_expr.specs.Demand.{Checks, AreMet, Refuses, a_plain_name}
 use Rattle.tf_expr.specs.Fault.{Told}
 use Rattle.tf_expr.specs.Opening.{IsPlain}
 use Rattle.tf_expr.specs.Reading.{expr_checks, item_checks, member_checks, IsExpr, AreExprs, HoldExprs}
-use Rattle.tf_syntax.specs.ExprTree.{Tree, tree_of, trees_view, Entries, no_entries, entry, put}
-use Rattle.tf_syntax.specs.declared.expr.Expr.{Expr}
+use Rattle.tf_expr_syntax.specs.ExprTree.{Tree, tree_of, trees_view, Entries, no_entries, entry, put}
+use Rattle.tf_expr_syntax.specs.declared.expr.Expr.{Expr}
 
 -- what is demanded of an element, and of a member
 abbrev pub one_item : List (List ℕ) → ℕ → Data → Checks

@@ -1,9 +1,9 @@
 -- The checks of an expression, among those of a larger format.
 use Rattle.std.proofs.Common.{ℕ, List, [], ◌∷◌, inl, inr}
-use Rattle.tf_json_path.specs.Check.{Check, AllMet, IsFirst}
+use Rattle.tf_expr_path.specs.Check.{Check, AllMet, IsFirst}
 use Rattle.tf_expr.specs.Demand.{Demand, IsMet, Fails}
 use Rattle.tf_expr.specs.Within.{demanded_as}
-use Rattle.tf_expr.specs.declared.fault.Cause.{Cause}
+use Rattle.tf_expr.specs.declared.fault.ExprCause.{ExprCause}
 
 module _ {E : Type 0} (IsMetThere : E → Type 0) (as_one : Demand → E) where
   -- checks that are met are met there
@@ -16,7 +16,7 @@ module _ {E : Type 0} (IsMetThere : E → Type 0) (as_one : Demand → E) where
   AllMet-from_demanded_as one [] met = tt
   AllMet-from_demanded_as one (check ∷ checks) met = (one check.demand met.0, AllMet-from_demanded_as one checks met.1)
 
-  module _ {K : Type 0} (FailsThere : E → K → Type 0) (way : K) (place : List ℕ) (cause : Cause) where
+  module _ {K : Type 0} (FailsThere : E → K → Type 0) (way : K) (place : List ℕ) (cause : ExprCause) where
     -- the first fault is the first there
     pub IsFirst-demanded_as : ((d : Demand) → IsMet d → IsMetThere (as_one d)) → ((d : Demand) → Fails d cause → FailsThere (as_one d) way)
         → (checks : List (Check Demand)) → IsFirst IsMet Fails place cause checks → IsFirst IsMetThere FailsThere place way (demanded_as as_one checks)

@@ -1,15 +1,15 @@
 -- What is demanded of a JSON tree that is to be an expression, and how a demand fails.
 use Rattle.std.specs.Prelude.{◌≡◌, ◌<◌, ◌≤◌, ℕ, List, IsTrue, false}
 use Rattle.serde_json.specs.Data.{Num}
-use Rattle.tf_template.specs.Spelling.{SpellsTemplate}
-use Rattle.tf_syntax.specs.TemplateTree.{Woven, template_depth}
-use Rattle.tf_json_path.specs.Check.{Check, AllMet, IsFirst}
+use Rattle.tf_expr_template.specs.Spelling.{SpellsTemplate}
+use Rattle.tf_expr_syntax.specs.TemplateTree.{Woven, template_depth}
+use Rattle.tf_expr_path.specs.Check.{Check, AllMet, IsFirst}
 use Rattle.tf_value.specs.Json.{whole_from}
 use Rattle.tf_value.specs.Known.{known}
 use Rattle.tf_expr.specs.Fault.{Told, no_memory, wrong}
 use Rattle.tf_expr.specs.Opening.{IsPlain}
-use Rattle.tf_expr.specs.declared.fault.Cause.{Cause}
-use Rattle.tf_expr.specs.declared.fault.Cause.TheVariants.{BadShape, At, TooDeep}
+use Rattle.tf_expr.specs.declared.fault.ExprCause.{ExprCause}
+use Rattle.tf_expr.specs.declared.fault.ExprCause.TheVariants.{BadShape, At, TooDeep}
 
 pub data Demand : Type 0 where
   -- neither `${` nor `%{` stands in the text, which names a property of an object
@@ -36,13 +36,13 @@ abbrev pub AreMet : Checks → Type 0
 AreMet = AllMet IsMet
 
 -- How a text fails to be a template: it spells none, or each that it spells is too deep. The offset is free.
-abbrev pub IsNoTemplate : List ℕ → Cause → Type 0
+abbrev pub IsNoTemplate : List ℕ → ExprCause → Type 0
 IsNoTemplate text BadShape = ⊥
 IsNoTemplate text (At offset) = (w : Woven) → ¬ SpellsTemplate w text
 IsNoTemplate text TooDeep = (w : Woven) → SpellsTemplate w text → 64 < template_depth w
 
 -- a demand fails in this way
-abbrev pub Fails : Demand → Cause → Type 0
+abbrev pub Fails : Demand → ExprCause → Type 0
 Fails (a_plain_name text) cause = (¬ IsPlain text) × (cause ≡ BadShape)
 Fails (a_whole_number number) cause = (known (whole_from number) ≡ false) × (cause ≡ BadShape)
 Fails (a_template text) cause = IsNoTemplate text cause
@@ -53,6 +53,6 @@ Refuses checks no_memory = Unit {0}
 Refuses checks (wrong place cause) = IsFirst IsMet Fails place cause checks
 
 -- a fault at the place, or there was no memory to say so
-abbrev pub TellsAt : List ℕ → Cause → Told → Type 0
+abbrev pub TellsAt : List ℕ → ExprCause → Told → Type 0
 TellsAt place cause no_memory = Unit {0}
 TellsAt place cause (wrong place' cause') = (place' ≡ place) × (cause' ≡ cause)

@@ -2,11 +2,11 @@
 use Rattle.std.specs.Prelude.{ℕ, List, ◌++◌, codes}
 use Rattle.std.specs.Fmt.{decimal}
 use Rattle.tf_expr.specs.Fault.{Told, no_memory, wrong}
-use Rattle.tf_expr.specs.declared.fault.Cause.{Cause}
-use Rattle.tf_expr.specs.declared.fault.Cause.TheVariants.{BadShape, At, TooDeep}
+use Rattle.tf_expr.specs.declared.fault.ExprCause.{ExprCause}
+use Rattle.tf_expr.specs.declared.fault.ExprCause.TheVariants.{BadShape, At, TooDeep}
 
 -- what is wrong
-abbrev pub cause_text : Cause → List ℕ
+abbrev pub cause_text : ExprCause → List ℕ
 cause_text BadShape = codes "no expression"
 cause_text (At offset) = codes "no template from byte " ++ decimal offset ++ codes " on"
 cause_text TooDeep = codes "a template that is too deep"

@@ -1,11 +1,11 @@
 -- What holds of expressions and their checks, whatever they are.
 use Rattle.std.specs.Prelude.{◌≡◌, ℕ, List}
 use Rattle.serde_json.specs.Data.{Data}
-use Rattle.tf_json_path.specs.Check.{IsFirst}
+use Rattle.tf_expr_path.specs.Check.{IsFirst}
 use Rattle.tf_expr.specs.Demand.{AreMet, IsMet, Fails}
 use Rattle.tf_expr.specs.Reading.{expr_checks, IsExpr}
-use Rattle.tf_syntax.specs.ExprTree.{Tree}
-use Rattle.tf_expr.specs.declared.fault.Cause.{Cause}
+use Rattle.tf_expr_syntax.specs.ExprTree.{Tree}
+use Rattle.tf_expr.specs.declared.fault.ExprCause.{ExprCause}
 
 -- All checks of a JSON tree that is an expression are met.
 abbrev pub ExpressionIsFaultless : Type 0
@@ -21,9 +21,9 @@ ExpressionIsOne = (json : Data) (e f : Tree) → IsExpr json e → IsExpr json f
 
 -- A JSON tree with a first fault is no expression.
 abbrev pub FaultyIsNone : Type 0
-FaultyIsNone = (place : List (List ℕ)) (json : Data) (e : Tree) (at : List ℕ) (cause : Cause) → IsFirst IsMet Fails at cause (expr_checks place json) → ¬ IsExpr json e
+FaultyIsNone = (place : List (List ℕ)) (json : Data) (e : Tree) (at : List ℕ) (cause : ExprCause) → IsFirst IsMet Fails at cause (expr_checks place json) → ¬ IsExpr json e
 
 -- The first fault of a JSON tree stands at one place.
 abbrev pub FirstPlaceIsOne : Type 0
-FirstPlaceIsOne = (place : List (List ℕ)) (json : Data) (at at' : List ℕ) (cause cause' : Cause) → IsFirst IsMet Fails at cause (expr_checks place json)
+FirstPlaceIsOne = (place : List (List ℕ)) (json : Data) (at at' : List ℕ) (cause cause' : ExprCause) → IsFirst IsMet Fails at cause (expr_checks place json)
     → IsFirst IsMet Fails at' cause' (expr_checks place json) → at ≡ at'

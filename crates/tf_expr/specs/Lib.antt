@@ -6,8 +6,8 @@ pub mod Opening
 pub mod Reading
 pub mod Refusing
 pub mod Within
-pub use Rattle.tf_syntax.specs.ExprNames as Named
-pub use Rattle.tf_syntax.specs.ExprTree as Tree
-pub use Rattle.tf_syntax.specs.TemplateNames
-pub use Rattle.tf_syntax.specs.TemplateTree
-pub use Rattle.tf_template.specs.Spelling
+pub use Rattle.tf_expr_syntax.specs.ExprNames as Named
+pub use Rattle.tf_expr_syntax.specs.ExprTree as Tree
+pub use Rattle.tf_expr_syntax.specs.TemplateNames
+pub use Rattle.tf_expr_syntax.specs.TemplateTree
+pub use Rattle.tf_expr_template.specs.Spelling

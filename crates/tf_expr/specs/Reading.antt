@@ -2,12 +2,12 @@
 use Rattle.std.specs.Prelude.{◌≡◌, ℕ, ◌+◌, List, [], ◌∷◌, ◌++◌}
 use Rattle.std.specs.Fmt.{decimal}
 use Rattle.serde_json.specs.Data as json
-use Rattle.tf_json_path.specs.Check.{demanded}
+use Rattle.tf_expr_path.specs.Check.{demanded}
 use Rattle.tf_value.specs.Json.{whole_from}
 use Rattle.tf_value.specs.Tree as values
 use Rattle.tf_expr.specs.Demand.{Checks, a_plain_name, a_whole_number, a_template, IsTemplate}
 use Rattle.tf_expr.specs.Opening.{IsPlain}
-use Rattle.tf_syntax.specs.ExprTree.{Tree, null, boolean, whole, template, list, map, Trees, no_trees, tree, Entries, no_entries, entry}
+use Rattle.tf_expr_syntax.specs.ExprTree.{Tree, null, boolean, whole, template, list, map, Trees, no_trees, tree, Entries, no_entries, entry}
 
 -- What is demanded of a tree at a place, of the elements of an array from a position on, and of the
 -- members of an object. A property's name comes before what stands there.

@@ -1,10 +1,10 @@
 -- How a fault of an expression is refused.
 use Rattle.std.specs.Prelude.{ℕ}
 use Rattle.tf_expr.specs.Fault as faults
-use Rattle.tf_expr.specs.declared.fault.Cause.{Cause}
-use Rattle.tf_expr.specs.declared.fault.Cause.TheVariants as causes
-use Rattle.tf_refusal.specs.Code as code
-use Rattle.tf_refusal.specs.Refusal.{RefusalView, Way, at, bare, fault, no_memory}
+use Rattle.tf_expr.specs.declared.fault.ExprCause.{ExprCause}
+use Rattle.tf_expr.specs.declared.fault.ExprCause.TheVariants as causes
+use Rattle.tf_config_refusal.specs.Code as code
+use Rattle.tf_config_refusal.specs.Refusal.{RefusalView, Way, at, bare, fault, no_memory}
 
 -- BadTemplate, with the byte offset
 abbrev pub bad_template : ℕ → Way
@@ -15,7 +15,7 @@ abbrev pub too_deep : Way
 too_deep = (code.limit, bare)
 
 -- the way in which a fault of an expression is refused
-abbrev pub way_of : Cause → Way
+abbrev pub way_of : ExprCause → Way
 way_of causes.BadShape = (code.bad_shape, bare)
 way_of (causes.At offset) = bad_template offset
 way_of causes.TooDeep = too_deep

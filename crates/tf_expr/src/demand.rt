@@ -5,21 +5,21 @@ ghost use Rattle.std.specs.Prelude.{◌≡◌, ◌↔◌, IfErr, IfOk, IsTrue, O
 ghost use Rattle.tf_expr.specs.Demand.{Refuses, TellsAt, a_plain_name, a_template, a_whole_number, IsTemplate};
 ghost use Rattle.tf_expr.specs.Fault.{told};
 ghost use Rattle.tf_expr.specs.Opening.{opens, IsPlain};
-ghost use Rattle.tf_syntax.specs.TemplateTree.{template_view};
-ghost use Rattle.tf_json_path.specs.Check.{demanded};
-ghost use Rattle.tf_json_path.specs.Place.{dotted, place_of};
+ghost use Rattle.tf_expr_syntax.specs.TemplateTree.{template_view};
+ghost use Rattle.tf_expr_path.specs.Check.{demanded};
+ghost use Rattle.tf_expr_path.specs.Place.{dotted, place_of};
 ghost use Rattle.tf_value.specs.Json.{whole_from};
 ghost use Rattle.tf_value.specs.Tree.{whole};
 
-use crate::fault::{Cause, ExprFault};
+use crate::fault::{ExprCause, ExprFault};
 use serde_json::Number;
 use std::alloc::Global;
-use tf_json_path::Path;
-use tf_syntax::Template;
-use tf_template::{ReadFault, read_template};
+use tf_expr_path::Path;
+use tf_expr_syntax::Template;
+use tf_expr_template::{ReadFault, read_template};
 
 // A fault at a place, or that there is no memory to write the place out.
-fn refused(alloc: Global, path: &Path<'_>, cause: Cause) -> ExprFault
+fn refused(alloc: Global, path: &Path<'_>, cause: ExprCause) -> ExprFault
     ensures { TellsAt (dotted (place_of path.now)) cause (told result) }
 {
     match path.text(alloc) {
@@ -40,7 +40,7 @@ pub(crate) fn demand_whole(
 {
     match number.as_i64() {
         Some(whole) => Ok(whole),
-        None => Err(refused(alloc, path, Cause::BadShape)),
+        None => Err(refused(alloc, path, ExprCause::BadShape)),
     }
 }
 
@@ -56,8 +56,8 @@ pub(crate) fn demand_template(
 {
     match read_template(alloc, text) {
         Ok(template) => Ok(template),
-        Err(ReadFault::At(offset)) => Err(refused(alloc, path, Cause::At(offset))),
-        Err(ReadFault::TooDeep) => Err(refused(alloc, path, Cause::TooDeep)),
+        Err(ReadFault::At(offset)) => Err(refused(alloc, path, ExprCause::At(offset))),
+        Err(ReadFault::TooDeep) => Err(refused(alloc, path, ExprCause::TooDeep)),
         Err(ReadFault::OutOfMemory) => Err(ExprFault::OutOfMemory),
     }
 }
@@ -71,7 +71,7 @@ pub(crate) fn demand_plain_name(alloc: Global, path: &Path<'_>, name: &str) -> R
     if is_plain(name) {
         Ok(())
     } else {
-        Err(refused(alloc, path, Cause::BadShape))
+        Err(refused(alloc, path, ExprCause::BadShape))
     }
 }
 

@@ -19,7 +19,7 @@ pub enum ExprFault {
         /// Where: names of properties and positions in arrays from the top down, joined by dots.
         place: String,
         /// What is wrong there.
-        cause: Cause,
+        cause: ExprCause,
     },
 }
 
@@ -33,7 +33,7 @@ impl From<AllocError> for ExprFault {
 
 /// What is wrong at a place of a JSON tree.
 #[derive(Clone, Copy, Debug, PartialEq, Eq, Drop)]
-pub enum Cause {
+pub enum ExprCause {
     /// The property's name has `${` or `%{` in it, or the number isn't whole and of 64 signed bits.
     BadShape,
     /// The text is no template. No template begins with it up to and with the token at this byte.
@@ -55,14 +55,14 @@ impl fmt::Display for ExprFault {
 }
 
 /// What is wrong, on one line, with no newline.
-impl fmt::Display for Cause {
+impl fmt::Display for ExprCause {
     ghost output = { λ cause. Some (cause_text cause) };
 
     fn fmt<W: fmt::Write>(&self, f: &mut fmt::Formatter<W>) -> fmt::Result {
         match self {
-            Cause::BadShape => write!(f, "no expression"),
-            Cause::At(offset) => write!(f, "no template from byte {offset} on"),
-            Cause::TooDeep => write!(f, "a template that is too deep"),
+            ExprCause::BadShape => write!(f, "no expression"),
+            ExprCause::At(offset) => write!(f, "no template from byte {offset} on"),
+            ExprCause::TooDeep => write!(f, "a template that is too deep"),
         }
     }
 }

@@ -115,7 +115,7 @@ fn fill(
         known.insert(node);
         return Ok(());
     }
-    let row = reached_from(alloc, &Told { graph, rows, known }, node)?;
+    let row = reached_from(alloc, &KnownRows { graph, rows, known }, node)?;
     rows[node] = row;
     known.insert(node);
     Ok(())
@@ -123,7 +123,7 @@ fn fill(
 
 /// What is known of a graph: the rows of some of its nodes.
 #[derive(Clone, Copy)]
-struct Told<'a> {
+struct KnownRows<'a> {
     graph: &'a Graph,
     rows: &'a [NodeSet],
     /// The nodes whose rows are known.
@@ -142,7 +142,7 @@ struct Search {
 }
 
 /// The nodes that a node reaches.
-fn reached_from(alloc: Global, told: &Told<'_>, node: usize) -> Result<NodeSet, AllocError>
+fn reached_from(alloc: Global, told: &KnownRows<'_>, node: usize) -> Result<NodeSet, AllocError>
     requires node { node < told.now.graph.now.nodes }
     requires told { IsTold told.now.graph.now told.now.rows.now told.now.known.now }
     ensures length { IfOk result (λ row. length row ≡ told.now.graph.now.nodes) }
@@ -167,7 +167,7 @@ fn reached_from(alloc: Global, told: &Told<'_>, node: usize) -> Result<NodeSet, 
 }
 
 /// Looks at the successors of a node.
-fn visit(told: &Told<'_>, search: &mut Search, node: usize) -> Result<(), AllocError>
+fn visit(told: &KnownRows<'_>, search: &mut Search, node: usize) -> Result<(), AllocError>
     requires node { node < told.now.graph.now.nodes }
     requires told { IsTold told.now.graph.now told.now.rows.now told.now.known.now }
     requires wide { IsWide told.now.graph.now.nodes search.old.row search.old.settled }
@@ -185,7 +185,7 @@ fn visit(told: &Told<'_>, search: &mut Search, node: usize) -> Result<(), AllocE
 }
 
 /// Notes that a node is reached.
-fn reach(told: &Told<'_>, search: &mut Search, node: usize) -> Result<(), AllocError>
+fn reach(told: &KnownRows<'_>, search: &mut Search, node: usize) -> Result<(), AllocError>
     requires node { node < told.now.graph.now.nodes }
     requires told { IsTold told.now.graph.now told.now.rows.now told.now.known.now }
     requires wide { IsWide told.now.graph.now.nodes search.old.row search.old.settled }

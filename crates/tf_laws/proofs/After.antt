@@ -10,8 +10,8 @@ use Rattle.std.specs.Str.{bytes_eq}
 use Rattle.tf_plan_data.specs.Action.{ActionView, StepView, create, update, replacement, replaced, deposed_destroyed}
 use Rattle.tf_walk_report.specs.Change.{applies_in, changes_in, destroys_in}
 use Rattle.tf_walk_buffers.specs.Head.{IsKeyFor, given_with, is_replacement}
-use Rattle.tf_address.specs.Label.{LabelView}
-use Rattle.tf_address.specs.ObjectId.{InstanceKeyView, ObjectIdView}
+use Rattle.tf_config_address.specs.ResourceAddr.{ResourceAddrView}
+use Rattle.tf_config_address.specs.ObjectId.{InstanceKeyView, ObjectIdView}
 use Rattle.tf_config_data.specs.Config.{BlockView}
 use Rattle.tf_config_data.specs.Names.{a_block, meant_at}
 use Rattle.tf_plan_decision.specs.Stage.{records_at}
@@ -22,15 +22,15 @@ use Rattle.tf_expand.proofs.Refining.{followed}
 use Rattle.tf_graph.specs.Digraph.{predecessors_of}
 use Rattle.tf_graph.specs.Solutions.{seen_by}
 use Rattle.tf_plan_order.specs.Members.{is_among, is_of, records_of}
-use Rattle.tf_state_next.proofs.Changing.{found_label}
+use Rattle.tf_state_next.proofs.Changing.{found_addr}
 use Rattle.tf_state_next.specs.Events.{ApplyView, apply_of_instance, as_apply, left_of_deposed, left_of_object, nothing_given}
 use Rattle.tf_walk_action.specs.Objects.{object_of}
 use Rattle.tf_walk_action.specs.Outcome.{ActionResultView, done_at, is_good, objects_by}
 use Rattle.tf_plan.proofs.Distinct.{at-contained, in_flat_map}
 use Rattle.tf_plan_data.specs.Fits.{deposed_key, is_apply}
 use Rattle.tf_plan_data.specs.Plan.{plan_names}
-use Rattle.tf_protocol.specs.Meaning.{Meaning}
-use Rattle.tf_protocol.specs.Schema.{SchemaView}
+use Rattle.tf_provider_protocol.specs.Meaning.{Meaning}
+use Rattle.tf_provider_protocol.specs.Schema.{SchemaView}
 use Rattle.tf_walk_buffers.specs.MetadataUpdates.{metadata_updates}
 use Rattle.tf_state_next.proofs.Places.{found_id}
 use Rattle.tf_state_next.specs.After.{after_destroy, current_after, deposed_anew, destroy_under, object_at, record_of_saved, renewed}
@@ -83,8 +83,8 @@ itself : (left : Option RecordView) → left ≡ option_map (λ r. r) left
 itself None = refl
 itself (Some r) = refl
 
-keeps : (label : LabelView) (key : InstanceKeyView) (w : Option ApplyView) → (w ≡ None) ⊎ ((y : ApplyView) × (w ≡ Some y) × (y.applied ≡ unplanned)) → Keeps w key
-keeps label key w (inl none) = record {
+keeps : (addr : ResourceAddrView) (key : InstanceKeyView) (w : Option ApplyView) → (w ≡ None) ⊎ ((y : ApplyView) × (w ≡ Some y) × (y.applied ≡ unplanned)) → Keeps w key
+keeps addr key w (inl none) = record {
   made_of = λ r. r;
   attributes = λ r. refl;
   tainted = λ r. refl;
@@ -92,7 +92,7 @@ keeps label key w (inl none) = record {
   current = λ left. ap (λ (o : Option ApplyView). current_after (option_map_or (λ a. a.given) o (nothing_given key)) (option_map_or (λ a. a.applied) o unwanted) left) none ∙ itself left;
   deposed = λ left k. ap (λ (o : Option ApplyView). deposed_anew (option_map_or (λ a. a.given) o (nothing_given key)) (option_map_or (λ a. a.applied) o unwanted) left k) none;
 }
-keeps label key w (inr y) = record {
+keeps addr key w (inr y) = record {
   made_of = renewed y.0.given.dependencies y.0.given.create_before_destroy;
   attributes = λ r. refl;
   tainted = λ r. refl;
@@ -195,7 +195,7 @@ pub record IsMade (x : Applied) (block : BlockView) (key : InstanceKeyView) (r :
   pub k : ℕ
   pub a : ActionView
   pub at : slice_get x.plan.actions k ≡ Some a
-  pub is : IsApplyAt block.label key a
+  pub is : IsApplyAt block.addr key a
   pub attributes : r.attributes ≡ object_of (done_at x.done k)
   pub version : r.schema_version ≡ a.version
 
@@ -207,14 +207,14 @@ pub record IsUntouched (x : Applied) (block : BlockView) (key : InstanceKeyView)
   pub attributes : r.attributes ≡ old.attributes
   pub tainted : r.tainted ≡ old.tainted
   pub version : r.schema_version ≡ old.schema_version
-  pub none : (k : ℕ) (a : ActionView) → slice_get x.plan.actions k ≡ Some a → IsApplyAt block.label key a → ⊥
+  pub none : (k : ℕ) (a : ActionView) → slice_get x.plan.actions k ≡ Some a → IsApplyAt block.addr key a → ⊥
 
 pub record IsKept (x : Applied) (n : ℕ) (block : BlockView) (key : InstanceKeyView) : Type 0 where
   pub by_plan : IsPlannedAt (setting x) n block key
   pub only : RecordView
-  pub there : record_in block.label (object_at key None) x.after ≡ Some only
+  pub there : record_in block.addr (object_at key None) x.after ≡ Some only
   pub untainted : only.tainted ≡ false
-  pub alone : (k : List ℕ) → record_in block.label (object_at key (Some k)) x.after ≡ None
+  pub alone : (k : List ℕ) → record_in block.addr (object_at key (Some k)) x.after ≡ None
   pub how : IsMade x block key only ⊎ IsUntouched x block key by_plan.decision only
 
 not_tainted : (schema : SchemaView) (ignored : List (List ℕ)) (r : RecordView) (made : Tree) → change schema ignored (Some r) made ≡ decision.nothing → r.tainted ≡ false
@@ -236,30 +236,30 @@ module _ (x : Applied) where
   pub well : AreDoneWell x.ms x.plan.actions x.done
   well = well_from x.ms x.plan.actions x.done x.outcomes.all (λ k a at. done_well x.ms x.requests x.plan (objects_by x.plan (seen_by (done_at x.done) (predecessors_of x.plan.order k))) a (done_at x.done k) (call_at_index k a at))
 
-  destroyed_gone : (label : LabelView) (id : ObjectIdView) → IsDestroyed (setting x) label id → left_of_object label id (destroys_in (changes_in x.ms x.heads x.done)) ≡ Some gone
-  destroyed_gone label id d = elim (left_in x.ms x.plan label id x.plan.actions x.heads x.done x.are_heads well) [
+  destroyed_gone : (addr : ResourceAddrView) (id : ObjectIdView) → IsDestroyed (setting x) addr id → left_of_object addr id (destroys_in (changes_in x.ms x.heads x.done)) ≡ Some gone
+  destroyed_gone addr id d = elim (left_in x.ms x.plan addr id x.plan.actions x.heads x.done x.are_heads well) [
     | inl f ↦ f.3
-    | inr none ↦ absurd (none.0 d.a d.there (record { destroys = d.destroys; label_is = d.label_is; object_is = λ i. record { key = d.key_is i; deposed = d.deposed i } }))
+    | inr none ↦ absurd (none.0 d.a d.there (record { destroys = d.destroys; addr_is = d.addr_is; object_is = λ i. record { key = d.key_is i; deposed = d.deposed i } }))
   ]
 
   -- each deposed object is destroyed
-  deposed_object : (label : LabelView) (key : InstanceKeyView) (k : List ℕ) (y : RecordView) → record_in label (object_at key (Some k)) x.plan.prior ≡ Some y → IsDestroyed (setting x) label (object_at key (Some k))
-  deposed_object label key k y e =
+  deposed_object : (addr : ResourceAddrView) (key : InstanceKeyView) (k : List ℕ) (y : RecordView) → record_in addr (object_at key (Some k)) x.plan.prior ≡ Some y → IsDestroyed (setting x) addr (object_at key (Some k))
+  deposed_object addr key k y e =
       let id : ObjectIdView = object_at key (Some k) in
-      let r = followed (resource_at label x.plan.prior.resources) (λ (r : ResourceView). record_at (object_at key (Some k)) r.records) y e in
-      let label_is = found_label label x.plan.prior.resources r.0 r.1 in
+      let r = followed (resource_at addr x.plan.prior.resources) (λ (r : ResourceView). record_at (object_at key (Some k)) r.records) y e in
+      let addr_is = found_addr addr x.plan.prior.resources r.0 r.1 in
       let id_is : y.id ≡ object_at key (Some k) = found_id (object_at key (Some k)) y r.0.records r.2 in
-      let own : resource_at r.0.label x.plan.prior.resources ≡ Some r.0 = ap (λ (l : LabelView). resource_at l x.plan.prior.resources) label_is ∙ r.1 in
+      let own : resource_at r.0.addr x.plan.prior.resources ≡ Some r.0 = ap (λ (l : ResourceAddrView). resource_at l x.plan.prior.resources) addr_is ∙ r.1 in
       let there : Contains r.0.records y = found_contains _ r.0.records y r.2 in
       elim (known_object (setting x) r.0 y own there) [
         | inr d ↦
-            subst (λ (i : ObjectIdView). IsDestroyed (setting x) label i) id_is (subst (λ (l : LabelView). IsDestroyed (setting x) l y.id) label_is d)
+            subst (λ (i : ObjectIdView). IsDestroyed (setting x) addr i) id_is (subst (λ (l : ResourceAddrView). IsDestroyed (setting x) l y.id) addr_is d)
         | inl decl ↦
             let q = planned_at (setting x) decl.n decl.block y.id.key decl.meant decl.among in
             let records = records_in (setting x) decl.block y.id.key in
-            let resource : resource_at decl.block.label x.plan.prior.resources ≡ Some r.0 = ap (λ (l : LabelView). resource_at l x.plan.prior.resources) decl.own ∙ own in
-            let listed : Contains (records_at decl.block.label x.plan.prior.resources) y = subst (λ (o : Option ResourceView). Contains (option_map_or (λ z. z.records) o []) y) (sym resource) there in
-            let mine : Contains (records_of y.id.key (records_at decl.block.label x.plan.prior.resources)) y = to_filter (is_of y.id.key) (records_at decl.block.label x.plan.prior.resources) y listed (same_key y.id.key) in
+            let resource : resource_at decl.block.addr x.plan.prior.resources ≡ Some r.0 = ap (λ (l : ResourceAddrView). resource_at l x.plan.prior.resources) decl.own ∙ own in
+            let listed : Contains (records_at decl.block.addr x.plan.prior.resources) y = subst (λ (o : Option ResourceView). Contains (option_map_or (λ z. z.records) o []) y) (sym resource) there in
+            let mine : Contains (records_of y.id.key (records_at decl.block.addr x.plan.prior.resources)) y = to_filter (is_of y.id.key) (records_at decl.block.addr x.plan.prior.resources) y listed (same_key y.id.key) in
             let s : StepView = deposed_destroyed k y.attributes in
             let by_key : Contains (deposed_step y) s = subst (λ (o : Option (List ℕ)). Contains (destroy_if_deposed o y.attributes) s) (sym (ap (λ (i : ObjectIdView). i.deposed) id_is)) (0, omega arith, refl) in
             let step : Contains (decided_steps records q.decision) s =
@@ -268,7 +268,7 @@ module _ (x : Applied) where
             record {
               a = done.0;
               there = done.1;
-              label_is = done.2.label ∙ decl.own ∙ label_is;
+              addr_is = done.2.addr ∙ decl.own ∙ addr_is;
               key_is = done.2.key_is ∙ ap (λ (i : ObjectIdView). i.key) id_is;
               destroys = ap is_apply done.2.step;
               deposed = ap deposed_key done.2.step;
@@ -276,62 +276,62 @@ module _ (x : Applied) where
       ]
 
   -- so nothing is left of it
-  deposed_gone : (label : LabelView) (key : InstanceKeyView) (k : List ℕ)
-      → after_destroy (destroy_under k (filter_map (left_of_deposed label key) (destroys_in (changes_in x.ms x.heads x.done)))) (record_in label (object_at key (Some k)) x.plan.prior) ≡ None
-  deposed_gone label key k = by_record (record_in label (object_at key (Some k)) x.plan.prior) refl
+  deposed_gone : (addr : ResourceAddrView) (key : InstanceKeyView) (k : List ℕ)
+      → after_destroy (destroy_under k (filter_map (left_of_deposed addr key) (destroys_in (changes_in x.ms x.heads x.done)))) (record_in addr (object_at key (Some k)) x.plan.prior) ≡ None
+  deposed_gone addr key k = by_record (record_in addr (object_at key (Some k)) x.plan.prior) refl
     where
-      by_record : (o : Option RecordView) → record_in label (object_at key (Some k)) x.plan.prior ≡ o → after_destroy (destroy_under k (filter_map (left_of_deposed label key) (destroys_in (changes_in x.ms x.heads x.done)))) (record_in label (object_at key (Some k)) x.plan.prior) ≡ None
-      by_record None e = ap (after_destroy (destroy_under k (filter_map (left_of_deposed label key) (destroys_in (changes_in x.ms x.heads x.done))))) e ∙ none_after (destroy_under k (filter_map (left_of_deposed label key) (destroys_in (changes_in x.ms x.heads x.done))))
+      by_record : (o : Option RecordView) → record_in addr (object_at key (Some k)) x.plan.prior ≡ o → after_destroy (destroy_under k (filter_map (left_of_deposed addr key) (destroys_in (changes_in x.ms x.heads x.done)))) (record_in addr (object_at key (Some k)) x.plan.prior) ≡ None
+      by_record None e = ap (after_destroy (destroy_under k (filter_map (left_of_deposed addr key) (destroys_in (changes_in x.ms x.heads x.done))))) e ∙ none_after (destroy_under k (filter_map (left_of_deposed addr key) (destroys_in (changes_in x.ms x.heads x.done))))
       by_record (Some y) e =
-          ap (λ (l : Option LeftView). after_destroy l (record_in label (object_at key (Some k)) x.plan.prior))
-          (deposed_left label key k (destroys_in (changes_in x.ms x.heads x.done)) ∙ destroyed_gone label (object_at key (Some k)) (deposed_object label key k y e))
-          ∙ gone_none (record_in label (object_at key (Some k)) x.plan.prior)
+          ap (λ (l : Option LeftView). after_destroy l (record_in addr (object_at key (Some k)) x.plan.prior))
+          (deposed_left addr key k (destroys_in (changes_in x.ms x.heads x.done)) ∙ destroyed_gone addr (object_at key (Some k)) (deposed_object addr key k y e))
+          ∙ gone_none (record_in addr (object_at key (Some k)) x.plan.prior)
 
   -- ---- by what came of the instance
 
-  abbrev pub told : LabelView → InstanceKeyView → Option ApplyView
-  told label key = apply_of_instance label key (applies_in (changes_in x.ms x.heads x.done) ++ map as_apply (metadata_updates x.plan))
+  abbrev pub told : ResourceAddrView → InstanceKeyView → Option ApplyView
+  told addr key = apply_of_instance addr key (applies_in (changes_in x.ms x.heads x.done) ++ map as_apply (metadata_updates x.plan))
 
-  abbrev pub left_over : LabelView → InstanceKeyView → Option RecordView
-  left_over label key = after_destroy (left_of_object label (object_at key None) (destroys_in (changes_in x.ms x.heads x.done))) (record_in label (object_at key None) x.plan.prior)
+  abbrev pub left_over : ResourceAddrView → InstanceKeyView → Option RecordView
+  left_over addr key = after_destroy (left_of_object addr (object_at key None) (destroys_in (changes_in x.ms x.heads x.done))) (record_in addr (object_at key None) x.plan.prior)
 
-  pub current_is : (label : LabelView) (key : InstanceKeyView)
-      → record_in label (object_at key None) x.after ≡ current_after (option_map_or (λ a. a.given) (told label key) (nothing_given key)) (option_map_or (λ a. a.applied) (told label key) unwanted) (left_over label key)
-  current_is label key = x.state.records label (object_at key None)
+  pub current_is : (addr : ResourceAddrView) (key : InstanceKeyView)
+      → record_in addr (object_at key None) x.after ≡ current_after (option_map_or (λ a. a.given) (told addr key) (nothing_given key)) (option_map_or (λ a. a.applied) (told addr key) unwanted) (left_over addr key)
+  current_is addr key = x.state.records addr (object_at key None)
 
-  deposed_is : (label : LabelView) (key : InstanceKeyView) (k : List ℕ) → record_in label (object_at key (Some k)) x.after
-      ≡ option_or (deposed_anew (option_map_or (λ a. a.given) (told label key) (nothing_given key)) (option_map_or (λ a. a.applied) (told label key) unwanted) (left_over label key) k)
-      (after_destroy (destroy_under k (filter_map (left_of_deposed label key) (destroys_in (changes_in x.ms x.heads x.done)))) (record_in label (object_at key (Some k)) x.plan.prior))
-  deposed_is label key k = x.state.records label (object_at key (Some k))
+  deposed_is : (addr : ResourceAddrView) (key : InstanceKeyView) (k : List ℕ) → record_in addr (object_at key (Some k)) x.after
+      ≡ option_or (deposed_anew (option_map_or (λ a. a.given) (told addr key) (nothing_given key)) (option_map_or (λ a. a.applied) (told addr key) unwanted) (left_over addr key) k)
+      (after_destroy (destroy_under k (filter_map (left_of_deposed addr key) (destroys_in (changes_in x.ms x.heads x.done)))) (record_in addr (object_at key (Some k)) x.plan.prior))
+  deposed_is addr key k = x.state.records addr (object_at key (Some k))
 
   -- where no object becomes deposed, none is
-  none_there : (label : LabelView) (key : InstanceKeyView) (k : List ℕ)
-      → deposed_anew (option_map_or (λ a. a.given) (told label key) (nothing_given key)) (option_map_or (λ a. a.applied) (told label key) unwanted) (left_over label key) k ≡ None
-      → record_in label (object_at key (Some k)) x.after ≡ None
-  none_there label key k none =
-      deposed_is label key k
-      ∙ ap (λ (o : Option RecordView). option_or o (after_destroy (destroy_under k (filter_map (left_of_deposed label key) (destroys_in (changes_in x.ms x.heads x.done)))) (record_in label (object_at key (Some k)) x.plan.prior))) none
-      ∙ deposed_gone label key k
+  none_there : (addr : ResourceAddrView) (key : InstanceKeyView) (k : List ℕ)
+      → deposed_anew (option_map_or (λ a. a.given) (told addr key) (nothing_given key)) (option_map_or (λ a. a.applied) (told addr key) unwanted) (left_over addr key) k ≡ None
+      → record_in addr (object_at key (Some k)) x.after ≡ None
+  none_there addr key k none =
+      deposed_is addr key k
+      ∙ ap (λ (o : Option RecordView). option_or o (after_destroy (destroy_under k (filter_map (left_of_deposed addr key) (destroys_in (changes_in x.ms x.heads x.done)))) (record_in addr (object_at key (Some k)) x.plan.prior))) none
+      ∙ deposed_gone addr key k
 
   index_of : (a : ActionView) → Contains x.plan.actions a → (k : ℕ) × (slice_get x.plan.actions k ≡ Some a)
   index_of a c = at_index x.plan.actions a c
 
   -- an action made or changed the object
-  made_kept : (n : ℕ) (block : BlockView) (key : InstanceKeyView) → IsPlannedAt (setting x) n block key → IsApplied x.plan block.label key x.plan.actions x.done (told block.label key) → IsKept x n block key
+  made_kept : (n : ℕ) (block : BlockView) (key : InstanceKeyView) → IsPlannedAt (setting x) n block key → IsApplied x.plan block.addr key x.plan.actions x.done (told block.addr key) → IsKept x n block key
   made_kept n block key q w =
       let given = given_with x.plan w.a w.deposed in
       let object = object_of (done_at x.done w.k) in
-      let kept : record_in block.label (object_at key None) x.after ≡ Some (record_of_saved given (object, false)) =
-      current_is block.label key ∙ ap (λ (o : Option ApplyView). current_after (option_map_or (λ a. a.given) o (nothing_given key)) (option_map_or (λ a. a.applied) o unwanted) (left_over block.label key)) w.found in
+      let kept : record_in block.addr (object_at key None) x.after ≡ Some (record_of_saved given (object, false)) =
+      current_is block.addr key ∙ ap (λ (o : Option ApplyView). current_after (option_map_or (λ a. a.given) o (nothing_given key)) (option_map_or (λ a. a.applied) o unwanted) (left_over block.addr key)) w.found in
       record {
         by_plan = q;
         only = record_of_saved given (object, false);
         there = kept;
         untainted = refl;
         alone = λ k.
-            none_there block.label key k
-            (ap (λ (o : Option ApplyView). deposed_anew (option_map_or (λ a. a.given) o (nothing_given key)) (option_map_or (λ a. a.applied) o unwanted) (left_over block.label key) k) w.found
-            ∙ none_deposed given (object, false) (left_over block.label key) k (no_key w.deposed w.key_for));
+            none_there block.addr key k
+            (ap (λ (o : Option ApplyView). deposed_anew (option_map_or (λ a. a.given) o (nothing_given key)) (option_map_or (λ a. a.applied) o unwanted) (left_over block.addr key) k) w.found
+            ∙ none_deposed given (object, false) (left_over block.addr key) k (no_key w.deposed w.key_for));
         how = inl (record { k = w.k; a = w.a; at = w.at; is = w.is; attributes = refl; version = refl });
       }
     where
@@ -339,32 +339,32 @@ module _ (x : Applied) where
       first_true true c h = refl
       first_true false c h = absurd (cc)
 
-      no_key : (o : Option (List ℕ)) → IsKeyFor x.plan w.a o → (o ≡ None) ⊎ (left_over block.label key ≡ None)
+      no_key : (o : Option (List ℕ)) → IsKeyFor x.plan w.a o → (o ≡ None) ⊎ (left_over block.addr key ≡ None)
       no_key None for_it = inl refl
       no_key (Some k) for_it =
           let new : is_replacement w.a.step ≡ true = first_true (is_replacement w.a.step) (x.plan.late w.a.resource) for_it.0 in
-          let step = (q.only w.a (at-contained x.plan.actions w.k w.a w.at) w.is.label_is w.is.key_is).0 in
+          let step = (q.only w.a (at-contained x.plan.actions w.k w.a w.at) w.is.addr_is w.is.key_is).0 in
           let half = replacing (records_in (setting x) block key) q.decision w.a.step step new in
           let done = q.done (replaced half.0.attributes) half.2 in
-          let gone_is = destroyed_gone block.label (object_at key None) (record { a = done.0; there = done.1; label_is = done.2.label; key_is = done.2.key_is; destroys = ap is_apply done.2.step; deposed = ap deposed_key done.2.step }) in
-          inr (ap (λ (l : Option LeftView). after_destroy l (record_in block.label (object_at key None) x.plan.prior)) gone_is ∙ gone_none (record_in block.label (object_at key None) x.plan.prior))
+          let gone_is = destroyed_gone block.addr (object_at key None) (record { a = done.0; there = done.1; addr_is = done.2.addr; key_is = done.2.key_is; destroys = ap is_apply done.2.step; deposed = ap deposed_key done.2.step }) in
+          inr (ap (λ (l : Option LeftView). after_destroy l (record_in block.addr (object_at key None) x.plan.prior)) gone_is ∙ gone_none (record_in block.addr (object_at key None) x.plan.prior))
 
   -- no action did
-  kept_untouched : (n : ℕ) (block : BlockView) (key : InstanceKeyView) (q : IsPlannedAt (setting x) n block key) → ((k : ℕ) (a : ActionView) → slice_get x.plan.actions k ≡ Some a → IsApplyAt block.label key a → ⊥)
-      → Keeps (told block.label key) key → IsKept x n block key
+  kept_untouched : (n : ℕ) (block : BlockView) (key : InstanceKeyView) (q : IsPlannedAt (setting x) n block key) → ((k : ℕ) (a : ActionView) → slice_get x.plan.actions k ≡ Some a → IsApplyAt block.addr key a → ⊥)
+      → Keeps (told block.addr key) key → IsKept x n block key
   kept_untouched n block key q none keep =
       let records = records_in (setting x) block key in
       let still : q.decision ≡ decision.nothing = is_nothing (some_apply q.schema block.lifecycle.ignore_changes records q.is.made q.decision q.is.changes) in
       let old = some_current (current records) (q.is.changes ∙ still) in
-      let prior : record_in block.label (object_at key None) x.plan.prior ≡ Some old.0 = sym (current_known block.label key x.plan.prior) ∙ old.1 in
+      let prior : record_in block.addr (object_at key None) x.plan.prior ≡ Some old.0 = sym (current_known block.addr key x.plan.prior) ∙ old.1 in
       let not_destroyed = left_none still in
-      let left : left_over block.label key ≡ Some old.0 = ap (λ (l : Option LeftView). after_destroy l (record_in block.label (object_at key None) x.plan.prior)) not_destroyed ∙ prior in
+      let left : left_over block.addr key ≡ Some old.0 = ap (λ (l : Option LeftView). after_destroy l (record_in block.addr (object_at key None) x.plan.prior)) not_destroyed ∙ prior in
       record {
         by_plan = q;
         only = keep.made_of old.0;
-        there = current_is block.label key ∙ keep.current (left_over block.label key) ∙ ap (option_map keep.made_of) left;
+        there = current_is block.addr key ∙ keep.current (left_over block.addr key) ∙ ap (option_map keep.made_of) left;
         untainted = keep.tainted old.0 ∙ not_tainted q.schema block.lifecycle.ignore_changes old.0 q.is.made (ap (λ (o : Option RecordView). change q.schema block.lifecycle.ignore_changes o q.is.made) (sym old.1) ∙ q.is.changes ∙ still);
-        alone = λ k. none_there block.label key k (keep.deposed (left_over block.label key) k);
+        alone = λ k. none_there block.addr key k (keep.deposed (left_over block.addr key) k);
         how = inr (record { nothing = still; old = old.0; found = old.1; attributes = keep.attributes old.0; tainted = keep.tainted old.0; version = keep.version old.0; none = none });
       }
     where
@@ -373,18 +373,18 @@ module _ (x : Applied) where
       is_nothing (inr s) =
           let done = q.done s.0 s.1 in
           let k = index_of done.0 done.1 in
-          absurd (none k.0 done.0 k.1 (record { applies = ap is_apply done.2.step ∙ s.2; label_is = done.2.label; key_is = done.2.key_is }))
+          absurd (none k.0 done.0 k.1 (record { applies = ap is_apply done.2.step ∙ s.2; addr_is = done.2.addr; key_is = done.2.key_is }))
 
       some_current : (o : Option RecordView) → change q.schema block.lifecycle.ignore_changes o q.is.made ≡ decision.nothing → (r : RecordView) × (o ≡ Some r)
       some_current None e = absurd (cc)
       some_current (Some r) e = (r, refl)
 
-      left_none : q.decision ≡ decision.nothing → left_of_object block.label (object_at key None) (destroys_in (changes_in x.ms x.heads x.done)) ≡ None
-      left_none still = elim (left_in x.ms x.plan block.label (object_at key None) x.plan.actions x.heads x.done x.are_heads well) [
+      left_none : q.decision ≡ decision.nothing → left_of_object block.addr (object_at key None) (destroys_in (changes_in x.ms x.heads x.done)) ≡ None
+      left_none still = elim (left_in x.ms x.plan block.addr (object_at key None) x.plan.actions x.heads x.done x.are_heads well) [
         | inr f ↦ f.1
         | inl f ↦
             let key_is = ap (λ (i : ObjectIdView). i.key) f.2.object_is in
-            let step = (q.only f.0 f.1 f.2.label_is key_is).0 in
+            let step = (q.only f.0 f.1 f.2.addr_is key_is).0 in
             absurd (nothing_deposed (records_in (setting x) block key) f.0.step (subst (λ (d : DecisionView). Contains (decided_steps (records_in (setting x) block key) d) f.0.step) still step) (ap (λ (i : ObjectIdView). i.deposed) f.2.object_is))
       ]
 
@@ -393,18 +393,18 @@ module _ (x : Applied) where
   pub kept_at : (n : ℕ) (block : BlockView) (key : InstanceKeyView) → meant_at (plan_names x.plan) n ≡ Some (a_block block) → is_among (keys_at (setting x) n) key ≡ true → IsKept x n block key
   kept_at n block key meant among =
       let q = planned_at (setting x) n block key meant among in
-      elim (wanted_in x.ms x.plan block.label key x.plan.actions x.heads x.done (metadata_updates x.plan) x.are_heads well) [
+      elim (wanted_in x.ms x.plan block.addr key x.plan.actions x.heads x.done (metadata_updates x.plan) x.are_heads well) [
         | inl w ↦ made_kept n block key q w
-        | inr w ↦ kept_untouched n block key q w.0 (keeps block.label key (told block.label key) w.1)
+        | inr w ↦ kept_untouched n block key q w.0 (keeps block.addr key (told block.addr key) w.1)
       ]
 
   -- and nothing else is known
-  pub known_declared : (label : LabelView) (id : ObjectIdView) (y : RecordView) → record_in label id x.after ≡ Some y → IsDeclaredAt (setting x) label id.key
-  known_declared label id y e = elim (wanted_in x.ms x.plan label id.key x.plan.actions x.heads x.done (metadata_updates x.plan) x.are_heads well) [
+  pub known_declared : (addr : ResourceAddrView) (id : ObjectIdView) (y : RecordView) → record_in addr id x.after ≡ Some y → IsDeclaredAt (setting x) addr id.key
+  known_declared addr id y e = elim (wanted_in x.ms x.plan addr id.key x.plan.actions x.heads x.done (metadata_updates x.plan) x.are_heads well) [
     | inl w ↦
-        subst (λ (k : InstanceKeyView). IsDeclaredAt (setting x) label k) w.is.key_is
-        (subst (λ (l : LabelView). IsDeclaredAt (setting x) l w.a.key) w.is.label_is (apply_declared (setting x) w.a (at-contained x.plan.actions w.k w.a w.at) w.is.applies))
-    | inr w ↦ by_deposed id.deposed (keeps label id.key (told label id.key) w.1) e
+        subst (λ (k : InstanceKeyView). IsDeclaredAt (setting x) addr k) w.is.key_is
+        (subst (λ (l : ResourceAddrView). IsDeclaredAt (setting x) l w.a.key) w.is.addr_is (apply_declared (setting x) w.a (at-contained x.plan.actions w.k w.a w.at) w.is.applies))
+    | inr w ↦ by_deposed id.deposed (keeps addr id.key (told addr id.key) w.1) e
   ]
     where
       left_some : (l : Option LeftView) (o : Option RecordView) (z : RecordView) → after_destroy l o ≡ Some z → ((u : RecordView) × (o ≡ Some u)) × (l ≡ Some gone → ⊥)
@@ -415,24 +415,24 @@ module _ (x : Applied) where
       mapped f None z g = absurd (cc)
       mapped f (Some u) z g = (u, refl)
 
-      by_deposed : (d : Option (List ℕ)) → Keeps (told label id.key) id.key → record_in label (object_at id.key d) x.after ≡ Some y → IsDeclaredAt (setting x) label id.key
+      by_deposed : (d : Option (List ℕ)) → Keeps (told addr id.key) id.key → record_in addr (object_at id.key d) x.after ≡ Some y → IsDeclaredAt (setting x) addr id.key
       by_deposed (Some k) keep f =
-          let none = none_there label id.key k (keep.deposed (left_over label id.key) k) in
+          let none = none_there addr id.key k (keep.deposed (left_over addr id.key) k) in
           let no : None ≡ Some y = sym none ∙ f in absurd (cc)
       by_deposed None keep f =
-          let left = mapped keep.made_of (left_over label id.key) y (sym (keep.current (left_over label id.key)) ∙ sym (current_is label id.key) ∙ f) in
-          let parts = left_some (left_of_object label (object_at id.key None) (destroys_in (changes_in x.ms x.heads x.done))) (record_in label (object_at id.key None) x.plan.prior) left.0 left.1 in
+          let left = mapped keep.made_of (left_over addr id.key) y (sym (keep.current (left_over addr id.key)) ∙ sym (current_is addr id.key) ∙ f) in
+          let parts = left_some (left_of_object addr (object_at id.key None) (destroys_in (changes_in x.ms x.heads x.done))) (record_in addr (object_at id.key None) x.plan.prior) left.0 left.1 in
           let u = parts.0 in
-          let r = followed (resource_at label x.plan.prior.resources) (λ (r : ResourceView). record_at (object_at id.key None) r.records) u.0 u.1 in
-          let label_is = found_label label x.plan.prior.resources r.0 r.1 in
+          let r = followed (resource_at addr x.plan.prior.resources) (λ (r : ResourceView). record_at (object_at id.key None) r.records) u.0 u.1 in
+          let addr_is = found_addr addr x.plan.prior.resources r.0 r.1 in
           let id_is : u.0.id ≡ object_at id.key None = found_id (object_at id.key None) u.0 r.0.records r.2 in
-          let own : resource_at r.0.label x.plan.prior.resources ≡ Some r.0 = ap (λ (l : LabelView). resource_at l x.plan.prior.resources) label_is ∙ r.1 in
+          let own : resource_at r.0.addr x.plan.prior.resources ≡ Some r.0 = ap (λ (l : ResourceAddrView). resource_at l x.plan.prior.resources) addr_is ∙ r.1 in
           elim (known_object (setting x) r.0 u.0 own (found_contains _ r.0.records u.0 r.2)) [
             | inl decl ↦
-                subst (λ (k : InstanceKeyView). IsDeclaredAt (setting x) label k) (ap (λ (i : ObjectIdView). i.key) id_is)
-                (subst (λ (l : LabelView). IsDeclaredAt (setting x) l u.0.id.key) label_is decl)
+                subst (λ (k : InstanceKeyView). IsDeclaredAt (setting x) addr k) (ap (λ (i : ObjectIdView). i.key) id_is)
+                (subst (λ (l : ResourceAddrView). IsDeclaredAt (setting x) l u.0.id.key) addr_is decl)
             | inr d ↦
                 absurd
                 (parts.1
-                (destroyed_gone label (object_at id.key None) (subst (λ (i : ObjectIdView). IsDestroyed (setting x) label i) id_is (subst (λ (l : LabelView). IsDestroyed (setting x) l u.0.id) label_is d))))
+                (destroyed_gone addr (object_at id.key None) (subst (λ (i : ObjectIdView). IsDestroyed (setting x) addr i) id_is (subst (λ (l : ResourceAddrView). IsDestroyed (setting x) l u.0.id) addr_is d))))
           ]

@@ -3,7 +3,7 @@ use Rattle.std.proofs.Common.{◌≡◌, ◌∙◌, inl, inr, ℕ, Bool, true, f
 use Rattle.std.specs.List.{AllByRecursion}
 use Rattle.std.specs.Option.{option_or}
 use Rattle.std.specs.Prelude.{MatchBool, is_none}
-use Rattle.tf_address.specs.ObjectId.{InstanceKeyView}
+use Rattle.tf_config_address.specs.ObjectId.{InstanceKeyView}
 use Rattle.tf_plan_object.specs.Instance.{instance_object}
 use Rattle.tf_config_data.specs.Config.{BlockView}
 use Rattle.tf_config_data.specs.Names.{NameView, a_block, meant_at}
@@ -13,9 +13,9 @@ use Rattle.tf_plan_decision.specs.Prior.{PriorFaultView, first_unfit, prior_faul
 use Rattle.tf_expand.specs.InstanceKeys.{InstanceKeysView}
 use Rattle.tf_expand.specs.Stages.{applying}
 use Rattle.tf_expand.specs.Resolved.{ResolvedView, AreResolvedNames, environment}
-use Rattle.tf_eval.specs.ExprMeaning.{meaning}
+use Rattle.tf_expr_eval.specs.ExprMeaning.{meaning}
 use Rattle.tf_plan_order.specs.Members.{is_among}
-use Rattle.tf_operators.specs.Answer.{Answer}
+use Rattle.tf_expr_operators.specs.Answer.{Answer}
 use Rattle.tf_walk_action.specs.Objects.{object_of}
 use Rattle.tf_walk_action.specs.Outcome.{done_at}
 use Rattle.tf_walk_report.specs.Outputs.{AreOutputsDone, IsOutputDone, OutputResultView, done_with, not_evaluated, valued}
@@ -24,7 +24,7 @@ use Rattle.tf_plan.proofs.Distinct.{at-contained}
 use Rattle.tf_plan_data.specs.Plan.{plan_names}
 use Rattle.tf_walk_report.specs.Report.{objects_after}
 use Rattle.tf_walk_action.specs.Requests.{without_sets}
-use Rattle.tf_syntax.specs.ExprTree as expr
+use Rattle.tf_expr_syntax.specs.ExprTree as expr
 use Rattle.tf_value.specs.Tree.{Tree, Entries}
 use Rattle.tf_laws.proofs.After.{IsKept, at_index, kept_at}
 use Rattle.tf_laws.proofs.Agree.{IsApplyOf}
@@ -33,7 +33,7 @@ use Rattle.tf_laws.proofs.Applied.{Applied, setting}
 use Rattle.tf_laws.proofs.Declared.{found_contains, keys_at, records_in}
 use Rattle.tf_laws.proofs.Grown.{made_requested}
 use Rattle.tf_laws.proofs.Rests.{records_are}
-use Rattle.tf_laws.proofs.Stands.{label_of}
+use Rattle.tf_laws.proofs.Stands.{addr_of}
 use Rattle.tf_laws.proofs.Stored.{each_fits}
 use Rattle.tf_plan_object.specs.Laws.{InstancesGrow}
 use Rattle.tf_expand.specs.StandingLaws.{ResolvedNamesGrow}
@@ -74,7 +74,7 @@ module _ (x : Applied) (law : ExpressionsStayKnown) (grows : InstancesGrow) (gro
       elim kept.how [
         | inl m ↦
             let r = made_requested x resolved_names solves n block key meant kept m in
-            let own = (q.only m.a (at-contained x.plan.actions m.k m.a m.at) m.is.label_is m.is.key_is).1 in
+            let own = (q.only m.a (at-contained x.plan.actions m.k m.a m.at) m.is.addr_is m.is.key_is).1 in
             let version : kept.only.schema_version ≡ q.schema.version = m.version ∙ own.version ∙ ap version_of q.has in
             let formed = good_formed q.schema r.asked.object (object_of (done_at x.done m.k)) r.well in
             ap₂ (λ (v : ℕ) (t : Tree). prior_fault q.schema v t) version m.attributes ∙ good_fit q.schema (object_of (done_at x.done m.k)) formed
@@ -93,7 +93,7 @@ module _ (x : Applied) (law : ExpressionsStayKnown) (grows : InstancesGrow) (gro
         (λ a c applies resource key_is.
         let k = at_index x.plan.actions a c in
         let own : IsApplyOf x.plan.actions n key k.0 = record { a = a; at = k.1; applies = applies; resource = resource; key_is = key_is } in
-        u.none k.0 a k.1 (record { applies = applies; label_is = label_of x n block key k.0 meant own; key_is = key_is }))
+        u.none k.0 a k.1 (record { applies = applies; addr_is = addr_of x n block key k.0 meant own; key_is = key_is }))
   ]
 
   -- nothing is refused

@@ -6,8 +6,8 @@ use Rattle.std.specs.List.{range_with_len}
 use Rattle.std.specs.Prelude.{Contains, slice_get, slice_index_or}
 use Rattle.tf_plan_data.specs.Action.{ActionView, StepView, create, update, replacement}
 use Rattle.tf_plan_data.specs.Precedence.{kind_of, ordered}
-use Rattle.tf_address.specs.ObjectId.{InstanceKeyView}
-use Rattle.tf_address.specs.Same.{same_instance_key}
+use Rattle.tf_config_address.specs.ObjectId.{InstanceKeyView}
+use Rattle.tf_config_address.specs.Same.{same_instance_key}
 use Rattle.tf_config_data.specs.Names.{NameView, meant_at}
 use Rattle.tf_graph.proofs.Edges.{contains_cases, contains_head, contains_tail, source-from_edge}
 use Rattle.tf_graph.specs.Digraph.{Digraph, predecessors_of}
@@ -25,7 +25,7 @@ use Rattle.tf_plan_order.specs.Order.{action_at, no_action}
 use Rattle.tf_plan_order.specs.OrderInput.{OrderInputView}
 use Rattle.tf_plan_order.specs.declared.action.OrderedAction.{OrderedAction as Ordered}
 use Rattle.tf_plan_order.specs.declared.action.ActionKind.TheVariants.{Apply}
-use Rattle.tf_protocol.specs.Meaning.{Meaning}
+use Rattle.tf_provider_protocol.specs.Meaning.{Meaning}
 use Rattle.tf_walk_report.proofs.Apart.{apply_is_current}
 use Rattle.tf_plan_order.proofs.Standing.{places-differ}
 use Rattle.tf_plan_order.specs.ResourceIndex.{numbered}
@@ -104,11 +104,11 @@ module _ (ms : List Meaning) (names : List NameView) (resources : List ResourceV
   -- at most one action creates or updates an instance
   pub one_apply : (place : ℕ) (key : InstanceKeyView) (i j : ℕ) → IsApplyOf actions place key i → IsApplyOf actions place key j → i ≡ j
   one_apply place key i j p q =
-      let label : p.a.label ≡ q.a.label = places-differ (numbered names resources) p.a.label q.a.label place (placed i p.a p.at ∙ ap Some p.resource) (placed j q.a q.at ∙ ap Some q.resource) in
+      let addr : p.a.addr ≡ q.a.addr = places-differ (numbered names resources) p.a.addr q.a.addr place (placed i p.a p.at ∙ ap Some p.resource) (placed j q.a q.at ∙ ap Some q.resource) in
       let key_same : p.a.key ≡ q.a.key = p.key_is ∙ sym q.key_is in
       let applies : is_apply p.a.step ≡ is_apply q.a.step = p.applies ∙ sym q.applies in
       let deposed : deposed_key p.a.step ≡ deposed_key q.a.step = apply_is_current p.a.step p.applies ∙ sym (apply_is_current q.a.step q.applies) in
-      fit.apart i j p.a q.a p.at q.at (λ t. record { label = label t; key = key_same t; applies = applies t; deposed = deposed t })
+      fit.apart i j p.a q.a p.at q.at (λ t. record { addr = addr t; key = key_same t; applies = applies t; deposed = deposed t })
 
 -- ---- what stands directly before an action
 

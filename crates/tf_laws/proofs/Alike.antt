@@ -6,16 +6,16 @@ use Rattle.std.specs.Prelude.{nat_lt}
 use Rattle.tf_plan_data.specs.Action.{ActionView}
 use Rattle.tf_walk_buffers.specs.Dependencies.{address_of, dependencies, with_address}
 use Rattle.tf_walk_buffers.specs.Head.{AreHeads, Head, IsHeadOf, IsKeyFor, Target, an_instance, an_object, key_in, target_with}
-use Rattle.tf_address.specs.Label.{LabelView}
-use Rattle.tf_address.specs.ObjectId.{InstanceKeyView}
+use Rattle.tf_config_address.specs.ResourceAddr.{ResourceAddrView}
+use Rattle.tf_config_address.specs.ObjectId.{InstanceKeyView}
 use Rattle.tf_config_data.specs.Config.{BlockView}
-use Rattle.tf_config_data.specs.Names.{Meant, NameView, a_block, a_local, directly_before, label_pair, meant_at, place_of}
+use Rattle.tf_config_data.specs.Names.{Meant, NameView, a_block, a_local, directly_before, addr_pair, meant_at, place_of}
 use Rattle.tf_laws.proofs.Declared.{has_stands}
 use Rattle.tf_laws.proofs.Renewals.{block_place}
 use Rattle.tf_expand.specs.InstanceKeys.{InstanceKeysView}
 use Rattle.tf_expand.specs.Stages.{applying}
 use Rattle.tf_expand.specs.Resolved.{AreResolvedNames, ResolvedView, all_stand, environment, result_in, stands_at, together, where_all}
-use Rattle.tf_eval.specs.Environment.{Environment}
+use Rattle.tf_expr_eval.specs.Environment.{Environment}
 use Rattle.tf_graph.specs.Solutions.{seen_by}
 use Rattle.tf_laws.specs.Plans.{AreOne, AreOrderly}
 use Rattle.tf_state_next.specs.Events.{EventsView, MetadataUpdateView, ends_in, given_in}
@@ -29,7 +29,7 @@ use Rattle.tf_plan.proofs.Blocks.{names-apart}
 use Rattle.tf_plan.proofs.Tied.{block_found}
 use Rattle.tf_plan_data.specs.Fits.{IsDeclared, deposed_key, is_apply}
 use Rattle.tf_plan_data.specs.Plan.{PlanView, plan_names}
-use Rattle.tf_protocol.specs.Meaning.{Meaning}
+use Rattle.tf_provider_protocol.specs.Meaning.{Meaning}
 use Rattle.tf_walk_report.specs.Events.{events}
 use Rattle.tf_walk_buffers.specs.MetadataUpdates.{metadata_update_of_record, metadata_updates, metadata_updates_at, metadata_updates_of, stays}
 use Rattle.tf_walk_report.specs.Report.{IsReported, IsStateOf, IsTold, objects_after}
@@ -42,8 +42,8 @@ use Rattle.tf_state_next.specs.Ends.{RecordInputView}
 use Rattle.tf_state_data.specs.Record.{RecordView}
 use Rattle.tf_state_data.specs.Resource.{ResourceView}
 use Rattle.tf_state_data.specs.State.{StateView}
-use Rattle.tf_syntax.specs.ExprTree as expr
-use Rattle.tf_syntax.specs.TemplateNames.{Pair}
+use Rattle.tf_expr_syntax.specs.ExprTree as expr
+use Rattle.tf_expr_syntax.specs.TemplateNames.{Pair}
 use Rattle.tf_value.specs.Tree.{Entries, Tree}
 
 -- a plan, with these instances and by this table of what needs what
@@ -142,7 +142,7 @@ module _ (p : PlanView) (shapes : ℕ → InstanceKeysView) (needs : ℕ → ℕ
   head_too a x alike h = record {
     place = h.place;
     op = h.op;
-    label = h.label;
+    addr = h.addr;
     target = record { same = h.target.same ∙ sym (target_same a (key_in x.target) alike); key = key_too a (key_in x.target) h.target.key };
   }
 
@@ -154,23 +154,23 @@ module _ (p : PlanView) (shapes : ℕ → InstanceKeysView) (needs : ℕ → ℕ
 
   abbrev PlacesAlike : Type 0
   PlacesAlike =
-      (label : LabelView) (n : ℕ) → place_in (numbered (plan_names p) p.prior.resources) label ≡ Some n → n < length (plan_names p)
+      (addr : ResourceAddrView) (n : ℕ) → place_in (numbered (plan_names p) p.prior.resources) addr ≡ Some n → n < length (plan_names p)
       → dependencies p.needs (plan_names p) n ≡ dependencies needs (plan_names p) n
 
-  renewals_there : PlacesAlike → (r : ResourceView) (o : Option ℕ) → place_in (numbered (plan_names p) p.prior.resources) r.label ≡ o → metadata_updates_at p r o ≡ metadata_updates_at (by p shapes needs) r o
+  renewals_there : PlacesAlike → (r : ResourceView) (o : Option ℕ) → place_in (numbered (plan_names p) p.prior.resources) r.addr ≡ o → metadata_updates_at p r o ≡ metadata_updates_at (by p shapes needs) r o
   renewals_there alike r None e = refl
   renewals_there alike r (Some n) e =
-      either (nat_lt n (length (plan_names p))) (map (metadata_update_of_record p r.label n) (filter (stays p n) r.records)) (map (metadata_update_of_record (by p shapes needs) r.label n) (filter (stays p n) r.records))
+      either (nat_lt n (length (plan_names p))) (map (metadata_update_of_record p r.addr n) (filter (stays p n) r.records)) (map (metadata_update_of_record (by p shapes needs) r.addr n) (filter (stays p n) r.records))
       (λ b. ap
       (λ (ds : List (List ℕ)). map (λ (x : RecordView). record {
-        label = r.label;
+        addr = r.addr;
         given = record { key = x.id.key; schema_version = x.schema_version; dependencies = ds; create_before_destroy = p.late n; deposed_key = None };
       }) (filter (stays p n) r.records))
-      (alike r.label n e (ltb-true n (length (plan_names p)) b)))
+      (alike r.addr n e (ltb-true n (length (plan_names p)) b)))
 
   renewals_same : PlacesAlike → metadata_updates p ≡ metadata_updates (by p shapes needs)
   renewals_same alike =
-      flat_same (metadata_updates_of p) (metadata_updates_of (by p shapes needs)) p.prior.resources (λ r. renewals_there alike r (place_in (numbered (plan_names p) p.prior.resources) r.label) refl)
+      flat_same (metadata_updates_of p) (metadata_updates_of (by p shapes needs)) p.prior.resources (λ r. renewals_there alike r (place_in (numbered (plan_names p) p.prior.resources) r.addr) refl)
 
   state_too : (ms : List Meaning) (done : List ActionResultView) (entries : Entries) (s : StateView) → AllByRecursion GivesAlike p.actions → PlacesAlike → IsStateOf ms (by p shapes needs) done entries s → IsStateOf ms p done entries s
   state_too ms done entries s each alike h =
@@ -189,18 +189,18 @@ module _ (ms : List Meaning) (p : PlanView) (shapes : ℕ → InstanceKeysView) 
   apart = names-apart p.config orderly.blocks
 
   block_gives : (n : ℕ) (block : BlockView) → meant_at (plan_names p) n ≡ Some (a_block block) → dependencies p.needs (plan_names p) n ≡ dependencies needs (plan_names p) n
-  block_gives n block meant = needs_given (plan_names p) p.needs needs n (λ m. named (label_pair block.label) n m (block_found p.config orderly.own_names apart n block meant))
+  block_gives n block meant = needs_given (plan_names p) p.needs needs n (λ m. named (addr_pair block.addr) n m (block_found p.config orderly.own_names apart n block meant))
 
   each_gives : (actions : List ActionView) → AllByRecursion (IsDeclared (plan_names p)) actions → AllByRecursion (GivesAlike p shapes needs) actions
   each_gives [] h = tt
   each_gives (a ∷ actions) h = (λ e. let is = h.0 e in block_gives a.resource is.block is.stands, each_gives actions h.1)
 
   places_give : PlacesAlike p shapes needs
-  places_give label n place below =
-      let has = (blocks-first (plan_names p) p.prior.resources label n place).0 below in
-      let block = has_stands (plan_names p) label has in
+  places_give addr n place below =
+      let has = (blocks-first (plan_names p) p.prior.resources addr n place).0 below in
+      let block = has_stands (plan_names p) addr has in
       let same : n ≡ block.0 =
-      block_place (plan_names p) p.prior.resources (resources-apart (plan_names p) p.prior.resources apart orderly.resources) label n block.0 block.1 place block.2 block.3 in
+      block_place (plan_names p) p.prior.resources (resources-apart (plan_names p) p.prior.resources apart orderly.resources) addr n block.0 block.1 place block.2 block.3 in
       block_gives n block.1 (ap (meant_at (plan_names p)) same ∙ block.2)
 
   requests_too : (requests : Requests) → AreRequests (by p shapes needs) requests → AreRequests p requests

@@ -5,7 +5,7 @@ use Rattle.std.proofs.lemmas.List.Elements.{Contains-append_left}
 use Rattle.std.specs.List.{AllByRecursion, flat_map}
 use Rattle.std.specs.Option.{option_and_then, option_map_or, unwrap_or}
 use Rattle.tf_plan_data.specs.Action.{ActionView, StepView, create, update, replacement}
-use Rattle.tf_address.specs.ObjectId.{InstanceKeyView}
+use Rattle.tf_config_address.specs.ObjectId.{InstanceKeyView}
 use Rattle.tf_laws.specs.AskingLaws.{IsAnsweredPlan, planned_object}
 use Rattle.tf_plan_object.proofs.Locals.{instances_local}
 use Rattle.tf_plan_object.specs.Instance.{InstanceFaultView, instance_object}
@@ -22,14 +22,14 @@ use Rattle.tf_plan_decision.specs.Decision.{DecisionView, change, current}
 use Rattle.tf_expand.proofs.Seen.{agree_on, same_seen}
 use Rattle.tf_expand.specs.InstanceKeys.{instance_keys}
 use Rattle.tf_expand.specs.Resolved.{environment, environment_at, result_in}
-use Rattle.tf_eval.proofs.Locality.{expressions_local}
-use Rattle.tf_eval.specs.Locality.{AgreeOn}
+use Rattle.tf_expr_eval.proofs.Locality.{expressions_local}
+use Rattle.tf_expr_eval.specs.Locality.{AgreeOn}
 use Rattle.tf_graph.specs.Solutions.{seen_by}
 use Rattle.tf_plan_order.specs.Members.{is_among}
 use Rattle.tf_walk_action.specs.Objects.{prior_object}
 use Rattle.tf_plan_data.specs.Fits.{IsDeclared, is_apply}
 use Rattle.tf_plan_data.specs.Plan.{plan_names}
-use Rattle.tf_protocol.specs.Schema.{SchemaView}
+use Rattle.tf_provider_protocol.specs.Schema.{SchemaView}
 use Rattle.tf_walk_report.proofs.Apart.{apply_is_current}
 use Rattle.tf_state_data.specs.Record.{RecordView}
 use Rattle.tf_value.proofs.Conjunction.{and-both, and-first, and-second}
@@ -74,12 +74,12 @@ module _ (x : Made) where
       (same_seen x.resolved_names (directly_before (plan_names x.plan) n)))
 
   -- an action that makes or changes an object of a block's resource is at the block's address
-  label_is : (n : ℕ) (block : BlockView) (a : ActionView) → meant_at (plan_names x.plan) n ≡ Some (a_block block) → Contains x.plan.actions a → is_apply a.step ≡ true → a.resource ≡ n → a.label ≡ block.label
-  label_is n block a meant c applies resource =
+  addr_is : (n : ℕ) (block : BlockView) (a : ActionView) → meant_at (plan_names x.plan) n ≡ Some (a_block block) → Contains x.plan.actions a → is_apply a.step ≡ true → a.resource ≡ n → a.addr ≡ block.addr
+  addr_is n block a meant c applies resource =
       let own = all_contained (IsDeclared (plan_names x.plan)) x.plan.actions a x.fit.declared c applies in
       let both : Some (a_block own.block) ≡ Some (a_block block) = sym own.stands ∙ ap (meant_at (plan_names x.plan)) resource ∙ meant in
       let same : own.block ≡ block = (cc) in
-      sym own.own ∙ ap (λ (b : BlockView). b.label) same
+      sym own.own ∙ ap (λ (b : BlockView). b.addr) same
 
   module _ (place : ℕ) (objects : ℕ → InstanceKeyView → Tree) (keep : StandAsPlanned x.plan place objects) where
     -- the object of an instance in the plan refines to the one that it stands for
@@ -103,11 +103,11 @@ module _ (x : Made) where
                   let untouched : objects n key ≡ prior_object x.plan.prior key (meant_at (plan_names x.plan) n) =
                   keep.left n key need
                   (λ a c applies resource key_is.
-                  let step = (q.only a c (label_is n block a meant c applies resource) key_is).0 in
+                  let step = (q.only a c (addr_is n block a meant c applies resource) key_is).0 in
                   nothing_deposed records a.step (subst (λ (d : DecisionView). Contains (decided_steps records d) a.step) still step) (apply_is_current a.step applies)) in
                   let is : objects n key ≡ t =
                   untouched ∙ ap (prior_object x.plan.prior key) meant
-                  ∙ ap (λ (o : Option RecordView). option_map_or {U = Tree} (λ r. r.attributes) o null) (sym (current_known block.label key x.plan.prior))
+                  ∙ ap (λ (o : Option RecordView). option_map_or {U = Tree} (λ r. r.attributes) o null) (sym (current_known block.addr key x.plan.prior))
                   ∙ object_there (current records) t there in
                   subst (Refines t) (sym is) (Refines-refl t)
               | inr s ↦

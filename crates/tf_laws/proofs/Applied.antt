@@ -16,8 +16,8 @@ use Rattle.tf_plan.proofs.Fitting.{AreFit}
 use Rattle.tf_plan.specs.Ordered.{IsOrdered}
 use Rattle.tf_plan.specs.Planned.{IsPlanned, unrefused}
 use Rattle.tf_plan_data.specs.Plan.{PlanView, plan_names}
-use Rattle.tf_protocol.specs.Meaning.{Meaning, schema_in}
-use Rattle.tf_protocol.specs.Schema.{SchemaView, IsSchema}
+use Rattle.tf_provider_protocol.specs.Meaning.{Meaning, schema_in}
+use Rattle.tf_provider_protocol.specs.Schema.{SchemaView, IsSchema}
 use Rattle.tf_walk_report.specs.Events.{events}
 use Rattle.tf_plan_order.specs.ResourceLaws as resources_laws
 use Rattle.tf_plan_order.specs.ResourceIndex.{a_name}

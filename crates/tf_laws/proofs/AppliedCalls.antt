@@ -27,10 +27,10 @@ use Rattle.tf_walk_action.specs.declared.excuse.Excuse.{Excuse}
 use Rattle.tf_plan.proofs.Distinct.{at-contained, in_filter}
 use Rattle.tf_plan_data.specs.Fits.{is_apply}
 use Rattle.tf_plan_data.specs.Plan.{plan_names}
-use Rattle.tf_protocol.specs.Meaning.{Answer, Asked}
-use Rattle.tf_protocol.specs.Verdict.{has_attributes, is_good_verdict, verdict_on_object}
-use Rattle.tf_protocol.specs.declared.verdict.Verdict.{Verdict}
-use Rattle.tf_protocol.specs.declared.verdict.Verdict.TheVariants.{Good}
+use Rattle.tf_provider_protocol.specs.Meaning.{Answer, Asked}
+use Rattle.tf_provider_protocol.specs.Verdict.{has_attributes, is_good_verdict, verdict_on_object}
+use Rattle.tf_provider_protocol.specs.declared.verdict.Verdict.{Verdict}
+use Rattle.tf_provider_protocol.specs.declared.verdict.Verdict.TheVariants.{Good}
 use Rattle.tf_value.proofs.Order.{Refines-trans}
 use Rattle.tf_value.specs.Refinement.{Refines}
 use Rattle.tf_value.specs.Tree.{Tree}
@@ -93,7 +93,7 @@ module _ (x : Made) (laws : Laws) (requests : Requests) (are : AreRequests x.pla
       let verdict = good_object x.ms requests x.plan (objects_by x.plan (then_seen j)) b (done_at done j) call applies in
       let own : is_good_verdict (verdict_on_object call.schema (Some wanted.0) (object_of (done_at done j))) ≡ true =
       subst (λ (o : Option Tree). is_good_verdict (verdict_on_object call.schema o (object_of (done_at done j))) ≡ true) wanted.1 verdict in
-      Refines-trans t wanted.0 (object_of (done_at done j)) wanted.2 (good_refines call.schema wanted.0 (object_of (done_at done j)) (x.schemas b.label.type_name call.schema call.has) named own)
+      Refines-trans t wanted.0 (object_of (done_at done j)) wanted.2 (good_refines call.schema wanted.0 (object_of (done_at done j)) (x.schemas b.addr.type_name call.schema call.has) named own)
 
   -- so what was seen before a call is as planned
   seen_as_planned : (k : ℕ) (a : ActionView) → slice_get x.plan.actions k ≡ Some a → is_apply a.step ≡ true → ((j : ℕ) → Contains (predecessors_of x.plan.order k) j → is_good (done_at done j) ≡ true)

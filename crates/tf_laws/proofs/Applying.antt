@@ -10,7 +10,7 @@ use Rattle.tf_laws.specs.Plans.{AreOne, AreOrderly, PlanTextsAreOne, PlansAreOne
 use Rattle.tf_laws.specs.Founded.{IsFounded}
 use Rattle.tf_laws.specs.One.{ReportsAreOne, TellTheSame}
 use Rattle.tf_laws.specs.Planned.{PlansAreFounded}
-use Rattle.tf_protocol.specs.Meaning.{Meaning}
+use Rattle.tf_provider_protocol.specs.Meaning.{Meaning}
 use Rattle.tf_cli_inputs.specs.Texts.{Texts}
 use Rattle.tf_walk_report.specs.Report.{report_of}
 use Rattle.tf_state.specs.Text.{state_text}

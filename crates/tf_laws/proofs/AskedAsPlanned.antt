@@ -14,8 +14,8 @@ use Rattle.tf_plan_decision.specs.Laws.{CreatesAreFirst, ReplacesHaveACause, Upd
 use Rattle.tf_plan_decision.specs.Prior.{PriorFaultView, first_unfit}
 use Rattle.tf_expand.specs.Resolved.{environment}
 use Rattle.tf_plan_data.specs.Plan.{plan_names}
-use Rattle.tf_protocol.specs.Meaning.{Asked}
-use Rattle.tf_protocol.specs.Schema.{SchemaView}
+use Rattle.tf_provider_protocol.specs.Meaning.{Asked}
+use Rattle.tf_provider_protocol.specs.Schema.{SchemaView}
 use Rattle.tf_state_data.specs.Record.{RecordView}
 use Rattle.tf_value.specs.Tree.{Tree}
 use Rattle.tf_laws.specs.AskingLaws.{PlannedObjectsAreAsked, planned_object}

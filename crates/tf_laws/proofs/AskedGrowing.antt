@@ -2,7 +2,7 @@
 use Rattle.std.proofs.Common.{◌≡◌, ◌∙◌, ℕ, Bool, true, false, if◌then◌else◌, List, Option, Some, None, Result, Ok, Err, refl, sym}
 use Rattle.std.specs.Prelude.{option_and_then}
 use Rattle.tf_plan_data.specs.Action.{ActionView, StepView, create, update, replacement, replaced, destroyed, deposed_destroyed}
-use Rattle.tf_address.specs.ObjectId.{InstanceKeyView}
+use Rattle.tf_config_address.specs.ObjectId.{InstanceKeyView}
 use Rattle.tf_plan_object.specs.Instance.{InstanceFaultView, instance_object}
 use Rattle.tf_plan_object.specs.Laws.{InstancesGrow}
 use Rattle.tf_config_data.specs.Names.{meant_at}
@@ -15,8 +15,8 @@ use Rattle.tf_expand.specs.InstanceKeys.{InstanceKeysView}
 use Rattle.tf_expand.specs.Stages.{applying}
 use Rattle.tf_expand.specs.Resolved.{ResolvedView, AreResolvedNames, environment, environment_at, together}
 use Rattle.tf_plan_data.specs.Plan.{PlanView, plan_names}
-use Rattle.tf_protocol.specs.Meaning.{Asked, Meaning}
-use Rattle.tf_protocol.specs.Schema.{SchemaView}
+use Rattle.tf_provider_protocol.specs.Meaning.{Asked, Meaning}
+use Rattle.tf_provider_protocol.specs.Schema.{SchemaView}
 use Rattle.tf_value.specs.Known.{known}
 use Rattle.tf_value.specs.Laws.{KnownStays}
 use Rattle.tf_value.specs.Refinement.{Refines}

@@ -3,7 +3,7 @@ use Rattle.std.proofs.Common.{◌≡◌, ◌∙◌, ◌<◌, inl, inr, ℕ, Bool
 use Rattle.std.specs.Option.{option_map_or}
 use Rattle.std.specs.Prelude.{slice_get}
 use Rattle.tf_plan_data.specs.Action.{ActionView}
-use Rattle.tf_address.specs.ObjectId.{InstanceKeyView}
+use Rattle.tf_config_address.specs.ObjectId.{InstanceKeyView}
 use Rattle.tf_plan_object.specs.Instance.{InstanceFaultView}
 use Rattle.tf_graph.specs.Digraph.{predecessors_of}
 use Rattle.tf_graph.specs.Solutions.{seen_by}
@@ -12,9 +12,9 @@ use Rattle.tf_walk_action.specs.Excuse.{Moment, excuse_of}
 use Rattle.tf_walk_action.specs.Outcome.{AreOutcomes, ActionResultView, all_good, call_at, call_of_provider, call_with, called, comes_of, done_at, is_good, objects_by, or_excused, skipped}
 use Rattle.tf_walk_action.specs.declared.excuse.Excuse.{Excuse}
 use Rattle.tf_plan_data.specs.Plan.{PlanView, plan_names}
-use Rattle.tf_protocol.specs.Meaning.{Answer, Asked, Meaning, first_with, schema_in}
-use Rattle.tf_protocol.specs.Schema.{SchemaView}
-use Rattle.tf_protocol.specs.declared.verdict.Verdict.{Verdict}
+use Rattle.tf_provider_protocol.specs.Meaning.{Answer, Asked, Meaning, first_with, schema_in}
+use Rattle.tf_provider_protocol.specs.Schema.{SchemaView}
+use Rattle.tf_provider_protocol.specs.declared.verdict.Verdict.{Verdict}
 use Rattle.tf_value.specs.Tree.{Tree}
 use Rattle.tf_graph.proofs.Edges.{contains_cases}
 use Rattle.tf_value.proofs.Conjunction.{and-first, and-second}
@@ -54,7 +54,7 @@ by_schema ms makes (Some schema) asked answer v e = (schema, refl, by_request ms
 pub record IsCall (ms : List Meaning) (requests : Requests) (plan : PlanView) (objects : ℕ → InstanceKeyView → Tree) (a : ActionView) (asked : Asked) (seen : List (ℕ × ActionResultView)) : Type 0 where
   pub good : all_good seen ≡ true
   pub schema : SchemaView
-  pub has : schema_in a.label.type_name ms ≡ Some schema
+  pub has : schema_in a.addr.type_name ms ≡ Some schema
   pub asks : asked_for (plan_names plan) schema a (requests objects a schema) ≡ Ok asked
 
 pub call_made : (ms : List Meaning) (requests : Requests) (plan : PlanView) (excuses : List Excuse) (done : List ActionResultView) (k : ℕ) (a : ActionView) (asked : Asked) (answer : Option Answer) (v : Verdict)
@@ -65,7 +65,7 @@ call_made ms requests plan excuses done k a asked answer v are inside at is =
     let objects = objects_by plan seen in
     let ran = run (all_good seen) (excuse_of excuses k) (call_at ms requests plan k seen) asked answer v (sym (are.solves k inside) ∙ is) in
     let with_a = sym (ap (λ (o : Option ActionView). option_map_or {U = ActionResultView} (call_with ms requests plan objects) o skipped) at) ∙ ran.1 in
-    let made = by_schema ms (λ s. asked_for (plan_names plan) s a (requests objects a s)) (schema_in a.label.type_name ms) asked answer v with_a in
+    let made = by_schema ms (λ s. asked_for (plan_names plan) s a (requests objects a s)) (schema_in a.addr.type_name ms) asked answer v with_a in
     record { good = ran.0; schema = made.0; has = made.1; asks = made.2 }
 
 -- each action that is seen is good

@@ -12,9 +12,9 @@ use Rattle.tf_walk_action.specs.Outcome.{ActionResultView, skipped, excused, fau
 use Rattle.tf_walk_action.specs.declared.excuse.Outcome.{Outcome}
 use Rattle.tf_walk_action.specs.declared.excuse.Outcome.TheVariants.{Judged}
 use Rattle.tf_plan_data.specs.Plan.{PlanView}
-use Rattle.tf_protocol.specs.Meaning.{Meaning}
-use Rattle.tf_protocol.specs.declared.verdict.Verdict.{Verdict}
-use Rattle.tf_protocol.specs.declared.verdict.Verdict.TheVariants as verdict
+use Rattle.tf_provider_protocol.specs.Meaning.{Meaning}
+use Rattle.tf_provider_protocol.specs.declared.verdict.Verdict.{Verdict}
+use Rattle.tf_provider_protocol.specs.declared.verdict.Verdict.TheVariants as verdict
 use Rattle.tf_provider.specs.Entries.{actions_of}
 use Rattle.tf_provider.specs.declared.journal.Entry.{Entry}
 use Rattle.tf_walk_report.specs.Outcomes.{outcome_of}

@@ -5,7 +5,7 @@ use Rattle.std.specs.Prelude.{MatchBool}
 use Rattle.tf_plan_data.specs.Action.{ActionView}
 use Rattle.tf_walk_report.specs.Diagnostics.{action_diagnostics, diagnostic_of}
 use Rattle.tf_walk_report.specs.declared.diagnostic.Diagnostic.{Diagnostic}
-use Rattle.tf_address.specs.ObjectId.{InstanceKeyView}
+use Rattle.tf_config_address.specs.ObjectId.{InstanceKeyView}
 use Rattle.tf_laws.proofs.TextsAgain.{good_outcomes, success}
 use Rattle.tf_laws.proofs.PlannedOverTexts.{plan_ranked}
 use Rattle.tf_cli.specs.Shown.{all_good, cant_write, is_empty, is_good_outcome, is_torn}
@@ -20,14 +20,14 @@ use Rattle.tf_walk_report.specs.Outputs as outputs
 use Rattle.tf_walk_report.specs.Outputs.{AreOutputsDone, IsEvaluated, OutputResultView, end_of}
 use Rattle.tf_walk_report.specs.Settled.{AreSettled, all_settled, names_are_settled, settled_as}
 use Rattle.tf_plan_data.specs.Plan.{PlanView, plan_names}
-use Rattle.tf_protocol.specs.Meaning.{Meaning}
+use Rattle.tf_provider_protocol.specs.Meaning.{Meaning}
 use Rattle.tf_walk_report.specs.Good.{are_good_at, is_apply_of}
 use Rattle.tf_walk_report.specs.Outcomes.{outcome_of}
 use Rattle.tf_walk_report.specs.OutputsTold.{diagnostics_of_output, output_diagnostics, output_place}
 use Rattle.tf_walk_report.specs.Report.{IsReported, report_of}
 use Rattle.tf_walk_report.specs.declared.report.Report.{Report}
-use Rattle.tf_syntax.specs.ExprNames.{named_by}
-use Rattle.tf_syntax.specs.ExprTree as expr
+use Rattle.tf_expr_syntax.specs.ExprNames.{named_by}
+use Rattle.tf_expr_syntax.specs.ExprTree as expr
 use Rattle.tf_value.proofs.Conjunction.{and-both, and-first, and-second}
 use Rattle.tf_value.specs.Tree.{Entries, Tree}
 use Rattle.tf_laws.specs.Success.{SuccessIsComplete}

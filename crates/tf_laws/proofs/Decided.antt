@@ -3,7 +3,7 @@ use Rattle.std.proofs.Common.{◌≡◌, ◌∙◌, ◌+◌, ◌++◌, ℕ, Bool
 use Rattle.std.specs.List.{AllByRecursion}
 use Rattle.std.specs.Prelude.{slice_get}
 use Rattle.tf_plan_data.specs.Action.{StepView}
-use Rattle.tf_address.specs.ObjectId.{InstanceKeyView}
+use Rattle.tf_config_address.specs.ObjectId.{InstanceKeyView}
 use Rattle.tf_plan_object.specs.Instance.{InstanceFaultView, for_each_fault, argument_fault, instance_object}
 use Rattle.tf_config_data.specs.Config.{BlockView, LifecycleView}
 use Rattle.tf_config_data.specs.Names.{NameView, Meant, a_local, a_block, directly_before}
@@ -18,11 +18,11 @@ use Rattle.tf_plan_decision.specs.Ignored.{heeding, ignored_fault}
 use Rattle.tf_plan_decision.specs.Prior.{PriorFaultView, first_unfit}
 use Rattle.tf_expand.specs.InstanceKeys.{InstanceKeysView}
 use Rattle.tf_expand.specs.Resolved.{ResolvedView, all_stand, environment}
-use Rattle.tf_eval.specs.Environment.{Environment}
+use Rattle.tf_expr_eval.specs.Environment.{Environment}
 use Rattle.tf_graph.specs.Solutions.{seen_by}
 use Rattle.tf_plan_order.specs.Members.{InstanceToPlanView, is_among, member, members, records_of}
-use Rattle.tf_protocol.specs.Meaning.{Meaning, schema_in}
-use Rattle.tf_protocol.specs.Schema.{SchemaView}
+use Rattle.tf_provider_protocol.specs.Meaning.{Meaning, schema_in}
+use Rattle.tf_provider_protocol.specs.Schema.{SchemaView}
 use Rattle.tf_plan_order.specs.ResourceIndex.{ResourceRefView, a_name, an_orphan}
 use Rattle.tf_state_data.specs.Record.{RecordView}
 use Rattle.tf_state_data.specs.Resource.{ResourceView}
@@ -119,23 +119,23 @@ module _ (ms : List Meaning) (resources : List ResourceView) (variables : Entrie
   IsMeantFine n (a_local e) = Unit {0}
   IsMeantFine n (a_block block) =
       all_stand (seen_by resolved_names (directly_before names n)) ≡ true
-      → AllByRecursion (λ m. IsFine (member_outcome (schema_in block.label.type_name ms) block (environment variables names resolved_names) m)) (block_members (shapes n) block resources)
+      → AllByRecursion (λ m. IsFine (member_outcome (schema_in block.addr.type_name ms) block (environment variables names resolved_names) m)) (block_members (shapes n) block resources)
 
   -- each instance of what stands at a place is decided
   abbrev pub IsNumberedFine : ℕ → Option ResourceRefView → Type 0
   IsNumberedFine n None = Unit {0}
   IsNumberedFine n (Some (a_name name)) = IsMeantFine n name.meant
-  IsNumberedFine n (Some (an_orphan r)) = AllByRecursion (λ m. IsFine (orphan_outcome (schema_in r.label.type_name ms) m)) (members [] r.records)
+  IsNumberedFine n (Some (an_orphan r)) = AllByRecursion (λ m. IsFine (orphan_outcome (schema_in r.addr.type_name ms) m)) (members [] r.records)
 
   meant_fine : (n : ℕ) (m : Meant) (d : DecidedView) → (with_meant ms resources variables names shapes resolved_names n m d).refusals ≡ [] → (d.refusals ≡ []) × IsMeantFine n m
   meant_fine n (a_local e) d h = (h, tt)
   meant_fine n (a_block block) d h = by_test (all_stand (seen_by resolved_names (directly_before names n))) h
     where
       by_test : (b : Bool) → (cond b (with_block ms resources n block (environment variables names resolved_names) (shapes n) d) d).refusals ≡ []
-          → (d.refusals ≡ []) × (b ≡ true → AllByRecursion (λ m. IsFine (member_outcome (schema_in block.label.type_name ms) block (environment variables names resolved_names) m)) (block_members (shapes n) block resources))
+          → (d.refusals ≡ []) × (b ≡ true → AllByRecursion (λ m. IsFine (member_outcome (schema_in block.addr.type_name ms) block (environment variables names resolved_names) m)) (block_members (shapes n) block resources))
       by_test true e =
-          let schema = schema_in block.label.type_name ms in
-          let found = members_fine (record { resource = n; label = block.label; version = version_of schema }) (member_outcome schema block (environment variables names resolved_names)) 0 (block_members (shapes n) block resources) d e in
+          let schema = schema_in block.addr.type_name ms in
+          let found = members_fine (record { resource = n; addr = block.addr; version = version_of schema }) (member_outcome schema block (environment variables names resolved_names)) 0 (block_members (shapes n) block resources) d e in
           (found.0, λ is. found.1)
       by_test false e = (e, λ is. absurd (cc))
 
@@ -143,7 +143,7 @@ module _ (ms : List Meaning) (resources : List ResourceView) (variables : Entrie
   numbered_fine n None d h = (h, tt)
   numbered_fine n (Some (a_name name)) d h = meant_fine n name.meant d h
   numbered_fine n (Some (an_orphan r)) d h =
-      let schema = schema_in r.label.type_name ms in members_fine (record { resource = n; label = r.label; version = version_of schema }) (orphan_outcome schema) 0 (members [] r.records) d h
+      let schema = schema_in r.addr.type_name ms in members_fine (record { resource = n; addr = r.addr; version = version_of schema }) (orphan_outcome schema) 0 (members [] r.records) d h
 
   -- where nothing is refused, each instance at each place is decided
   pub all_fine : (all : List ResourceRefView) (order : List ℕ) (d : DecidedView) → (fold (λ e n. with_numbered ms resources variables names shapes resolved_names n (slice_get all n) e) d order).refusals ≡ []

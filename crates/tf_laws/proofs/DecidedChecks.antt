@@ -11,11 +11,11 @@ use Rattle.tf_config.specs.Demand.{Demand, Fails, IsMet, bad_shape, holds, nothi
 use Rattle.tf_config.specs.Reading.{IsTree}
 use Rattle.tf_expr.specs.Demand as expr
 use Rattle.tf_expr.specs.Opening.{IsPlain, OpensAt, opens}
-use Rattle.tf_expr.specs.declared.fault.Cause.TheVariants.{BadShape, TooDeep}
-use Rattle.tf_json_path.specs.Check.{AllMet, Check, IsFirst}
+use Rattle.tf_expr.specs.declared.fault.ExprCause.TheVariants.{BadShape, TooDeep}
+use Rattle.tf_expr_path.specs.Check.{AllMet, Check, IsFirst}
 use Rattle.tf_expr.specs.Refusing.{way_of}
-use Rattle.tf_refusal.specs.Refusal.{DetailView, fault, no_memory, Way}
-use Rattle.tf_syntax.specs.TemplateTree.{Woven, template_depth}
+use Rattle.tf_config_refusal.specs.Refusal.{DetailView, fault, no_memory, Way}
+use Rattle.tf_expr_syntax.specs.TemplateTree.{Woven, template_depth}
 use Rattle.tf_value.specs.Json.{whole_from}
 use Rattle.tf_value.specs.Known.{known}
 

@@ -11,7 +11,7 @@ use Rattle.tf_walk_report.specs.Good.{are_good_at}
 use Rattle.tf_walk_report.specs.Outcomes.{excuses_at, excuses_from}
 use Rattle.tf_walk_report.specs.OutputsTold.{output_excuses, output_excuses_at}
 use Rattle.tf_walk_report.specs.Report.{objects_after}
-use Rattle.tf_syntax.specs.ExprTree as expr
+use Rattle.tf_expr_syntax.specs.ExprTree as expr
 use Rattle.tf_laws.proofs.ListsOfEntries.{all_appended}
 use Rattle.tf_laws.specs.Excuses.{ExcusesAreDue, IsDue, expression_at}
 

@@ -4,7 +4,7 @@ use Rattle.std.proofs.lemmas.List.{append_cancel_left, ext_get_or}
 use Rattle.std.specs.Option.{option_map_or}
 use Rattle.std.specs.Prelude.{slice_get}
 use Rattle.tf_plan_data.specs.Action.{ActionView, StepView, create, update, replacement, replaced, destroyed, deposed_destroyed}
-use Rattle.tf_address.specs.ObjectId.{InstanceKeyView}
+use Rattle.tf_config_address.specs.ObjectId.{InstanceKeyView}
 use Rattle.tf_plan_object.specs.Instance.{InstanceFaultView}
 use Rattle.tf_config_data.specs.Names.{NameView, directly_before, meant_at, places}
 use Rattle.tf_plan_object.specs.Kept.{kept_object}
@@ -26,12 +26,12 @@ use Rattle.tf_walk_report.specs.declared.ends.OutputResult.{OutputResult}
 use Rattle.tf_walk_report.specs.declared.ends.OutputResult.TheVariants.{NotEvaluated, NoMemory, Faulted, Valued}
 use Rattle.tf_plan_data.specs.Fits.{IsDeclared, is_apply}
 use Rattle.tf_plan_data.specs.Plan.{PlanView, plan_names}
-use Rattle.tf_protocol.specs.Meaning.{Meaning, schema_in}
-use Rattle.tf_protocol.specs.Schema.{SchemaView}
+use Rattle.tf_provider_protocol.specs.Meaning.{Meaning, schema_in}
+use Rattle.tf_provider_protocol.specs.Schema.{SchemaView}
 use Rattle.tf_walk_report.specs.OutputsTold.{output_excuses, output_excuses_at}
 use Rattle.tf_walk_action.specs.Requests.{is_resource}
-use Rattle.tf_syntax.specs.ExprNames.{named_by}
-use Rattle.tf_syntax.specs.ExprTree as expr
+use Rattle.tf_expr_syntax.specs.ExprNames.{named_by}
+use Rattle.tf_expr_syntax.specs.ExprTree as expr
 use Rattle.tf_value.specs.Tree.{Entries, Tree}
 use Rattle.tf_laws.proofs.ListsOfEntries.{all_got}
 use Rattle.tf_laws.specs.Founded.{IsFounded}
@@ -54,7 +54,7 @@ module _ (law : RequestsAreOne) (ms : List Meaning) (plan : PlanView) (requests 
       law plan requests others founded.names are also objects a schema (ap is_resource (declared applies).stands)
 
   call_same_with : (objects : ℕ → InstanceKeyView → Tree) (a : ActionView) → IsDeclared (plan_names plan) a → call_with ms requests plan objects a ≡ call_with ms others plan objects a
-  call_same_with objects a declared = by_schema (schema_in a.label.type_name ms)
+  call_same_with objects a declared = by_schema (schema_in a.addr.type_name ms)
     where
       by_schema : (o : Option SchemaView)
           → option_map_or (λ schema. comes_of ms (asked_for (plan_names plan) schema a (requests objects a schema))) o skipped

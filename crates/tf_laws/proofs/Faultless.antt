@@ -9,14 +9,14 @@ use Rattle.tf_config_data.specs.Config.{ConfigView, VariableView}
 use Rattle.tf_config_data.specs.Names.{NameView, names_of}
 use Rattle.tf_graph.proofs.Edges.{contains_head}
 use Rattle.tf_cli_inputs.specs.Texts.{AreNamesGood, AreTheValues, IsRead}
-use Rattle.tf_json_path.proofs.Checks.{IsFirst-unmet}
-use Rattle.tf_json_path.specs.Check.{AllMet}
+use Rattle.tf_expr_path.proofs.Checks.{IsFirst-unmet}
+use Rattle.tf_expr_path.specs.Check.{AllMet}
 use Rattle.tf_config_names.specs.Cyclic.{RefusesCycle}
 use Rattle.tf_config_names.specs.Judging.{RefusesItsNames}
 use Rattle.tf_config_names.specs.KnownNames.{AreKnown, IsKnown, IsUnknown, RefusesNames, config_checks, declared_in}
 use Rattle.tf_config_names.specs.Needs.{AreCyclic, Needs}
-use Rattle.tf_refusal.specs.Refusal.{RefusalView, fault, no_memory, workers}
-use Rattle.tf_syntax.specs.TemplateNames.{Pair}
+use Rattle.tf_config_refusal.specs.Refusal.{RefusalView, fault, no_memory, workers}
+use Rattle.tf_expr_syntax.specs.TemplateNames.{Pair}
 use Rattle.tf_config.specs.VariableLaws.{ValuesAreFaultless}
 use Rattle.tf_config.specs.VariablesRead.{IsFaulty, IsFile, IsFileOf, IsNoFile, IsRefusedAs, is_object}
 use Rattle.tf_config.specs.VariablesRead as variables

@@ -23,8 +23,8 @@ use Rattle.tf_plan_data.specs.Plan.{PlanView}
 use Rattle.tf_plan_order.specs.Late.{IsLate}
 use Rattle.tf_plan_order.specs.Stored.{Needed}
 use Rattle.tf_plan_order.specs.OrderInput.{OrderInputView}
-use Rattle.tf_protocol.specs.Meaning.{Meaning}
-use Rattle.tf_refusal.specs.Refusal.{RefusalView}
+use Rattle.tf_provider_protocol.specs.Meaning.{Meaning}
+use Rattle.tf_config_refusal.specs.Refusal.{RefusalView}
 use Rattle.tf_plan_order.specs.Dependencies.{dependencies}
 use Rattle.tf_plan_order.specs.Marks.{is_marked}
 use Rattle.tf_plan_order.specs.ResourceIndex.{numbered}
@@ -163,7 +163,7 @@ module _ (ms : List Meaning) (config : ConfigView) (variables : Entries) (prior 
         | inr first ↦
             let block = refused_block (all_stand (seen_by found.0 (directly_before names first.0))) (meant_at names first.0) (environment variables names found.0) first.1 first.3 in
             inr (
-              instances_refusal block.0.label first.1 ∷ [],
+              instances_refusal block.0.addr first.1 ∷ [],
               inl
                   (inl
                   (record {

@@ -17,10 +17,10 @@ use Rattle.tf_plan.proofs.Solved.{planned-by}
 use Rattle.tf_plan.specs.Outputs.{output_refusals}
 use Rattle.tf_plan.specs.Planned.{IsPlanned, PlannedView, planned_in, unrefused}
 use Rattle.tf_plan.specs.Told.{instance_told}
-use Rattle.tf_protocol.specs.Meaning.{Meaning, schema_in}
+use Rattle.tf_provider_protocol.specs.Meaning.{Meaning, schema_in}
 use Rattle.tf_plan_order.specs.ResourceIndex.{ResourceRefView, a_name, an_orphan, numbered}
 use Rattle.tf_state_data.specs.Resource.{ResourceView}
-use Rattle.tf_syntax.specs.ExprTree as expr
+use Rattle.tf_expr_syntax.specs.ExprTree as expr
 use Rattle.tf_value.specs.Tree.{Entries}
 use Rattle.tf_laws.proofs.Decided.{IsFine, IsNumberedFine, IsMeantFine, all_fine}
 use Rattle.tf_laws.proofs.Lists.{all_contained, map_none}
@@ -52,7 +52,7 @@ module _ (ms : List Meaning) (variables : Entries) (names : List NameView) (outp
       (place_fine n (Some (a_name name.0)) name.1 (block_looked_at names resources planned.places n block planned.in_order meant))
 
   -- each member of an orphan is
-  pub orphan_fine : (n : ℕ) (r : ResourceView) → slice_get (numbered names resources) n ≡ Some (an_orphan r) → AllByRecursion (λ m. IsFine (orphan_outcome (schema_in r.label.type_name ms) m)) (members [] r.records)
+  pub orphan_fine : (n : ℕ) (r : ResourceView) → slice_get (numbered names resources) n ≡ Some (an_orphan r) → AllByRecursion (λ m. IsFine (orphan_outcome (schema_in r.addr.type_name ms) m)) (members [] r.records)
   orphan_fine n r e = place_fine n (Some (an_orphan r)) e (orphan_looked_at names resources planned.places n r planned.in_order e)
 
   -- the actions, place by place

@@ -2,14 +2,14 @@
 use Rattle.std.proofs.Common.{◌≡◌, ◌∙◌, ℕ, Bool, true, false, cond, List, [], ◌∷◌, ◌++◌, Option, Some, None, is_eq, map, option_map, refl, sym, ap, subst}
 use Rattle.std.specs.List.{AllByRecursion, flat_map}
 use Rattle.std.specs.Option.{option_map_or}
-use Rattle.tf_address.proofs.Totals.{label_total, object_id_total}
-use Rattle.tf_address.specs.Label.{LabelView, label_cmp}
-use Rattle.tf_address.specs.ObjectId.{InstanceKeyView, ObjectIdView, object_id_cmp}
+use Rattle.tf_config_address.proofs.Totals.{addr_total, object_id_total}
+use Rattle.tf_config_address.specs.ResourceAddr.{ResourceAddrView, addr_cmp}
+use Rattle.tf_config_address.specs.ObjectId.{InstanceKeyView, ObjectIdView, object_id_cmp}
 use Rattle.tf_plan_decision.specs.Stage.{records_at}
 use Rattle.tf_plan_order.specs.Members.{is_of, records_of}
-use Rattle.tf_state_next.proofs.Changing.{found_label}
+use Rattle.tf_state_next.proofs.Changing.{found_addr}
 use Rattle.tf_state_next.proofs.Finding.{found_holds, same_lists}
-use Rattle.tf_state_next.proofs.One.{id_one, known_by, label_one, some_known}
+use Rattle.tf_state_next.proofs.One.{id_one, known_by, addr_one, some_known}
 use Rattle.tf_state_next.specs.Laws.{IsInOrder}
 use Rattle.tf_state_next.specs.StateAfter.{has_records}
 use Rattle.tf_plan_order.specs.Dependencies.{dependencies, pairs_from, record_pairs, resource_pairs}
@@ -32,14 +32,14 @@ record_found : (id : ObjectIdView) (rs : List RecordView) → record_at id (map 
 record_found id [] = refl
 record_found id (r ∷ rs) = found_first record_without_flag (is_eq (object_id_cmp r.id id)) r (record_at id rs) (record_at id (map record_without_flag rs)) (record_found id rs)
 
-resource_found : (label : LabelView) (rs : List ResourceView) → resource_at label (map resource_without_flags rs) ≡ option_map resource_without_flags (resource_at label rs)
-resource_found label [] = refl
-resource_found label (r ∷ rs) =
-    found_first resource_without_flags (is_eq (label_cmp r.label label)) r (resource_at label rs) (resource_at label (map resource_without_flags rs)) (resource_found label rs)
+resource_found : (addr : ResourceAddrView) (rs : List ResourceView) → resource_at addr (map resource_without_flags rs) ≡ option_map resource_without_flags (resource_at addr rs)
+resource_found addr [] = refl
+resource_found addr (r ∷ rs) =
+    found_first resource_without_flags (is_eq (addr_cmp r.addr addr)) r (resource_at addr rs) (resource_at addr (map resource_without_flags rs)) (resource_found addr rs)
 
 -- the records at an address
-pub records_flagless : (label : LabelView) (rs : List ResourceView) → records_at label (map resource_without_flags rs) ≡ map record_without_flag (records_at label rs)
-records_flagless label rs = ap (λ (o : Option ResourceView). option_map_or {U = List RecordView} (λ r. r.records) o []) (resource_found label rs) ∙ by_option (resource_at label rs)
+pub records_flagless : (addr : ResourceAddrView) (rs : List ResourceView) → records_at addr (map resource_without_flags rs) ≡ map record_without_flag (records_at addr rs)
+records_flagless addr rs = ap (λ (o : Option ResourceView). option_map_or {U = List RecordView} (λ r. r.records) o []) (resource_found addr rs) ∙ by_option (resource_at addr rs)
   where
     by_option : (o : Option ResourceView) → option_map_or {U = List RecordView} (λ r. r.records) (option_map resource_without_flags o) [] ≡ map record_without_flag (option_map_or (λ r. r.records) o [])
     by_option None = refl
@@ -73,13 +73,13 @@ ids_stay (r ∷ rs) = ap (λ (ids : List ObjectIdView). r.id ∷ ids) (ids_stay 
 
 addresses_stay : (rs : List ResourceView) → addresses_of (map resource_without_flags rs) ≡ addresses_of rs
 addresses_stay [] = refl
-addresses_stay (r ∷ rs) = ap (λ (labels : List LabelView). r.label ∷ labels) (addresses_stay rs)
+addresses_stay (r ∷ rs) = ap (λ (addrs : List ResourceAddrView). r.addr ∷ addrs) (addresses_stay rs)
 
 flagless_by_id : (rs : List RecordView) → AreById rs → AreById (map record_without_flag rs)
 flagless_by_id rs h = subst (λ (ids : List ObjectIdView). IsStrictlySortedBy object_id_cmp ids) (sym (ids_stay rs)) h
 
 flagless_by_address : (rs : List ResourceView) → AreByAddress rs → AreByAddress (map resource_without_flags rs)
-flagless_by_address rs h = subst (λ (labels : List LabelView). IsStrictlySortedBy label_cmp labels) (sym (addresses_stay rs)) h
+flagless_by_address rs h = subst (λ (addrs : List ResourceAddrView). IsStrictlySortedBy addr_cmp addrs) (sym (addresses_stay rs)) h
 
 -- ---- states that know the same but for flags have the same resources but for flags
 
@@ -89,37 +89,37 @@ pub record AreLike (s t : StateView) : Type 0 where
   pub sorted : IsInOrder t
   pub present : AllByRecursion (λ r. has_records r ≡ true) s.resources
   pub there : AllByRecursion (λ r. has_records r ≡ true) t.resources
-  pub providers : (label : LabelView) (r q : ResourceView) → resource_at label s.resources ≡ Some r → resource_at label t.resources ≡ Some q → r.provider ≡ q.provider
+  pub providers : (addr : ResourceAddrView) (r q : ResourceView) → resource_at addr s.resources ≡ Some r → resource_at addr t.resources ≡ Some q → r.provider ≡ q.provider
 
-one_resource : (r q : ResourceView) → r.label ≡ q.label → r.provider ≡ q.provider → r.records ≡ q.records → r ≡ q
-one_resource r q e f g t = record { label = e t; provider = f t; records = g t }
+one_resource : (r q : ResourceView) → r.addr ≡ q.addr → r.provider ≡ q.provider → r.records ≡ q.records → r ≡ q
+one_resource r q e f g t = record { addr = e t; provider = f t; records = g t }
 
-module _ (s t : StateView) (like : AreLike s t) (known : (label : LabelView) (id : ObjectIdView) → option_map record_without_flag (record_in label id s) ≡ option_map record_without_flag (record_in label id t)) where
-  each : (label : LabelView) (o p : Option ResourceView) → resource_at label s.resources ≡ o → resource_at label t.resources ≡ p → option_map resource_without_flags o ≡ option_map resource_without_flags p
-  each label None None e f = refl
-  each label (Some r) None e f =
-      let has = found_holds (λ (r : ResourceView). has_records r ≡ true) (λ (r : ResourceView). is_eq (label_cmp r.label label)) s.resources r like.present e in
-      let x = some_known label s r has e in
+module _ (s t : StateView) (like : AreLike s t) (known : (addr : ResourceAddrView) (id : ObjectIdView) → option_map record_without_flag (record_in addr id s) ≡ option_map record_without_flag (record_in addr id t)) where
+  each : (addr : ResourceAddrView) (o p : Option ResourceView) → resource_at addr s.resources ≡ o → resource_at addr t.resources ≡ p → option_map resource_without_flags o ≡ option_map resource_without_flags p
+  each addr None None e f = refl
+  each addr (Some r) None e f =
+      let has = found_holds (λ (r : ResourceView). has_records r ≡ true) (λ (r : ResourceView). is_eq (addr_cmp r.addr addr)) s.resources r like.present e in
+      let x = some_known addr s r has e in
       let no : Some (record_without_flag x.0) ≡ None =
-      sym (ap (option_map record_without_flag) x.1) ∙ known label x.0.id ∙ ap (option_map record_without_flag) (known_by label x.0.id t.resources None f) in
+      sym (ap (option_map record_without_flag) x.1) ∙ known addr x.0.id ∙ ap (option_map record_without_flag) (known_by addr x.0.id t.resources None f) in
       absurd (cc)
-  each label None (Some q) e f =
-      let has = found_holds (λ (r : ResourceView). has_records r ≡ true) (λ (r : ResourceView). is_eq (label_cmp r.label label)) t.resources q like.there f in
-      let x = some_known label t q has f in
+  each addr None (Some q) e f =
+      let has = found_holds (λ (r : ResourceView). has_records r ≡ true) (λ (r : ResourceView). is_eq (addr_cmp r.addr addr)) t.resources q like.there f in
+      let x = some_known addr t q has f in
       let no : Some (record_without_flag x.0) ≡ None =
-      sym (ap (option_map record_without_flag) x.1) ∙ sym (known label x.0.id) ∙ ap (option_map record_without_flag) (known_by label x.0.id s.resources None e) in
+      sym (ap (option_map record_without_flag) x.1) ∙ sym (known addr x.0.id) ∙ ap (option_map record_without_flag) (known_by addr x.0.id s.resources None e) in
       absurd (cc)
-  each label (Some r) (Some q) e f =
-      let by_id = found_holds (λ (r : ResourceView). AreById r.records) (λ (r : ResourceView). is_eq (label_cmp r.label label)) s.resources r like.ordered.records e in
-      let by_id_too = found_holds (λ (r : ResourceView). AreById r.records) (λ (r : ResourceView). is_eq (label_cmp r.label label)) t.resources q like.sorted.records f in
+  each addr (Some r) (Some q) e f =
+      let by_id = found_holds (λ (r : ResourceView). AreById r.records) (λ (r : ResourceView). is_eq (addr_cmp r.addr addr)) s.resources r like.ordered.records e in
+      let by_id_too = found_holds (λ (r : ResourceView). AreById r.records) (λ (r : ResourceView). is_eq (addr_cmp r.addr addr)) t.resources q like.sorted.records f in
       let records = same_lists (λ (r : RecordView). r.id) object_id_cmp object_id_total id_one (map record_without_flag r.records) (map record_without_flag q.records) (flagless_by_id r.records by_id) (flagless_by_id q.records by_id_too)
-      (λ id. record_found id r.records ∙ sym (ap (option_map record_without_flag) (known_by label id s.resources (Some r) e)) ∙ known label id ∙ ap (option_map record_without_flag) (known_by label id t.resources (Some q) f) ∙ sym (record_found id q.records)) in
-      ap Some (one_resource (resource_without_flags r) (resource_without_flags q) (found_label label s.resources r e ∙ sym (found_label label t.resources q f)) (like.providers label r q e f) records)
+      (λ id. record_found id r.records ∙ sym (ap (option_map record_without_flag) (known_by addr id s.resources (Some r) e)) ∙ known addr id ∙ ap (option_map record_without_flag) (known_by addr id t.resources (Some q) f) ∙ sym (record_found id q.records)) in
+      ap Some (one_resource (resource_without_flags r) (resource_without_flags q) (found_addr addr s.resources r e ∙ sym (found_addr addr t.resources q f)) (like.providers addr r q e f) records)
 
   pub resources_like : map resource_without_flags s.resources ≡ map resource_without_flags t.resources
   resources_like =
-      same_lists (λ (r : ResourceView). r.label) label_cmp label_total label_one (map resource_without_flags s.resources) (map resource_without_flags t.resources) (flagless_by_address s.resources like.ordered.resources) (flagless_by_address t.resources like.sorted.resources)
-      (λ label. resource_found label s.resources ∙ each label (resource_at label s.resources) (resource_at label t.resources) refl refl ∙ sym (resource_found label t.resources))
+      same_lists (λ (r : ResourceView). r.addr) addr_cmp addr_total addr_one (map resource_without_flags s.resources) (map resource_without_flags t.resources) (flagless_by_address s.resources like.ordered.resources) (flagless_by_address t.resources like.sorted.resources)
+      (λ addr. resource_found addr s.resources ∙ each addr (resource_at addr s.resources) (resource_at addr t.resources) refl refl ∙ sym (resource_found addr t.resources))
 
 -- ---- and the same stored dependencies
 
@@ -134,7 +134,7 @@ pairs_by all rs (Some place) = flat_pairs all place rs
 dependencies_flagless : (all : List ResourceRefView) (rs : List ResourceView) → dependencies all (map resource_without_flags rs) ≡ dependencies all rs
 dependencies_flagless all [] = refl
 dependencies_flagless all (r ∷ rs) =
-    ap (λ (ps : List (ℕ × ℕ)). ps ++ dependencies all (map resource_without_flags rs)) (pairs_by all r.records (place_in all r.label)) ∙ ap (λ (ps : List (ℕ × ℕ)). resource_pairs all r ++ ps) (dependencies_flagless all rs)
+    ap (λ (ps : List (ℕ × ℕ)). ps ++ dependencies all (map resource_without_flags rs)) (pairs_by all r.records (place_in all r.addr)) ∙ ap (λ (ps : List (ℕ × ℕ)). resource_pairs all r ++ ps) (dependencies_flagless all rs)
 
 pub same_stored : (all : List ResourceRefView) (rs qs : List ResourceView) → map resource_without_flags rs ≡ map resource_without_flags qs → dependencies all rs ≡ dependencies all qs
 same_stored all rs qs e = sym (dependencies_flagless all rs) ∙ ap (dependencies all) e ∙ dependencies_flagless all qs

@@ -5,8 +5,8 @@ use Rattle.std.specs.List.{AllByRecursion, flat_map}
 use Rattle.std.specs.Option.{option_and_then}
 use Rattle.std.specs.Prelude.{Contains}
 use Rattle.tf_plan_data.specs.Action.{ActionView, StepView, create, update, replacement, replaced, destroyed, deposed_destroyed}
-use Rattle.tf_address.specs.Label.{LabelView}
-use Rattle.tf_address.specs.ObjectId.{InstanceKeyView}
+use Rattle.tf_config_address.specs.ResourceAddr.{ResourceAddrView}
+use Rattle.tf_config_address.specs.ObjectId.{InstanceKeyView}
 use Rattle.tf_plan_object.proofs.Locals.{instances_local}
 use Rattle.tf_plan_object.proofs.Named.{instances_named}
 use Rattle.tf_plan_object.specs.Instance.{InstanceFaultView, instance_object}
@@ -27,9 +27,9 @@ use Rattle.tf_expand.specs.StandingLaws.{Grows, HaveGrown, ResolvedNamesGrow}
 use Rattle.tf_expand.specs.InstanceKeys.{InstanceKeysView, instance_keys}
 use Rattle.tf_expand.specs.Stages.{applying}
 use Rattle.tf_expand.specs.Resolved.{ResolvedView, AreResolvedNames, environment, environment_at, result_in, together}
-use Rattle.tf_eval.proofs.Locality.{expressions_local}
-use Rattle.tf_eval.specs.Environment.{RefinesTo}
-use Rattle.tf_eval.specs.Locality.{AgreeOn}
+use Rattle.tf_expr_eval.proofs.Locality.{expressions_local}
+use Rattle.tf_expr_eval.specs.Environment.{RefinesTo}
+use Rattle.tf_expr_eval.specs.Locality.{AgreeOn}
 use Rattle.tf_graph.specs.Digraph.{predecessors_of}
 use Rattle.tf_graph.specs.Solutions.{seen_by}
 use Rattle.tf_plan_order.specs.Members.{is_among}
@@ -39,9 +39,9 @@ use Rattle.tf_walk_action.specs.Outcome.{done_at, objects_by}
 use Rattle.tf_plan.proofs.Distinct.{at-contained, in_flat_map}
 use Rattle.tf_plan_data.specs.Fits.{is_apply}
 use Rattle.tf_plan_data.specs.Plan.{plan_names}
-use Rattle.tf_protocol.specs.Meaning.{Asked, schema_in}
-use Rattle.tf_protocol.specs.Schema.{SchemaView}
-use Rattle.tf_protocol.specs.Verdict.{has_attributes, is_good_verdict, verdict_on_object}
+use Rattle.tf_provider_protocol.specs.Meaning.{Asked, schema_in}
+use Rattle.tf_provider_protocol.specs.Schema.{SchemaView}
+use Rattle.tf_provider_protocol.specs.Verdict.{has_attributes, is_good_verdict, verdict_on_object}
 use Rattle.tf_walk_report.specs.Report.{objects_after}
 use Rattle.tf_state_data.specs.Record.{RecordView}
 use Rattle.tf_value.proofs.Order.{Refines-refl, Refines-trans}
@@ -148,7 +148,7 @@ module _ (x : Applied) (resolved_names : ℕ → ResolvedView) (solves : AreReso
       let call = call_at_index x m.k m.a m.at in
       let q = kept.by_plan in
       let own : meant_at (plan_names x.plan) m.a.resource ≡ Some (a_block block) = ap (meant_at (plan_names x.plan)) (made_resource x n block key kept kept.only m) ∙ meant in
-      let schemas : Some call.schema ≡ Some q.schema = sym call.has ∙ ap (λ (l : LabelView). schema_in l.type_name x.ms) m.is.label_is ∙ q.has in
+      let schemas : Some call.schema ≡ Some q.schema = sym call.has ∙ ap (λ (l : ResourceAddrView). schema_in l.type_name x.ms) m.is.addr_is ∙ q.has in
       let schema_same : call.schema ≡ q.schema = (cc) in
       let request : x.requests objects m.a call.schema ≡ instance_object q.schema block key (environment x.plan.variables (plan_names x.plan) resolved_names) =
       requested x resolved_names solves m.k m.a m.at m.is.applies block call.schema own
@@ -208,10 +208,10 @@ module _ (x : Applied) (resolved_names : ℕ → ResolvedView) (solves : AreReso
                   instances_local expressions_local q.schema block key (environment x.plan.variables (plan_names x.plan) resolved_names) (environment_at x.plan.variables (plan_names x.plan) resolved_names n) (sees_refers resolved_names n block meant) in
                   let grows : Refines q.is.made r.made = instances q.schema block key seen (environment_at x.plan.variables (plan_names x.plan) resolved_names n) q.is.made r.made more (sym same ∙ q.is.makes) (sym after_same ∙ r.makes) in
                   let named = instances_named q.schema block key (environment x.plan.variables (plan_names x.plan) resolved_names) r.made r.makes in
-                  let step = (q.only m.a (at-contained x.plan.actions m.k m.a m.at) m.is.label_is m.is.key_is).0 in
+                  let step = (q.only m.a (at-contained x.plan.actions m.k m.a m.at) m.is.addr_is m.is.key_is).0 in
                   let grown = asked_grows q.schema block.lifecycle.ignore_changes m.a q.is.made r.made t r.asked grows named records q.decision m.a.step step m.is.applies q.is.changes beside r.asks in
                   let well = subst (λ (o : Option Tree). is_good_verdict (verdict_on_object q.schema o (answered_of (done_at x.done m.k))) ≡ true) grown.object r.well in
-                  let answered = good_refines q.schema grown.wanted (answered_of (done_at x.done m.k)) (x.schemas block.label.type_name q.schema q.has) grown.named well in
+                  let answered = good_refines q.schema grown.wanted (answered_of (done_at x.done m.k)) (x.schemas block.addr.type_name q.schema q.has) grown.named well in
                   subst (Refines t) (sym (made_stands x n block key kept kept.only m)) (Refines-trans t grown.wanted (answered_of (done_at x.done m.k)) grown.refines answered)
             ]
 

@@ -11,7 +11,7 @@ module _ (law : KeyIsOne) (plan : PlanView) where
   key_one a None None h g = refl
   key_one a None (Some l) h g = absurd (true≢false (sym g.0 ∙ h))
   key_one a (Some k) None h g = absurd (true≢false (sym h.0 ∙ g))
-  key_one a (Some k) (Some l) h g = ap Some (law (plan.prior.serial + 1) a.key (records_at a.label plan.prior) k l h.1 g.1)
+  key_one a (Some k) (Some l) h g = ap Some (law (plan.prior.serial + 1) a.key (records_at a.addr plan.prior) k l h.1 g.1)
 
   target_one : (a : ActionView) (t u : Target) → IsTargetOf plan a t → IsTargetOf plan a u → t ≡ u
   target_one a t u h g = h.same ∙ ap (target_with plan a) (key_one a (key_in t) (key_in u) h.key g.key) ∙ sym g.same
@@ -20,9 +20,9 @@ module _ (law : KeyIsOne) (plan : PlanView) where
   head_one a h k p q =
       let place = p.place ∙ sym q.place in
       let op = p.op ∙ sym q.op in
-      let label = p.label ∙ sym q.label in
+      let addr = p.addr ∙ sym q.addr in
       let target = target_one a h.target k.target p.target q.target in
-      λ i. record { place = place i; op = op i; label = label i; target = target i }
+      λ i. record { place = place i; op = op i; addr = addr i; target = target i }
 
   pub heads_one : (actions : List ActionView) (hs ks : List Head) → AreHeads plan actions hs → AreHeads plan actions ks → hs ≡ ks
   heads_one [] [] [] h g = refl

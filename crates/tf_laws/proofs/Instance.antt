@@ -13,7 +13,7 @@ use Rattle.tf_laws.proofs.PlannedParts.{Made, setting}
 pub record IsOfInstance (x : Made) (a : ActionView) : Type 0 where
   pub block : BlockView
   pub meant : meant_at (plan_names x.plan) a.resource ≡ Some (a_block block)
-  pub own : block.label ≡ a.label
+  pub own : block.addr ≡ a.addr
   pub among : is_among (keys_at (setting x) a.resource) a.key ≡ true
   pub by_plan : IsPlannedAt (setting x) a.resource block a.key
   pub step : Contains (decided_steps (records_in (setting x) block a.key) by_plan.decision) a.step

@@ -6,7 +6,7 @@ use Rattle.std.specs.Prelude.{Contains, slice_get, slice_index}
 use Rattle.tf_plan_data.specs.Action.{ActionView}
 use Rattle.tf_walk_action.specs.Journal.{IsOfAction, entered_verdict, op_at, verdict_in}
 use Rattle.tf_walk_action.specs.Outcome.{ActionResultView, done_at}
-use Rattle.tf_protocol.specs.declared.verdict.Verdict.{Verdict}
+use Rattle.tf_provider_protocol.specs.declared.verdict.Verdict.{Verdict}
 use Rattle.tf_provider.specs.Entries.{actions_of}
 use Rattle.tf_provider.specs.declared.journal.Entry.{Entry}
 use Rattle.tf_laws.proofs.ListsOfEntries.{AreDistinct, all_got, in_cases, in_got, in_head, in_tail, nothing_in, same_elements}

@@ -2,11 +2,11 @@
 use Rattle.std.proofs.Common.{◌≡◌, ◌∙◌, ◌<◌, ◌++◌, ℕ, Bool, true, false, if◌then◌else◌, List, [], ◌∷◌, Option, Some, None, is_some, Result, Ok, Err, Contains, length, map as each, refl, sym, ap, subst}
 use Rattle.std.specs.List.{AllByRecursion}
 use Rattle.tf_plan_data.specs.Action.{ActionView}
-use Rattle.tf_address.specs.ObjectId as keys
-use Rattle.tf_address.specs.ObjectId.{InstanceKeyView}
+use Rattle.tf_config_address.specs.ObjectId as keys
+use Rattle.tf_config_address.specs.ObjectId.{InstanceKeyView}
 use Rattle.tf_plan_object.specs.Instance.{instance_object, object_in}
 use Rattle.tf_config_data.specs.Config.{BlockView, RepetitionView, for_each}
-use Rattle.tf_config_data.specs.Names.{Meant, a_block, block_refers, directly_before, label_pair, meant_at, named_in_repetition, places, refers_at}
+use Rattle.tf_config_data.specs.Names.{Meant, a_block, block_refers, directly_before, addr_pair, meant_at, named_in_repetition, places, refers_at}
 use Rattle.tf_laws.proofs.Grown.{was_made}
 use Rattle.tf_laws.proofs.Members.{among_holds}
 use Rattle.tf_laws.proofs.Places.{meant_within}
@@ -23,28 +23,28 @@ use Rattle.tf_expand.specs.InstanceKeys.{InstanceKeysView, instance_keys, named}
 use Rattle.tf_expand.specs.Stages.{applying, expansion, fine}
 use Rattle.tf_expand.specs.Resolved.{ResolvedView, AreResolvedNames, all_stand, environment, environment_at, result_in, together}
 use Rattle.tf_expand.specs.declared.repetition.RepetitionFault.{RepetitionFault}
-use Rattle.tf_eval.proofs.Locality.{both_halves, expressions_local}
-use Rattle.tf_eval.specs.Constants.{ConstantView}
-use Rattle.tf_eval.specs.Environment.{Environment}
-use Rattle.tf_eval.specs.ExprMeaning.{meaning}
-use Rattle.tf_eval.specs.Growth.{ExprKnowledgeGrows}
-use Rattle.tf_eval.specs.Locality.{AgreeOn}
-use Rattle.tf_eval.specs.Meaning.{and_then}
+use Rattle.tf_expr_eval.proofs.Locality.{both_halves, expressions_local}
+use Rattle.tf_expr_eval.specs.Constants.{ConstantView}
+use Rattle.tf_expr_eval.specs.Environment.{Environment}
+use Rattle.tf_expr_eval.specs.ExprMeaning.{meaning}
+use Rattle.tf_expr_eval.specs.Growth.{ExprKnowledgeGrows}
+use Rattle.tf_expr_eval.specs.Locality.{AgreeOn}
+use Rattle.tf_expr_eval.specs.Meaning.{and_then}
 use Rattle.tf_expand.specs.Expanding.{shape_in}
 use Rattle.tf_expand.specs.ExpansionLaws.{AllStandWhereNoneIsRefused}
 use Rattle.tf_graph.proofs.Edges.{all_by_contained}
 use Rattle.tf_graph.proofs.Solving.{all_by_at}
 use Rattle.tf_graph.specs.Solutions.{seen_by}
 use Rattle.tf_plan_order.specs.Members.{is_among}
-use Rattle.tf_operators.specs.Answer.{Answer}
-use Rattle.tf_operators.specs.declared.fault.EvalFault.{EvalFault}
+use Rattle.tf_expr_operators.specs.Answer.{Answer}
+use Rattle.tf_expr_syntax.specs.declared.fault.EvalFault.{EvalFault}
 use Rattle.tf_walk_action.specs.Asked.{AreRequests, Requests, asked_for, ignored_by}
 use Rattle.tf_plan_data.specs.Fits.{is_apply}
 use Rattle.tf_plan_data.specs.Plan.{plan_names}
-use Rattle.tf_protocol.specs.Meaning.{Asked}
-use Rattle.tf_protocol.specs.Schema.{SchemaView}
-use Rattle.tf_syntax.specs.ExprNames.{named_below}
-use Rattle.tf_syntax.specs.ExprTree as expr
+use Rattle.tf_provider_protocol.specs.Meaning.{Asked}
+use Rattle.tf_provider_protocol.specs.Schema.{SchemaView}
+use Rattle.tf_expr_syntax.specs.ExprNames.{named_below}
+use Rattle.tf_expr_syntax.specs.ExprTree as expr
 use Rattle.tf_value.specs.Refinement.{Refines}
 use Rattle.tf_value.specs.Tree.{Tree, map, set, unknown, keys_of}
 use Rattle.tf_laws.proofs.Instance.{IsOfInstance, of_instance}
@@ -126,7 +126,7 @@ module _ (x : Made) where
       agree_on x.plan.variables (plan_names x.plan) resolved_names (result_in (seen_by resolved_names (directly_before (plan_names x.plan) n))) (block_refers block)
       (subst (λ (m : Option Meant). AllByRecursion (λ b. resolved_names b ≡ result_in (seen_by resolved_names (directly_before (plan_names x.plan) n)) b) (places (plan_names x.plan) (refers_at m))) meant
       (same_seen resolved_names (directly_before (plan_names x.plan) n))) in
-      let outer = both_halves (λ pair. whole pair.0 pair.1 ≡ seen pair.0 pair.1) (named_in_repetition block.repetition ++ named_below block.arguments) (each label_pair block.depends_on) agree in
+      let outer = both_halves (λ pair. whole pair.0 pair.1 ≡ seen pair.0 pair.1) (named_in_repetition block.repetition ++ named_below block.arguments) (each addr_pair block.depends_on) agree in
       let inner = both_halves (λ pair. whole pair.0 pair.1 ≡ seen pair.0 pair.1) (named_in_repetition block.repetition) (named_below block.arguments) outer.0 in
       instances_local expressions_local block.repetition whole seen inner.0
 

@@ -1,24 +1,25 @@
 -- Where all that names stand for is known, so is what expressions mean.
 use Rattle.std.proofs.Common.{◌≡◌, ◌∙◌, ℕ, ℤ, pos, Bool, true, false, Option, Some, None, List, [], ◌∷◌, Result, Ok, Err, refl, ap, subst, if◌then◌else◌, ◌&&◌, nat_le, nat_lt, ◌^◌}
-use Rattle.tf_syntax.specs.ExprTree as exprs
-use Rattle.tf_syntax.specs.TemplateTree as syntax
+use Rattle.tf_expr_syntax.specs.ExprTree as exprs
+use Rattle.tf_expr_syntax.specs.TemplateTree as syntax
 use Rattle.tf_value.specs.Known.{known, known_items, known_entries}
 use Rattle.tf_value.specs.Measure.{weight, depth, max_weight, max_depth}
 use Rattle.tf_value.specs.Tree.{Tree, null, boolean, whole, text, unknown, Items, no_items, item, Entries, no_entries, entry, items_of}
 use Rattle.tf_value.proofs.Conjunction.{and-first, and-second, and-both}
-use Rattle.tf_operators.specs.Answer.{Answer, limited, item_behind, items_behind, list_value, map_value}
-use Rattle.tf_operators.specs.Functions.{takes, call_value, function_named}
-use Rattle.tf_operators.specs.Joining.{joined_value}
-use Rattle.tf_operators.specs.Laws.{OperatorsKeepKnown, PartsKeepKnown, CollectionsKeepKnown, CallsKeepKnown}
-use Rattle.tf_operators.specs.Operators.{unary_value, binary_value}
-use Rattle.tf_operators.specs.Parts.{attribute_value, index_value}
-use Rattle.tf_operators.specs.declared.fault.EvalFault.{EvalFault}
-use Rattle.tf_operators.specs.declared.fault.EvalFault.TheVariants.{Arity, Overflow, TooLarge}
-use Rattle.tf_operators.specs.declared.function.Function.{Function}
-use Rattle.tf_eval.specs.Environment.{Environment}
-use Rattle.tf_eval.specs.ExprMeaning as expr
-use Rattle.tf_eval.specs.Meaning.{and_then, between, called, choice, chosen, count, laid, meaning, meanings, woven}
-use Rattle.tf_eval.proofs.Alone.{split, split_two}
+use Rattle.tf_expr_operators.specs.Answer.{Answer, limited, item_behind, items_behind, list_value, map_value}
+use Rattle.tf_expr_operators.specs.Functions.{call_value}
+use Rattle.tf_expr_syntax.specs.Function.{takes, function_named}
+use Rattle.tf_expr_operators.specs.Joining.{joined_value}
+use Rattle.tf_expr_operators.specs.Laws.{OperatorsKeepKnown, PartsKeepKnown, CollectionsKeepKnown, CallsKeepKnown}
+use Rattle.tf_expr_operators.specs.Operators.{unary_value, binary_value}
+use Rattle.tf_expr_operators.specs.Parts.{attribute_value, index_value}
+use Rattle.tf_expr_syntax.specs.declared.fault.EvalFault.{EvalFault}
+use Rattle.tf_expr_syntax.specs.declared.fault.EvalFault.TheVariants.{Arity, Overflow, TooLarge}
+use Rattle.tf_expr_syntax.specs.declared.function.Function.{Function}
+use Rattle.tf_expr_eval.specs.Environment.{Environment}
+use Rattle.tf_expr_eval.specs.ExprMeaning as expr
+use Rattle.tf_expr_eval.specs.Meaning.{and_then, between, called, choice, chosen, count, laid, meaning, meanings, woven}
+use Rattle.tf_expr_eval.proofs.Alone.{split, split_two}
 use Rattle.tf_laws.specs.Known.{IsKnown, ExpressionsStayKnown}
 
 -- what operations answer to known operands is known

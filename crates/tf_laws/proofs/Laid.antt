@@ -7,8 +7,8 @@ use Rattle.std.specs.Ordering.{match_ordering, nat_cmp}
 use Rattle.std.specs.Str.{bytes_eq}
 use Rattle.std.specs.declared.cmp.Ordering.{Ordering}
 use Rattle.std.specs.declared.cmp.Ordering.TheVariants.{Less, Equal, Greater}
-use Rattle.tf_address.specs.ObjectId as keys
-use Rattle.tf_address.specs.ObjectId.{InstanceKeyView}
+use Rattle.tf_config_address.specs.ObjectId as keys
+use Rattle.tf_config_address.specs.ObjectId.{InstanceKeyView}
 use Rattle.tf_config_data.specs.Config.{BlockView}
 use Rattle.tf_config_data.specs.Names.{NameView, Meant, a_local, a_block, meant_at, directly_before, place_of}
 use Rattle.tf_plan_decision.proofs.Equal.{known_at}
@@ -19,7 +19,7 @@ use Rattle.tf_expand.specs.Stages.{applying}
 use Rattle.tf_expand.specs.Resolved.{ResolvedView, AreResolvedNames, all_stand, answer_at, environment, or_missing, result_in, stands_at, together, where_all}
 use Rattle.tf_graph.specs.Solutions.{Ranked, seen_by}
 use Rattle.tf_plan_order.specs.Members.{is_among}
-use Rattle.tf_operators.specs.Answer.{Answer, limited, present_value}
+use Rattle.tf_expr_operators.specs.Answer.{Answer, limited, present_value}
 use Rattle.tf_value.proofs.Conjunction.{and-both, and-first, and-second}
 use Rattle.tf_value.specs.Known.{known, known_entries, known_items}
 use Rattle.tf_value.specs.Tree.{Tree, Entries, no_entries, entry, get, items_of, put}

@@ -2,8 +2,8 @@
 use Rattle.std.proofs.Common.{◌≡◌, ◌∙◌, ◌||◌, Bool, true, false, List, [], ◌∷◌, None, map, refl, sym, ap, subst, inl, inr}
 use Rattle.std.specs.Prelude.{Contains}
 use Rattle.std.specs.List.{AllByRecursion}
-use Rattle.tf_address.specs.ObjectId.{InstanceKeyView, ObjectIdView}
-use Rattle.tf_address.specs.Same.{object_id_Decides, same_instance_key}
+use Rattle.tf_config_address.specs.ObjectId.{InstanceKeyView, ObjectIdView}
+use Rattle.tf_config_address.specs.Same.{object_id_Decides, same_instance_key}
 use Rattle.tf_plan_order.proofs.Known.{among-recorded, among-with}
 use Rattle.tf_plan_order.specs.Members.{InstanceToPlanView, all_keys, is_among, is_of, is_recorded, member, members, recorded_keys, with_keys}
 use Rattle.tf_graph.proofs.Edges.{contains_cases, contains_head, contains_tail}

@@ -1,11 +1,11 @@
 -- What a plan's resources need, and what stands for a resource by its objects.
 use Rattle.std.proofs.Common.{◌≡◌, ◌∙◌, ℕ, Bool, true, Option, Some, None, Contains, refl, sym, ap}
-use Rattle.tf_address.specs.ObjectId.{InstanceKeyView}
+use Rattle.tf_config_address.specs.ObjectId.{InstanceKeyView}
 use Rattle.tf_config_data.specs.Names.{Meant, a_local, a_block, directly_before}
 use Rattle.tf_expand.specs.InstanceKeys.{InstanceKeysView, instance_keys}
 use Rattle.tf_expand.specs.Stages.{applying}
 use Rattle.tf_expand.specs.Resolved.{stands_at}
-use Rattle.tf_eval.specs.Environment.{Environment}
+use Rattle.tf_expr_eval.specs.Environment.{Environment}
 use Rattle.tf_plan.specs.Ordered.{IsOrdered}
 use Rattle.tf_plan_data.specs.Plan.{PlanView, plan_names}
 use Rattle.tf_plan_order.specs.Members.{is_among}

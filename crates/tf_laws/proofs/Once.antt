@@ -17,15 +17,15 @@ use Rattle.tf_config_data.specs.Names.{NameView, names_of}
 use Rattle.tf_expr.specs.Demand as expr
 use Rattle.tf_cli_inputs.specs.Refusals.{fault_told}
 use Rattle.tf_cli_inputs.specs.Texts.{Texts}
-use Rattle.tf_json_path.proofs.Checks.{AllMet-append, IsFirst-same, IsFirst-unmet}
-use Rattle.tf_json_path.specs.Check.{AllMet, IsFirst}
+use Rattle.tf_expr_path.proofs.Checks.{AllMet-append, IsFirst-same, IsFirst-unmet}
+use Rattle.tf_expr_path.specs.Check.{AllMet, IsFirst}
 use Rattle.tf_config_names.specs.Cyclic.{RefusesCycle}
 use Rattle.tf_config_names.specs.Judging.{RefusesItsNames}
 use Rattle.tf_config_names.specs.KnownNames.{Declared, IsKnown, IsUnknown, NameChecks, RefusesNames, config_checks, declared_in}
 use Rattle.tf_config_names.specs.Needs.{AreCyclic}
 use Rattle.tf_expr.specs.Refusing.{way_of}
-use Rattle.tf_refusal.specs.Refusal as refusals
-use Rattle.tf_refusal.specs.Refusal.{DetailView, RefusalView, fault, no_memory, workers, Way}
+use Rattle.tf_config_refusal.specs.Refusal as refusals
+use Rattle.tf_config_refusal.specs.Refusal.{DetailView, RefusalView, fault, no_memory, workers, Way}
 use Rattle.tf_state.proofs.Permuted.{one_order}
 use Rattle.tf_state.specs.Table.{IsUnread}
 use Rattle.tf_state.specs.declared.fault.StateFault.{StateFault}

@@ -4,10 +4,10 @@ use Rattle.std.specs.List.Sorted.{IsStrictlySortedBy}
 use Rattle.std.specs.Option.{option_eq, option_map_or}
 use Rattle.std.specs.Prelude.{is_none, option_and_then}
 use Rattle.std.specs.Str.{bytes_eq}
-use Rattle.tf_address.proofs.Totals.{object_id_total}
-use Rattle.tf_address.specs.Label.{LabelView}
-use Rattle.tf_address.specs.ObjectId.{InstanceKeyView, ObjectIdView, object_id_cmp}
-use Rattle.tf_address.specs.Same.{same_instance_key}
+use Rattle.tf_config_address.proofs.Totals.{object_id_total}
+use Rattle.tf_config_address.specs.ResourceAddr.{ResourceAddrView}
+use Rattle.tf_config_address.specs.ObjectId.{InstanceKeyView, ObjectIdView, object_id_cmp}
+use Rattle.tf_config_address.specs.Same.{same_instance_key}
 use Rattle.tf_plan_decision.specs.Stage.{records_at}
 use Rattle.tf_plan_decision.specs.Decision.{current}
 use Rattle.tf_plan_order.specs.Members.{is_of, records_of}
@@ -42,8 +42,8 @@ current_found key (r ∷ rs) =
     (ap (λ (c : Bool). same_instance_key r.id.key key && c) (sym (option_eq_none r.id.deposed)) ∙ sym (objects_tied r.id (object_at key None)))
 
 -- and so by a state
-pub current_known : (label : LabelView) (key : InstanceKeyView) (s : StateView) → current (records_of key (records_at label s.resources)) ≡ record_in label (object_at key None) s
-current_known label key s = by_option (resource_at label s.resources)
+pub current_known : (addr : ResourceAddrView) (key : InstanceKeyView) (s : StateView) → current (records_of key (records_at addr s.resources)) ≡ record_in addr (object_at key None) s
+current_known addr key s = by_option (resource_at addr s.resources)
   where
     by_option : (o : Option ResourceView) → current (records_of key (option_map_or (λ r. r.records) o [])) ≡ option_and_then (λ r. record_at (object_at key None) r.records) o
     by_option None = refl

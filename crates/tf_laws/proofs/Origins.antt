@@ -3,7 +3,7 @@ use Rattle.std.proofs.Common.{◌≡◌, ◌∙◌, ◌+◌, ◌⊎◌, inl, inr
 use Rattle.std.proofs.lemmas.List.Elements.{Contains-append_cases, Contains-append_left, Contains-append_right}
 use Rattle.std.specs.Prelude.{Contains, slice_get}
 use Rattle.tf_plan_data.specs.Action.{ActionView, StepView}
-use Rattle.tf_address.specs.ObjectId.{InstanceKeyView}
+use Rattle.tf_config_address.specs.ObjectId.{InstanceKeyView}
 use Rattle.tf_config_data.specs.Config.{BlockView}
 use Rattle.tf_config_data.specs.Names.{NameView, Meant, a_local, a_block, meant_at, directly_before}
 use Rattle.tf_plan_decision.specs.Deciding.{OfView, action}
@@ -17,10 +17,10 @@ use Rattle.tf_plan_order.specs.Members.{InstanceToPlanView, members}
 use Rattle.tf_plan.proofs.Distinct.{in_flat_map, in_map, to_map}
 use Rattle.tf_plan.proofs.Listing.{block_actions, member_actions, meant_actions, of_at, outcome_actions, place_actions}
 use Rattle.tf_plan.specs.Planned.{IsPlanned, unrefused}
-use Rattle.tf_protocol.specs.Meaning.{Meaning, schema_in}
+use Rattle.tf_provider_protocol.specs.Meaning.{Meaning, schema_in}
 use Rattle.tf_plan_order.specs.ResourceIndex.{ResourceRefView, a_name, an_orphan, numbered}
 use Rattle.tf_state_data.specs.Resource.{ResourceView}
-use Rattle.tf_syntax.specs.ExprTree as expr
+use Rattle.tf_expr_syntax.specs.ExprTree as expr
 use Rattle.tf_value.specs.Tree.{Entries}
 use Rattle.tf_laws.proofs.Fine.{actions_are}
 use Rattle.tf_laws.proofs.Lists.{nothing_in, to_flat_map}
@@ -31,7 +31,7 @@ use Rattle.tf_laws.proofs.Places.{at_name, block_looked_at, name_at, orphan_look
 -- an action does a step to an instance of a resource
 pub record IsStepOf (of : OfView) (key : InstanceKeyView) (s : StepView) (a : ActionView) : Type 0 where
   pub resource : a.resource ≡ of.resource
-  pub label : a.label ≡ of.label
+  pub addr : a.addr ≡ of.addr
   pub key_is : a.key ≡ key
   pub step : a.step ≡ s
   pub version : a.version ≡ of.version
@@ -62,7 +62,7 @@ from_members of becomes i (m ∷ all) a c = elim (Contains-append_cases (outcome
         step = subst (Contains x.0) (ap (λ (b : ActionView). b.step) x.4) x.3;
         is = record {
           resource = sym (ap (λ (b : ActionView). b.resource) x.4);
-          label = sym (ap (λ (b : ActionView). b.label) x.4);
+          addr = sym (ap (λ (b : ActionView). b.addr) x.4);
           key_is = sym (ap (λ (b : ActionView). b.key) x.4);
           step = refl;
           version = sym (ap (λ (b : ActionView). b.version) x.4);
@@ -83,7 +83,7 @@ to_members of becomes i (x ∷ all) m steps s c e d = elim (contains_cases m x a
       let there : Contains (outcome_actions of i x.key (becomes x)) made = subst (λ (o : OutcomeView). Contains (outcome_actions of i x.key o) made) (sym own) (to_map (action of i x.key) steps s d) in (
         made,
         Contains-append_left (outcome_actions of i x.key (becomes x)) (member_actions of becomes (i + 1) all) made there,
-        record { resource = refl; label = refl; key_is = ap (λ (y : InstanceToPlanView). y.key) here; step = refl; version = refl },
+        record { resource = refl; addr = refl; key_is = ap (λ (y : InstanceToPlanView). y.key) here; step = refl; version = refl },
       )
   | inr rest ↦
       let later = to_members of becomes (i + 1) all m steps s rest e d in
@@ -97,14 +97,14 @@ pub record IsOfBlock (ms : List Meaning) (resources : List ResourceView) (variab
   pub n : ℕ
   pub block : BlockView
   pub meant : meant_at names n ≡ Some (a_block block)
-  pub own : IsOfMember (of_at ms n block.label) (member_outcome (schema_in block.label.type_name ms) block (environment variables names resolved_names)) (block_members (shapes n) block resources) a
+  pub own : IsOfMember (of_at ms n block.addr) (member_outcome (schema_in block.addr.type_name ms) block (environment variables names resolved_names)) (block_members (shapes n) block resources) a
 
 -- or of one of an orphan
 pub record IsOfOrphan (ms : List Meaning) (resources : List ResourceView) (names : List NameView) (a : ActionView) : Type 0 where
   pub n : ℕ
   pub resource : ResourceView
   pub stands : slice_get (numbered names resources) n ≡ Some (an_orphan resource)
-  pub own : IsOfMember (of_at ms n resource.label) (orphan_outcome (schema_in resource.label.type_name ms)) (members [] resource.records) a
+  pub own : IsOfMember (of_at ms n resource.addr) (orphan_outcome (schema_in resource.addr.type_name ms)) (members [] resource.records) a
 
 module _ (ms : List Meaning) (variables : Entries) (names : List NameView) (outputs : expr.Entries) (shapes : ℕ → InstanceKeysView) (resources : List ResourceView) (actions : List ActionView)
     (planned : IsPlanned ms resources variables names outputs shapes (unrefused actions))
@@ -118,7 +118,7 @@ module _ (ms : List Meaning) (variables : Entries) (names : List NameView) (outp
         n = n;
         block = block;
         meant = meant;
-        own = from_members (of_at ms n block.label) (member_outcome (schema_in block.label.type_name ms) block (environment variables names resolved_names)) 0 (block_members (shapes n) block resources) a d;
+        own = from_members (of_at ms n block.addr) (member_outcome (schema_in block.addr.type_name ms) block (environment variables names resolved_names)) 0 (block_members (shapes n) block resources) a d;
       }
       by_test false d = absurd (nothing_in a d)
 
@@ -127,7 +127,7 @@ module _ (ms : List Meaning) (variables : Entries) (names : List NameView) (outp
   from_place n None a e c = absurd (nothing_in a c)
   from_place n (Some (a_name name)) a e c = inl (from_meant n name.meant a (at_name names resources n name e) c)
   from_place n (Some (an_orphan r)) a e c =
-      inr (record { n = n; resource = r; stands = e; own = from_members (of_at ms n r.label) (orphan_outcome (schema_in r.label.type_name ms)) 0 (members [] r.records) a c })
+      inr (record { n = n; resource = r; stands = e; own = from_members (of_at ms n r.addr) (orphan_outcome (schema_in r.addr.type_name ms)) 0 (members [] r.records) a c })
 
   -- each action is of a member
   pub origin : (a : ActionView) → Contains actions a → IsOfBlock ms resources variables names shapes resolved_names a ⊎ IsOfOrphan ms resources names a
@@ -144,11 +144,11 @@ module _ (ms : List Meaning) (variables : Entries) (names : List NameView) (outp
 
   -- each step of a member of a block that is looked at is an action
   pub block_step : (n : ℕ) (block : BlockView) (m : InstanceToPlanView) (steps : List StepView) (s : StepView) → meant_at names n ≡ Some (a_block block) → all_stand (seen_by resolved_names (directly_before names n)) ≡ true
-      → Contains (block_members (shapes n) block resources) m → member_outcome (schema_in block.label.type_name ms) block (environment variables names resolved_names) m ≡ Ok steps → Contains steps s
-      → (a : ActionView) × Contains actions a × IsStepOf (of_at ms n block.label) m.key s a
+      → Contains (block_members (shapes n) block resources) m → member_outcome (schema_in block.addr.type_name ms) block (environment variables names resolved_names) m ≡ Ok steps → Contains steps s
+      → (a : ActionView) × Contains actions a × IsStepOf (of_at ms n block.addr) m.key s a
   block_step n block m steps s meant seen c e d =
       let name = name_at names resources n (a_block block) meant in
-      let made = to_members (of_at ms n block.label) (member_outcome (schema_in block.label.type_name ms) block (environment variables names resolved_names)) 0 (block_members (shapes n) block resources) m steps s c e d in
+      let made = to_members (of_at ms n block.addr) (member_outcome (schema_in block.addr.type_name ms) block (environment variables names resolved_names)) 0 (block_members (shapes n) block resources) m steps s c e d in
       let by_meant : Contains (meant_actions ms resources variables names shapes resolved_names n (a_block block)) made.0 =
       subst (λ (b : Bool). Contains (cond b (block_actions ms resources n block (environment variables names resolved_names) (shapes n)) []) made.0) (sym seen) made.1 in
       let by_name : Contains (meant_actions ms resources variables names shapes resolved_names n name.0.meant) made.0 =
@@ -157,8 +157,8 @@ module _ (ms : List Meaning) (variables : Entries) (names : List NameView) (outp
 
   -- and each of a member of an orphan
   pub orphan_step : (n : ℕ) (r : ResourceView) (m : InstanceToPlanView) (steps : List StepView) (s : StepView) → slice_get (numbered names resources) n ≡ Some (an_orphan r)
-      → Contains (members [] r.records) m → orphan_outcome (schema_in r.label.type_name ms) m ≡ Ok steps → Contains steps s
-      → (a : ActionView) × Contains actions a × IsStepOf (of_at ms n r.label) m.key s a
+      → Contains (members [] r.records) m → orphan_outcome (schema_in r.addr.type_name ms) m ≡ Ok steps → Contains steps s
+      → (a : ActionView) × Contains actions a × IsStepOf (of_at ms n r.addr) m.key s a
   orphan_step n r m steps s stands c e d =
-      let made = to_members (of_at ms n r.label) (orphan_outcome (schema_in r.label.type_name ms)) 0 (members [] r.records) m steps s c e d in
+      let made = to_members (of_at ms n r.addr) (orphan_outcome (schema_in r.addr.type_name ms)) 0 (members [] r.records) m steps s c e d in
       (made.0, placed n (Some (an_orphan r)) made.0 stands (orphan_looked_at names resources planned.places n r planned.in_order stands) made.1, made.2)

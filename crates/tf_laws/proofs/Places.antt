@@ -68,14 +68,14 @@ module _ (names : List NameView) (resources : List ResourceView) where
       (to_filter (is_resource all) (range_with_len 0 (length all)) n (in_range 0 (length all) n (omega arith) (omega (arith, got_within all n (an_orphan r) e))) resource)
 
   -- an orphan has no block
-  pub orphan_of : (n : ℕ) (r : ResourceView) → slice_get (numbered names resources) n ≡ Some (an_orphan r) → Contains resources r × (has_block names r.label ≡ false)
+  pub orphan_of : (n : ℕ) (r : ResourceView) → slice_get (numbered names resources) n ≡ Some (an_orphan r) → Contains resources r × (has_block names r.addr ≡ false)
   orphan_of n r e = elim (Contains-append_cases (map a_name names) (map an_orphan (orphans names resources)) (an_orphan r) (at-contained (numbered names resources) n (an_orphan r) e)) [
     | inl front ↦ let name = in_map a_name names (an_orphan r) front in absurd (cc (name.2))
     | inr back ↦
         let other = in_map an_orphan (orphans names resources) (an_orphan r) back in
-        let kept = in_filter (λ x. not (has_block names x.label)) resources other.0 other.1 in
+        let kept = in_filter (λ x. not (has_block names x.addr)) resources other.0 other.1 in
         let same : other.0 ≡ r = orphan_same other.0 r other.2 in
-        (subst (Contains resources) same kept.0, none (has_block names r.label) (subst (λ (x : ResourceView). not (has_block names x.label) ≡ true) same kept.1))
+        (subst (Contains resources) same kept.0, none (has_block names r.addr) (subst (λ (x : ResourceView). not (has_block names x.addr) ≡ true) same kept.1))
   ]
     where
       orphan_same : (x y : ResourceView) → an_orphan x ≡ an_orphan y → x ≡ y
@@ -86,9 +86,9 @@ module _ (names : List NameView) (resources : List ResourceView) where
       none true h = absurd (cc)
 
   -- where each resource has a block, there are no orphans
-  pub no_orphan : AllByRecursion (λ r. has_block names r.label ≡ true) resources → (n : ℕ) (r : ResourceView) → slice_get (numbered names resources) n ≡ Some (an_orphan r) → ⊥
+  pub no_orphan : AllByRecursion (λ r. has_block names r.addr ≡ true) resources → (n : ℕ) (r : ResourceView) → slice_get (numbered names resources) n ≡ Some (an_orphan r) → ⊥
   no_orphan blocks n r e =
       let is = orphan_of n r e in
-      let has : has_block names r.label ≡ true = all_contained (λ (x : ResourceView). has_block names x.label ≡ true) resources r blocks is.0 in
-      let not_has : has_block names r.label ≡ false = is.1 in
+      let has : has_block names r.addr ≡ true = all_contained (λ (x : ResourceView). has_block names x.addr ≡ true) resources r blocks is.0 in
+      let not_has : has_block names r.addr ≡ false = is.1 in
       absurd (cc)

@@ -5,7 +5,7 @@ use Rattle.std.specs.List.{AllByRecursion}
 use Rattle.std.specs.List.Sorted.{IsStrictlySortedBy}
 use Rattle.std.specs.Prelude.{Contains}
 use Rattle.tf_plan_data.specs.Precedence.{ordered}
-use Rattle.tf_address.specs.Label.{label_cmp}
+use Rattle.tf_config_address.specs.ResourceAddr.{addr_cmp}
 use Rattle.tf_config_data.specs.Config.{ConfigView}
 use Rattle.tf_config_data.specs.Names.{directly_before, names_of}
 use Rattle.tf_graph.specs.Digraph.{Digraph, predecessors_of}
@@ -23,7 +23,7 @@ use Rattle.tf_plan_order.specs.Late.{IsLate, Leads}
 use Rattle.tf_plan_order.specs.Order.{IsOrder}
 use Rattle.tf_plan_order.specs.Stored.{Needed, turned}
 use Rattle.tf_plan_order.specs.OrderInput.{AreSound, OrderInputView}
-use Rattle.tf_protocol.specs.Meaning.{Meaning}
+use Rattle.tf_provider_protocol.specs.Meaning.{Meaning}
 use Rattle.tf_plan_order.specs.Dependencies.{dependencies}
 use Rattle.tf_plan_order.specs.Marks.{is_marked}
 use Rattle.tf_plan_order.specs.ResourceIndex.{numbered}
@@ -87,12 +87,12 @@ module _ (ms : List Meaning) (config : ConfigView) (variables : Entries) (prior 
   own_is_order : IsOrder plan.order
   own_is_order = pairs-order own_ties (map ordered plan.actions) own_sound plan.order (own_order.nodes ∙ sym (length-map plan.actions ordered)) own_order.edges
 
-  own_fit : IsStrictlySortedBy label_cmp (map (λ b. b.label) config.blocks) → IsValid prior → AreFit ms (names_of config) prior.resources plan.actions
+  own_fit : IsStrictlySortedBy addr_cmp (map (λ b. b.addr) config.blocks) → IsValid prior → AreFit ms (names_of config) prior.resources plan.actions
   own_fit sorted valid =
       plan-fits ms prior.resources variables (names_of config) config.outputs plan.shapes plan.actions is.planned.instances is.planned.planned
       (names-apart config sorted) valid.resources.1 (all_weaker IsPresent (λ r. AreById r.records) prior.resources (λ r present. present.0.records.1) valid.resources.0)
 
-  pub plan_founded : IsStrictlySortedBy label_cmp (map (λ b. b.label) config.blocks) → IsValid prior → IsFounded plan
+  pub plan_founded : IsStrictlySortedBy addr_cmp (map (λ b. b.addr) config.blocks) → IsValid prior → IsFounded plan
   plan_founded sorted valid = record {
     names = subst (λ (c : ConfigView). Ranked (directly_before (names_of c))) (sym is.config) (own_order.tied.is_dependence.ranked own_acyclic);
     order = own_is_order.ranked;

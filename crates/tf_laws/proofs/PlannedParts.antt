@@ -3,7 +3,7 @@
 use Rattle.std.proofs.Common.{◌≡◌, ◌∙◌, ℕ, Bool, false, List, Some, map, sym, ap, subst}
 use Rattle.std.specs.List.{AllByRecursion}
 use Rattle.std.specs.List.Sorted.{IsStrictlySortedBy}
-use Rattle.tf_address.specs.Label.{label_cmp}
+use Rattle.tf_config_address.specs.ResourceAddr.{addr_cmp}
 use Rattle.tf_config_data.specs.Config.{ConfigView}
 use Rattle.tf_config_data.specs.Names.{directly_before}
 use Rattle.tf_laws.proofs.Declared.{Setting}
@@ -21,8 +21,8 @@ use Rattle.tf_plan.specs.Ordered.{IsOrdered}
 use Rattle.tf_plan.specs.Plan.{IsPlannedFrom}
 use Rattle.tf_plan.specs.Planned.{IsPlanned, unrefused}
 use Rattle.tf_plan_data.specs.Plan.{PlanView, plan_names}
-use Rattle.tf_protocol.specs.Meaning.{Meaning, schema_in}
-use Rattle.tf_protocol.specs.Schema.{SchemaView, IsSchema}
+use Rattle.tf_provider_protocol.specs.Meaning.{Meaning, schema_in}
+use Rattle.tf_provider_protocol.specs.Schema.{SchemaView, IsSchema}
 use Rattle.tf_plan_order.specs.ResourceLaws as resources_laws
 use Rattle.tf_plan_order.specs.ResourceIndex.{a_name}
 use Rattle.tf_state.specs.Valid.{IsPresent, IsValid}
@@ -78,8 +78,8 @@ module _ (ms : List Meaning) (config : ConfigView) (variables : Entries) (prior 
   pub own_valid : IsValid plan.prior
   own_valid = subst IsValid (sym is.planned.prior) is.sound.valid
 
-  pub own_blocks : IsStrictlySortedBy label_cmp (map (λ b. b.label) plan.config.blocks)
-  own_blocks = subst (λ (c : ConfigView). IsStrictlySortedBy label_cmp (map (λ b. b.label) c.blocks)) (sym is.planned.config) is.sound.blocks
+  pub own_blocks : IsStrictlySortedBy addr_cmp (map (λ b. b.addr) plan.config.blocks)
+  own_blocks = subst (λ (c : ConfigView). IsStrictlySortedBy addr_cmp (map (λ b. b.addr) c.blocks)) (sym is.planned.config) is.sound.blocks
 
   pub own_acyclic : IsAcyclic (own_planned.ordered.tied.dependence)
   own_acyclic n = sym (ap (λ (f : ℕ → ℕ → Bool). f n n) own_planned.ordered.tied.needs) ∙ is.acyclic n

@@ -3,7 +3,7 @@ use Rattle.std.proofs.Common.{◌≡◌, ◌∙◌, ◌<◌, ◌≤◌, ◌⊎�
 use Rattle.std.proofs.lemmas.Bool.{cases_lt}
 use Rattle.tf_plan_data.specs.Action.{ActionView}
 use Rattle.tf_config_data.specs.Config.{ConfigView}
-use Rattle.tf_config_data.specs.Names.{NameView, a_block, directly_before, label_pair, meant_at, names_of, place_of}
+use Rattle.tf_config_data.specs.Names.{NameView, a_block, directly_before, addr_pair, meant_at, names_of, place_of}
 use Rattle.tf_expand.specs.InstanceKeys.{InstanceKeysView}
 use Rattle.tf_expand.specs.Resolved.{ResolvedView}
 use Rattle.tf_expand.specs.declared.repetition.RepetitionFault.{RepetitionFault}
@@ -21,13 +21,13 @@ use Rattle.tf_plan.specs.Refused.{AreManyActions, AreManyInstances, AreManyPairs
 use Rattle.tf_plan_data.specs.Plan.{PlanView}
 use Rattle.tf_plan_text.specs.Text.{plan_text}
 use Rattle.tf_plan_order.specs.OrderInput.{OrderInputView}
-use Rattle.tf_protocol.specs.Meaning.{Meaning}
-use Rattle.tf_refusal.specs.Refusal.{RefusalView}
+use Rattle.tf_provider_protocol.specs.Meaning.{Meaning}
+use Rattle.tf_config_refusal.specs.Refusal.{RefusalView}
 use Rattle.tf_plan_order.proofs.Standing.{resources-apart}
 use Rattle.tf_plan_order.specs.ResourceLaws.{AreApart}
 use Rattle.tf_plan_order.specs.ResourceIndex.{a_name, numbered}
 use Rattle.tf_state_data.specs.State.{StateView}
-use Rattle.tf_syntax.specs.TemplateNames.{Pair}
+use Rattle.tf_expr_syntax.specs.TemplateNames.{Pair}
 use Rattle.tf_value.specs.Tree.{Entries}
 use Rattle.tf_laws.proofs.Ordering.{BlocksNeedAlike, one_ordered, one_pairs}
 use Rattle.tf_laws.proofs.Shaped.{one_planned}
@@ -57,7 +57,7 @@ module _ (variables : Entries) (names : List NameView) (ranked : Ranked (directl
       let one = one_first variables names is.resolved_names is.place also.place is.why also.why is.first too in
       let both : Some (a_block is.block) ≡ Some (a_block also.block) = sym is.is_block ∙ ap (meant_at names) one.0 ∙ also.is_block in
       let block : is.block ≡ also.block = (cc) in
-      let told : instances_refusal is.block.label is.why ≡ instances_refusal also.block.label also.why = (let why = one.1 in λ i. instances_refusal (block i).label (why i)) in
+      let told : instances_refusal is.block.addr is.why ≡ instances_refusal also.block.addr also.why = (let why = one.1 in λ i. instances_refusal (block i).addr (why i)) in
       is.refused ∙ ap (λ (t : RefusalView). t ∷ []) told ∙ sym also.refused
 
   -- where a name is refused, there aren't too many instances
@@ -91,7 +91,7 @@ module _ (ms : List Meaning) (config : ConfigView) (variables : Entries) (prior 
       ∙ sym (ap (λ (f : ℕ → ℕ → Bool). f n m) also.needs)
 
   blocks_alike : (t u : OrderInputView) → AreTied (names_of config) prior.resources t → AreTied (names_of config) prior.resources u → BlocksNeedAlike (names_of config) t.needs u.needs
-  blocks_alike t u tied also n block meant m = needs_one t u tied also (label_pair block.label) n m (block_found config orderly.own_names blocks_apart n block meant)
+  blocks_alike t u tied also n block meant m = needs_one t u tied also (addr_pair block.addr) n m (block_found config orderly.own_names blocks_apart n block meant)
 
   -- ---- one plan
 

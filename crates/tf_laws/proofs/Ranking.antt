@@ -13,7 +13,7 @@ use Rattle.tf_laws.proofs.Leading.{decided_path, nothing_in, tested}
 use Rattle.tf_config_names.proofs.Edging.{before-past, places-below}
 use Rattle.tf_config_names.proofs.Needing.{name-from_places, place_of-one, refers-from_before}
 use Rattle.tf_config_names.specs.Needs.{Needs}
-use Rattle.tf_syntax.specs.TemplateNames.{Pair}
+use Rattle.tf_expr_syntax.specs.TemplateNames.{Pair}
 
 -- ---- what stands before numbers below a count, in pairs
 

@@ -8,7 +8,7 @@ use Rattle.std.specs.Option.{option_map_or}
 use Rattle.std.specs.Prelude.{option_and_then}
 use Rattle.std.specs.Ordering.{match_ordering, ordering_reverse}
 use Rattle.serde_json.specs.Data.{Data}
-use Rattle.tf_address.specs.Label.{label_cmp}
+use Rattle.tf_config_address.specs.ResourceAddr.{addr_cmp}
 use Rattle.tf_config.proofs.BlockLaws.{blocks_in_order, object_keeps, put_all}
 use Rattle.tf_config.specs.Config.{Blocks, VariableBody, address_cmp, block_with, names_in, plain_config, plain_variable, put_variable, variable_with}
 use Rattle.tf_config.specs.Configuration.{AddsInVariable, AddsOfSection, AddsOutput, AddsResource, AddsSection, AddsType, AddsVariable, AddsVariableProperty, IsConfiguration}
@@ -18,7 +18,7 @@ use Rattle.tf_config_data.specs.declared.variable.Element.{Element}
 use Rattle.tf_config_data.specs.declared.variable.Element.TheVariants as elements
 use Rattle.tf_config_data.specs.declared.variable.VariableType.{VariableType}
 use Rattle.tf_config_data.specs.declared.variable.VariableType.TheVariants as types
-use Rattle.tf_syntax.specs.ExprTree as expr
+use Rattle.tf_expr_syntax.specs.ExprTree as expr
 use Rattle.tf_value.proofs.Conjunction.{and-both, and-first, and-second}
 use Rattle.tf_value.specs.Json.{tree_from, value_from}
 use Rattle.tf_value.specs.Known.{known, known_entries, known_items}
@@ -33,7 +33,7 @@ use Rattle.tf_laws.specs.Twice.{HasOrderedOutputs, HasOwnNames}
 -- ---- no block is of the type `local`
 
 abbrev IsNoLocal : BlockView → Type 0
-IsNoLocal b = ¬ (b.label.type_name ≡ codes "local")
+IsNoLocal b = ¬ (b.addr.type_name ≡ codes "local")
 
 no_type : (type_name : List ℕ) → is_type_name type_name ≡ true → ¬ (type_name ≡ codes "local")
 no_type type_name h same = let yes : is_type_name (codes "local") ≡ true = sym (ap is_type_name same) ∙ h in let no : is_type_name (codes "local") ≡ false = refl in absurd (cc)
@@ -166,14 +166,14 @@ plain_orderly : IsOrderly plain_config
 unfolding IsStrictlySortedBy
 plain_orderly = record { names = tt; outputs = tt; defaults = tt }
 
-later_labels : (first : BlockView) (blocks : Blocks) → AllByRecursion (λ b. address_cmp first b ≡ Less) blocks → AllByRecursion (λ l. label_cmp first.label l ≡ Less) (map (λ b. b.label) blocks)
-later_labels first [] h = tt
-later_labels first (b ∷ blocks) h = (h.0, later_labels first blocks h.1)
+later_addrs : (first : BlockView) (blocks : Blocks) → AllByRecursion (λ b. address_cmp first b ≡ Less) blocks → AllByRecursion (λ l. addr_cmp first.addr l ≡ Less) (map (λ b. b.addr) blocks)
+later_addrs first [] h = tt
+later_addrs first (b ∷ blocks) h = (h.0, later_addrs first blocks h.1)
 
-by_label : (blocks : Blocks) → IsStrictlySortedBy address_cmp blocks → IsStrictlySortedBy label_cmp (map (λ b. b.label) blocks)
+by_addr : (blocks : Blocks) → IsStrictlySortedBy address_cmp blocks → IsStrictlySortedBy addr_cmp (map (λ b. b.addr) blocks)
 unfolding IsStrictlySortedBy
-by_label [] h = tt
-by_label (b ∷ blocks) h = (later_labels b blocks h.0, by_label blocks h.1)
+by_addr [] h = tt
+by_addr (b ∷ blocks) h = (later_addrs b blocks h.0, by_addr blocks h.1)
 
 read_orderly : (tree : Data) (config : ConfigView) → IsConfiguration tree config → IsOrderly config
 read_orderly tree config h = object_keeps AddsSection IsOrderly section_keeps tree plain_config config h plain_orderly
@@ -245,7 +245,7 @@ read_values_known tree config file values h are = values_known file config.varia
 
 pub read_sound : ReadIsSound
 read_sound ms tree config file values prior h are schemas valid = record {
-  blocks = by_label config.blocks (blocks_in_order tree config h);
+  blocks = by_addr config.blocks (blocks_in_order tree config h);
   schemas = schemas;
   variables_known = read_values_known tree config file values h are;
   valid = valid;

@@ -3,7 +3,7 @@ use Rattle.std.proofs.Common.{◌≡◌, ◌∙◌, ℕ, List, [], ◌∷◌, Op
 use Rattle.std.specs.List.{AllByRecursion}
 use Rattle.std.specs.List.Sorted.{IsStrictlySortedBy}
 use Rattle.serde_json.specs.Data.{Data}
-use Rattle.tf_address.specs.Label.{label_cmp}
+use Rattle.tf_config_address.specs.ResourceAddr.{addr_cmp}
 use Rattle.tf_config.specs.Config.{address_cmp}
 use Rattle.tf_config.specs.Configuration.{IsConfiguration}
 use Rattle.tf_config.specs.Laws.{BlocksAreInOrder, StandsForOne}
@@ -52,17 +52,17 @@ prior_valid read empty (Some bytes) lineage prior h = read bytes prior h.0
 
 -- ---- blocks
 
-labels_after : (first : BlockView) (blocks : List BlockView) → AllByRecursion (λ b. address_cmp first b ≡ Less) blocks → AllByRecursion (λ l. label_cmp first.label l ≡ Less) (map (λ b. b.label) blocks)
-labels_after first [] h = tt
-labels_after first (b ∷ blocks) h = (h.0, labels_after first blocks h.1)
+addrs_after : (first : BlockView) (blocks : List BlockView) → AllByRecursion (λ b. address_cmp first b ≡ Less) blocks → AllByRecursion (λ l. addr_cmp first.addr l ≡ Less) (map (λ b. b.addr) blocks)
+addrs_after first [] h = tt
+addrs_after first (b ∷ blocks) h = (h.0, addrs_after first blocks h.1)
 
-labels_in_order : (blocks : List BlockView) → IsStrictlySortedBy address_cmp blocks → IsStrictlySortedBy label_cmp (map (λ b. b.label) blocks)
+addrs_in_order : (blocks : List BlockView) → IsStrictlySortedBy address_cmp blocks → IsStrictlySortedBy addr_cmp (map (λ b. b.addr) blocks)
 unfolding IsStrictlySortedBy
-labels_in_order [] h = tt
-labels_in_order (b ∷ blocks) h = (labels_after b blocks h.0, labels_in_order blocks h.1)
+addrs_in_order [] h = tt
+addrs_in_order (b ∷ blocks) h = (addrs_after b blocks h.0, addrs_in_order blocks h.1)
 
-pub read_in_order : BlocksAreInOrder → (tree : Data) (config : ConfigView) → IsConfiguration tree config → IsStrictlySortedBy label_cmp (map (λ b. b.label) config.blocks)
-read_in_order law tree config h = labels_in_order config.blocks (law tree config h)
+pub read_in_order : BlocksAreInOrder → (tree : Data) (config : ConfigView) → IsConfiguration tree config → IsStrictlySortedBy addr_cmp (map (λ b. b.addr) config.blocks)
+read_in_order law tree config h = addrs_in_order config.blocks (law tree config h)
 
 -- ---- the same prior state
 

@@ -12,9 +12,9 @@ use Rattle.tf_cli_inputs.specs.Refusals.{AreNamesRefused, AreValuesRefused, IsSt
 use Rattle.tf_cli_inputs.specs.Texts.{AreTheValues, Texts}
 use Rattle.tf_config_names.specs.Judging.{RefusesItsNames}
 use Rattle.tf_plan.specs.Refused.{AreRefused, AreRefusedOf}
-use Rattle.tf_protocol.specs.Meaning.{Meaning}
-use Rattle.tf_refusal.specs.Code.{limit}
-use Rattle.tf_refusal.specs.Refusal.{RefusalView, no_memory}
+use Rattle.tf_provider_protocol.specs.Meaning.{Meaning}
+use Rattle.tf_config_refusal.specs.Code.{limit}
+use Rattle.tf_config_refusal.specs.Refusal.{RefusalView, no_memory}
 use Rattle.tf_state.specs.Laws.{TextIsOfOne, TextReadsAsState}
 use Rattle.tf_state.specs.Table.{IsBeyond, IsUnread, Reads}
 use Rattle.tf_state.specs.declared.fault.StateFault.{StateFault}

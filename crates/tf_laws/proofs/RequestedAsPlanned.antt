@@ -2,8 +2,8 @@
 use Rattle.std.proofs.Common.{◌≡◌, ◌∙◌, ℕ, Bool, true, false, List, Option, Some, None, Result, Ok, Contains, refl, sym, ap, subst}
 use Rattle.std.specs.Prelude.{option_and_then}
 use Rattle.tf_plan_data.specs.Action.{ActionView}
-use Rattle.tf_address.specs.Label.{LabelView}
-use Rattle.tf_address.specs.ObjectId.{InstanceKeyView}
+use Rattle.tf_config_address.specs.ResourceAddr.{ResourceAddrView}
+use Rattle.tf_config_address.specs.ObjectId.{InstanceKeyView}
 use Rattle.tf_laws.specs.AskingLaws.{KnownAttributesStay, PlannedObjectsAreAsked, RefinesWhere, RequestsRefine, asked_in_plan, planned_object}
 use Rattle.tf_plan_object.specs.Instance.{InstanceFaultView}
 use Rattle.tf_config_data.specs.Names.{NameView, meant_at}
@@ -11,8 +11,8 @@ use Rattle.tf_laws.proofs.Declared.{records_in}
 use Rattle.tf_walk_action.specs.Asked.{AreRequests, Requests, asked_by_step, asked_for, ignored_by}
 use Rattle.tf_plan_data.specs.Fits.{is_apply}
 use Rattle.tf_plan_data.specs.Plan.{plan_names}
-use Rattle.tf_protocol.specs.Meaning.{Asked, schema_in}
-use Rattle.tf_protocol.specs.Schema.{SchemaView}
+use Rattle.tf_provider_protocol.specs.Meaning.{Asked, schema_in}
+use Rattle.tf_provider_protocol.specs.Schema.{SchemaView}
 use Rattle.tf_value.specs.Known.{known}
 use Rattle.tf_value.specs.Tree.{Tree, part_at}
 use Rattle.tf_laws.proofs.AskedAlike.{requests_same}
@@ -72,12 +72,12 @@ module _ (x : Made) (laws : Laws) (requests : Requests) (are : AreRequests x.pla
             (ap (option_and_then (part_at name)) is ∙ at) known_is;
       }
 
-  schema_same : (schema : SchemaView) (i : IsOfInstance x a) → schema_in a.label.type_name x.ms ≡ Some schema → schema ≡ i.by_plan.schema
+  schema_same : (schema : SchemaView) (i : IsOfInstance x a) → schema_in a.addr.type_name x.ms ≡ Some schema → schema ≡ i.by_plan.schema
   schema_same schema i has =
-      let both : Some schema ≡ Some i.by_plan.schema = sym has ∙ ap (λ (l : LabelView). schema_in l.type_name x.ms) (sym i.own) ∙ i.by_plan.has in
+      let both : Some schema ≡ Some i.by_plan.schema = sym has ∙ ap (λ (l : ResourceAddrView). schema_in l.type_name x.ms) (sym i.own) ∙ i.by_plan.has in
       cc
 
-  by_step : (schema : SchemaView) (b : Bool) → is_apply a.step ≡ b → schema_in a.label.type_name x.ms ≡ Some schema → asked_for (plan_names x.plan) schema a (requests objects a schema) ≡ Ok asked → IsAskedAsPlanned a asked
+  by_step : (schema : SchemaView) (b : Bool) → is_apply a.step ≡ b → schema_in a.addr.type_name x.ms ≡ Some schema → asked_for (plan_names x.plan) schema a (requests objects a schema) ≡ Ok asked → IsAskedAsPlanned a asked
   by_step schema true applies has e =
       let i = of_instance x a c applies in
       let kept = by_schema i (subst (λ (s : SchemaView). asked_for (plan_names x.plan) s a (requests objects a s) ≡ Ok asked) (schema_same schema i has) e) in
@@ -85,7 +85,7 @@ module _ (x : Made) (laws : Laws) (requests : Requests) (are : AreRequests x.pla
       record { op = own.op; address = own.address; type_name = own.type_name; deposed = own.deposed; prior = own.prior; object = kept.object; unchanged = kept.unchanged }
   by_step schema false destroys has e = destroy_as_planned (plan_names x.plan) schema a (requests objects a schema) asked destroys e
 
-  pub as_planned : (schema : SchemaView) → schema_in a.label.type_name x.ms ≡ Some schema → asked_for (plan_names x.plan) schema a (requests objects a schema) ≡ Ok asked → IsAskedAsPlanned a asked
+  pub as_planned : (schema : SchemaView) → schema_in a.addr.type_name x.ms ≡ Some schema → asked_for (plan_names x.plan) schema a (requests objects a schema) ≡ Ok asked → IsAskedAsPlanned a asked
   as_planned schema has e = by_step schema (is_apply a.step) refl has e
 
 pub requests_as_planned : Laws → RequestsAreAsPlanned

@@ -18,9 +18,9 @@ use Rattle.tf_plan_object.specs.Kept.{is_kept, kept_entries, kept_object}
 use Rattle.tf_plan_decision.specs.Laws.{is_settled}
 use Rattle.tf_walk_action.specs.Asked.{asked_by_step, create_of, update_of}
 use Rattle.tf_plan_data.specs.Fits.{is_apply}
-use Rattle.tf_protocol.specs.Meaning.{Asked}
-use Rattle.tf_protocol.specs.Schema.{AttributeView, SchemaView, IsSchema}
-use Rattle.tf_protocol.specs.Verdict.{contradiction, fits_in, has_attributes, is_good_verdict, names_of, same_names, verdict_on_object, well_formed}
+use Rattle.tf_provider_protocol.specs.Meaning.{Asked}
+use Rattle.tf_provider_protocol.specs.Schema.{AttributeView, SchemaView, IsSchema}
+use Rattle.tf_provider_protocol.specs.Verdict.{contradiction, fits_in, has_attributes, is_good_verdict, names_of, same_names, verdict_on_object, well_formed}
 use Rattle.tf_state_data.specs.Record.{RecordView}
 use Rattle.tf_value.proofs.Conjunction.{and-first, and-second, and-both}
 use Rattle.tf_value.proofs.Order.{Refines-known}

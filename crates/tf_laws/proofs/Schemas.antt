@@ -2,9 +2,9 @@
 use Rattle.std.proofs.Common.{◌≡◌, ℕ, Bool, true, false, if◌then◌else◌, List, [], ◌∷◌, Option, Some, None, refl, subst, arith}
 use Rattle.std.specs.Prelude.{codes, is_some, option_and_then}
 use Rattle.std.specs.Str.{bytes_eq}
-use Rattle.tf_protocol.specs.Meaning.{Meaning, first_with, schema_in}
-use Rattle.tf_protocol.specs.Schema.{IsSchema, SchemaView}
-use Rattle.tf_sim.specs.Table.{host_schema, net_schema, sim_meaning}
+use Rattle.tf_provider_protocol.specs.Meaning.{Meaning, first_with, schema_in}
+use Rattle.tf_provider_protocol.specs.Schema.{IsSchema, SchemaView}
+use Rattle.tf_provider_sim.specs.Table.{host_schema, net_schema, sim_meaning}
 use Rattle.tf_laws.specs.ReapplyTexts.{HasSchemas, HaveSchemas}
 
 schema_at : (b : Bool) (m : Meaning) (ms : List Meaning) (name : List ℕ) (schema : SchemaView) → HasSchemas m → (schema_in name ms ≡ Some schema → IsSchema schema)

@@ -6,8 +6,8 @@ use Rattle.std.specs.List.{AllByRecursion, list_all}
 use Rattle.std.specs.Option.{option_map_or}
 use Rattle.std.specs.Str.{bytes_eq}
 use Rattle.std.proofs.lemmas.Slice.Eq.{bytes_eq-Decides}
-use Rattle.tf_address.specs.ObjectId as keys
-use Rattle.tf_address.specs.ObjectId.{InstanceKeyView}
+use Rattle.tf_config_address.specs.ObjectId as keys
+use Rattle.tf_config_address.specs.ObjectId.{InstanceKeyView}
 use Rattle.tf_plan_object.proofs.Named.{all_named, both_empty, faultless, object_is, instance_is}
 use Rattle.tf_plan_object.specs.Argument.{attribute_value, converted, evaluated, given_value, or_bad_argument, result_then, set_value, unset_value}
 use Rattle.tf_plan_object.specs.Planned.{attribute_faults, fault_at, planned_entries, with_value}
@@ -18,21 +18,21 @@ use Rattle.tf_plan_decision.proofs.Equal.{known_at}
 use Rattle.tf_plan_object.specs.Kept.{is_computed, is_ignored}
 use Rattle.tf_plan_decision.specs.Laws.{is_settled}
 use Rattle.tf_expand.specs.Instance.{bound, count_index, each_key, each_value, instance_constants, instance_environment, value_under}
-use Rattle.tf_eval.proofs.Alone.{split}
-use Rattle.tf_eval.specs.Constants.{ConstantView}
-use Rattle.tf_eval.specs.Environment.{Environment}
-use Rattle.tf_eval.specs.ExprMeaning.{meaning}
-use Rattle.tf_eval.specs.Meaning.{and_then}
-use Rattle.tf_operators.specs.Answer.{Answer, present_value, whole_value}
-use Rattle.tf_operators.specs.declared.fault.EvalFault.{EvalFault}
-use Rattle.tf_operators.specs.declared.fault.EvalFault.TheVariants.{Overflow}
-use Rattle.tf_protocol.specs.Schema.{AttributeView, SchemaView, ascends, attribute_named, is_below}
-use Rattle.tf_protocol.specs.Verdict.{same_names}
-use Rattle.tf_protocol.specs.declared.schema.Kind.{Kind}
-use Rattle.tf_protocol.specs.declared.schema.Kind.TheVariants as kinds
-use Rattle.tf_protocol.specs.declared.schema.Mode.{Mode}
-use Rattle.tf_protocol.specs.declared.schema.Mode.TheVariants as modes
-use Rattle.tf_syntax.specs.ExprTree as expr
+use Rattle.tf_expr_eval.proofs.Alone.{split}
+use Rattle.tf_expr_eval.specs.Constants.{ConstantView}
+use Rattle.tf_expr_eval.specs.Environment.{Environment}
+use Rattle.tf_expr_eval.specs.ExprMeaning.{meaning}
+use Rattle.tf_expr_eval.specs.Meaning.{and_then}
+use Rattle.tf_expr_operators.specs.Answer.{Answer, present_value, whole_value}
+use Rattle.tf_expr_syntax.specs.declared.fault.EvalFault.{EvalFault}
+use Rattle.tf_expr_syntax.specs.declared.fault.EvalFault.TheVariants.{Overflow}
+use Rattle.tf_provider_protocol.specs.Schema.{AttributeView, SchemaView, ascends, attribute_named, is_below}
+use Rattle.tf_provider_protocol.specs.Verdict.{same_names}
+use Rattle.tf_provider_protocol.specs.declared.schema.Kind.{Kind}
+use Rattle.tf_provider_protocol.specs.declared.schema.Kind.TheVariants as kinds
+use Rattle.tf_provider_protocol.specs.declared.schema.Mode.{Mode}
+use Rattle.tf_provider_protocol.specs.declared.schema.Mode.TheVariants as modes
+use Rattle.tf_expr_syntax.specs.ExprTree as expr
 use Rattle.tf_value.proofs.Conjunction.{and-first, and-second, and-both}
 use Rattle.tf_value.proofs.WithLists.{lists-known}
 use Rattle.tf_value.specs.Known.{known}

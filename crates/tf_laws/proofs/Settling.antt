@@ -17,7 +17,7 @@ use Rattle.tf_laws.specs.Twice as twice
 use Rattle.tf_cli_inputs.specs.Texts.{AreTheValues, ReadAs, Texts}
 use Rattle.tf_walk_report.specs.Outputs.{outputs_after}
 use Rattle.tf_plan.specs.Plan.{IsPlan}
-use Rattle.tf_protocol.specs.Meaning.{Meaning}
+use Rattle.tf_provider_protocol.specs.Meaning.{Meaning}
 use Rattle.tf_walk_report.specs.Report.{report_of}
 use Rattle.tf_state.specs.Laws.{TextReadsAsState}
 use Rattle.tf_state.specs.Table.{Reads}

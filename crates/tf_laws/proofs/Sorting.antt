@@ -5,7 +5,7 @@ use Rattle.std.specs.Cmp.{IsStrictWeakOrder}
 use Rattle.std.specs.Cmp.Lexicographic.{options_total}
 use Rattle.std.specs.List.{AllByRecursion}
 use Rattle.std.specs.List.Sorted.{IsPermutation, IsSortedBy}
-use Rattle.tf_address.proofs.Totals.{label_total}
+use Rattle.tf_config_address.proofs.Totals.{addr_total}
 use Rattle.tf_plan_order.specs.AddressOrder.{AreInAddressOrder, address_at, is_below, resource_places}
 use Rattle.tf_plan_order.specs.ResourceIndex.{ResourceRefView}
 
@@ -71,7 +71,7 @@ module _ (lt : ℕ → ℕ → Bool) (o : IsStrictWeakOrder lt) where
 -- the places of resources can be put in address order
 pub some_order : (all : List ResourceRefView) → (places : List ℕ) × AreInAddressOrder all places
 some_order all =
-    let o = ranks_by (options_total label_total) (address_at all) in (
+    let o = ranks_by (options_total addr_total) (address_at all) in (
       sort_by (is_below all) (resource_places all),
       record {
         each = all_sorted (is_below all) o (resource_places all);

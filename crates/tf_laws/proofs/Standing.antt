@@ -4,7 +4,7 @@ use Rattle.std.specs.List.{AllByRecursion, list_all}
 use Rattle.std.specs.Option.{option_and_then}
 use Rattle.std.specs.Prelude.{is_none}
 use Rattle.tf_plan_data.specs.Action.{ActionView, StepView}
-use Rattle.tf_address.specs.ObjectId.{InstanceKeyView}
+use Rattle.tf_config_address.specs.ObjectId.{InstanceKeyView}
 use Rattle.tf_plan_object.specs.Instance.{instance_object}
 use Rattle.tf_config_data.specs.Config.{BlockView, LifecycleView}
 use Rattle.tf_config_data.specs.Names.{NameView, Meant, a_local, a_block, meant_at, directly_before}
@@ -17,17 +17,17 @@ use Rattle.tf_expand.proofs.Locals.{all_seen}
 use Rattle.tf_expand.proofs.Places.{along, names_stay}
 use Rattle.tf_expand.specs.InstanceKeys.{InstanceKeysView, one, many, named, instance_keys, collected, objects_at}
 use Rattle.tf_expand.specs.Resolved.{ResolvedView, AreResolvedNames, all_stand, environment, stands_at, together}
-use Rattle.tf_eval.proofs.Locality.{expressions_local}
-use Rattle.tf_eval.specs.Environment.{Environment}
+use Rattle.tf_expr_eval.proofs.Locality.{expressions_local}
+use Rattle.tf_expr_eval.specs.Environment.{Environment}
 use Rattle.tf_graph.specs.Solutions.{Ranked, seen_by}
 use Rattle.tf_plan_order.specs.Members.{InstanceToPlanView, is_among, member, members, records_of}
-use Rattle.tf_operators.specs.Answer.{limited}
+use Rattle.tf_expr_operators.specs.Answer.{limited}
 use Rattle.tf_plan.specs.Planned.{IsPlanned, unrefused}
-use Rattle.tf_protocol.specs.Meaning.{Meaning, schema_in}
-use Rattle.tf_protocol.specs.Schema.{SchemaView}
+use Rattle.tf_provider_protocol.specs.Meaning.{Meaning, schema_in}
+use Rattle.tf_provider_protocol.specs.Schema.{SchemaView}
 use Rattle.tf_state_data.specs.Record.{RecordView}
 use Rattle.tf_state_data.specs.Resource.{ResourceView}
-use Rattle.tf_syntax.specs.ExprTree as expr
+use Rattle.tf_expr_syntax.specs.ExprTree as expr
 use Rattle.tf_value.proofs.Conjunction.{and-both}
 use Rattle.tf_value.specs.Tree.{Tree, Entries}
 use Rattle.tf_laws.proofs.Decided.{IsFine, decided_member, decision_is}
@@ -108,16 +108,16 @@ module _ (ms : List Meaning) (variables : Entries) (names : List NameView) (outp
   meant_some n (a_local e) meant seen = refl
   meant_some n (a_block block) meant seen =
       let env = environment variables names resolved_names in
-      let records = records_at block.label resources in
+      let records = records_at block.addr resources in
       let ks = instance_keys (shapes n) in
       let fine = block_fine ms variables names outputs shapes resources actions planned resolved_names solves ranked n block meant seen in
-      let go : all_can_go ms resources (shapes n) block ≡ true = all_fine-go (schema_in block.label.type_name ms) block env (members ks records) fine in
+      let go : all_can_go ms resources (shapes n) block ≡ true = all_fine-go (schema_in block.addr.type_name ms) block env (members ks records) fine in
       ap (λ (b : Bool). is_some (together (if b then Some (shapes n) else None) (decided_object ms resources n block env))) go
       ∙ some_mapped (collected (shapes n) (decided_object ms resources n block env)) limited
       (laid_some (shapes n) (decided_object ms resources n block env)
       (all_among (λ key. is_some (decided_object ms resources n block env key) ≡ true) ks
-      (λ key among. fine_stands (schema_in block.label.type_name ms) block env ks records key among
-      (instance_holds (λ m. IsFine (member_outcome (schema_in block.label.type_name ms) block env m)) ks records key fine among))))
+      (λ key among. fine_stands (schema_in block.addr.type_name ms) block env ks records key among
+      (instance_holds (λ m. IsFine (member_outcome (schema_in block.addr.type_name ms) block env m)) ks records key fine among))))
 
   some_at : (n : ℕ) → n < length names → AllByRecursion (λ a. is_some (resolved_names a) ≡ true) (directly_before names n) → is_some (resolved_names n) ≡ true
   some_at n h before =

@@ -1,15 +1,15 @@
 -- Resources at rest are so whatever their records' flags are.
 use Rattle.std.proofs.Common.{◌≡◌, ◌∙◌, ℕ, true, List, [], ◌∷◌, Some, map, refl, sym, ap, subst}
 use Rattle.std.specs.List.{AllByRecursion}
-use Rattle.tf_address.specs.ObjectId.{InstanceKeyView}
+use Rattle.tf_config_address.specs.ObjectId.{InstanceKeyView}
 use Rattle.tf_config_data.specs.Config.{BlockView}
 use Rattle.tf_config_data.specs.Names.{NameView}
 use Rattle.tf_plan_decision.specs.Stage.{records_at}
 use Rattle.tf_plan_decision.specs.Decision.{change}
 use Rattle.tf_expand.specs.InstanceKeys.{InstanceKeysView, instance_keys}
-use Rattle.tf_eval.specs.Environment.{Environment}
+use Rattle.tf_expr_eval.specs.Environment.{Environment}
 use Rattle.tf_plan_order.specs.Members.{is_among, records_of}
-use Rattle.tf_protocol.specs.Meaning.{Meaning}
+use Rattle.tf_provider_protocol.specs.Meaning.{Meaning}
 use Rattle.tf_plan_order.specs.ResourceIndex.{has_block}
 use Rattle.tf_state_data.specs.Record.{RecordView}
 use Rattle.tf_state_data.specs.Resource.{ResourceView}
@@ -40,21 +40,21 @@ module _ (ms : List Meaning) (block : BlockView) (key : InstanceKeyView) (env : 
 
 module _ (ms : List Meaning) (variables : Entries) (names : List NameView) (shapes : ℕ → InstanceKeysView) (objects : ℕ → InstanceKeyView → Tree) (rs qs : List ResourceView)
     (still : AreAtRest ms variables names shapes objects rs) (same : map resource_without_flags qs ≡ map resource_without_flags rs) where
-  records_alike : (block : BlockView) → map record_without_flag (records_at block.label qs) ≡ map record_without_flag (records_at block.label rs)
-  records_alike block = sym (records_flagless block.label qs) ∙ ap (records_at block.label) same ∙ records_flagless block.label rs
+  records_alike : (block : BlockView) → map record_without_flag (records_at block.addr qs) ≡ map record_without_flag (records_at block.addr rs)
+  records_alike block = sym (records_flagless block.addr qs) ∙ ap (records_at block.addr) same ∙ records_flagless block.addr rs
 
-  instance_alike : (block : BlockView) (key : InstanceKeyView) → map record_without_flag (records_of key (records_at block.label qs)) ≡ map record_without_flag (records_of key (records_at block.label rs))
-  instance_alike block key = sym (instance_flagless key (records_at block.label qs)) ∙ ap (records_of key) (records_alike block) ∙ instance_flagless key (records_at block.label rs)
+  instance_alike : (block : BlockView) (key : InstanceKeyView) → map record_without_flag (records_of key (records_at block.addr qs)) ≡ map record_without_flag (records_of key (records_at block.addr rs))
+  instance_alike block key = sym (instance_flagless key (records_at block.addr qs)) ∙ ap (records_of key) (records_alike block) ∙ instance_flagless key (records_at block.addr rs)
 
   pub rest_still : AreAtRest ms variables names shapes objects qs
   rest_still = record {
     blocks =
-        all_back resource_without_flags (λ r. has_block names r.label ≡ true) qs (λ r h. h)
-        (subst (AllByRecursion (λ (r : ResourceView). has_block names r.label ≡ true)) (sym same) (all_to resource_without_flags (λ r. has_block names r.label ≡ true) rs (λ r h. h) still.blocks));
+        all_back resource_without_flags (λ r. has_block names r.addr ≡ true) qs (λ r h. h)
+        (subst (AllByRecursion (λ (r : ResourceView). has_block names r.addr ≡ true)) (sym same) (all_to resource_without_flags (λ r. has_block names r.addr ≡ true) rs (λ r h. h) still.blocks));
     declared = λ n block meant.
-        all_back record_without_flag (λ x. is_among (instance_keys (shapes n)) x.id.key ≡ true) (records_at block.label qs) (λ x h. h)
+        all_back record_without_flag (λ x. is_among (instance_keys (shapes n)) x.id.key ≡ true) (records_at block.addr qs) (λ x h. h)
         (subst (AllByRecursion (λ (x : RecordView). is_among (instance_keys (shapes n)) x.id.key ≡ true)) (sym (records_alike block))
-        (all_to record_without_flag (λ x. is_among (instance_keys (shapes n)) x.id.key ≡ true) (records_at block.label rs) (λ x h. h) (still.declared n block meant)));
+        (all_to record_without_flag (λ x. is_among (instance_keys (shapes n)) x.id.key ≡ true) (records_at block.addr rs) (λ x h. h) (still.declared n block meant)));
     rest = λ resolved_names solves n block key meant among.
-        resting_still ms block key _ (objects n key) (records_of key (records_at block.label rs)) (records_of key (records_at block.label qs)) (still.rest resolved_names solves n block key meant among) (instance_alike block key);
+        resting_still ms block key _ (objects n key) (records_of key (records_at block.addr rs)) (records_of key (records_at block.addr qs)) (still.rest resolved_names solves n block key meant among) (instance_alike block key);
   }

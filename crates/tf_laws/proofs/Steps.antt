@@ -8,17 +8,17 @@ use Rattle.tf_plan_object.specs.Kept.{kept_object}
 use Rattle.tf_walk_action.specs.Asked.{asked_by_step, create_of, destroy_of, op_of, update_of}
 use Rattle.tf_plan_data.specs.Address.{address_text}
 use Rattle.tf_plan_data.specs.Fits.{deposed_key, is_apply}
-use Rattle.tf_protocol.specs.Meaning.{Asked}
-use Rattle.tf_protocol.specs.Schema.{SchemaView}
-use Rattle.tf_protocol.specs.Verdict.{has_attributes}
+use Rattle.tf_provider_protocol.specs.Meaning.{Asked}
+use Rattle.tf_provider_protocol.specs.Schema.{SchemaView}
+use Rattle.tf_provider_protocol.specs.Verdict.{has_attributes}
 use Rattle.tf_value.specs.Tree.{Tree}
 use Rattle.tf_laws.specs.Requests.{object_before}
 
 -- what is asked is about the action's instance, by its step
 pub record IsOwn (a : ActionView) (step : StepView) (asked : Asked) : Type 0 where
   pub op : asked.op ≡ op_of step
-  pub address : asked.address ≡ address_text a.label a.key
-  pub type_name : asked.type_name ≡ a.label.type_name
+  pub address : asked.address ≡ address_text a.addr a.key
+  pub type_name : asked.type_name ≡ a.addr.type_name
   pub deposed : asked.deposed ≡ deposed_key step
   pub prior : asked.prior ≡ object_before step
 

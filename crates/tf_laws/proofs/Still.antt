@@ -3,7 +3,7 @@ use Rattle.std.proofs.Common.{◌≡◌, ◌∙◌, ◌<◌, ◌+◌, ◌++◌, 
 use Rattle.std.specs.List.{AllByRecursion, list_all}
 use Rattle.std.specs.Option.{option_and_then}
 use Rattle.std.specs.Prelude.{is_none, slice_get}
-use Rattle.tf_address.specs.ObjectId.{InstanceKeyView}
+use Rattle.tf_config_address.specs.ObjectId.{InstanceKeyView}
 use Rattle.tf_plan_object.proofs.Locals.{instances_local}
 use Rattle.tf_plan_object.specs.Instance.{instance_object}
 use Rattle.tf_config_data.specs.Config.{BlockView, LifecycleView}
@@ -21,16 +21,16 @@ use Rattle.tf_expand.proofs.Seen.{agree_on}
 use Rattle.tf_expand.specs.InstanceKeys.{InstanceKeysView, one, many, named, instance_keys, collected, list_of, map_under, objects_at}
 use Rattle.tf_expand.specs.Stages.{applying}
 use Rattle.tf_expand.specs.Resolved.{ResolvedView, AreResolvedNames, all_stand, environment, rule, stands_at, together}
-use Rattle.tf_eval.proofs.Locality.{expressions_local}
-use Rattle.tf_eval.specs.Environment.{Environment}
-use Rattle.tf_eval.specs.Locality.{AgreeOn}
+use Rattle.tf_expr_eval.proofs.Locality.{expressions_local}
+use Rattle.tf_expr_eval.specs.Environment.{Environment}
+use Rattle.tf_expr_eval.specs.Locality.{AgreeOn}
 use Rattle.tf_graph.proofs.Solving.{all_by_weaker, solution-exists}
 use Rattle.tf_graph.specs.Solutions.{Ranked, seen_by}
 use Rattle.tf_plan_order.specs.Members.{InstanceToPlanView, is_among, member, members, records_of}
-use Rattle.tf_operators.specs.Answer.{limited}
+use Rattle.tf_expr_operators.specs.Answer.{limited}
 use Rattle.tf_plan.proofs.Listing.{member_actions, meant_actions, of_at, place_actions}
-use Rattle.tf_protocol.specs.Meaning.{Meaning, schema_in}
-use Rattle.tf_protocol.specs.Schema.{SchemaView}
+use Rattle.tf_provider_protocol.specs.Meaning.{Meaning, schema_in}
+use Rattle.tf_provider_protocol.specs.Schema.{SchemaView}
 use Rattle.tf_walk_action.proofs.Answering.{next_is}
 use Rattle.tf_plan_order.specs.ResourceIndex.{ResourceRefView, a_name, an_orphan, numbered}
 use Rattle.tf_state_data.specs.Record.{RecordView}
@@ -88,7 +88,7 @@ steps_none records r alone e = ap (λ (rs : List RecordView). decided_steps rs n
 
 module _ (ms : List Meaning) (block : BlockView) (key : InstanceKeyView) (env seen : Environment) (object : Tree) (records : List RecordView) (rest : IsResting ms block key seen object records) where
   -- by what its block makes where names stand for as much, nothing is decided
-  nothing_decided_at : (schema : SchemaView) (d : DecisionView) → schema_in block.label.type_name ms ≡ Some schema → instance_object schema block key env ≡ instance_object schema block key seen
+  nothing_decided_at : (schema : SchemaView) (d : DecisionView) → schema_in block.addr.type_name ms ≡ Some schema → instance_object schema block key env ≡ instance_object schema block key seen
       → decision.decision schema block.lifecycle records (instance_object schema block key env) ≡ Ok d → d ≡ nothing
   nothing_decided_at schema d has same e =
       let is = decision_is schema block.lifecycle records (instance_object schema block key env) d e in
@@ -101,7 +101,7 @@ module _ (ms : List Meaning) (block : BlockView) (key : InstanceKeyView) (env se
       ∙ ap (option_map (λ (x : RecordView). x.attributes)) (ap current rest.alone ∙ current_is rest.only rest.current) ∙ ap Some rest.stands
 
   -- so it has no steps, and stands for its object
-  at_rest : (schema : SchemaView) → schema_in block.label.type_name ms ≡ Some schema → instance_object schema block key env ≡ instance_object schema block key seen
+  at_rest : (schema : SchemaView) → schema_in block.addr.type_name ms ≡ Some schema → instance_object schema block key env ≡ instance_object schema block key seen
       → IsFine (by_decision records (decision.decision schema block.lifecycle records (instance_object schema block key env)))
       → (by_decision records (decision.decision schema block.lifecycle records (instance_object schema block key env)) ≡ Ok [])
       × (object_unless_refused records (decision.decision schema block.lifecycle records (instance_object schema block key env)) ≡ Some object)
@@ -118,33 +118,33 @@ module _ (ms : List Meaning) (block : BlockView) (key : InstanceKeyView) (env se
 -- a member has no steps, and its instance stands for an object
 abbrev IsStill : List Meaning → List ResourceView → ℕ → BlockView → Environment → (InstanceKeyView → Tree) → InstanceToPlanView → Type 0
 IsStill ms resources n block env objects m =
-    (member_outcome (schema_in block.label.type_name ms) block env m ≡ Ok []) × (decided_object ms resources n block env m.key ≡ Some (objects m.key)) × (m.is_declared ≡ true)
+    (member_outcome (schema_in block.addr.type_name ms) block env m ≡ Ok []) × (decided_object ms resources n block env m.key ≡ Some (objects m.key)) × (m.is_declared ≡ true)
 
 module _ (ms : List Meaning) (resources : List ResourceView) (n : ℕ) (block : BlockView) (ks : List InstanceKeyView) (env seen : Environment) (objects : InstanceKeyView → Tree) (agree : AgreeOn env seen (block_refers block)) where
-  member_still : (key : InstanceKeyView) → is_among ks key ≡ true → IsResting ms block key seen (objects key) (records_of key (records_at block.label resources))
-      → (found : Option SchemaView) → schema_in block.label.type_name ms ≡ found
-      → IsFine (member_outcome found block env (member ks (records_at block.label resources) key))
-      → (member_outcome found block env (member ks (records_at block.label resources) key) ≡ Ok [])
-      × (option_and_then (λ schema. object_of schema block (records_of key (records_at block.label resources)) env key) found ≡ Some (objects key))
+  member_still : (key : InstanceKeyView) → is_among ks key ≡ true → IsResting ms block key seen (objects key) (records_of key (records_at block.addr resources))
+      → (found : Option SchemaView) → schema_in block.addr.type_name ms ≡ found
+      → IsFine (member_outcome found block env (member ks (records_at block.addr resources) key))
+      → (member_outcome found block env (member ks (records_at block.addr resources) key) ≡ Ok [])
+      × (option_and_then (λ schema. object_of schema block (records_of key (records_at block.addr resources)) env key) found ≡ Some (objects key))
   member_still key among rest None has fine = let no : ◌≡◌ {A = OutcomeView} (Err _) (Ok fine.0) = fine.1 in absurd (cc)
   member_still key among rest (Some schema) has fine =
-      let records = records_of key (records_at block.label resources) in
-      let m = member ks (records_at block.label resources) key in
+      let records = records_of key (records_at block.addr resources) in
+      let m = member ks (records_at block.addr resources) key in
       let same = instances_local expressions_local schema block key env seen agree in
       let outcome = λ (b : Bool). if b then declared_outcome schema block env m else removal_outcome schema (Some block.lifecycle) m in
       let declared : IsFine (declared_outcome schema block env m) = (fine.0, sym (ap outcome among) ∙ fine.1) in
       let still = at_rest ms block key env seen (objects key) records rest schema has same declared in
       (ap outcome among ∙ still.0, still.1)
 
-  members_still : ((key : InstanceKeyView) → is_among ks key ≡ true → IsResting ms block key seen (objects key) (records_of key (records_at block.label resources)))
-      → AllByRecursion (λ x. is_among ks x.id.key ≡ true) (records_at block.label resources)
-      → AllByRecursion (λ m. IsFine (member_outcome (schema_in block.label.type_name ms) block env m)) (members ks (records_at block.label resources))
-      → AllByRecursion (IsStill ms resources n block env objects) (members ks (records_at block.label resources))
+  members_still : ((key : InstanceKeyView) → is_among ks key ≡ true → IsResting ms block key seen (objects key) (records_of key (records_at block.addr resources)))
+      → AllByRecursion (λ x. is_among ks x.id.key ≡ true) (records_at block.addr resources)
+      → AllByRecursion (λ m. IsFine (member_outcome (schema_in block.addr.type_name ms) block env m)) (members ks (records_at block.addr resources))
+      → AllByRecursion (IsStill ms resources n block env objects) (members ks (records_at block.addr resources))
   members_still rest declared fine =
-      members_hold (IsStill ms resources n block env objects) ks (records_at block.label resources) declared
+      members_hold (IsStill ms resources n block env objects) ks (records_at block.addr resources) declared
       (λ key among.
-      let own = instance_holds (λ m. IsFine (member_outcome (schema_in block.label.type_name ms) block env m)) ks (records_at block.label resources) key fine among in
-      let still = member_still key among (rest key among) (schema_in block.label.type_name ms) refl own in
+      let own = instance_holds (λ m. IsFine (member_outcome (schema_in block.addr.type_name ms) block env m)) ks (records_at block.addr resources) key fine among in
+      let still = member_still key among (rest key among) (schema_in block.addr.type_name ms) refl own in
       (still.0, still.1, among))
 
 -- a resource with such members can stand
@@ -175,7 +175,7 @@ all_there resolved_names (n ∷ ns) h = and-both (is_some (resolved_names n)) (a
 abbrev pub AreLookedAt : List Meaning → Entries → List NameView → (ℕ → InstanceKeysView) → List ResourceView → (ℕ → ResolvedView) → (ℕ → ResolvedView) → Type 0
 AreLookedAt ms variables names shapes resources resolved_names others =
     (n : ℕ) (block : BlockView) → meant_at names n ≡ Some (a_block block) → AllByRecursion (λ a. (resolved_names a ≡ others a) × (is_some (resolved_names a) ≡ true)) (directly_before names n)
-    → AllByRecursion (λ m. IsFine (member_outcome (schema_in block.label.type_name ms) block (environment variables names resolved_names) m)) (members (instance_keys (shapes n)) (records_at block.label resources))
+    → AllByRecursion (λ m. IsFine (member_outcome (schema_in block.addr.type_name ms) block (environment variables names resolved_names) m)) (members (instance_keys (shapes n)) (records_at block.addr resources))
 
 module _ (ms : List Meaning) (variables : Entries) (names : List NameView) (shapes : ℕ → InstanceKeysView) (objects : ℕ → InstanceKeyView → Tree) (resources : List ResourceView)
     (ranked : Ranked (directly_before names)) (still : AreAtRest ms variables names shapes objects resources)
@@ -205,10 +205,10 @@ module _ (ms : List Meaning) (variables : Entries) (names : List NameView) (shap
       (ap Some (expressions_local (environment variables names resolved_names) (environment variables names others) e own), refl)
   same_meant n (a_block block) meant before =
       let each = block_still n block meant before in
-      let records = records_at block.label resources in
+      let records = records_at block.addr resources in
       let ks = instance_keys (shapes n) in
       let env = environment variables names resolved_names in
-      let go : all_can_go ms resources (shapes n) block ≡ true = all_go (schema_in block.label.type_name ms) block.lifecycle (members ks records)
+      let go : all_can_go ms resources (shapes n) block ≡ true = all_go (schema_in block.addr.type_name ms) block.lifecycle (members ks records)
       (parts_of (IsStill ms resources n block env (objects n)) (λ m. m.is_declared ≡ true) (members ks records) (λ m h. h.2) each) in (
         ap (λ (b : Bool). together (if b then Some (shapes n) else None) (decided_object ms resources n block env)) go
             ∙ together_same (decided_object ms resources n block env) (λ key. Some (objects n key)) (shapes n)
@@ -250,12 +250,12 @@ module _ (ms : List Meaning) (variables : Entries) (names : List NameView) (shap
   meant_none n (a_local e) meant = refl
   meant_none n (a_block block) meant = by_test (all_stand (seen_by resolved_names (directly_before names n)))
     where
-      by_test : (b : Bool) → cond b (member_actions (of_at ms n block.label) (member_outcome (schema_in block.label.type_name ms) block (environment variables names resolved_names)) 0 (block_members (shapes n) block resources)) [] ≡ []
+      by_test : (b : Bool) → cond b (member_actions (of_at ms n block.addr) (member_outcome (schema_in block.addr.type_name ms) block (environment variables names resolved_names)) 0 (block_members (shapes n) block resources)) [] ≡ []
       by_test false = refl
       by_test true =
           let each = block_still n block meant (before_same n (meant_within names n (a_block block) meant)) in
-          no_actions (of_at ms n block.label) (member_outcome (schema_in block.label.type_name ms) block (environment variables names resolved_names)) 0 (block_members (shapes n) block resources)
-          (parts_of (IsStill ms resources n block (environment variables names resolved_names) (objects n)) (λ m. member_outcome (schema_in block.label.type_name ms) block (environment variables names resolved_names) m ≡ Ok []) (block_members (shapes n) block resources) (λ m h. h.0) each)
+          no_actions (of_at ms n block.addr) (member_outcome (schema_in block.addr.type_name ms) block (environment variables names resolved_names)) 0 (block_members (shapes n) block resources)
+          (parts_of (IsStill ms resources n block (environment variables names resolved_names) (objects n)) (λ m. member_outcome (schema_in block.addr.type_name ms) block (environment variables names resolved_names) m ≡ Ok []) (block_members (shapes n) block resources) (λ m h. h.0) each)
 
   pub place_none : (n : ℕ) (o : Option ResourceRefView) → slice_get (numbered names resources) n ≡ o → place_actions ms resources variables names shapes resolved_names n o ≡ []
   place_none n None e = refl

@@ -3,16 +3,16 @@ use Rattle.std.proofs.Common.{◌≡◌, ◌∙◌, inl, inr, true, false, List,
 use Rattle.std.specs.List.{list_all}
 use Rattle.std.specs.Option.{option_map_or, option_or}
 use Rattle.std.specs.Prelude.{Contains, is_none}
-use Rattle.tf_address.specs.Label.{LabelView}
-use Rattle.tf_address.specs.ObjectId.{ObjectIdView}
+use Rattle.tf_config_address.specs.ResourceAddr.{ResourceAddrView}
+use Rattle.tf_config_address.specs.ObjectId.{ObjectIdView}
 use Rattle.tf_plan_decision.proofs.Aligned.{each_entry, passes}
 use Rattle.tf_plan_decision.proofs.Exact.{fits_exactly}
 use Rattle.tf_plan_decision.specs.Decision.{current}
 use Rattle.tf_plan_decision.specs.Prior.{PriorFaultView, first_unfit, record_fault}
 use Rattle.tf_expand.proofs.Refining.{followed}
 use Rattle.tf_graph.proofs.Edges.{contains_cases}
-use Rattle.tf_protocol.specs.Schema.{AttributeView, SchemaView, IsSchema}
-use Rattle.tf_protocol.specs.Verdict.{fits, fits_in, has_attributes, is_allowed, well_formed}
+use Rattle.tf_provider_protocol.specs.Schema.{AttributeView, SchemaView, IsSchema}
+use Rattle.tf_provider_protocol.specs.Verdict.{fits, fits_in, has_attributes, is_allowed, well_formed}
 use Rattle.tf_state.specs.Valid.{IsAttributes, IsPresent, IsRecord, IsValid}
 use Rattle.tf_state_data.specs.Record.{RecordView}
 use Rattle.tf_state_data.specs.Resource.{ResourceView, record_at}
@@ -43,9 +43,9 @@ attributes_sorted (map es) h = (h.0, each_sorted es h.1)
 attributes_sorted _ h = absurd h
 
 -- each object that a valid state knows has attributes that may be stored
-pub known_attributes : (s : StateView) → IsValid s → (label : LabelView) (id : ObjectIdView) (y : RecordView) → record_in label id s ≡ Some y → IsAttributes y.attributes
-known_attributes s valid label id y e =
-    let r = followed (resource_at label s.resources) (λ (r : ResourceView). record_at id r.records) y e in
+pub known_attributes : (s : StateView) → IsValid s → (addr : ResourceAddrView) (id : ObjectIdView) (y : RecordView) → record_in addr id s ≡ Some y → IsAttributes y.attributes
+known_attributes s valid addr id y e =
+    let r = followed (resource_at addr s.resources) (λ (r : ResourceView). record_at id r.records) y e in
     let present : IsPresent r.0 = all_contained IsPresent s.resources r.0 valid.resources.0 (found_contains _ s.resources r.0 r.1) in
     let own : IsRecord y = all_contained IsRecord r.0.records y present.0.records.0 (found_contains _ r.0.records y r.2) in
     own.attributes

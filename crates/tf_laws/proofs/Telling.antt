@@ -14,7 +14,7 @@ use Rattle.tf_config_names.proofs.Placed.{some_places}
 use Rattle.tf_config_names.specs.Edges.{edges_into}
 use Rattle.tf_config_names.specs.Needs.{IsAcyclic, IsDependence, Needs}
 use Rattle.tf_config_names.specs.declared.dependence.Dependence.{Dependence}
-use Rattle.tf_syntax.specs.TemplateNames.{Pair}
+use Rattle.tf_expr_syntax.specs.TemplateNames.{Pair}
 use Rattle.tf_laws.proofs.Graphs.{is_closure, order_is_short, table_of, whole_order}
 use Rattle.tf_laws.proofs.Leading.{IsDecided, decided_path}
 

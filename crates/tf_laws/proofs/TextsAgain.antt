@@ -15,9 +15,9 @@ use Rattle.tf_walk_action.specs.declared.excuse.Outcome.{Outcome}
 use Rattle.tf_walk_action.specs.declared.excuse.Outcome.TheVariants as outcome
 use Rattle.tf_walk_report.specs.Outputs.{outputs_after}
 use Rattle.tf_plan_data.specs.Plan.{PlanView}
-use Rattle.tf_protocol.specs.Meaning.{Meaning}
-use Rattle.tf_protocol.specs.declared.verdict.Verdict.{Verdict}
-use Rattle.tf_protocol.specs.declared.verdict.Verdict.TheVariants as verdict
+use Rattle.tf_provider_protocol.specs.Meaning.{Meaning}
+use Rattle.tf_provider_protocol.specs.declared.verdict.Verdict.{Verdict}
+use Rattle.tf_provider_protocol.specs.declared.verdict.Verdict.TheVariants as verdict
 use Rattle.tf_walk_report.specs.Outcomes.{outcome_of}
 use Rattle.tf_walk_report.specs.Report.{report_of}
 use Rattle.tf_walk_report.specs.declared.report.Report.{Report}
@@ -76,9 +76,9 @@ nothing_is_done_again laws back one quiet ms texts lineage other a saved again s
       shown = second.carried_out.shown ∙ shown_none plan.late plan.actions none;
       no_calls = no_entries ms plan again.walked second.carried_out.walked none;
       no_outcomes = told.is_report.told.outcomes ∙ none_of told.done (length plan.actions) told.is_report.solved.all (ap length none);
-      kept = λ label id.
-          subst (λ (s : StateView). IsRenewed (record_in label id s) (record_in label id (state_in again))) before
-          (quiet ms plan told.done (outputs_after plan.prior.outputs plan.config.outputs told.outputs) (state_in again) none told.is_report.told.state label id);
+      kept = λ addr id.
+          subst (λ (s : StateView). IsRenewed (record_in addr id s) (record_in addr id (state_in again))) before
+          (quiet ms plan told.done (outputs_after plan.prior.outputs plan.config.outputs told.outputs) (state_in again) none told.is_report.told.state addr id);
     }
 
 -- ---- by the status

@@ -9,7 +9,7 @@ use Rattle.tf_walk_action.specs.Outcome.{ActionResultView}
 use Rattle.tf_plan.proofs.Fitting.{all-by_id}
 use Rattle.tf_plan.specs.Plan.{IsPlan}
 use Rattle.tf_plan_data.specs.Plan.{PlanView}
-use Rattle.tf_protocol.specs.Meaning.{Meaning}
+use Rattle.tf_provider_protocol.specs.Meaning.{Meaning}
 use Rattle.tf_walk_report.specs.Report.{IsTold}
 use Rattle.tf_walk_report.specs.declared.report.Report.{Report}
 use Rattle.tf_state_data.specs.Equality.{same_state, state_Decides}

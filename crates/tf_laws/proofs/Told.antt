@@ -11,7 +11,7 @@ use Rattle.tf_walk_action.specs.Outcome.{ActionResultView}
 use Rattle.tf_walk_report.specs.OutputLaws.{OutputsAreOne, SettledAreOne}
 use Rattle.tf_walk_report.specs.Outputs.{OutputResultView, end_of, outputs_after}
 use Rattle.tf_plan_data.specs.Plan.{PlanView, plan_names}
-use Rattle.tf_protocol.specs.Meaning.{Meaning}
+use Rattle.tf_provider_protocol.specs.Meaning.{Meaning}
 use Rattle.tf_walk_report.proofs.Joined.{each_ordered}
 use Rattle.tf_walk_report.specs.Events.{events}
 use Rattle.tf_walk_report.specs.Good.{are_good_at}

@@ -3,8 +3,8 @@ use Rattle.std.proofs.Common.{◌≡◌, ◌∙◌, ◌+◌, ℕ, Bool, true, fa
 use Rattle.std.specs.List.{AllByRecursion}
 use Rattle.std.specs.Option.{option_map_or}
 use Rattle.tf_walk_buffers.specs.Dependencies as additions
-use Rattle.tf_address.specs.Label.{LabelView}
-use Rattle.tf_address.specs.ObjectId.{ObjectIdView}
+use Rattle.tf_config_address.specs.ResourceAddr.{ResourceAddrView}
+use Rattle.tf_config_address.specs.ObjectId.{ObjectIdView}
 use Rattle.tf_plan_object.specs.Laws.{InstancesGrow}
 use Rattle.tf_config_data.specs.Config.{BlockView, ConfigView}
 use Rattle.tf_config_data.specs.Names.{NameView, a_block, meant_at, names_of}
@@ -16,7 +16,7 @@ use Rattle.tf_walk_action.specs.Outcome.{ActionResultView}
 use Rattle.tf_walk_report.specs.Outputs.{outputs_after}
 use Rattle.tf_plan_data.specs.Plan.{PlanView}
 use Rattle.tf_plan_order.specs.OrderInput.{OrderInputView}
-use Rattle.tf_protocol.specs.Meaning.{Meaning}
+use Rattle.tf_provider_protocol.specs.Meaning.{Meaning}
 use Rattle.tf_walk_report.specs.Events.{events}
 use Rattle.tf_plan_order.specs.Dependencies.{dependencies}
 use Rattle.tf_plan_order.specs.ResourceIndex.{ResourceRefView, a_name, an_orphan, has_block, numbered, orphans}
@@ -37,16 +37,16 @@ use Rattle.tf_laws.specs.Reapply.{IsCarriedOut, IsSound}
 use Rattle.tf_laws.specs.Known.{ExpressionsStayKnown}
 use Rattle.tf_laws.specs.Twice.{HasOwnNames, IsAppliedAgain, record_without_flag, resource_without_flags}
 
-no_orphans : (names : List NameView) (rs : List ResourceView) → AllByRecursion (λ r. has_block names r.label ≡ true) rs → orphans names rs ≡ []
+no_orphans : (names : List NameView) (rs : List ResourceView) → AllByRecursion (λ r. has_block names r.addr ≡ true) rs → orphans names rs ≡ []
 no_orphans names [] h = refl
-no_orphans names (r ∷ rs) h = by_test (has_block names r.label) h.0 (no_orphans names rs h.1)
+no_orphans names (r ∷ rs) h = by_test (has_block names r.addr) h.0 (no_orphans names rs h.1)
   where
     by_test : (b : Bool) → b ≡ true → orphans names rs ≡ [] → cond (not b) (r ∷ orphans names rs) (orphans names rs) ≡ []
     by_test true e again = again
     by_test false e again = absurd (cc)
 
 -- where each resource has a block, the names alone are numbered
-numbers_are : (names : List NameView) (rs : List ResourceView) → AllByRecursion (λ r. has_block names r.label ≡ true) rs → numbered names rs ≡ map a_name names ++ []
+numbers_are : (names : List NameView) (rs : List ResourceView) → AllByRecursion (λ r. has_block names r.addr ≡ true) rs → numbered names rs ≡ map a_name names ++ []
 numbers_are names rs h = ap (λ (qs : List ResourceView). map a_name names ++ map an_orphan qs) (no_orphans names rs h)
 
 abbrev ties : (again : PlanView) → (ℕ → ℕ → Bool) → OrderInputView
@@ -56,8 +56,8 @@ ties again needed = record { needs = again.needs; needed = needed; late = again.
 
 module _ (ms : List Meaning) (config : ConfigView) (variables : Entries) (s : StateView) (at : IsAtRest ms config variables s) (again : PlanView) (later : StateView)
     (is : IsAppliedAgain ms config variables s (home config variables s again) later) where
-  providers_stay : (label : LabelView) (r q : ResourceView) → resource_at label later.resources ≡ Some r → resource_at label s.resources ≡ Some q → r.provider ≡ q.provider
-  providers_stay label r q e f = is.state.after.providers label r e ∙ ap (λ (o : Option ResourceView). option_map_or (λ r. r.provider) o (provider_text label.type_name)) f
+  providers_stay : (addr : ResourceAddrView) (r q : ResourceView) → resource_at addr later.resources ≡ Some r → resource_at addr s.resources ≡ Some q → r.provider ≡ q.provider
+  providers_stay addr r q e f = is.state.after.providers addr r e ∙ ap (λ (o : Option ResourceView). option_map_or (λ r. r.provider) o (provider_text addr.type_name)) f
 
   like : AreLike later s
   like = record { ordered = is.in_order; sorted = at.in_order; present = is.state.after.present; there = at.present; providers = providers_stay }
@@ -67,14 +67,14 @@ module _ (ms : List Meaning) (config : ConfigView) (variables : Entries) (s : St
     pub needs : y.dependencies ≡ additions.dependencies again.needs (names_of config) n
     pub late : y.create_before_destroy ≡ again.late n
 
-  pub given_later : (label : LabelView) (id : ObjectIdView) (y : RecordView) (n : ℕ) (block : BlockView) → record_in label id later ≡ Some y → meant_at (names_of config) n ≡ Some (a_block block) → block.label ≡ label → IsGiven n y
-  given_later label id y n block known meant own = by_record (record_in label id s) refl
+  pub given_later : (addr : ResourceAddrView) (id : ObjectIdView) (y : RecordView) (n : ℕ) (block : BlockView) → record_in addr id later ≡ Some y → meant_at (names_of config) n ≡ Some (a_block block) → block.addr ≡ addr → IsGiven n y
+  given_later addr id y n block known meant own = by_record (record_in addr id s) refl
     where
-      by_record : (o : Option RecordView) → record_in label id s ≡ o → IsGiven n y
-      by_record None e = let no : None ≡ Some y = sym (none_again ms config variables s at again later is label id e) ∙ known in absurd (cc)
+      by_record : (o : Option RecordView) → record_in addr id s ≡ o → IsGiven n y
+      by_record None e = let no : None ≡ Some y = sym (none_again ms config variables s at again later is addr id e) ∙ known in absurd (cc)
       by_record (Some z) e =
-          let p = in_place ms config variables s at label id z e in
-          let both : Some (renewed (additions.dependencies again.needs (names_of config) p.n) (again.late p.n) z) ≡ Some y = sym (given_again ms config variables s at again later is label id z e p) ∙ known in
+          let p = in_place ms config variables s at addr id z e in
+          let both : Some (renewed (additions.dependencies again.needs (names_of config) p.n) (again.late p.n) z) ≡ Some y = sym (given_again ms config variables s at again later is addr id z e p) ∙ known in
           let same : renewed (additions.dependencies again.needs (names_of config) p.n) (again.late p.n) z ≡ y = (cc) in
           let number : p.n ≡ n = blocks_one (names_of config) at.apart p.n n p.block block p.meant meant (p.own ∙ sym own) in
           record {
@@ -84,15 +84,15 @@ module _ (ms : List Meaning) (config : ConfigView) (variables : Entries) (s : St
 
   module _ (needs : ℕ → ℕ → Bool) (depends : Depends config needs s)
       (alike : (n : ℕ) (block : BlockView) → meant_at (names_of config) n ≡ Some (a_block block) → additions.dependencies again.needs (names_of config) n ≡ additions.dependencies needs (names_of config) n) where
-    known_alike : (label : LabelView) (id : ObjectIdView) → option_map record_without_flag (record_in label id later) ≡ option_map record_without_flag (record_in label id s)
-    known_alike label id = by_record (record_in label id s) refl
+    known_alike : (addr : ResourceAddrView) (id : ObjectIdView) → option_map record_without_flag (record_in addr id later) ≡ option_map record_without_flag (record_in addr id s)
+    known_alike addr id = by_record (record_in addr id s) refl
       where
-        by_record : (o : Option RecordView) → record_in label id s ≡ o → option_map record_without_flag (record_in label id later) ≡ option_map record_without_flag (record_in label id s)
-        by_record None e = ap (option_map record_without_flag) (none_again ms config variables s at again later is label id e) ∙ sym (ap (option_map record_without_flag) e)
+        by_record : (o : Option RecordView) → record_in addr id s ≡ o → option_map record_without_flag (record_in addr id later) ≡ option_map record_without_flag (record_in addr id s)
+        by_record None e = ap (option_map record_without_flag) (none_again ms config variables s at again later is addr id e) ∙ sym (ap (option_map record_without_flag) e)
         by_record (Some y) e =
-            let p = in_place ms config variables s at label id y e in
-            ap (option_map record_without_flag) (given_again ms config variables s at again later is label id y e p)
-            ∙ ap (λ (ds : List (List ℕ)). Some (record_without_flag (renewed ds (again.late p.n) y))) (alike p.n p.block p.meant ∙ sym (depends label id y p.n p.block e p.meant p.own))
+            let p = in_place ms config variables s at addr id y e in
+            ap (option_map record_without_flag) (given_again ms config variables s at again later is addr id y e p)
+            ∙ ap (λ (ds : List (List ℕ)). Some (record_without_flag (renewed ds (again.late p.n) y))) (alike p.n p.block p.meant ∙ sym (depends addr id y p.n p.block e p.meant p.own))
             ∙ sym (ap (option_map record_without_flag) e)
 
     -- the resources are the same but for flags
@@ -120,12 +120,12 @@ module _ (law : ExpressionsStayKnown) (grows : InstancesGrow) (grow : ResolvedNa
   rested = first_rests law grows grow ms config variables prior plan done outputs after sound carried
 
   pub first_depends : Depends config plan.needs after
-  first_depends label id y n block known meant own =
-      let p = in_place ms config variables after rested label id y known in
+  first_depends addr id y n block known meant own =
+      let p = in_place ms config variables after rested addr id y known in
       let number : p.n ≡ n = blocks_one (names_of config) rested.apart p.n n p.block block p.meant meant (p.own ∙ sym own) in
       let id_is : id ≡ record { key = id.key; deposed = None } = λ i. record { key = id.key; deposed = p.current i } in
-      let there : record_in p.block.label (record { key = id.key; deposed = None }) after ≡ Some y =
-      ap (λ (l : LabelView). record_in l (record { key = id.key; deposed = None }) after) p.own ∙ ap (λ (i : ObjectIdView). record_in label i after) (sym id_is) ∙ known in
+      let there : record_in p.block.addr (record { key = id.key; deposed = None }) after ≡ Some y =
+      ap (λ (l : ResourceAddrView). record_in l (record { key = id.key; deposed = None }) after) p.own ∙ ap (λ (i : ObjectIdView). record_in addr i after) (sym id_is) ∙ known in
       own_depends ms config variables prior (home config variables prior plan) done outputs after sound carried p.n p.block id.key y p.meant p.among there
       ∙ ap (additions.dependencies plan.needs (names_of config)) number
 
@@ -160,15 +160,15 @@ module _ (law : ExpressionsStayKnown) (grows : InstancesGrow) (grow : ResolvedNa
           (ap (λ (all : List ResourceRefView). dependencies all later.resources) numbers ∙ same_stored (numbered (names_of config) after.resources) later.resources after.resources second_resources) n
 
       -- it changes no record
-      pub third_records : (label : LabelView) (id : ObjectIdView) → record_in label id last ≡ record_in label id later
-      third_records label id = by_record (record_in label id later) refl
+      pub third_records : (addr : ResourceAddrView) (id : ObjectIdView) → record_in addr id last ≡ record_in addr id later
+      third_records addr id = by_record (record_in addr id later) refl
         where
-          by_record : (o : Option RecordView) → record_in label id later ≡ o → record_in label id last ≡ record_in label id later
-          by_record None e = none_again ms config variables later second_rests third last also label id e ∙ sym e
+          by_record : (o : Option RecordView) → record_in addr id later ≡ o → record_in addr id last ≡ record_in addr id later
+          by_record None e = none_again ms config variables later second_rests third last also addr id e ∙ sym e
           by_record (Some y) e =
-              let p = in_place ms config variables later second_rests label id y e in
-              let given = given_later ms config variables after rested again later is label id y p.n p.block e p.meant p.own in
-              given_again ms config variables later second_rests third last also label id y e p
+              let p = in_place ms config variables later second_rests addr id y e in
+              let given = given_later ms config variables after rested again later is addr id y p.n p.block e p.meant p.own in
+              given_again ms config variables later second_rests third last also addr id y e p
               ∙ ap (λ (ds : List (List ℕ)). Some (renewed ds (third.late p.n) y)) (second_alike p.n p.block p.meant ∙ sym given.needs)
               ∙ ap (λ (b : Bool). Some (renewed y.dependencies b y)) (late_alike p.n ∙ sym given.late)
               ∙ sym e
@@ -182,9 +182,9 @@ module _ (law : ExpressionsStayKnown) (grows : InstancesGrow) (grow : ResolvedNa
           let own_ends = ends_in (events ms (home config variables later third) also.state.heads also.done) in
           let own : IsStateAfter later own_given own_ends entries same =
           record {
-            records = λ label id. sym (third_records label id) ∙ also.state.after.records label id;
+            records = λ addr id. sym (third_records addr id) ∙ also.state.after.records addr id;
             present = is.state.after.present;
-            providers = λ label r e. sym (ap (λ (o : Option ResourceView). option_map_or (λ r. r.provider) o (provider_text label.type_name)) e);
+            providers = λ addr r e. sym (ap (λ (o : Option ResourceView). option_map_or (λ r. r.provider) o (provider_text addr.type_name)) e);
             outputs_are = refl;
             lineage = refl;
             version = refl;

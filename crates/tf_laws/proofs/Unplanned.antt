@@ -1,7 +1,7 @@
 -- What may be refused over the state that an apply left.
 use Rattle.std.proofs.Common.{◌≡◌, ◌≤◌, ◌<◌, ℕ, List, [], ◌∷◌, length, inl, inr, subst, arith}
 use Rattle.tf_plan_data.specs.Action.{ActionView}
-use Rattle.tf_address.specs.ObjectId.{InstanceKeyView}
+use Rattle.tf_config_address.specs.ObjectId.{InstanceKeyView}
 use Rattle.tf_cli.specs.Applies.{IsApplied, state_in}
 use Rattle.tf_cli.specs.declared.applied.Applied.{Applied}
 use Rattle.tf_config_data.specs.Config.{ConfigView}
@@ -18,12 +18,12 @@ use Rattle.tf_plan.specs.Planned.{AreInstances}
 use Rattle.tf_plan.specs.Refused.{AreManyActions, AreManyPairs, AreManyPairsBy, AreRefusedOf, IsUnplanned}
 use Rattle.tf_plan_data.specs.Plan.{plan_names}
 use Rattle.tf_plan_order.specs.OrderInput.{OrderInputView}
-use Rattle.tf_protocol.specs.Meaning.{Meaning}
-use Rattle.tf_refusal.specs.Refusal.{RefusalView}
+use Rattle.tf_provider_protocol.specs.Meaning.{Meaning}
+use Rattle.tf_config_refusal.specs.Refusal.{RefusalView}
 use Rattle.tf_walk_report.specs.Report.{objects_after, report_of}
 use Rattle.tf_state.specs.Table.{IsBeyond, last_serial}
 use Rattle.tf_state_data.specs.Resource.{ResourceView}
-use Rattle.tf_syntax.specs.ExprTree as expr
+use Rattle.tf_expr_syntax.specs.ExprTree as expr
 use Rattle.tf_value.specs.Tree.{Entries, Tree}
 use Rattle.tf_laws.proofs.Counted.{beyond_by_serial}
 use Rattle.tf_laws.proofs.PlannedOverTexts.{Laws, plan_acyclic, plan_ranked, reported, sound}

@@ -2,7 +2,7 @@
 use Rattle.std.proofs.Common.{◌≡◌, ◌∙◌, ◌+◌, ◌++◌, ℕ, Bool, true, false, cond, if◌then◌else◌, List, [], ◌∷◌, Option, Some, None, is_some, Result, Ok, fold, length, map, refl, ap, ap₂, subst}
 use Rattle.std.specs.List.{AllByRecursion}
 use Rattle.std.specs.Prelude.{slice_get}
-use Rattle.tf_address.specs.ObjectId.{InstanceKeyView}
+use Rattle.tf_config_address.specs.ObjectId.{InstanceKeyView}
 use Rattle.tf_plan_object.proofs.Locals.{instances_local}
 use Rattle.tf_plan_object.specs.Instance.{InstanceFaultView, instance_object}
 use Rattle.tf_config_data.specs.Config.{BlockView, LifecycleView}
@@ -21,26 +21,26 @@ use Rattle.tf_expand.proofs.Seen.{agree_on}
 use Rattle.tf_expand.specs.InstanceKeys.{InstanceKeysView, instance_keys}
 use Rattle.tf_expand.specs.Stages.{applying}
 use Rattle.tf_expand.specs.Resolved.{ResolvedView, AreResolvedNames, all_stand, environment, rule}
-use Rattle.tf_eval.proofs.Locality.{expressions_local}
-use Rattle.tf_eval.specs.Environment.{Environment}
-use Rattle.tf_eval.specs.ExprMeaning.{meaning}
-use Rattle.tf_eval.specs.Locality.{AgreeOn}
+use Rattle.tf_expr_eval.proofs.Locality.{expressions_local}
+use Rattle.tf_expr_eval.specs.Environment.{Environment}
+use Rattle.tf_expr_eval.specs.ExprMeaning.{meaning}
+use Rattle.tf_expr_eval.specs.Locality.{AgreeOn}
 use Rattle.tf_graph.proofs.Solving.{all_by_weaker, solution-exists}
 use Rattle.tf_graph.specs.Solutions.{Ranked, seen_by}
 use Rattle.tf_plan_order.specs.Members.{InstanceToPlanView, member, members, is_among, records_of}
-use Rattle.tf_operators.specs.Answer.{Answer}
+use Rattle.tf_expr_operators.specs.Answer.{Answer}
 use Rattle.tf_plan.proofs.Listing.{decided-actions, place_actions}
 use Rattle.tf_plan.specs.Outputs.{output_fault, output_refusals}
 use Rattle.tf_plan.specs.Planned.{planned_in}
 use Rattle.tf_plan.specs.Told.{instance_told}
-use Rattle.tf_protocol.specs.Meaning.{Meaning, schema_in}
-use Rattle.tf_protocol.specs.Schema.{SchemaView}
-use Rattle.tf_refusal.specs.Refusal.{RefusalView}
+use Rattle.tf_provider_protocol.specs.Meaning.{Meaning, schema_in}
+use Rattle.tf_provider_protocol.specs.Schema.{SchemaView}
+use Rattle.tf_config_refusal.specs.Refusal.{RefusalView}
 use Rattle.tf_plan_order.specs.ResourceIndex.{ResourceRefView, a_name, an_orphan, numbered}
 use Rattle.tf_state_data.specs.Record.{RecordView}
 use Rattle.tf_state_data.specs.Resource.{ResourceView}
-use Rattle.tf_syntax.specs.ExprNames.{named_by}
-use Rattle.tf_syntax.specs.ExprTree as expr
+use Rattle.tf_expr_syntax.specs.ExprNames.{named_by}
+use Rattle.tf_expr_syntax.specs.ExprTree as expr
 use Rattle.tf_value.specs.Tree.{Tree, Entries}
 use Rattle.tf_laws.proofs.Decided.{IsFine}
 use Rattle.tf_laws.proofs.Lists.{flat_none}
@@ -69,7 +69,7 @@ decides_nothing schema lifecycle records p r made fits heeded makes found none =
 -- so a member is decided
 member_fine : (ms : List Meaning) (block : BlockView) (ks : List InstanceKeyView) (all : List RecordView) (key : InstanceKeyView) (env seen : Environment) (object : Tree) → is_among ks key ≡ true
     → IsResting ms block key seen object (records_of key all) → IsUnrefused ms block key seen (records_of key all) → AgreeOn env seen (block_refers block)
-    → IsFine (member_outcome (schema_in block.label.type_name ms) block env (member ks all key))
+    → IsFine (member_outcome (schema_in block.addr.type_name ms) block env (member ks all key))
 member_fine ms block ks all key env seen object among rest free agree =
     let m = member ks all key in
     let records = records_of key all in
@@ -103,16 +103,16 @@ module _ (ms : List Meaning) (variables : Entries) (names : List NameView) (shap
     (ranked : Ranked (directly_before names)) (still : AreAtRest ms variables names shapes objects resources)
     (resolved_names others : ℕ → ResolvedView) (solves : AreResolvedNames (deciding ms resources shapes) variables names resolved_names) (stands : AreResolvedNames (applying shapes objects) variables names others)
     (free : (n : ℕ) (block : BlockView) (key : InstanceKeyView) → meant_at names n ≡ Some (a_block block) → is_among (instance_keys (shapes n)) key ≡ true
-    → IsUnrefused ms block key (environment variables names others) (records_of key (records_at block.label resources))) where
+    → IsUnrefused ms block key (environment variables names others) (records_of key (records_at block.addr resources))) where
   looked_at : AreLookedAt ms variables names shapes resources resolved_names others
   looked_at n block meant before =
       let alike = all_by_weaker (λ a. (resolved_names a ≡ others a) × (is_some (resolved_names a) ≡ true)) (λ a. resolved_names a ≡ others a) (directly_before names n) (λ a h. h.0) before in
       let agree : AgreeOn (environment variables names resolved_names) (environment variables names others) (refers_at (meant_at names n)) = agree_on variables names resolved_names others (refers_at (meant_at names n)) alike in
       let own : AgreeOn (environment variables names resolved_names) (environment variables names others) (block_refers block) =
       subst (λ (m : Option Meant). AgreeOn (environment variables names resolved_names) (environment variables names others) (refers_at m)) meant agree in
-      members_hold (λ m. IsFine (member_outcome (schema_in block.label.type_name ms) block (environment variables names resolved_names) m)) (instance_keys (shapes n)) (records_at block.label resources) (still.declared n block meant)
+      members_hold (λ m. IsFine (member_outcome (schema_in block.addr.type_name ms) block (environment variables names resolved_names) m)) (instance_keys (shapes n)) (records_at block.addr resources) (still.declared n block meant)
       (λ key among.
-      member_fine ms block (instance_keys (shapes n)) (records_at block.label resources) key (environment variables names resolved_names) (environment variables names others) (objects n key) among
+      member_fine ms block (instance_keys (shapes n)) (records_at block.addr resources) key (environment variables names resolved_names) (environment variables names others) (objects n key) among
       (still.rest others stands n block key meant among) (free n block key meant among) own)
 
   meant_free : (n : ℕ) (m : Meant) (d : DecidedView) → meant_at names n ≡ Some m → (with_meant ms resources variables names shapes resolved_names n m d).refusals ≡ d.refusals
@@ -122,11 +122,11 @@ module _ (ms : List Meaning) (variables : Entries) (names : List NameView) (shap
       by_test : (b : Bool) → (cond b (with_block ms resources n block (environment variables names resolved_names) (shapes n) d) d).refusals ≡ d.refusals
       by_test false = refl
       by_test true =
-          let schema = schema_in block.label.type_name ms in
+          let schema = schema_in block.addr.type_name ms in
           let before = before_same ms variables names shapes objects resources ranked still resolved_names others solves stands looked_at n (meant_within names n (a_block block) meant) in
           let each = block_still ms variables names shapes objects resources ranked still resolved_names others solves stands looked_at n block meant before in
-          none_more (record { resource = n; label = block.label; version = version_of schema }) (member_outcome schema block (environment variables names resolved_names)) 0 (members (instance_keys (shapes n)) (records_at block.label resources)) d
-          (parts_of _ (λ m. member_outcome (schema_in block.label.type_name ms) block (environment variables names resolved_names) m ≡ Ok []) (members (instance_keys (shapes n)) (records_at block.label resources)) (λ m h. h.0) each)
+          none_more (record { resource = n; addr = block.addr; version = version_of schema }) (member_outcome schema block (environment variables names resolved_names)) 0 (members (instance_keys (shapes n)) (records_at block.addr resources)) d
+          (parts_of _ (λ m. member_outcome (schema_in block.addr.type_name ms) block (environment variables names resolved_names) m ≡ Ok []) (members (instance_keys (shapes n)) (records_at block.addr resources)) (λ m h. h.0) each)
 
   numbered_free : (n : ℕ) (o : Option ResourceRefView) (d : DecidedView) → slice_get (numbered names resources) n ≡ o → (with_numbered ms resources variables names shapes resolved_names n o d).refusals ≡ d.refusals
   numbered_free n None d e = refl

@@ -6,7 +6,7 @@ use Rattle.tf_config_data.specs.Config.{ConfigView}
 use Rattle.tf_cli_inputs.specs.Refusals.{AreNamesRefused, AreValuesRefused, IsToldOf, IsToldOfState, fault_told}
 use Rattle.tf_cli_inputs.specs.Texts.{AreNamesGood, AreTheValues, IsPrior, IsRead, ReadAs, Texts}
 use Rattle.tf_config_names.specs.Judging.{RefusesItsNames}
-use Rattle.tf_refusal.specs.Refusal.{RefusalView, fault, no_memory, workers}
+use Rattle.tf_config_refusal.specs.Refusal.{RefusalView, fault, no_memory, workers}
 use Rattle.tf_state.specs.Laws.{TextIsOfOne}
 use Rattle.tf_state.specs.Table.{IsBeyond, IsPlannable, IsUnread, Reads}
 use Rattle.tf_state.specs.declared.fault.StateFault.{StateFault}

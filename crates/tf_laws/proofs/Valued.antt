@@ -3,14 +3,14 @@ use Rattle.std.proofs.Common.{◌≡◌, ◌∙◌, ◌<◌, ℕ, Bool, true, Li
 use Rattle.std.specs.List.{AllByRecursion, range_with_len}
 use Rattle.std.specs.Option.{option_map_or}
 use Rattle.tf_plan_data.specs.Action.{ActionView}
-use Rattle.tf_address.specs.ObjectId.{InstanceKeyView}
+use Rattle.tf_config_address.specs.ObjectId.{InstanceKeyView}
 use Rattle.tf_config_data.specs.Config.{BlockView, ConfigView}
 use Rattle.tf_config_data.specs.Names.{Meant, a_local, a_block, directly_before, meant_at, names_of}
 use Rattle.tf_plan_decision.specs.Decision.{current}
 use Rattle.tf_expand.specs.InstanceKeys.{InstanceKeysView, instance_keys}
 use Rattle.tf_expand.specs.Stages.{applying}
 use Rattle.tf_expand.specs.Resolved.{ResolvedView, AreResolvedNames, all_stand, environment, result_in, rule, stands_at, together, where_all}
-use Rattle.tf_eval.specs.Environment.{Environment}
+use Rattle.tf_expr_eval.specs.Environment.{Environment}
 use Rattle.tf_graph.proofs.Solving.{solution-exists}
 use Rattle.tf_graph.specs.Solutions.{seen_by}
 use Rattle.tf_plan_order.specs.Members.{is_among}
@@ -21,12 +21,12 @@ use Rattle.tf_walk_report.specs.Settled.{names_are_settled}
 use Rattle.tf_plan.proofs.Solved.{same_shapes}
 use Rattle.tf_plan.specs.Planned.{AreInstances}
 use Rattle.tf_plan_data.specs.Plan.{PlanView}
-use Rattle.tf_protocol.specs.Meaning.{Meaning}
+use Rattle.tf_provider_protocol.specs.Meaning.{Meaning}
 use Rattle.tf_walk_report.specs.Report.{AreOutputsOf, objects_after}
 use Rattle.tf_state_next.specs.After.{object_at}
 use Rattle.tf_state_data.specs.Record.{RecordView}
 use Rattle.tf_state_data.specs.State.{StateView, record_in}
-use Rattle.tf_syntax.specs.ExprTree as expr
+use Rattle.tf_expr_syntax.specs.ExprTree as expr
 use Rattle.tf_value.specs.Tree.{Tree, Entries, null}
 use Rattle.tf_laws.proofs.Again.{decided}
 use Rattle.tf_laws.proofs.Homes.{IsAtRest, home}
@@ -47,8 +47,8 @@ module _ (ms : List Meaning) (config : ConfigView) (variables : Entries) (s : St
       let names = names_of config in
       let resolved_names = solution-exists (length names) (directly_before names) (rule (applying at.shapes at.objects) variables names) at.ranked in
       let resting = at.rests.rest resolved_names.0 resolved_names.1 n block key meant among in
-      let found : record_in block.label (object_at key None) s ≡ Some resting.only =
-      sym (current_known block.label key s) ∙ ap current resting.alone ∙ current_is resting.only resting.current in
+      let found : record_in block.addr (object_at key None) s ≡ Some resting.only =
+      sym (current_known block.addr key s) ∙ ap current resting.alone ∙ current_is resting.only resting.current in
       ap (λ (xs : List ActionView). objects_seen names s again.actions (seen_by (done_at done) (range_with_len 0 (length xs))) n key) none
       ∙ ap (prior_object s key) meant
       ∙ ap (λ (o : Option RecordView). option_map_or {U = Tree} (λ r. r.attributes) o null) found

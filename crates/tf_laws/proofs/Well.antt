@@ -4,7 +4,7 @@ use Rattle.std.specs.Option.{option_map_or}
 use Rattle.std.specs.Prelude.{option_and_then, slice_get}
 use Rattle.tf_plan_data.specs.Action.{ActionView, StepView, create, update, replacement, replaced, destroyed, deposed_destroyed}
 use Rattle.tf_walk_report.specs.Change.{applied_of_done, as_applied, left_of_done, saved_by}
-use Rattle.tf_address.specs.ObjectId.{InstanceKeyView}
+use Rattle.tf_config_address.specs.ObjectId.{InstanceKeyView}
 use Rattle.tf_plan_object.specs.Instance.{InstanceFaultView}
 use Rattle.tf_config_data.specs.Names.{meant_at}
 use Rattle.tf_plan_object.specs.Kept.{kept_object}
@@ -17,13 +17,13 @@ use Rattle.tf_walk_action.specs.Outcome.{AreOutcomes, ActionResultView, all_good
 use Rattle.tf_walk_action.specs.declared.excuse.Excuse.{Excuse}
 use Rattle.tf_plan_data.specs.Fits.{is_apply}
 use Rattle.tf_plan_data.specs.Plan.{PlanView, plan_names}
-use Rattle.tf_protocol.specs.Meaning.{Answer, Asked, Meaning, failed, first_with, gone, object, schema_in}
-use Rattle.tf_protocol.specs.Schema.{SchemaView}
-use Rattle.tf_protocol.specs.Verdict.{is_destroy, is_good_verdict, verdict_on, verdict_on_object}
-use Rattle.tf_protocol.specs.declared.request.Op.{Op}
-use Rattle.tf_protocol.specs.declared.request.Op.TheVariants.{Create, Update, Destroy}
-use Rattle.tf_protocol.specs.declared.verdict.Verdict.{Verdict}
-use Rattle.tf_protocol.specs.declared.verdict.Verdict.TheVariants as verdict
+use Rattle.tf_provider_protocol.specs.Meaning.{Answer, Asked, Meaning, failed, first_with, gone, object, schema_in}
+use Rattle.tf_provider_protocol.specs.Schema.{SchemaView}
+use Rattle.tf_provider_protocol.specs.Verdict.{is_destroy, is_good_verdict, verdict_on, verdict_on_object}
+use Rattle.tf_provider_protocol.specs.declared.request.Op.{Op}
+use Rattle.tf_provider_protocol.specs.declared.request.Op.TheVariants.{Create, Update, Destroy}
+use Rattle.tf_provider_protocol.specs.declared.verdict.Verdict.{Verdict}
+use Rattle.tf_provider_protocol.specs.declared.verdict.Verdict.TheVariants as verdict
 use Rattle.tf_state_next.specs.Ends.{ApplyResultView, LeftView, SavedView, saved, unchanged}
 use Rattle.tf_state_next.specs.Ends as ends
 use Rattle.tf_state_next.specs.Saved.{left_by_destroy}
@@ -73,7 +73,7 @@ by_provider d asked (Some m) e h = by_own d asked m (m.schema_of asked.type_name
 
 -- what a step asks is for its own type, and to do what the step does
 asks_own : (ignored : List (List ℕ)) (schema : SchemaView) (a : ActionView) (made : Result Tree InstanceFaultView) (step : StepView) (asked : Asked) → asked_by_step ignored schema a made step ≡ Ok asked
-    → (asked.type_name ≡ a.label.type_name) × (asked.op ≡ op_of step)
+    → (asked.type_name ≡ a.addr.type_name) × (asked.op ≡ op_of step)
 asks_own ignored schema a (Ok t) (create u) asked e = let is : create_of a t ≡ asked = (cc) in (sym (ap (λ (x : Asked). x.type_name) is), sym (ap (λ (x : Asked). x.op) is))
 asks_own ignored schema a (Ok t) (update prior u names) asked e = let is : update_of a prior (kept_object schema ignored prior t) ≡ asked = (cc) in (sym (ap (λ (x : Asked). x.type_name) is), sym (ap (λ (x : Asked). x.op) is))
 asks_own ignored schema a (Ok t) (replacement u names) asked e = let is : create_of a t ≡ asked = (cc) in (sym (ap (λ (x : Asked). x.type_name) is), sym (ap (λ (x : Asked). x.op) is))
@@ -111,13 +111,13 @@ object_answered asked (failed message there) schema op h = absurd (cc)
 -- What came of a good action: it was called, with what was asked by what its instance's block made, and answered.
 pub record IsGoodCall (ms : List Meaning) (requests : Requests) (plan : PlanView) (objects : ℕ → InstanceKeyView → Tree) (a : ActionView) (d : ActionResultView) : Type 0 where
   pub schema : SchemaView
-  pub has : schema_in a.label.type_name ms ≡ Some schema
+  pub has : schema_in a.addr.type_name ms ≡ Some schema
   pub asked : Asked
   pub made : asked_for (plan_names plan) schema a (requests objects a schema) ≡ Ok asked
   pub answer : Answer
   pub is : d ≡ called asked (Some answer) verdict.Good
   pub well : is_good_verdict (verdict_on asked (Some answer) schema) ≡ true
-  pub type_name : asked.type_name ≡ a.label.type_name
+  pub type_name : asked.type_name ≡ a.addr.type_name
   pub op : asked.op ≡ op_of a.step
 
 pub good_call : (ms : List Meaning) (requests : Requests) (plan : PlanView) (excuses : List Excuse) (done : List ActionResultView) (k : ℕ) (a : ActionView) → AreOutcomes ms requests plan excuses done → k < length plan.actions
@@ -129,7 +129,7 @@ good_call ms requests plan excuses done k a are inside at good =
     let d = done_at done k in
     let run = good_run (all_good seen) (excuse_of excuses k) (call_at ms requests plan k seen) d (are.solves k inside) good in
     let with_a = run ∙ ap (λ (o : Option ActionView). option_map_or {U = ActionResultView} (call_with ms requests plan objects) o skipped) at in
-    let made = by_schema ms d (λ s. asked_for (plan_names plan) s a (requests objects a s)) (schema_in a.label.type_name ms) with_a good in
+    let made = by_schema ms d (λ s. asked_for (plan_names plan) s a (requests objects a s)) (schema_in a.addr.type_name ms) with_a good in
     let own = asks_own (ignored_by (meant_at (plan_names plan) a.resource)) made.schema a (requests objects a made.schema) a.step made.asked made.made in
     let answered = by_provider d made.asked (first_with made.asked.type_name ms) made.calls good in
     let schemas : Some answered.schema ≡ Some made.schema = sym answered.has ∙ ap (λ (n : List ℕ). schema_in n ms) own.0 ∙ made.has in

@@ -3,8 +3,8 @@ use Rattle.std.proofs.Common.{◌≡◌, ◌∙◌, ◌<◌, ℕ, Bool, true, fa
 use Rattle.std.specs.List.{AllByRecursion}
 use Rattle.std.specs.List.Sorted.{IsStrictlySortedBy}
 use Rattle.tf_walk_buffers.specs.Dependencies.{dependencies}
-use Rattle.tf_address.specs.Label.{label_cmp}
-use Rattle.tf_address.specs.ObjectId.{InstanceKeyView}
+use Rattle.tf_config_address.specs.ResourceAddr.{addr_cmp}
+use Rattle.tf_config_address.specs.ObjectId.{InstanceKeyView}
 use Rattle.tf_plan_object.specs.Laws.{InstancesGrow}
 use Rattle.tf_config_data.specs.Config.{BlockView, ConfigView}
 use Rattle.tf_config_data.specs.Names.{NameView, Meant, a_local, a_block, directly_before, meant_at}
@@ -13,7 +13,7 @@ use Rattle.tf_expand.specs.StandingLaws.{ResolvedNamesGrow}
 use Rattle.tf_expand.specs.InstanceKeys.{InstanceKeysView, instance_keys}
 use Rattle.tf_expand.specs.Stages.{applying}
 use Rattle.tf_expand.specs.Resolved.{all_stand, environment, result_in, rule, stands_at, together, where_all}
-use Rattle.tf_eval.specs.Environment.{Environment}
+use Rattle.tf_expr_eval.specs.Environment.{Environment}
 use Rattle.tf_graph.proofs.Solving.{solution-exists}
 use Rattle.tf_graph.specs.Solutions.{Ranked, seen_by}
 use Rattle.tf_plan_order.specs.Members.{is_among}
@@ -26,8 +26,8 @@ use Rattle.tf_plan.proofs.Fitting.{all-by_id, plan-fits}
 use Rattle.tf_plan.proofs.Solved.{same_shapes}
 use Rattle.tf_plan.specs.Plan.{IsPlan, IsPlannedFrom}
 use Rattle.tf_plan_data.specs.Plan.{PlanView, plan_names}
-use Rattle.tf_protocol.specs.Meaning.{Meaning}
-use Rattle.tf_protocol.specs.declared.verdict.Verdict.TheVariants as verdict
+use Rattle.tf_provider_protocol.specs.Meaning.{Meaning}
+use Rattle.tf_provider_protocol.specs.declared.verdict.Verdict.TheVariants as verdict
 use Rattle.tf_walk_report.specs.Outcomes.{outcome_of}
 use Rattle.tf_walk_report.specs.Report.{IsReport, objects_after}
 use Rattle.tf_walk_report.specs.declared.report.Report.{Report}
@@ -66,8 +66,8 @@ module _ (ms : List Meaning) (config : ConfigView) (variables : Entries) (prior 
   own_valid : IsValid plan.prior
   own_valid = subst IsValid (sym carried.planned.prior) sound.valid
 
-  own_blocks : IsStrictlySortedBy label_cmp (map (λ b. b.label) plan.config.blocks)
-  own_blocks = subst (λ (c : ConfigView). IsStrictlySortedBy label_cmp (map (λ b. b.label) c.blocks)) (sym carried.planned.config) sound.blocks
+  own_blocks : IsStrictlySortedBy addr_cmp (map (λ b. b.addr) plan.config.blocks)
+  own_blocks = subst (λ (c : ConfigView). IsStrictlySortedBy addr_cmp (map (λ b. b.addr) c.blocks)) (sym carried.planned.config) sound.blocks
 
   own_acyclic : IsAcyclic (own_planned.ordered.tied.dependence)
   own_acyclic n = sym (ap (λ (f : ℕ → ℕ → Bool). f n n) own_planned.ordered.tied.needs) ∙ carried.acyclic n
@@ -115,7 +115,7 @@ module _ (ms : List Meaning) (config : ConfigView) (variables : Entries) (prior 
 
   -- and the record of each current object lists what its resource needs
   pub own_depends : (n : ℕ) (block : BlockView) (key : InstanceKeyView) (y : RecordView) → meant_at (plan_names plan) n ≡ Some (a_block block) → is_among (instance_keys (plan.shapes n)) key ≡ true
-      → record_in block.label (object_at key None) after ≡ Some y → y.dependencies ≡ dependencies plan.needs (plan_names plan) n
+      → record_in block.addr (object_at key None) after ≡ Some y → y.dependencies ≡ dependencies plan.needs (plan_names plan) n
   unfolding applied
   own_depends n block key y meant among known =
       let kept = kept_at applied n block key meant among in
@@ -146,7 +146,7 @@ pub rest_same : (ms : List Meaning) (variables : Entries) (names : List NameView
 rest_same ms variables names shapes others objects resources same h = record {
   blocks = h.blocks;
   declared = λ n block meant.
-      subst (λ (s : InstanceKeysView). AllByRecursion (λ x. is_among (instance_keys s) x.id.key ≡ true) (records_at block.label resources)) (same n (meant_within names n (a_block block) meant)) (h.declared n block meant);
+      subst (λ (s : InstanceKeysView). AllByRecursion (λ x. is_among (instance_keys s) x.id.key ≡ true) (records_at block.addr resources)) (same n (meant_within names n (a_block block) meant)) (h.declared n block meant);
   rest = λ resolved_names solves n block key meant among.
       h.rest resolved_names
       (λ k below. solves k below ∙ ap (where_all (all_stand (seen_by resolved_names (directly_before names k)))) (stands_same shapes others objects k (meant_at names k) (environment variables names (result_in (seen_by resolved_names (directly_before names k)))) (same k below)))

@@ -5,7 +5,7 @@ use Rattle.tf_cli.specs.Applies.{IsApplied}
 use Rattle.tf_cli.specs.declared.applied.Applied.{Applied}
 use Rattle.tf_cli_inputs.specs.Texts.{Texts}
 use Rattle.tf_laws.specs.One.{TellTheSame}
-use Rattle.tf_protocol.specs.Meaning.{Meaning}
+use Rattle.tf_provider_protocol.specs.Meaning.{Meaning}
 use Rattle.tf_walk_report.specs.Report.{report_of}
 
 -- Two applies answer the same: the plan's text; outcomes, state, diagnostics and numbers of good actions; whether the state

@@ -1,7 +1,7 @@
 -- What holds of what is asked, by what was planned.
 use Rattle.std.specs.Prelude.{◌≡◌, ℕ, true, List, Option, Some, None, option_and_then, Result, Ok, Contains, ⊤}
 use Rattle.tf_plan_data.specs.Action.{ActionView, StepView, create, update, replacement}
-use Rattle.tf_address.specs.ObjectId.{InstanceKeyView}
+use Rattle.tf_config_address.specs.ObjectId.{InstanceKeyView}
 use Rattle.tf_plan_object.specs.Instance.{InstanceFaultView, instance_object}
 use Rattle.tf_config_data.specs.Config.{BlockView}
 use Rattle.tf_config_data.specs.Names.{a_block, directly_before, meant_at}
@@ -12,8 +12,8 @@ use Rattle.tf_expand.specs.StandingLaws.{AreAnswered}
 use Rattle.tf_expand.specs.Resolved.{ResolvedView, AreResolvedNames, environment}
 use Rattle.tf_graph.specs.Solutions.{Ranked}
 use Rattle.tf_plan_data.specs.Plan.{PlanView, plan_names}
-use Rattle.tf_protocol.specs.Meaning.{Asked, Meaning}
-use Rattle.tf_protocol.specs.Schema.{SchemaView}
+use Rattle.tf_provider_protocol.specs.Meaning.{Asked, Meaning}
+use Rattle.tf_provider_protocol.specs.Schema.{SchemaView}
 use Rattle.tf_state_data.specs.Record.{RecordView}
 use Rattle.tf_value.specs.Known.{known}
 use Rattle.tf_value.specs.Refinement.{Refines}

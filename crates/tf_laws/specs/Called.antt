@@ -6,9 +6,9 @@ use Rattle.tf_walk_action.specs.Journal.{entered_verdict, verdict_in}
 use Rattle.tf_walk_action.specs.Outcome.{done_at}
 use Rattle.tf_walk_action.specs.declared.excuse.Outcome.TheVariants.{Judged}
 use Rattle.tf_plan_data.specs.Plan.{PlanView}
-use Rattle.tf_protocol.specs.Meaning.{Meaning}
-use Rattle.tf_protocol.specs.declared.verdict.Verdict.{Verdict}
-use Rattle.tf_protocol.specs.declared.verdict.Verdict.TheVariants.{Good}
+use Rattle.tf_provider_protocol.specs.Meaning.{Meaning}
+use Rattle.tf_provider_protocol.specs.declared.verdict.Verdict.{Verdict}
+use Rattle.tf_provider_protocol.specs.declared.verdict.Verdict.TheVariants.{Good}
 use Rattle.tf_provider.specs.declared.journal.Entry.{Entry}
 use Rattle.tf_walk_report.specs.Report.{IsReported, IsWhole}
 use Rattle.tf_walk_report.specs.declared.report.Report.{Report}

@@ -9,11 +9,11 @@ use Rattle.tf_walk_action.specs.declared.excuse.Outcome.TheVariants as outcome
 use Rattle.tf_walk_report.specs.Outputs as outputs
 use Rattle.tf_walk_report.specs.Settled.{AreSettled, names_are_settled}
 use Rattle.tf_plan_data.specs.Plan.{PlanView, plan_names}
-use Rattle.tf_protocol.specs.Meaning.{Meaning}
+use Rattle.tf_provider_protocol.specs.Meaning.{Meaning}
 use Rattle.tf_walk_report.specs.Good.{are_good_at}
 use Rattle.tf_walk_report.specs.Report.{IsReported}
 use Rattle.tf_walk_report.specs.declared.report.Report.{Report}
-use Rattle.tf_syntax.specs.ExprTree as expr
+use Rattle.tf_expr_syntax.specs.ExprTree as expr
 
 -- what an excuse names: an action, or an output
 pub data Subject : Type 0 where

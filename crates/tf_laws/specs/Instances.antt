@@ -1,7 +1,7 @@
 -- The instances that a plan has of each resource are those that its `count` or `for_each` comes to, at each stage.
 use Rattle.std.specs.Prelude.{◌≡◌, ℕ, true, List, Some, Ok, Contains}
 use Rattle.tf_plan_data.specs.Action.{ActionView}
-use Rattle.tf_address.specs.ObjectId.{InstanceKeyView}
+use Rattle.tf_config_address.specs.ObjectId.{InstanceKeyView}
 use Rattle.tf_config_data.specs.Config.{BlockView, ConfigView, for_each}
 use Rattle.tf_config_data.specs.Names.{a_block, meant_at}
 use Rattle.tf_plan_decision.specs.Stage.{deciding}
@@ -12,10 +12,10 @@ use Rattle.tf_expand.specs.Resolved.{ResolvedView, AreResolvedNames, environment
 use Rattle.tf_walk_action.specs.Asked.{AreRequests, Requests, asked_for}
 use Rattle.tf_plan_data.specs.Fits.{is_apply}
 use Rattle.tf_plan_data.specs.Plan.{PlanView, plan_names}
-use Rattle.tf_protocol.specs.Meaning.{Asked, Meaning}
-use Rattle.tf_protocol.specs.Schema.{SchemaView}
+use Rattle.tf_provider_protocol.specs.Meaning.{Asked, Meaning}
+use Rattle.tf_provider_protocol.specs.Schema.{SchemaView}
 use Rattle.tf_state_data.specs.State.{StateView}
-use Rattle.tf_syntax.specs.ExprTree as expr
+use Rattle.tf_expr_syntax.specs.ExprTree as expr
 use Rattle.tf_value.specs.Tree.{Tree, Entries}
 use Rattle.tf_laws.specs.Requests.{IsSoundPlan}
 

@@ -2,17 +2,17 @@
 use Rattle.std.specs.Prelude.{◌≡◌, ℕ, true, false, List, Some, Ok}
 use Rattle.std.specs.List.{list_all}
 use Rattle.tf_plan_data.specs.Action.{ActionView, StepView}
-use Rattle.tf_address.specs.ObjectId.{InstanceKeyView}
+use Rattle.tf_config_address.specs.ObjectId.{InstanceKeyView}
 use Rattle.tf_plan_object.specs.Instance.{instance_object}
 use Rattle.tf_config_data.specs.Config.{BlockView}
 use Rattle.tf_plan_decision.specs.Decision.{change, nothing}
 use Rattle.tf_plan_decision.specs.Laws.{is_settled}
-use Rattle.tf_eval.specs.Environment.{Environment}
+use Rattle.tf_expr_eval.specs.Environment.{Environment}
 use Rattle.tf_walk_action.specs.Asked.{asked_by_step}
 use Rattle.tf_plan_data.specs.Fits.{is_apply}
-use Rattle.tf_protocol.specs.Meaning.{Asked}
-use Rattle.tf_protocol.specs.Schema.{SchemaView, IsSchema}
-use Rattle.tf_protocol.specs.Verdict.{has_attributes, is_good_verdict, verdict_on_object}
+use Rattle.tf_provider_protocol.specs.Meaning.{Asked}
+use Rattle.tf_provider_protocol.specs.Schema.{SchemaView, IsSchema}
+use Rattle.tf_provider_protocol.specs.Verdict.{has_attributes, is_good_verdict, verdict_on_object}
 use Rattle.tf_state_data.specs.Record.{RecordView}
 use Rattle.tf_value.specs.Known.{known}
 use Rattle.tf_value.specs.Refinement.{Refines}

@@ -2,7 +2,7 @@
 use Rattle.std.specs.Prelude.{◌≡◌, ℕ, List, IsPermutation}
 use Rattle.tf_walk_action.specs.Journal.{verdict_in}
 use Rattle.tf_plan_data.specs.Plan.{PlanView}
-use Rattle.tf_protocol.specs.Meaning.{Meaning}
+use Rattle.tf_provider_protocol.specs.Meaning.{Meaning}
 use Rattle.tf_provider.specs.declared.journal.Entry.{Entry}
 use Rattle.tf_walk_report.specs.Report.{IsWhole}
 use Rattle.tf_walk_report.specs.declared.report.Report.{Report}

@@ -1,10 +1,10 @@
 -- What is known where all that names stand for is known.
 use Rattle.std.specs.Prelude.{◌≡◌, ℕ, true, List, Ok}
-use Rattle.tf_syntax.specs.ExprTree as expr
+use Rattle.tf_expr_syntax.specs.ExprTree as expr
 use Rattle.tf_value.specs.Known.{known}
 use Rattle.tf_value.specs.Tree.{Tree}
-use Rattle.tf_eval.specs.Environment.{Environment}
-use Rattle.tf_eval.specs.ExprMeaning.{meaning}
+use Rattle.tf_expr_eval.specs.Environment.{Environment}
+use Rattle.tf_expr_eval.specs.ExprMeaning.{meaning}
 
 -- each reference that has a value has a known one
 abbrev pub IsKnown : Environment → Type 0

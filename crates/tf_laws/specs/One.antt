@@ -2,7 +2,7 @@
 use Rattle.std.specs.Prelude.{◌≡◌, List, map}
 use Rattle.tf_walk_report.specs.Diagnostics.{diagnostic_of}
 use Rattle.tf_plan_data.specs.Plan.{PlanView}
-use Rattle.tf_protocol.specs.Meaning.{Meaning}
+use Rattle.tf_provider_protocol.specs.Meaning.{Meaning}
 use Rattle.tf_walk_report.specs.Report.{IsReported}
 use Rattle.tf_walk_report.specs.declared.report.Report.{Report}
 use Rattle.tf_state_data.specs.State.{state_of}

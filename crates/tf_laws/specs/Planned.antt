@@ -1,11 +1,11 @@
 -- Each plan of a configuration is founded.
 use Rattle.std.specs.Prelude.{◌≡◌, ℕ, false, List, map}
 use Rattle.std.specs.List.Sorted.{IsStrictlySortedBy}
-use Rattle.tf_address.specs.Label.{label_cmp}
+use Rattle.tf_config_address.specs.ResourceAddr.{addr_cmp}
 use Rattle.tf_config_data.specs.Config.{ConfigView}
 use Rattle.tf_plan.specs.Plan.{IsPlan}
 use Rattle.tf_plan_data.specs.Plan.{PlanView}
-use Rattle.tf_protocol.specs.Meaning.{Meaning}
+use Rattle.tf_provider_protocol.specs.Meaning.{Meaning}
 use Rattle.tf_state.specs.Valid.{IsValid}
 use Rattle.tf_state_data.specs.State.{StateView}
 use Rattle.tf_value.specs.Tree.{Entries}
@@ -17,5 +17,5 @@ abbrev pub PlansAreFounded : Type 0
 PlansAreFounded =
     (ms : List Meaning) (config : ConfigView) (variables : Entries) (prior : StateView) (plan : PlanView)
     → IsPlan ms config variables prior plan → ((n : ℕ) → plan.needs n n ≡ false)
-    → IsStrictlySortedBy label_cmp (map (λ b. b.label) config.blocks) → IsValid prior
+    → IsStrictlySortedBy addr_cmp (map (λ b. b.addr) config.blocks) → IsValid prior
     → IsFounded plan

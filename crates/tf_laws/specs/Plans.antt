@@ -2,7 +2,7 @@
 use Rattle.std.specs.Prelude.{◌≡◌, ◌^◌, ◌<◌, ◌⊎◌, ℕ, List, Some, length, map, codes}
 use Rattle.std.specs.List.{AllByRecursion}
 use Rattle.std.specs.List.Sorted.{IsStrictlySortedBy}
-use Rattle.tf_address.specs.Label.{label_cmp}
+use Rattle.tf_config_address.specs.ResourceAddr.{addr_cmp}
 use Rattle.tf_config_data.specs.Config.{ConfigView}
 use Rattle.tf_config_data.specs.Names.{directly_before, names_of, place_of}
 use Rattle.tf_graph.specs.Solutions.{Ranked}
@@ -11,12 +11,12 @@ use Rattle.tf_plan.specs.Plan.{IsPlan}
 use Rattle.tf_plan.specs.Refused.{AreRefused}
 use Rattle.tf_plan_data.specs.Plan.{PlanView, plan_names}
 use Rattle.tf_plan_text.specs.Text.{plan_text}
-use Rattle.tf_protocol.specs.Meaning.{Meaning}
-use Rattle.tf_refusal.specs.Refusal.{RefusalView}
+use Rattle.tf_provider_protocol.specs.Meaning.{Meaning}
+use Rattle.tf_config_refusal.specs.Refusal.{RefusalView}
 use Rattle.tf_state_data.specs.Addresses.{AreByAddress}
 use Rattle.tf_state_data.specs.Ids.{AreById}
 use Rattle.tf_state_data.specs.State.{StateView}
-use Rattle.tf_syntax.specs.TemplateNames.{Pair}
+use Rattle.tf_expr_syntax.specs.TemplateNames.{Pair}
 use Rattle.tf_value.specs.Tree.{Entries}
 
 -- What is planned keeps to what was shown where it was read: no name of the configuration needs itself; its blocks stand in the
@@ -24,8 +24,8 @@ use Rattle.tf_value.specs.Tree.{Entries}
 -- stand in the order of their addresses, with the records of each in the order of their ids.
 pub record AreOrderly (config : ConfigView) (prior : StateView) : Type 0 where
   pub ranked : Ranked (directly_before (names_of config))
-  pub blocks : IsStrictlySortedBy label_cmp (map (λ b. b.label) config.blocks)
-  pub own_names : AllByRecursion (λ b. ¬ (b.label.type_name ≡ codes "local")) config.blocks
+  pub blocks : IsStrictlySortedBy addr_cmp (map (λ b. b.addr) config.blocks)
+  pub own_names : AllByRecursion (λ b. ¬ (b.addr.type_name ≡ codes "local")) config.blocks
   pub resources : AreByAddress prior.resources
   pub records : AllByRecursion (λ r. AreById r.records) prior.resources
 

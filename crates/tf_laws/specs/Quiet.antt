@@ -1,10 +1,10 @@
 -- What an apply without an action changes.
 use Rattle.std.specs.Prelude.{◌≡◌, ℕ, Bool, List, [], Option, Some, None}
-use Rattle.tf_address.specs.Label.{LabelView}
-use Rattle.tf_address.specs.ObjectId.{ObjectIdView}
+use Rattle.tf_config_address.specs.ResourceAddr.{ResourceAddrView}
+use Rattle.tf_config_address.specs.ObjectId.{ObjectIdView}
 use Rattle.tf_walk_action.specs.Outcome.{ActionResultView}
 use Rattle.tf_plan_data.specs.Plan.{PlanView}
-use Rattle.tf_protocol.specs.Meaning.{Meaning}
+use Rattle.tf_provider_protocol.specs.Meaning.{Meaning}
 use Rattle.tf_walk_report.specs.Report.{IsStateOf}
 use Rattle.tf_state_next.specs.After.{renewed}
 use Rattle.tf_state_data.specs.Record.{RecordView}
@@ -22,4 +22,4 @@ abbrev pub QuietAppliesKeepObjects : Type 0
 QuietAppliesKeepObjects =
     (ms : List Meaning) (plan : PlanView) (done : List ActionResultView) (outputs : Entries) (after : StateView)
     → plan.actions ≡ [] → IsStateOf ms plan done outputs after
-    → (label : LabelView) (id : ObjectIdView) → IsRenewed (record_in label id plan.prior) (record_in label id after)
+    → (addr : ResourceAddrView) (id : ObjectIdView) → IsRenewed (record_in addr id plan.prior) (record_in addr id after)

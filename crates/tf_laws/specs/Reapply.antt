@@ -3,8 +3,8 @@ use Rattle.std.specs.Prelude.{◌≡◌, ℕ, true, false, List, [], map, Some, 
 use Rattle.std.specs.List.{AllByRecursion}
 use Rattle.std.specs.List.Sorted.{IsStrictlySortedBy}
 use Rattle.tf_plan_data.specs.Action.{ActionView}
-use Rattle.tf_address.specs.Label.{label_cmp}
-use Rattle.tf_address.specs.ObjectId.{InstanceKeyView}
+use Rattle.tf_config_address.specs.ResourceAddr.{addr_cmp}
+use Rattle.tf_config_address.specs.ObjectId.{InstanceKeyView}
 use Rattle.tf_plan_order.specs.AddressOrder.{AreInAddressOrder}
 use Rattle.tf_plan_object.specs.Instance.{instance_object}
 use Rattle.tf_config_data.specs.Config.{BlockView, ConfigView}
@@ -22,9 +22,9 @@ use Rattle.tf_plan.specs.Plan.{IsPlan}
 use Rattle.tf_plan.specs.Planned.{IsPlanned, unrefused}
 use Rattle.tf_plan_data.specs.Fits.{is_apply}
 use Rattle.tf_plan_data.specs.Plan.{PlanView, plan_names}
-use Rattle.tf_protocol.specs.Meaning.{Meaning, schema_in}
-use Rattle.tf_protocol.specs.Schema.{SchemaView, IsSchema}
-use Rattle.tf_protocol.specs.declared.verdict.Verdict.TheVariants.{Good}
+use Rattle.tf_provider_protocol.specs.Meaning.{Meaning, schema_in}
+use Rattle.tf_provider_protocol.specs.Schema.{SchemaView, IsSchema}
+use Rattle.tf_provider_protocol.specs.declared.verdict.Verdict.TheVariants.{Good}
 use Rattle.tf_walk_report.specs.Report.{AreOutputsOf, IsReport, IsStateOf, objects_after}
 use Rattle.tf_walk_report.specs.declared.report.Report.{Report}
 use Rattle.tf_plan_order.specs.ResourceIndex.{numbered}
@@ -38,7 +38,7 @@ use Rattle.tf_laws.specs.Rest.{AreAtRest, EachMeans}
 -- variables are known, and the prior state is valid. A schema as `Schema::new` makes it keeps to it, and so do a state, a
 -- configuration and variables that were read.
 pub record IsSound (ms : List Meaning) (config : ConfigView) (variables : Entries) (prior : StateView) : Type 0 where
-  pub blocks : IsStrictlySortedBy label_cmp (map (λ b. b.label) config.blocks)
+  pub blocks : IsStrictlySortedBy addr_cmp (map (λ b. b.addr) config.blocks)
   pub schemas : (name : List ℕ) (schema : SchemaView) → schema_in name ms ≡ Some schema → IsSchema schema
   pub variables_known : known_entries variables ≡ true
   pub valid : IsValid prior
@@ -81,7 +81,7 @@ Converges =
 pub record AreStillMade (ms : List Meaning) (plan : PlanView) (done : List ActionResultView) : Type 0 where
   pub instances : (resolved_names : ℕ → ResolvedView) → AreResolvedNames (applying plan.shapes (objects_after plan done)) plan.variables (plan_names plan) resolved_names
       → (n : ℕ) (block : BlockView) (key : InstanceKeyView) (schema : SchemaView) → meant_at (plan_names plan) n ≡ Some (a_block block) → is_among (instance_keys (plan.shapes n)) key ≡ true
-      → schema_in block.label.type_name ms ≡ Some schema
+      → schema_in block.addr.type_name ms ≡ Some schema
       → ((a : ActionView) → Contains plan.actions a → is_apply a.step ≡ true → a.resource ≡ n → ¬ (a.key ≡ key))
       → (t : Tree) × (instance_object schema block key (environment plan.variables (plan_names plan) resolved_names) ≡ Ok t)
   pub outputs_mean : (resolved_names : ℕ → ResolvedView) → AreResolvedNames (applying plan.shapes (objects_after plan done)) plan.variables (plan_names plan) resolved_names

@@ -3,8 +3,8 @@ use Rattle.std.specs.Prelude.{◌≡◌, ◌≤◌, ◌⊎◌, ℕ, false, if◌
 use Rattle.std.specs.List.{AllByRecursion}
 use Rattle.std.specs.declared.alloc.AllocError.{AllocError}
 use Rattle.std.specs.declared.alloc.Global.{Global}
-use Rattle.tf_address.specs.Label.{LabelView}
-use Rattle.tf_address.specs.ObjectId.{ObjectIdView}
+use Rattle.tf_config_address.specs.ResourceAddr.{ResourceAddrView}
+use Rattle.tf_config_address.specs.ObjectId.{ObjectIdView}
 use Rattle.tf_cli.specs.Applies.{IsApplied, IsPlanText, state_in}
 use Rattle.tf_cli.specs.Refusals.{AreRefusals}
 use Rattle.tf_cli.specs.Shown.{applied_status, is_torn}
@@ -16,11 +16,11 @@ use Rattle.tf_cli_inputs.specs.Refusals.{at_state}
 use Rattle.tf_cli_inputs.specs.Texts.{AreTheValues, IsRead, Texts, the_texts}
 use Rattle.tf_walk_action.specs.declared.excuse.Outcome.TheVariants.{Judged}
 use Rattle.tf_plan.specs.Refused.{IsUnplanned}
-use Rattle.tf_protocol.specs.Meaning.{Meaning}
-use Rattle.tf_protocol.specs.Schema.{SchemaView, IsSchema}
-use Rattle.tf_protocol.specs.declared.verdict.Verdict.TheVariants.{Good}
-use Rattle.tf_refusal.specs.Code.{limit}
-use Rattle.tf_refusal.specs.Refusal.{RefusalView}
+use Rattle.tf_provider_protocol.specs.Meaning.{Meaning}
+use Rattle.tf_provider_protocol.specs.Schema.{SchemaView, IsSchema}
+use Rattle.tf_provider_protocol.specs.declared.verdict.Verdict.TheVariants.{Good}
+use Rattle.tf_config_refusal.specs.Code.{limit}
+use Rattle.tf_config_refusal.specs.Refusal.{RefusalView}
 use Rattle.tf_walk_report.specs.Report.{report_of}
 use Rattle.tf_state.specs.Table.{last_serial}
 use Rattle.tf_state_data.specs.State.{record_in}
@@ -64,7 +64,7 @@ pub record DidNothing (first second : Applied) : Type 0 where
   pub shown : string_bytes second.plan ≡ no_changes
   pub no_outcomes : (report_of second.walked).outcomes.items ≡ []
   pub no_calls : is_torn second.walked ≡ false → (report_of second.walked).journal.entries ≡ []
-  pub kept : (label : LabelView) (id : ObjectIdView) → IsRenewed (record_in label id (state_in first)) (record_in label id (state_in second))
+  pub kept : (addr : ResourceAddrView) (id : ObjectIdView) → IsRenewed (record_in addr id (state_in first)) (record_in addr id (state_in second))
 
 -- Nor does an apply over that text do anything, where it answers.
 abbrev pub NothingIsDoneAgain : Type 0

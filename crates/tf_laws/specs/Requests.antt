@@ -1,7 +1,7 @@
 -- What an apply asks of providers keeps to its plan.
 use Rattle.std.specs.Prelude.{◌≡◌, ℕ, true, false, List, Option, Some, None, option_and_then, slice_get, Ok, Contains}
 use Rattle.tf_plan_data.specs.Action.{ActionView, StepView, update, replaced, destroyed, deposed_destroyed}
-use Rattle.tf_address.specs.ObjectId.{InstanceKeyView}
+use Rattle.tf_config_address.specs.ObjectId.{InstanceKeyView}
 use Rattle.tf_laws.specs.AskingLaws.{RefinesWhere, planned_object}
 use Rattle.tf_config_data.specs.Config.{ConfigView}
 use Rattle.tf_config_data.specs.Names.{meant_at}
@@ -14,9 +14,9 @@ use Rattle.tf_plan.specs.Plan.{IsPlan}
 use Rattle.tf_plan_data.specs.Address.{address_text}
 use Rattle.tf_plan_data.specs.Fits.{deposed_key, is_apply}
 use Rattle.tf_plan_data.specs.Plan.{PlanView, plan_names}
-use Rattle.tf_protocol.specs.Meaning.{Answer, Asked, Meaning, schema_in}
-use Rattle.tf_protocol.specs.Schema.{SchemaView}
-use Rattle.tf_protocol.specs.declared.verdict.Verdict.{Verdict}
+use Rattle.tf_provider_protocol.specs.Meaning.{Answer, Asked, Meaning, schema_in}
+use Rattle.tf_provider_protocol.specs.Schema.{SchemaView}
+use Rattle.tf_provider_protocol.specs.declared.verdict.Verdict.{Verdict}
 use Rattle.tf_state_data.specs.State.{StateView}
 use Rattle.tf_value.specs.Known.{known}
 use Rattle.tf_value.specs.Refinement.{Refines}
@@ -35,8 +35,8 @@ object_before _ = None
 -- an attribute that is known in the plan stands in it unchanged.
 pub record IsAskedAsPlanned (a : ActionView) (asked : Asked) : Type 0 where
   pub op : asked.op ≡ op_of a.step
-  pub address : asked.address ≡ address_text a.label a.key
-  pub type_name : asked.type_name ≡ a.label.type_name
+  pub address : asked.address ≡ address_text a.addr a.key
+  pub type_name : asked.type_name ≡ a.addr.type_name
   pub deposed : asked.deposed ≡ deposed_key a.step
   pub prior : asked.prior ≡ object_before a.step
   pub object : RefinesWhere (planned_object a.step) asked.object
@@ -63,7 +63,7 @@ RequestsAreAsPlanned =
     (ms : List Meaning) (config : ConfigView) (variables : Entries) (prior : StateView) (plan : PlanView) (requests : Requests) (objects : ℕ → InstanceKeyView → Tree)
     (a : ActionView) (schema : SchemaView) (asked : Asked)
     → IsSoundPlan ms config variables prior plan → AreRequests plan requests
-    → Contains plan.actions a → schema_in a.label.type_name ms ≡ Some schema → StandAsPlanned plan a.resource objects
+    → Contains plan.actions a → schema_in a.addr.type_name ms ≡ Some schema → StandAsPlanned plan a.resource objects
     → asked_for (plan_names plan) schema a (requests objects a schema) ≡ Ok asked → IsAskedAsPlanned a asked
 
 -- So it is in every apply: whatever came of other actions, each one that was called was asked as planned, and what was known of

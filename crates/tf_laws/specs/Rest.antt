@@ -2,7 +2,7 @@
 use Rattle.std.specs.Prelude.{◌≡◌, ℕ, true, List, [], ◌∷◌, Some, None, Ok, ⊤}
 use Rattle.std.specs.List.{AllByRecursion}
 use Rattle.tf_plan_data.specs.Action.{ActionView}
-use Rattle.tf_address.specs.ObjectId.{InstanceKeyView}
+use Rattle.tf_config_address.specs.ObjectId.{InstanceKeyView}
 use Rattle.tf_plan_order.specs.AddressOrder.{AreInAddressOrder}
 use Rattle.tf_plan_object.specs.Instance.{instance_object}
 use Rattle.tf_config_data.specs.Config.{BlockView}
@@ -14,17 +14,17 @@ use Rattle.tf_plan_decision.specs.Prior.{first_unfit}
 use Rattle.tf_expand.specs.InstanceKeys.{InstanceKeysView, instance_keys}
 use Rattle.tf_expand.specs.Stages.{applying}
 use Rattle.tf_expand.specs.Resolved.{ResolvedView, AreResolvedNames, environment}
-use Rattle.tf_eval.specs.Environment.{Environment}
-use Rattle.tf_eval.specs.ExprMeaning.{meaning}
+use Rattle.tf_expr_eval.specs.Environment.{Environment}
+use Rattle.tf_expr_eval.specs.ExprMeaning.{meaning}
 use Rattle.tf_graph.specs.Solutions.{Ranked}
 use Rattle.tf_plan_order.specs.Members.{is_among, records_of}
 use Rattle.tf_plan.specs.Planned.{IsPlanned, unrefused}
-use Rattle.tf_protocol.specs.Meaning.{Meaning, schema_in}
-use Rattle.tf_protocol.specs.Schema.{SchemaView}
+use Rattle.tf_provider_protocol.specs.Meaning.{Meaning, schema_in}
+use Rattle.tf_provider_protocol.specs.Schema.{SchemaView}
 use Rattle.tf_plan_order.specs.ResourceIndex.{has_block, numbered}
 use Rattle.tf_state_data.specs.Record.{RecordView}
 use Rattle.tf_state_data.specs.Resource.{ResourceView}
-use Rattle.tf_syntax.specs.ExprTree as expr
+use Rattle.tf_expr_syntax.specs.ExprTree as expr
 use Rattle.tf_value.specs.Tree.{Tree, Entries}
 
 -- An instance with these records is at rest where names stand for so much: it has the current object alone, stands for that,
@@ -34,17 +34,17 @@ pub record IsResting (ms : List Meaning) (block : BlockView) (key : InstanceKeyV
   pub alone : records ≡ only ∷ []
   pub current : only.id.deposed ≡ None
   pub stands : only.attributes ≡ object
-  pub rests : (schema : SchemaView) (made : Tree) → schema_in block.label.type_name ms ≡ Some schema → instance_object schema block key env ≡ Ok made
+  pub rests : (schema : SchemaView) (made : Tree) → schema_in block.addr.type_name ms ≡ Some schema → instance_object schema block key env ≡ Ok made
       → change schema block.lifecycle.ignore_changes (Some only) made ≡ nothing
 
 -- The resources of a state are at rest: each has a block, and each record of one is of an instance that the block has; and
 -- each instance is at rest where resources stand for these objects of their instances.
 pub record AreAtRest (ms : List Meaning) (variables : Entries) (names : List NameView) (shapes : ℕ → InstanceKeysView) (objects : ℕ → InstanceKeyView → Tree) (resources : List ResourceView) : Type 0 where
-  pub blocks : AllByRecursion (λ r. has_block names r.label ≡ true) resources
-  pub declared : (n : ℕ) (block : BlockView) → meant_at names n ≡ Some (a_block block) → AllByRecursion (λ x. is_among (instance_keys (shapes n)) x.id.key ≡ true) (records_at block.label resources)
+  pub blocks : AllByRecursion (λ r. has_block names r.addr ≡ true) resources
+  pub declared : (n : ℕ) (block : BlockView) → meant_at names n ≡ Some (a_block block) → AllByRecursion (λ x. is_among (instance_keys (shapes n)) x.id.key ≡ true) (records_at block.addr resources)
   pub rest : (resolved_names : ℕ → ResolvedView) → AreResolvedNames (applying shapes objects) variables names resolved_names
       → (n : ℕ) (block : BlockView) (key : InstanceKeyView) → meant_at names n ≡ Some (a_block block) → is_among (instance_keys (shapes n)) key ≡ true
-      → IsResting ms block key (environment variables names resolved_names) (objects n key) (records_of key (records_at block.label resources))
+      → IsResting ms block key (environment variables names resolved_names) (objects n key) (records_of key (records_at block.addr resources))
 
 -- Beside resources at rest nothing is planned: where no name needs itself, each plan without a refusal is without an action.
 -- In it names stand for what they do where resources stand for the objects at rest.
@@ -60,7 +60,7 @@ NothingIsPlannedAtRest =
 -- the schema, no name in `ignore_changes` is unknown, and the block makes an object of it.
 pub record IsUnrefused (ms : List Meaning) (block : BlockView) (key : InstanceKeyView) (env : Environment) (records : List RecordView) : Type 0 where
   pub schema : SchemaView
-  pub served : schema_in block.label.type_name ms ≡ Some schema
+  pub served : schema_in block.addr.type_name ms ≡ Some schema
   pub fits : first_unfit schema records ≡ None
   pub heeded : ignored_fault schema block.lifecycle.ignore_changes ≡ None
   pub made : Tree
@@ -75,7 +75,7 @@ EachMeans env (expr.entry name e es) = ((t : Tree) × (meaning env e ≡ Ok t)) 
 pub record AreUnrefused (ms : List Meaning) (variables : Entries) (names : List NameView) (outputs : expr.Entries) (shapes : ℕ → InstanceKeysView) (objects : ℕ → InstanceKeyView → Tree) (resources : List ResourceView) : Type 0 where
   pub instances : (resolved_names : ℕ → ResolvedView) → AreResolvedNames (applying shapes objects) variables names resolved_names
       → (n : ℕ) (block : BlockView) (key : InstanceKeyView) → meant_at names n ≡ Some (a_block block) → is_among (instance_keys (shapes n)) key ≡ true
-      → IsUnrefused ms block key (environment variables names resolved_names) (records_of key (records_at block.label resources))
+      → IsUnrefused ms block key (environment variables names resolved_names) (records_of key (records_at block.addr resources))
   pub outputs_mean : (resolved_names : ℕ → ResolvedView) → AreResolvedNames (applying shapes objects) variables names resolved_names → EachMeans (environment variables names resolved_names) outputs
 
 -- Then beside resources at rest there is a plan, with nothing to do and nothing to refuse, in each address order.

@@ -10,7 +10,7 @@ use Rattle.tf_laws.specs.Reapply.{IsValued}
 use Rattle.tf_laws.specs.Twice.{HasToldSerial, without_flags}
 use Rattle.tf_cli_inputs.specs.Texts.{Texts}
 use Rattle.tf_plan_data.specs.Plan.{PlanView}
-use Rattle.tf_protocol.specs.Meaning.{Meaning}
+use Rattle.tf_provider_protocol.specs.Meaning.{Meaning}
 use Rattle.tf_walk_report.specs.Report.{IsReported, report_of}
 
 -- An apply did all that was planned: its journal isn't withheld, each action is good, and each output has a value.

@@ -7,8 +7,8 @@ use Rattle.tf_cli_inputs.specs.Texts.{Texts}
 use Rattle.tf_laws.specs.Plans.{AreOne}
 use Rattle.tf_laws.specs.Readings.{without_lineage}
 use Rattle.tf_plan_data.specs.Plan.{PlanView}
-use Rattle.tf_protocol.specs.Meaning.{Meaning}
-use Rattle.tf_refusal.specs.Refusal.{RefusalView}
+use Rattle.tf_provider_protocol.specs.Meaning.{Meaning}
+use Rattle.tf_config_refusal.specs.Refusal.{RefusalView}
 use Rattle.tf_state_data.specs.State.{StateView}
 
 -- Texts have one plan, where a new state is of one lineage.

@@ -12,8 +12,8 @@ use Rattle.tf_walk_action.specs.declared.excuse.Outcome.TheVariants.{Judged}
 use Rattle.tf_walk_report.specs.Outputs.{OutputResultView, outputs_after}
 use Rattle.tf_plan.specs.Plan.{IsPlan}
 use Rattle.tf_plan_data.specs.Plan.{PlanView}
-use Rattle.tf_protocol.specs.Meaning.{Meaning}
-use Rattle.tf_protocol.specs.declared.verdict.Verdict.TheVariants.{Good}
+use Rattle.tf_provider_protocol.specs.Meaning.{Meaning}
+use Rattle.tf_provider_protocol.specs.declared.verdict.Verdict.TheVariants.{Good}
 use Rattle.tf_walk_report.specs.Report.{AreOutputsOf, IsReport, IsStateOf, IsTold}
 use Rattle.tf_walk_report.specs.declared.report.Report.{Report}
 use Rattle.tf_state_data.specs.Record.{RecordView}
@@ -41,7 +41,7 @@ without_flags s = record s { serial = 0; resources = map resource_without_flags 
 -- No block is of the type `local`, by which locals are named, so that each name stands for one thing, as in each
 -- configuration that was read.
 abbrev pub HasOwnNames : ConfigView → Type 0
-HasOwnNames config = AllByRecursion (λ b. ¬ (b.label.type_name ≡ codes "local")) config.blocks
+HasOwnNames config = AllByRecursion (λ b. ¬ (b.addr.type_name ≡ codes "local")) config.blocks
 
 -- Outputs stand in byte order of their names, no two with one, as those of each configuration that was read.
 abbrev pub HasOrderedOutputs : ConfigView → Type 0

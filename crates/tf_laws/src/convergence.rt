@@ -9,7 +9,7 @@ ghost use Rattle.tf_laws.specs.Rest.{NothingIsPlannedAtRest, NothingIsRefusedAtR
 ghost use Rattle.tf_laws.specs.Twice.{ReportsSettle, SecondAppliesChangeFlags, SecondAppliesKeepObjects, SecondSerialsTell, ThirdAppliesChangeNothing, ThirdAppliesKeepRecords};
 
 use tf_expand::standing_laws::resolved_names_grow;
-use tf_operators::laws::known_stays_known;
+use tf_expr_operators::laws::known_stays_known;
 use tf_plan_object::laws::objects_grow;
 
 /// Where all that names stand for is known, so is what an expression means, and what a block makes of an instance but for

@@ -4,9 +4,9 @@ ghost use Rattle.tf_laws.specs.Instances.{InstancesAreExpanded, InstancesStayInA
 ghost use Rattle.tf_laws.specs.Requests.{CallsAreAsPlanned, RequestsAreAsPlanned};
 
 use crate::asking::{planned_objects_are_asked, requests_grow};
-use tf_eval::expr_knowledge_grows;
 use tf_expand::expansion_laws::all_stand_where_none_is_refused;
 use tf_expand::standing_laws::{instances_stay, resolved_names_are_one, resolved_names_grow};
+use tf_expr_eval::expr_knowledge_grows;
 
 /// What an action asks is as planned, and what the plan knows of its object stands in it unchanged, wherever instances stand
 /// for what the plan says of them. So it is in every apply, of each action that is called.

@@ -9,7 +9,7 @@ ghost use Rattle.tf_laws.specs.TextPlans.{AppliesShowThePlan, PlannedTextsAreNot
 ghost use Rattle.tf_laws.specs.Refusals.{ApplyRefusalsTellTheSame, PlannedTextsHaveNoRefusals, ReadTextsAreNotRefused, RefusalsTellTheSame, RefusedReadingsAreOne};
 ghost use Rattle.tf_laws.specs.Readings.{TextsReadAsOne, TextsReadAsOneApart};
 ghost use Rattle.tf_laws.specs.Success.{SecondAppliesSettle, SuccessIsComplete, ThirdAppliesChangeNothing};
-ghost use Rattle.tf_sim.specs.Table.{sim_meaning};
+ghost use Rattle.tf_provider_sim.specs.Table.{sim_meaning};
 
 use crate::convergence::{
     applies_converge, applies_settle, nothing_is_planned_at_rest, quiet_applies_keep_objects,

@@ -2,7 +2,7 @@
 use Rattle.std.proofs.Common.{◌≡◌, ◌<◌, ◌≤◌, ◌+◌, ℕ, zero, suc, List, [], ◌∷◌, length, map, Some, ap, subst, arith, inl, inr}
 use Rattle.std.proofs.lemmas.Bool.{cases_eq}
 use Rattle.std.specs.List.{AllByRecursion, range_with_len}
-use Rattle.tf_address.specs.ObjectId.{number, name}
+use Rattle.tf_config_address.specs.ObjectId.{number, name}
 use Rattle.tf_config_data.specs.Config.{BlockView}
 use Rattle.tf_config_data.specs.Names.{NameView, a_block, meant_at}
 use Rattle.tf_expand.specs.InstanceKeys.{InstanceKeysView, one, many, named, instance_keys}

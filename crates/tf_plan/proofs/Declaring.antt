@@ -8,10 +8,10 @@ use Rattle.tf_plan.specs.Plan.{max_actions}
 use Rattle.tf_plan.specs.Planned.{AreInstances, IsPlanned, PlannedView, unrefused}
 use Rattle.tf_plan.specs.Refused.{AreRefusedIn, AreRefusedOf, AreRefusedOfSome, AreUnplanned, HasManyPairs, Tells}
 use Rattle.tf_plan.specs.declared.refused.Refused.{Refused}
-use Rattle.tf_protocol.specs.Meaning.{Meaning}
-use Rattle.tf_refusal.specs.Refusal.{RefusalView}
+use Rattle.tf_provider_protocol.specs.Meaning.{Meaning}
+use Rattle.tf_config_refusal.specs.Refusal.{RefusalView}
 use Rattle.tf_state_data.specs.Resource.{ResourceView}
-use Rattle.tf_syntax.specs.ExprTree as expr
+use Rattle.tf_expr_syntax.specs.ExprTree as expr
 use Rattle.tf_value.specs.Tree.{Entries}
 
 module _ (ms : List Meaning) (resources : List ResourceView) (variables : Entries) (names : List NameView) (outputs : expr.Entries) (shapes : ℕ → InstanceKeysView) (instances : AreInstances variables names shapes) where

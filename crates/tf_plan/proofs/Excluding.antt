@@ -8,7 +8,7 @@ use Rattle.tf_graph.specs.Solutions.{Ranked}
 use Rattle.tf_plan.proofs.Solved.{instances-by, one_shape}
 use Rattle.tf_plan.specs.Planned.{AreInstances}
 use Rattle.tf_plan.specs.Refused.{AreManyInstances, IsUnexpanded}
-use Rattle.tf_refusal.specs.Refusal.{RefusalView}
+use Rattle.tf_config_refusal.specs.Refusal.{RefusalView}
 use Rattle.tf_value.specs.Tree.{Entries}
 
 -- what has a shape isn't refused

@@ -9,7 +9,7 @@ use Rattle.std.specs.List.Sorted.{IsStrictlySortedBy}
 use Rattle.std.specs.Option.{option_map_or}
 use Rattle.std.specs.Prelude.{Contains, find, option_and_then, slice_get}
 use Rattle.tf_plan_data.specs.Action.{ActionView}
-use Rattle.tf_address.specs.Label.{LabelView, label_cmp}
+use Rattle.tf_config_address.specs.ResourceAddr.{ResourceAddrView, addr_cmp}
 use Rattle.tf_plan_order.specs.AddressOrder.{is_resource}
 use Rattle.tf_config_data.specs.Names.{NameView, Meant, a_local, a_block, meant_at, directly_before}
 use Rattle.tf_plan_decision.proofs.Standing.{named_within}
@@ -34,7 +34,7 @@ use Rattle.tf_plan.specs.Plan.{IsPlannedFrom}
 use Rattle.tf_plan.specs.Planned.{AreInstances, IsPlanned, PlannedView, unrefused}
 use Rattle.tf_plan_data.specs.Fits.{AboutView, about, AreApart, IsDeclared, IsPlaced}
 use Rattle.tf_plan_data.specs.Served.{AreServed, IsServedBy}
-use Rattle.tf_protocol.specs.Meaning.{Meaning, schema_in}
+use Rattle.tf_provider_protocol.specs.Meaning.{Meaning, schema_in}
 use Rattle.tf_plan_order.proofs.Standing.{numbers-in_order, resources-apart}
 use Rattle.tf_plan_order.specs.ResourceLaws as resources_laws
 use Rattle.tf_plan_order.specs.ResourceIndex.{ResourceRefView, a_name, an_orphan, address_of, block_address, has_block, numbered, orphans, place_in}
@@ -44,7 +44,7 @@ use Rattle.tf_state_data.specs.Resource.{ResourceView, resource_of}
 use Rattle.tf_state_data.specs.State.{state_of}
 use Rattle.tf_state_data.specs.declared.resource.Resource.{Resource}
 use Rattle.tf_state_data.specs.declared.state.State.{State}
-use Rattle.tf_syntax.specs.ExprTree as expr
+use Rattle.tf_expr_syntax.specs.ExprTree as expr
 use Rattle.tf_value.specs.Tree.{Entries}
 
 -- the records of each resource stand by their ids
@@ -76,15 +76,15 @@ found-sorted test (r ∷ resources) all = by_test (test r) (found-sorted test re
     by_test true rest = all.0
     by_test false rest = rest
 
-records-sorted : (label : LabelView) (resources : List ResourceView) → AreAllById resources → AreById (records_at label resources)
-records-sorted label resources all = found-sorted (λ r. is_eq (label_cmp r.label label)) resources all
+records-sorted : (addr : ResourceAddrView) (resources : List ResourceView) → AreAllById resources → AreById (records_at addr resources)
+records-sorted addr resources all = found-sorted (λ r. is_eq (addr_cmp r.addr addr)) resources all
 
 orphan-sorted : (names : List NameView) (resources : List ResourceView) (n : ℕ) (r : ResourceView) → AreAllById resources → slice_get (numbered names resources) n ≡ Some (an_orphan r) → AreById r.records
 orphan-sorted names resources n r all e = elim (Contains-append_cases (map a_name names) (map an_orphan (orphans names resources)) (an_orphan r) (at-contained (numbered names resources) n (an_orphan r) e)) [
   | inl front ↦ let name = in_map a_name names (an_orphan r) front in absurd (cc (name.2))
   | inr back ↦
       let other = in_map an_orphan (orphans names resources) (an_orphan r) back in
-      let kept = in_filter (λ x. not (has_block names x.label)) resources other.0 other.1 in
+      let kept = in_filter (λ x. not (has_block names x.addr)) resources other.0 other.1 in
       let same : other.0 ≡ r = orphan-same other.0 r other.2 in
       subst (λ (x : ResourceView). AreById x.records) same (all-contained (λ (x : ResourceView). AreById x.records) resources other.0 all kept.0)
 ]
@@ -125,47 +125,47 @@ module _ (ms : List Meaning) (resources : List ResourceView) (variables : Entrie
     where
       by_test : (b : Bool) → AreDistinct (map about (cond b (block_actions ms resources n block (environment variables names resolved_names) (shapes n)) []))
       by_test true =
-          let schema = schema_in block.label.type_name ms in
+          let schema = schema_in block.addr.type_name ms in
           let env = environment variables names resolved_names in
           let keys = instance_keys (shapes n) in
-          let records = records_at block.label resources in
-          resource-distinct (of_at ms n block.label) (member_outcome schema block env) keys records
-          (λ key. member-distinct schema block env (member keys records key) (deposed-distinct key records (records-sorted block.label resources sorted)))
+          let records = records_at block.addr resources in
+          resource-distinct (of_at ms n block.addr) (member_outcome schema block env) keys records
+          (λ key. member-distinct schema block env (member keys records key) (deposed-distinct key records (records-sorted block.addr resources sorted)))
       by_test false = tt
 
   place-distinct : (n : ℕ) (o : Option ResourceRefView) → slice_get (numbered names resources) n ≡ o → AreDistinct (map about (place_actions ms resources variables names shapes resolved_names n o))
   place-distinct n None e = tt
   place-distinct n (Some (a_name name)) e = meant-distinct n name.meant
   place-distinct n (Some (an_orphan r)) e =
-      let schema = schema_in r.label.type_name ms in
-      resource-distinct (of_at ms n r.label) (orphan_outcome schema) [] r.records
+      let schema = schema_in r.addr.type_name ms in
+      resource-distinct (of_at ms n r.addr) (orphan_outcome schema) [] r.records
       (λ key. orphan-distinct schema (member [] r.records key) (deposed-distinct key r.records (orphan-sorted names resources n r sorted e)))
 
-  meant-about : (n : ℕ) (m : Meant) (b : AboutView) → Contains (map about (meant_actions ms resources variables names shapes resolved_names n m)) b → block_address m ≡ Some b.label
+  meant-about : (n : ℕ) (m : Meant) (b : AboutView) → Contains (map about (meant_actions ms resources variables names shapes resolved_names n m)) b → block_address m ≡ Some b.addr
   meant-about n (a_local e) b c = absurd (omega (arith, c.1))
   meant-about n (a_block block) b c = by_test (all_stand (seen_by resolved_names (directly_before names n))) c
     where
-      by_test : (t : Bool) → Contains (map about (cond t (block_actions ms resources n block (environment variables names resolved_names) (shapes n)) [])) b → Some block.label ≡ Some b.label
+      by_test : (t : Bool) → Contains (map about (cond t (block_actions ms resources n block (environment variables names resolved_names) (shapes n)) [])) b → Some block.addr ≡ Some b.addr
       by_test true d =
           ap Some
-          (sym (resource-about (of_at ms n block.label) (member_outcome (schema_in block.label.type_name ms) block (environment variables names resolved_names)) 0 (block_members (shapes n) block resources) b d))
+          (sym (resource-about (of_at ms n block.addr) (member_outcome (schema_in block.addr.type_name ms) block (environment variables names resolved_names)) 0 (block_members (shapes n) block resources) b d))
       by_test false d = absurd (omega (arith, d.1))
 
-  place-about : (n : ℕ) (o : Option ResourceRefView) (b : AboutView) → Contains (map about (place_actions ms resources variables names shapes resolved_names n o)) b → option_and_then address_of o ≡ Some b.label
+  place-about : (n : ℕ) (o : Option ResourceRefView) (b : AboutView) → Contains (map about (place_actions ms resources variables names shapes resolved_names n o)) b → option_and_then address_of o ≡ Some b.addr
   place-about n None b c = absurd (omega (arith, c.1))
   place-about n (Some (a_name name)) b c = meant-about n name.meant b c
-  place-about n (Some (an_orphan r)) b c = ap Some (sym (resource-about (of_at ms n r.label) (orphan_outcome (schema_in r.label.type_name ms)) 0 (members [] r.records) b c))
+  place-about n (Some (an_orphan r)) b c = ap Some (sym (resource-about (of_at ms n r.addr) (orphan_outcome (schema_in r.addr.type_name ms)) 0 (members [] r.records) b c))
 
-  at-address : (o : Option ResourceRefView) (label : LabelView) → option_and_then address_of o ≡ Some label → (x : ResourceRefView) × (o ≡ Some x) × (address_of x ≡ Some label)
-  at-address None label e = absurd (cc)
-  at-address (Some x) label e = (x, refl, e)
+  at-address : (o : Option ResourceRefView) (addr : ResourceAddrView) → option_and_then address_of o ≡ Some addr → (x : ResourceRefView) × (o ≡ Some x) × (address_of x ≡ Some addr)
+  at-address None addr e = absurd (cc)
+  at-address (Some x) addr e = (x, refl, e)
 
   module _ (apart : resources_laws.AreApart (numbered names resources)) where
     same-place : (i j : ℕ) (b : AboutView) → Contains (map about (actions-at i)) b → Contains (map about (actions-at j)) b → i ≡ j
     same-place i j b ci cj =
-        let x = at-address (slice_get (numbered names resources) i) b.label (place-about i (slice_get (numbered names resources) i) b ci) in
-        let y = at-address (slice_get (numbered names resources) j) b.label (place-about j (slice_get (numbered names resources) j) b cj) in
-        apart i j x.0 y.0 b.label x.1 y.1 x.2 y.2
+        let x = at-address (slice_get (numbered names resources) i) b.addr (place-about i (slice_get (numbered names resources) i) b ci) in
+        let y = at-address (slice_get (numbered names resources) j) b.addr (place-about j (slice_get (numbered names resources) j) b cj) in
+        apart i j x.0 y.0 b.addr x.1 y.1 x.2 y.2
 
     all-distinct : (order : List ℕ) → AreDistinct order → AreDistinct (map about (flat_map actions-at order))
     all-distinct order once =
@@ -174,11 +174,11 @@ module _ (ms : List Meaning) (resources : List ResourceView) (variables : Entrie
 
     -- ---- each fits
 
-    fits-all : (n : ℕ) (x : ResourceRefView) (label : LabelView) (xs : List ActionView) → slice_get (numbered names resources) n ≡ Some x → address_of x ≡ Some label
-        → AllByRecursion (IsOfResource ms names n label) xs → AllByRecursion (FitsAll ms names (numbered names resources)) xs
-    fits-all n x label xs e address all =
-        let at = placed-at (numbered names resources) n x label apart e address in
-        all-weaker (IsOfResource ms names n label) (FitsAll ms names (numbered names resources)) xs
+    fits-all : (n : ℕ) (x : ResourceRefView) (addr : ResourceAddrView) (xs : List ActionView) → slice_get (numbered names resources) n ≡ Some x → address_of x ≡ Some addr
+        → AllByRecursion (IsOfResource ms names n addr) xs → AllByRecursion (FitsAll ms names (numbered names resources)) xs
+    fits-all n x addr xs e address all =
+        let at = placed-at (numbered names resources) n x addr apart e address in
+        all-weaker (IsOfResource ms names n addr) (FitsAll ms names (numbered names resources)) xs
         (λ a is. (ap (place_in (numbered names resources)) is.own ∙ at ∙ ap Some (sym is.resource), is.declared, is.served)) all
 
     module _ (few : instances_before names shapes (length names) ≤ 2000) where
@@ -192,9 +192,9 @@ module _ (ms : List Meaning) (resources : List ResourceView) (variables : Entrie
               let stands = name-stands names resources n name e in
               let meant : meant_at names n ≡ Some (a_block block) = stands.1 ∙ ap Some is in
               let keys = instance_keys (shapes n) in
-              let records = records_at block.label resources in
+              let records = records_at block.addr resources in
               let env = environment variables names resolved_names in
-              fits-all n (a_name name) block.label (block_actions ms resources n block env (shapes n)) e (ap block_address is)
+              fits-all n (a_name name) block.addr (block_actions ms resources n block env (shapes n)) e (ap block_address is)
               (members-fit ms names n block meant env 0 (members keys records) (members-numbered keys records (instances-numbered names shapes n block stands.0 meant few)))
           by_test false = tt
 
@@ -202,7 +202,7 @@ module _ (ms : List Meaning) (resources : List ResourceView) (variables : Entrie
           → AllByRecursion (FitsAll ms names (numbered names resources)) (place_actions ms resources variables names shapes resolved_names n o)
       place-fits n None e = tt
       place-fits n (Some (a_name name)) e = meant-fits n name name.meant e refl
-      place-fits n (Some (an_orphan r)) e = fits-all n (an_orphan r) r.label (orphan_actions ms n r) e refl (orphans-fit ms names n r.label 0 (members [] r.records))
+      place-fits n (Some (an_orphan r)) e = fits-all n (an_orphan r) r.addr (orphan_actions ms n r) e refl (orphans-fit ms names n r.addr 0 (members [] r.records))
 
       all-fit : (order : List ℕ) → AllByRecursion (FitsAll ms names (numbered names resources)) (flat_map actions-at order)
       all-fit order = all-flat (FitsAll ms names (numbered names resources)) actions-at order (λ n. place-fits n (slice_get (numbered names resources) n) refl)

@@ -3,8 +3,8 @@ use Rattle.std.proofs.Common.{◌≡◌, ◌∙◌, ◌+◌, ◌++◌, Bool, tru
 use Rattle.std.specs.List.{flat_map}
 use Rattle.std.specs.Prelude.{fold, slice_get}
 use Rattle.tf_plan_data.specs.Action.{ActionView}
-use Rattle.tf_address.specs.Label.{LabelView}
-use Rattle.tf_address.specs.ObjectId.{InstanceKeyView}
+use Rattle.tf_config_address.specs.ResourceAddr.{ResourceAddrView}
+use Rattle.tf_config_address.specs.ObjectId.{InstanceKeyView}
 use Rattle.tf_config_data.specs.Config.{BlockView}
 use Rattle.tf_config_data.specs.Names.{NameView, Meant, a_local, a_block, directly_before}
 use Rattle.tf_plan_decision.specs.Deciding.{DecidedView, OfView, action, version_of, with_block, with_members, with_outcome}
@@ -13,10 +13,10 @@ use Rattle.tf_plan_decision.specs.Stage.{block_members}
 use Rattle.tf_plan_decision.specs.Whole.{decided, nothing_decided, with_meant, with_numbered}
 use Rattle.tf_expand.specs.InstanceKeys.{InstanceKeysView}
 use Rattle.tf_expand.specs.Resolved.{ResolvedView, all_stand, environment}
-use Rattle.tf_eval.specs.Environment.{Environment}
+use Rattle.tf_expr_eval.specs.Environment.{Environment}
 use Rattle.tf_graph.specs.Solutions.{seen_by}
 use Rattle.tf_plan_order.specs.Members.{InstanceToPlanView, members}
-use Rattle.tf_protocol.specs.Meaning.{Meaning, schema_in}
+use Rattle.tf_provider_protocol.specs.Meaning.{Meaning, schema_in}
 use Rattle.tf_plan_order.specs.ResourceIndex.{ResourceRefView, a_name, an_orphan}
 use Rattle.tf_state_data.specs.Resource.{ResourceView}
 use Rattle.tf_value.specs.Tree.{Entries}
@@ -50,15 +50,15 @@ with_members-actions of becomes i (m ∷ ms) d =
 -- ---- the actions of what stands at places
 
 -- a block or an orphan as its actions name it
-abbrev pub of_at : List Meaning → ℕ → LabelView → OfView
-of_at ms n label = record { resource = n; label = label; version = version_of (schema_in label.type_name ms) }
+abbrev pub of_at : List Meaning → ℕ → ResourceAddrView → OfView
+of_at ms n addr = record { resource = n; addr = addr; version = version_of (schema_in addr.type_name ms) }
 
 abbrev pub block_actions : List Meaning → List ResourceView → ℕ → BlockView → Environment → InstanceKeysView → List ActionView
 block_actions ms resources n block env shape =
-    member_actions (of_at ms n block.label) (member_outcome (schema_in block.label.type_name ms) block env) 0 (block_members shape block resources)
+    member_actions (of_at ms n block.addr) (member_outcome (schema_in block.addr.type_name ms) block env) 0 (block_members shape block resources)
 
 abbrev pub orphan_actions : List Meaning → ℕ → ResourceView → List ActionView
-orphan_actions ms n r = member_actions (of_at ms n r.label) (orphan_outcome (schema_in r.label.type_name ms)) 0 (members [] r.records)
+orphan_actions ms n r = member_actions (of_at ms n r.addr) (orphan_outcome (schema_in r.addr.type_name ms)) 0 (members [] r.records)
 
 module _ (ms : List Meaning) (resources : List ResourceView) (variables : Entries) (names : List NameView) (shapes : ℕ → InstanceKeysView) (resolved_names : ℕ → ResolvedView) where
   abbrev pub meant_actions : ℕ → Meant → List ActionView
@@ -79,13 +79,13 @@ module _ (ms : List Meaning) (resources : List ResourceView) (variables : Entrie
           → (cond b (with_block ms resources n block (environment variables names resolved_names) (shapes n) d) d).actions
           ≡ d.actions ++ cond b (block_actions ms resources n block (environment variables names resolved_names) (shapes n)) []
       by_test true =
-          with_members-actions (of_at ms n block.label) (member_outcome (schema_in block.label.type_name ms) block (environment variables names resolved_names)) 0 (block_members (shapes n) block resources) d
+          with_members-actions (of_at ms n block.addr) (member_outcome (schema_in block.addr.type_name ms) block (environment variables names resolved_names)) 0 (block_members (shapes n) block resources) d
       by_test false = sym (append-none d.actions)
 
   with_numbered-actions : (n : ℕ) (o : Option ResourceRefView) (d : DecidedView) → (with_numbered ms resources variables names shapes resolved_names n o d).actions ≡ d.actions ++ place_actions n o
   with_numbered-actions n None d = sym (append-none d.actions)
   with_numbered-actions n (Some (a_name name)) d = with_meant-actions n name.meant d
-  with_numbered-actions n (Some (an_orphan r)) d = with_members-actions (of_at ms n r.label) (orphan_outcome (schema_in r.label.type_name ms)) 0 (members [] r.records) d
+  with_numbered-actions n (Some (an_orphan r)) d = with_members-actions (of_at ms n r.addr) (orphan_outcome (schema_in r.addr.type_name ms)) 0 (members [] r.records) d
 
   fold-actions : (all : List ResourceRefView) (order : List ℕ) (d : DecidedView)
       → (fold (λ e n. with_numbered ms resources variables names shapes resolved_names n (slice_get all n) e) d order).actions ≡ d.actions ++ flat_map (λ n. place_actions n (slice_get all n)) order

@@ -12,8 +12,8 @@ use Rattle.tf_plan_decision.specs.Stage.{deciding}
 use Rattle.tf_expand.proofs.Seen.{agree_on}
 use Rattle.tf_expand.specs.InstanceKeys.{InstanceKeysView}
 use Rattle.tf_expand.specs.Resolved.{ResolvedView, AreResolvedNames, all_stand, environment}
-use Rattle.tf_eval.proofs.Locality.{both_halves, expressions_local}
-use Rattle.tf_eval.specs.ExprMeaning.{meaning}
+use Rattle.tf_expr_eval.proofs.Locality.{both_halves, expressions_local}
+use Rattle.tf_expr_eval.specs.ExprMeaning.{meaning}
 use Rattle.tf_graph.proofs.Edges.{all_by_contained}
 use Rattle.tf_graph.proofs.Solving.{seen_by-same}
 use Rattle.tf_graph.specs.Solutions.{seen_by}
@@ -29,11 +29,11 @@ use Rattle.tf_plan.specs.Planned.{IsPlanned, planned_in, planned_of, with_output
 use Rattle.tf_plan.specs.Told.{instance_told}
 use Rattle.tf_plan.specs.Wanted.{IsWanted}
 use Rattle.tf_plan.specs.declared.deciding.PlannedInstances.{PlannedInstances}
-use Rattle.tf_protocol.specs.Meaning.{Meaning}
+use Rattle.tf_provider_protocol.specs.Meaning.{Meaning}
 use Rattle.tf_plan_order.specs.ResourceIndex.{ResourceRefView, a_name, numbered}
 use Rattle.tf_state_data.specs.Resource.{ResourceView}
-use Rattle.tf_syntax.specs.ExprNames.{named_below, named_by}
-use Rattle.tf_syntax.specs.ExprTree as expr
+use Rattle.tf_expr_syntax.specs.ExprNames.{named_below, named_by}
+use Rattle.tf_expr_syntax.specs.ExprTree as expr
 use Rattle.tf_value.specs.Tree.{Entries}
 
 module _ (variables : Entries) (names : List NameView) (kept resolved_names : ℕ → ResolvedView) where

@@ -4,9 +4,9 @@ use Rattle.std.proofs.Common.{◌≡◌, ◌+◌, ◌++◌, ◌||◌, Bool, true
 use Rattle.std.proofs.lemmas.Bool.{both_ways}
 use Rattle.std.specs.List.{AllByRecursion}
 use Rattle.tf_plan_data.specs.Action.{ActionView, StepView}
-use Rattle.tf_address.specs.Label.{LabelView}
-use Rattle.tf_address.specs.ObjectId.{InstanceKeyView}
-use Rattle.tf_address.specs.Same.{same_instance_key}
+use Rattle.tf_config_address.specs.ResourceAddr.{ResourceAddrView}
+use Rattle.tf_config_address.specs.ObjectId.{InstanceKeyView}
+use Rattle.tf_config_address.specs.Same.{same_instance_key}
 use Rattle.tf_plan_object.specs.Instance.{instance_object}
 use Rattle.tf_config_data.specs.Config.{BlockView}
 use Rattle.tf_config_data.specs.Names.{NameView, a_block, meant_at}
@@ -14,7 +14,7 @@ use Rattle.tf_plan_decision.specs.Deciding.{action}
 use Rattle.tf_plan_decision.specs.Outcome.{by_decision, by_removal, declared_outcome, member_outcome, orphan_outcome, removal_outcome}
 use Rattle.tf_plan_decision.specs.Steps.{decided_steps, removal_steps}
 use Rattle.tf_plan_decision.specs.Decision.{DecisionView, DecisionFaultView, decision, removal_fault}
-use Rattle.tf_eval.specs.Environment.{Environment}
+use Rattle.tf_expr_eval.specs.Environment.{Environment}
 use Rattle.tf_plan_order.specs.Members.{InstanceToPlanView, is_among, member, members, all_keys}
 use Rattle.tf_plan.proofs.Distinct.{AreDistinct}
 use Rattle.tf_plan.proofs.Listing.{member_actions, of_at, outcome_actions}
@@ -23,8 +23,8 @@ use Rattle.tf_plan.proofs.Steps.{decided-distinct, deposed_of, removal-destroys,
 use Rattle.tf_plan.proofs.About.{outcome_signs}
 use Rattle.tf_plan_data.specs.Fits.{IsDeclared, IsNumbered, is_apply}
 use Rattle.tf_plan_data.specs.Served.{IsServedBy}
-use Rattle.tf_protocol.specs.Meaning.{Meaning, schema_in}
-use Rattle.tf_protocol.specs.Schema.{SchemaView}
+use Rattle.tf_provider_protocol.specs.Meaning.{Meaning, schema_in}
+use Rattle.tf_provider_protocol.specs.Schema.{SchemaView}
 use Rattle.tf_state_data.specs.Record.{RecordView}
 
 -- ---- no two are about the same
@@ -52,9 +52,9 @@ orphan-distinct (Some schema) m distinct = by_removal-distinct m.records (remova
 -- ---- each is of its resource
 
 -- an action is of the resource with a number and an address
-pub record IsOfResource (ms : List Meaning) (names : List NameView) (n : ℕ) (label : LabelView) (a : ActionView) : Type 0 where
+pub record IsOfResource (ms : List Meaning) (names : List NameView) (n : ℕ) (addr : ResourceAddrView) (a : ActionView) : Type 0 where
   pub resource : a.resource ≡ n
-  pub own : a.label ≡ label
+  pub own : a.addr ≡ addr
   pub declared : IsDeclared names a
   pub served : IsServedBy ms a
 
@@ -63,64 +63,64 @@ all-append P [] ys h k = k
 all-append P (x ∷ xs) ys h k = (h.0, all-append P xs ys h.1 k)
 
 module _ (ms : List Meaning) (names : List NameView) (n : ℕ) where
-  destroys-fit : (label : LabelView) (i : ℕ) (key : InstanceKeyView) (steps : List StepView) → is_some (schema_in label.type_name ms) ≡ true → AllByRecursion (λ s. is_apply s ≡ false) steps
-      → AllByRecursion (IsOfResource ms names n label) (map (action (of_at ms n label) i key) steps)
-  destroys-fit label i key [] served all = tt
-  destroys-fit label i key (s ∷ steps) served all = (
+  destroys-fit : (addr : ResourceAddrView) (i : ℕ) (key : InstanceKeyView) (steps : List StepView) → is_some (schema_in addr.type_name ms) ≡ true → AllByRecursion (λ s. is_apply s ≡ false) steps
+      → AllByRecursion (IsOfResource ms names n addr) (map (action (of_at ms n addr) i key) steps)
+  destroys-fit addr i key [] served all = tt
+  destroys-fit addr i key (s ∷ steps) served all = (
     record { resource = refl; own = refl; declared = λ h. absurd (both_ways (is_apply s) all.0 h); served = served },
-    destroys-fit label i key steps served all.1,
+    destroys-fit addr i key steps served all.1,
   )
 
-  removal-fits : (label : LabelView) (i : ℕ) (key : InstanceKeyView) (records : List RecordView) (o : Option DecisionFaultView) → is_some (schema_in label.type_name ms) ≡ true
-      → AllByRecursion (IsOfResource ms names n label) (outcome_actions (of_at ms n label) i key (by_removal records o))
-  removal-fits label i key records None served = destroys-fit label i key (removal_steps records) served (removal-destroys records)
-  removal-fits label i key records (Some why) served = tt
+  removal-fits : (addr : ResourceAddrView) (i : ℕ) (key : InstanceKeyView) (records : List RecordView) (o : Option DecisionFaultView) → is_some (schema_in addr.type_name ms) ≡ true
+      → AllByRecursion (IsOfResource ms names n addr) (outcome_actions (of_at ms n addr) i key (by_removal records o))
+  removal-fits addr i key records None served = destroys-fit addr i key (removal_steps records) served (removal-destroys records)
+  removal-fits addr i key records (Some why) served = tt
 
-  orphan-fits : (label : LabelView) (schema : Option SchemaView) (i : ℕ) (m : InstanceToPlanView) → schema ≡ schema_in label.type_name ms
-      → AllByRecursion (IsOfResource ms names n label) (outcome_actions (of_at ms n label) i m.key (orphan_outcome schema m))
-  orphan-fits label None i m is = tt
-  orphan-fits label (Some schema) i m is = removal-fits label i m.key m.records (removal_fault schema None m.records) (ap is_some (sym is))
+  orphan-fits : (addr : ResourceAddrView) (schema : Option SchemaView) (i : ℕ) (m : InstanceToPlanView) → schema ≡ schema_in addr.type_name ms
+      → AllByRecursion (IsOfResource ms names n addr) (outcome_actions (of_at ms n addr) i m.key (orphan_outcome schema m))
+  orphan-fits addr None i m is = tt
+  orphan-fits addr (Some schema) i m is = removal-fits addr i m.key m.records (removal_fault schema None m.records) (ap is_some (sym is))
 
-  pub orphans-fit : (label : LabelView) (i : ℕ) (all : List InstanceToPlanView) → AllByRecursion (IsOfResource ms names n label) (member_actions (of_at ms n label) (orphan_outcome (schema_in label.type_name ms)) i all)
-  orphans-fit label i [] = tt
-  orphans-fit label i (m ∷ all) =
-      let schema = schema_in label.type_name ms in
-      all-append (IsOfResource ms names n label) (outcome_actions (of_at ms n label) i m.key (orphan_outcome schema m)) (member_actions (of_at ms n label) (orphan_outcome schema) (i + 1) all)
-      (orphan-fits label schema i m refl) (orphans-fit label (i + 1) all)
+  pub orphans-fit : (addr : ResourceAddrView) (i : ℕ) (all : List InstanceToPlanView) → AllByRecursion (IsOfResource ms names n addr) (member_actions (of_at ms n addr) (orphan_outcome (schema_in addr.type_name ms)) i all)
+  orphans-fit addr i [] = tt
+  orphans-fit addr i (m ∷ all) =
+      let schema = schema_in addr.type_name ms in
+      all-append (IsOfResource ms names n addr) (outcome_actions (of_at ms n addr) i m.key (orphan_outcome schema m)) (member_actions (of_at ms n addr) (orphan_outcome schema) (i + 1) all)
+      (orphan-fits addr schema i m refl) (orphans-fit addr (i + 1) all)
 
   module _ (block : BlockView) (stands : meant_at names n ≡ Some (a_block block)) where
-    steps-fit : (i : ℕ) (key : InstanceKeyView) (steps : List StepView) → is_some (schema_in block.label.type_name ms) ≡ true → IsNumbered key
-        → AllByRecursion (IsOfResource ms names n block.label) (map (action (of_at ms n block.label) i key) steps)
+    steps-fit : (i : ℕ) (key : InstanceKeyView) (steps : List StepView) → is_some (schema_in block.addr.type_name ms) ≡ true → IsNumbered key
+        → AllByRecursion (IsOfResource ms names n block.addr) (map (action (of_at ms n block.addr) i key) steps)
     steps-fit i key [] served numbered = tt
     steps-fit i key (s ∷ steps) served numbered = (
       record { resource = refl; own = refl; declared = λ h. record { block = block; stands = stands; own = refl; numbered = numbered }; served = served },
       steps-fit i key steps served numbered,
     )
 
-    decision-fits : (i : ℕ) (key : InstanceKeyView) (records : List RecordView) (d : Result DecisionView DecisionFaultView) → is_some (schema_in block.label.type_name ms) ≡ true → IsNumbered key
-        → AllByRecursion (IsOfResource ms names n block.label) (outcome_actions (of_at ms n block.label) i key (by_decision records d))
+    decision-fits : (i : ℕ) (key : InstanceKeyView) (records : List RecordView) (d : Result DecisionView DecisionFaultView) → is_some (schema_in block.addr.type_name ms) ≡ true → IsNumbered key
+        → AllByRecursion (IsOfResource ms names n block.addr) (outcome_actions (of_at ms n block.addr) i key (by_decision records d))
     decision-fits i key records (Ok d) served numbered = steps-fit i key (decided_steps records d) served numbered
     decision-fits i key records (Err why) served numbered = tt
 
-    member-fits : (env : Environment) (schema : Option SchemaView) (i : ℕ) (m : InstanceToPlanView) → schema ≡ schema_in block.label.type_name ms → (m.is_declared ≡ true → IsNumbered m.key)
-        → AllByRecursion (IsOfResource ms names n block.label) (outcome_actions (of_at ms n block.label) i m.key (member_outcome schema block env m))
+    member-fits : (env : Environment) (schema : Option SchemaView) (i : ℕ) (m : InstanceToPlanView) → schema ≡ schema_in block.addr.type_name ms → (m.is_declared ≡ true → IsNumbered m.key)
+        → AllByRecursion (IsOfResource ms names n block.addr) (outcome_actions (of_at ms n block.addr) i m.key (member_outcome schema block env m))
     member-fits env None i m is numbered = tt
     member-fits env (Some schema) i m is numbered = by_test m.is_declared numbered
       where
         by_test : (b : Bool) → (b ≡ true → IsNumbered m.key)
-            → AllByRecursion (IsOfResource ms names n block.label)
-            (outcome_actions (of_at ms n block.label) i m.key (cond b (declared_outcome schema block env m) (removal_outcome schema (Some block.lifecycle) m)))
+            → AllByRecursion (IsOfResource ms names n block.addr)
+            (outcome_actions (of_at ms n block.addr) i m.key (cond b (declared_outcome schema block env m) (removal_outcome schema (Some block.lifecycle) m)))
         by_test true below =
             decision-fits i m.key m.records (decision schema block.lifecycle m.records (instance_object schema block m.key env)) (ap is_some (sym is)) (below refl)
-        by_test false below = removal-fits block.label i m.key m.records (removal_fault schema (Some block.lifecycle) m.records) (ap is_some (sym is))
+        by_test false below = removal-fits block.addr i m.key m.records (removal_fault schema (Some block.lifecycle) m.records) (ap is_some (sym is))
 
     pub members-fit : (env : Environment) (i : ℕ) (all : List InstanceToPlanView) → AllByRecursion (λ m. m.is_declared ≡ true → IsNumbered m.key) all
-        → AllByRecursion (IsOfResource ms names n block.label) (member_actions (of_at ms n block.label) (member_outcome (schema_in block.label.type_name ms) block env) i all)
+        → AllByRecursion (IsOfResource ms names n block.addr) (member_actions (of_at ms n block.addr) (member_outcome (schema_in block.addr.type_name ms) block env) i all)
     members-fit env i [] numbered = tt
     members-fit env i (m ∷ all) numbered =
-        let schema = schema_in block.label.type_name ms in
-        all-append (IsOfResource ms names n block.label) (outcome_actions (of_at ms n block.label) i m.key (member_outcome schema block env m))
-        (member_actions (of_at ms n block.label) (member_outcome schema block env) (i + 1) all) (member-fits env schema i m refl numbered.0) (members-fit env (i + 1) all numbered.1)
+        let schema = schema_in block.addr.type_name ms in
+        all-append (IsOfResource ms names n block.addr) (outcome_actions (of_at ms n block.addr) i m.key (member_outcome schema block env m))
+        (member_actions (of_at ms n block.addr) (member_outcome schema block env) (i + 1) all) (member-fits env schema i m refl numbered.0) (members-fit env (i + 1) all numbered.1)
 
 -- ---- the numbers of instances that a block has
 

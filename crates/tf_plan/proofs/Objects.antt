@@ -1,9 +1,9 @@
 -- The objects of one instance are told apart by their deposed keys, and the instances of one resource by their keys.
 use Rattle.std.proofs.Common.{◌≡◌, ◌∙◌, ◌&&◌, Bool, true, false, List, [], None, map, refl, sym, ap}
 use Rattle.std.specs.Prelude.{Contains}
-use Rattle.tf_address.proofs.Totals.{object_id_total}
-use Rattle.tf_address.specs.ObjectId.{InstanceKeyView, ObjectIdView, object_id_cmp, instance_key_cmp}
-use Rattle.tf_address.specs.Same.{object_id_Decides, same_instance_key}
+use Rattle.tf_config_address.proofs.Totals.{object_id_total}
+use Rattle.tf_config_address.specs.ObjectId.{InstanceKeyView, ObjectIdView, object_id_cmp, instance_key_cmp}
+use Rattle.tf_config_address.specs.Same.{object_id_Decides, same_instance_key}
 use Rattle.tf_plan_order.proofs.Known.{nothing-sorted, sorted-with}
 use Rattle.tf_plan_order.proofs.InstanceOrder.{key_total}
 use Rattle.tf_plan_order.specs.Members.{all_keys, is_of, records_of, recorded_keys, with_keys}

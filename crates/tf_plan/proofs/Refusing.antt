@@ -6,7 +6,7 @@ use Rattle.tf_expand.specs.Stages.{expansion}
 use Rattle.tf_expand.specs.Resolved.{ResolvedView, AreResolvedNames, all_stand, environment}
 use Rattle.tf_expand.specs.InstanceKeys.{InstanceKeysView, one}
 use Rattle.tf_expand.specs.declared.repetition.RepetitionFault.{RepetitionFault}
-use Rattle.tf_eval.specs.Environment.{Environment}
+use Rattle.tf_expr_eval.specs.Environment.{Environment}
 use Rattle.tf_expand.specs.Expanding.{AreExpanded, shape_in}
 use Rattle.tf_expand.specs.Told.{Refuses}
 use Rattle.tf_expand.specs.declared.expansion.ExpansionFault.{ExpansionFault}
@@ -14,7 +14,7 @@ use Rattle.tf_expand.specs.declared.expansion.ExpansionFault.TheVariants.{OutOfM
 use Rattle.tf_graph.specs.Solutions.{seen_by}
 use Rattle.tf_config_names.specs.Needs.{IsAcyclic, IsDependence}
 use Rattle.tf_config_names.specs.declared.dependence.Dependence.{Dependence}
-use Rattle.tf_refusal.specs.Refusal.{RefusalView, refusal_of}
+use Rattle.tf_config_refusal.specs.Refusal.{RefusalView, refusal_of}
 use Rattle.tf_value.specs.Tree.{Entries}
 use Rattle.tf_plan.proofs.Existing.{some_standings}
 use Rattle.tf_plan.specs.Planned.{AreInstances}

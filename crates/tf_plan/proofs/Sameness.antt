@@ -9,18 +9,18 @@ use Rattle.tf_plan_decision.specs.Whole.{decided, nothing_decided, with_meant, w
 use Rattle.tf_expand.proofs.Places.{all_places}
 use Rattle.tf_expand.specs.InstanceKeys.{InstanceKeysView}
 use Rattle.tf_expand.specs.Resolved.{ResolvedView, all_stand, answer_at, environment, or_missing}
-use Rattle.tf_eval.specs.ExprMeaning.{meaning}
+use Rattle.tf_expr_eval.specs.ExprMeaning.{meaning}
 use Rattle.tf_graph.proofs.Solving.{seen_by-same}
 use Rattle.tf_graph.specs.Solutions.{seen_by}
-use Rattle.tf_operators.specs.Answer.{Answer, present_value}
+use Rattle.tf_expr_operators.specs.Answer.{Answer, present_value}
 use Rattle.tf_plan.specs.Outputs.{output_fault, output_refusal, output_refusals}
 use Rattle.tf_plan.specs.Planned.{planned_in}
 use Rattle.tf_plan.specs.Told.{instance_told}
-use Rattle.tf_protocol.specs.Meaning.{Meaning}
+use Rattle.tf_provider_protocol.specs.Meaning.{Meaning}
 use Rattle.tf_plan_order.specs.ResourceIndex.{ResourceRefView, a_name, an_orphan, numbered}
 use Rattle.tf_state_data.specs.Resource.{ResourceView}
-use Rattle.tf_syntax.specs.ExprNames.{named_by}
-use Rattle.tf_syntax.specs.ExprTree as expr
+use Rattle.tf_expr_syntax.specs.ExprNames.{named_by}
+use Rattle.tf_expr_syntax.specs.ExprTree as expr
 use Rattle.tf_value.specs.Tree.{Entries, get}
 
 module _ (variables : Entries) (names : List NameView) (kept resolved_names : ℕ → ResolvedView) (same : (n : ℕ) → n < length names → kept n ≡ resolved_names n) where

@@ -12,9 +12,9 @@ use Rattle.tf_graph.proofs.Solving.{solution-unique}
 use Rattle.tf_graph.specs.Solutions.{Ranked}
 use Rattle.tf_plan.proofs.Sameness.{environment-same, planned-same, seen-same}
 use Rattle.tf_plan.specs.Planned.{AreInstances, IsPlanned, PlannedView, planned_in}
-use Rattle.tf_protocol.specs.Meaning.{Meaning}
+use Rattle.tf_provider_protocol.specs.Meaning.{Meaning}
 use Rattle.tf_state_data.specs.Resource.{ResourceView}
-use Rattle.tf_syntax.specs.ExprTree as expr
+use Rattle.tf_expr_syntax.specs.ExprTree as expr
 use Rattle.tf_value.specs.Tree.{Entries}
 
 -- a name has one shape

@@ -4,9 +4,9 @@ use Rattle.std.proofs.Common.{◌≡◌, ◌∙◌, ◌⊎◌, ◌++◌, inl, in
 use Rattle.std.proofs.lemmas.Slice.Eq.{bytes_eq-Decides}
 use Rattle.std.specs.List.{AllByRecursion}
 use Rattle.std.specs.Prelude.{Contains, slice_get}
-use Rattle.tf_address.specs.Label.{LabelView}
+use Rattle.tf_config_address.specs.ResourceAddr.{ResourceAddrView}
 use Rattle.tf_config_data.specs.Config.{BlockView, ConfigView}
-use Rattle.tf_config_data.specs.Names.{NameView, a_local, a_block, block_name, label_pair, local_names, meant_at, names_of, place_of, same_pair}
+use Rattle.tf_config_data.specs.Names.{NameView, a_local, a_block, block_name, addr_pair, local_names, meant_at, names_of, place_of, same_pair}
 use Rattle.tf_graph.proofs.Edges.{edge-from_source, source-from_edge}
 use Rattle.tf_graph.specs.Digraph.{Digraph, predecessors_of}
 use Rattle.tf_graph.specs.Path.{HasEdge, Path, direct, onward}
@@ -22,15 +22,15 @@ use Rattle.tf_plan_order.specs.Marks.{is_marked}
 use Rattle.tf_plan_order.specs.ResourceLaws.{AreApart}
 use Rattle.tf_plan_order.specs.ResourceIndex.{ResourceRefView, a_name, address_of, block_address, numbered}
 use Rattle.tf_state_data.specs.Resource.{ResourceView}
-use Rattle.tf_syntax.specs.ExprTree as expr
-use Rattle.tf_syntax.specs.TemplateNames.{Pair}
+use Rattle.tf_expr_syntax.specs.ExprTree as expr
+use Rattle.tf_expr_syntax.specs.TemplateNames.{Pair}
 use Rattle.tf_value.proofs.Conjunction.{and-both}
 
 -- ---- each block is found by its own name
 
 -- a name is a local's or a block's own
 abbrev IsOwn : NameView → Type 0
-IsOwn x = ((e : expr.Tree) × (x.meant ≡ a_local e) × (x.name.0 ≡ codes "local")) ⊎ ((b : BlockView) × (x.meant ≡ a_block b) × (x.name ≡ label_pair b.label))
+IsOwn x = ((e : expr.Tree) × (x.meant ≡ a_local e) × (x.name.0 ≡ codes "local")) ⊎ ((b : BlockView) × (x.meant ≡ a_block b) × (x.name ≡ addr_pair b.addr))
 
 own_blocks : (blocks : List BlockView) → AllByRecursion IsOwn (map block_name blocks)
 own_blocks [] = tt
@@ -40,8 +40,8 @@ own_names : (es : expr.Entries) (blocks : List BlockView) → AllByRecursion IsO
 own_names expr.no_entries blocks = own_blocks blocks
 own_names (expr.entry name e es) blocks = (inl (e, refl, refl), own_names es blocks)
 
-label_of_pair : (a b : LabelView) → label_pair a ≡ label_pair b → a ≡ b
-label_of_pair a b e i = record { type_name = (e i).0; name = (e i).1 }
+addr_of_pair : (a b : ResourceAddrView) → addr_pair a ≡ addr_pair b → a ≡ b
+addr_of_pair a b e i = record { type_name = (e i).0; name = (e i).1 }
 
 same_itself : (p : Pair) → same_pair p p ≡ true
 same_itself p = and-both _ _ ((bytes_eq-Decides p.0 p.0).1 refl) ((bytes_eq-Decides p.1 p.1).1 refl)
@@ -50,28 +50,28 @@ found_here : (b : Bool) (o : Option ℕ) → b ≡ true → cond b (Some zero) o
 found_here true o h = refl
 found_here false o h = absurd (cc)
 
-own_place : (names : List NameView) → AllByRecursion IsOwn names → (n : ℕ) (block : BlockView) → meant_at names n ≡ Some (a_block block) → ¬ (block.label.type_name ≡ codes "local")
-    → ((k : ℕ) (c : BlockView) → meant_at names k ≡ Some (a_block c) → c.label ≡ block.label → k ≡ n) → place_of names (label_pair block.label) ≡ Some n
+own_place : (names : List NameView) → AllByRecursion IsOwn names → (n : ℕ) (block : BlockView) → meant_at names n ≡ Some (a_block block) → ¬ (block.addr.type_name ≡ codes "local")
+    → ((k : ℕ) (c : BlockView) → meant_at names k ≡ Some (a_block c) → c.addr ≡ block.addr → k ≡ n) → place_of names (addr_pair block.addr) ≡ Some n
 own_place [] own n block meant no_local one = absurd (cc)
 own_place (x ∷ names) own zero block meant no_local one = elim own.0 [
   | inl l ↦ let no : Some (a_local l.0) ≡ Some (a_block block) = sym (ap Some l.1) ∙ meant in absurd (cc)
   | inr b ↦
       let both : Some (a_block b.0) ≡ Some (a_block block) = sym (ap Some b.1) ∙ meant in
       let same : b.0 ≡ block = (cc) in
-      found_here (same_pair x.name (label_pair block.label)) (option_map suc (place_of names (label_pair block.label)))
-      (ap (λ (p : Pair). same_pair p (label_pair block.label)) (b.2 ∙ ap (λ (c : BlockView). label_pair c.label) same) ∙ same_itself (label_pair block.label))
+      found_here (same_pair x.name (addr_pair block.addr)) (option_map suc (place_of names (addr_pair block.addr)))
+      (ap (λ (p : Pair). same_pair p (addr_pair block.addr)) (b.2 ∙ ap (λ (c : BlockView). addr_pair c.addr) same) ∙ same_itself (addr_pair block.addr))
 ]
 own_place (x ∷ names) own (suc n) block meant no_local one =
-    by_test (same_pair x.name (label_pair block.label)) refl (own_place names own.1 n block meant no_local (λ k c at same. let next : suc k ≡ suc n = one (suc k) c at same in cc))
+    by_test (same_pair x.name (addr_pair block.addr)) refl (own_place names own.1 n block meant no_local (λ k c at same. let next : suc k ≡ suc n = one (suc k) c at same in cc))
   where
-    by_test : (b : Bool) → same_pair x.name (label_pair block.label) ≡ b → place_of names (label_pair block.label) ≡ Some n → cond b (Some zero) (option_map suc (place_of names (label_pair block.label))) ≡ Some (suc n)
+    by_test : (b : Bool) → same_pair x.name (addr_pair block.addr) ≡ b → place_of names (addr_pair block.addr) ≡ Some n → cond b (Some zero) (option_map suc (place_of names (addr_pair block.addr))) ≡ Some (suc n)
     by_test false is again = ap (option_map suc) again
     by_test true is again =
-        let named : x.name ≡ label_pair block.label = same_pair-same x.name (label_pair block.label) is in
+        let named : x.name ≡ addr_pair block.addr = same_pair-same x.name (addr_pair block.addr) is in
         elim own.0 [
           | inl l ↦ absurd (no_local (ap (λ (p : Pair). p.0) (sym named) ∙ l.2))
           | inr b ↦
-              let first : zero ≡ suc n = one zero b.0 (ap Some b.1) (label_of_pair b.0.label block.label (sym b.2 ∙ named)) in
+              let first : zero ≡ suc n = one zero b.0 (ap Some b.1) (addr_of_pair b.0.addr block.addr (sym b.2 ∙ named)) in
               absurd (cc)
         ]
 
@@ -85,24 +85,24 @@ block_holds P expr.no_entries blocks n block all e = meant_holds P blocks n bloc
 block_holds P (expr.entry name x es) blocks zero block all e = absurd (cc)
 block_holds P (expr.entry name x es) blocks (suc n) block all e = block_holds P es blocks n block all e
 
-slot : (names : List NameView) (n : ℕ) (block : BlockView) → meant_at names n ≡ Some (a_block block) → (x : ResourceRefView) × (slice_get (map a_name names) n ≡ Some x) × (address_of x ≡ Some block.label)
+slot : (names : List NameView) (n : ℕ) (block : BlockView) → meant_at names n ≡ Some (a_block block) → (x : ResourceRefView) × (slice_get (map a_name names) n ≡ Some x) × (address_of x ≡ Some block.addr)
 slot [] n block e = absurd (cc)
 slot (x ∷ names) zero block e = let same : x.meant ≡ a_block block = (cc) in (a_name x, refl, ap block_address same)
 slot (x ∷ names) (suc n) block e = slot names n block e
 
 -- at most one block is at an address
-pub blocks_one : (names : List NameView) → AreApart (map a_name names) → (n m : ℕ) (b c : BlockView) → meant_at names n ≡ Some (a_block b) → meant_at names m ≡ Some (a_block c) → b.label ≡ c.label → n ≡ m
+pub blocks_one : (names : List NameView) → AreApart (map a_name names) → (n m : ℕ) (b c : BlockView) → meant_at names n ≡ Some (a_block b) → meant_at names m ≡ Some (a_block c) → b.addr ≡ c.addr → n ≡ m
 blocks_one names apart n m b c e f same =
     let x = slot names n b e in
     let y = slot names m c f in
-    apart n m x.0 y.0 c.label x.1 y.1 (x.2 ∙ ap Some same) y.2
+    apart n m x.0 y.0 c.addr x.1 y.1 (x.2 ∙ ap Some same) y.2
 
 -- where no block is of the type `local`, and no two are at one address, a block stands at the place of its name
-pub block_found : (config : ConfigView) → AllByRecursion (λ b. ¬ (b.label.type_name ≡ codes "local")) config.blocks → AreApart (map a_name (names_of config)) → (n : ℕ) (block : BlockView)
-    → meant_at (names_of config) n ≡ Some (a_block block) → place_of (names_of config) (label_pair block.label) ≡ Some n
+pub block_found : (config : ConfigView) → AllByRecursion (λ b. ¬ (b.addr.type_name ≡ codes "local")) config.blocks → AreApart (map a_name (names_of config)) → (n : ℕ) (block : BlockView)
+    → meant_at (names_of config) n ≡ Some (a_block block) → place_of (names_of config) (addr_pair block.addr) ≡ Some n
 block_found config own apart n block meant =
     own_place (names_of config) (own_names config.locals config.blocks) n block meant
-    (block_holds (λ b. ¬ (b.label.type_name ≡ codes "local")) config.locals config.blocks n block own meant) (λ k c at same. blocks_one (names_of config) apart k n c block at meant same)
+    (block_holds (λ b. ¬ (b.addr.type_name ≡ codes "local")) config.locals config.blocks n block own meant) (λ k c at same. blocks_one (names_of config) apart k n c block at meant same)
 
 -- ---- resources need the same
 

@@ -17,8 +17,8 @@ use Rattle.tf_config_names.proofs.Edging.{before-past}
 use Rattle.tf_config_names.specs.Needs.{order_in, IsAcyclic, IsDependence}
 use Rattle.tf_config_names.specs.declared.dependence.Dependence.{Dependence}
 use Rattle.tf_plan.specs.Wanted.{IsNamed, IsWanted}
-use Rattle.tf_syntax.specs.ExprNames.{named_below}
-use Rattle.tf_syntax.specs.ExprTree as expr
+use Rattle.tf_expr_syntax.specs.ExprNames.{named_below}
+use Rattle.tf_expr_syntax.specs.ExprTree as expr
 use Rattle.tf_value.specs.Tree.{Entries}
 
 -- what is marked where nothing was before

@@ -8,7 +8,7 @@ use Rattle.tf_plan_order.specs.ResourceIndex.{numbered}
 use Rattle.tf_plan_order.specs.Table.{numbered_in, resources_in}
 use Rattle.tf_state_data.specs.Resource.{ResourceView}
 use Rattle.tf_state_data.specs.State.{state_of}
-use Rattle.tf_syntax.specs.ExprTree as expr
+use Rattle.tf_expr_syntax.specs.ExprTree as expr
 use Rattle.tf_value.specs.Tree.{Entries, entries_view}
 
 -- the names of the configuration

@@ -2,13 +2,13 @@
 use Rattle.std.specs.Prelude.{ℕ, if◌then◌else◌, List, [], ◌∷◌, ◌++◌, codes, Ok, Err}
 use Rattle.tf_config_data.specs.Names.{NameView, places}
 use Rattle.tf_graph.specs.Solutions.{seen_by}
-use Rattle.tf_operators.specs.Answer.{Answer}
-use Rattle.tf_refusal.specs.Code.{evaluate}
-use Rattle.tf_refusal.specs.Refusal.{RefusalView, fault, kind}
-use Rattle.tf_syntax.specs.ExprNames.{named_by}
-use Rattle.tf_syntax.specs.ExprTree as expr
+use Rattle.tf_expr_operators.specs.Answer.{Answer}
+use Rattle.tf_config_refusal.specs.Code.{evaluate}
+use Rattle.tf_config_refusal.specs.Refusal.{RefusalView, fault, kind}
+use Rattle.tf_expr_syntax.specs.ExprNames.{named_by}
+use Rattle.tf_expr_syntax.specs.ExprTree as expr
 use Rattle.tf_value.specs.Tree.{Entries}
-use Rattle.tf_eval.specs.ExprMeaning.{meaning}
+use Rattle.tf_expr_eval.specs.ExprMeaning.{meaning}
 use Rattle.tf_expand.specs.Resolved.{ResolvedView, all_stand, environment}
 
 -- an output whose value can't be evaluated is refused with 9

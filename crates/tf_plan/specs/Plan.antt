@@ -8,10 +8,10 @@ use Rattle.tf_graph.specs.Digraph.{Digraph}
 use Rattle.tf_plan.specs.Ordered.{IsOrdered}
 use Rattle.tf_plan.specs.Planned.{AreInstances, IsPlanned, unrefused}
 use Rattle.tf_plan_data.specs.Plan.{PlanView}
-use Rattle.tf_protocol.specs.Meaning.{Meaning}
+use Rattle.tf_provider_protocol.specs.Meaning.{Meaning}
 use Rattle.tf_state_data.specs.Resource.{ResourceView}
 use Rattle.tf_state_data.specs.State.{StateView}
-use Rattle.tf_syntax.specs.ExprTree as expr
+use Rattle.tf_expr_syntax.specs.ExprTree as expr
 use Rattle.tf_value.specs.Tree.{Entries}
 
 -- the most actions that a plan may have

@@ -13,11 +13,11 @@ use Rattle.tf_expand.specs.Expanding.{AreExpanded}
 use Rattle.tf_plan.specs.Outputs.{output_refusals}
 use Rattle.tf_plan.specs.Told.{instance_told}
 use Rattle.tf_plan.specs.declared.deciding.PlannedInstances.{PlannedInstances}
-use Rattle.tf_protocol.specs.Meaning.{Meaning}
-use Rattle.tf_refusal.specs.Refusal.{RefusalView, refusal_of}
+use Rattle.tf_provider_protocol.specs.Meaning.{Meaning}
+use Rattle.tf_config_refusal.specs.Refusal.{RefusalView, refusal_of}
 use Rattle.tf_plan_order.specs.ResourceIndex.{numbered}
 use Rattle.tf_state_data.specs.Resource.{ResourceView}
-use Rattle.tf_syntax.specs.ExprTree as expr
+use Rattle.tf_expr_syntax.specs.ExprTree as expr
 use Rattle.tf_value.specs.Tree.{Entries}
 
 -- the actions that are planned, and all that is refused

@@ -1,7 +1,7 @@
 -- Why nothing is planned.
 use Rattle.std.specs.Prelude.{◌≡◌, ◌≢◌, ◌<◌, ◌≤◌, ◌⊎◌, ℕ, List, [], ◌∷◌, length, map, codes, Some}
 use Rattle.tf_plan_data.specs.Action.{ActionView}
-use Rattle.tf_address.specs.Label.{LabelView, label_text}
+use Rattle.tf_config_address.specs.ResourceAddr.{ResourceAddrView, addr_text}
 use Rattle.tf_config_data.specs.Config.{BlockView, ConfigView}
 use Rattle.tf_config_data.specs.Names.{NameView, a_block, meant_at, names_of}
 use Rattle.tf_expand.specs.InstanceKeys.{InstanceKeysView}
@@ -18,21 +18,21 @@ use Rattle.tf_plan.specs.Planned.{AreInstances, IsPlanned, PlannedView, unrefuse
 use Rattle.tf_plan.specs.declared.refused.Refused.{Refused}
 use Rattle.tf_plan.specs.declared.refused.Refused.TheVariants.{NoMemory, These}
 use Rattle.tf_plan_order.specs.OrderInput.{OrderInputView}
-use Rattle.tf_protocol.specs.Meaning.{Meaning}
-use Rattle.tf_refusal.specs.Code.{bad_count, bad_for_each, unknown_instances, evaluate, limit}
-use Rattle.tf_refusal.specs.Refusal.{RefusalView, fault, bare, kind, refusal_of}
+use Rattle.tf_provider_protocol.specs.Meaning.{Meaning}
+use Rattle.tf_config_refusal.specs.Code.{bad_count, bad_for_each, unknown_instances, evaluate, limit}
+use Rattle.tf_config_refusal.specs.Refusal.{RefusalView, fault, bare, kind, refusal_of}
 use Rattle.tf_state_data.specs.Resource.{ResourceView}
 use Rattle.tf_state_data.specs.State.{StateView}
-use Rattle.tf_syntax.specs.ExprTree as expr
+use Rattle.tf_expr_syntax.specs.ExprTree as expr
 use Rattle.tf_value.specs.Tree.{Entries}
 
 -- A resource whose instances can't be told is refused at its address: 6 for a bad `count`, 7 for a bad `for_each`, 8
 -- where either isn't known yet, and 9 where it can't be evaluated.
-abbrev pub instances_refusal : LabelView → RepetitionFault → RefusalView
-instances_refusal label BadCount = fault bad_count (label_text label) bare
-instances_refusal label BadForEach = fault bad_for_each (label_text label) bare
-instances_refusal label UnknownInstances = fault unknown_instances (label_text label) bare
-instances_refusal label (Evaluation why) = fault evaluate (label_text label) (kind why)
+abbrev pub instances_refusal : ResourceAddrView → RepetitionFault → RefusalView
+instances_refusal addr BadCount = fault bad_count (addr_text addr) bare
+instances_refusal addr BadForEach = fault bad_for_each (addr_text addr) bare
+instances_refusal addr UnknownInstances = fault unknown_instances (addr_text addr) bare
+instances_refusal addr (Evaluation why) = fault evaluate (addr_text addr) (kind why)
 
 -- what is more than may be is refused with 14, of the whole configuration
 abbrev pub beyond_limit : RefusalView
@@ -48,7 +48,7 @@ pub record IsUnexpanded (variables : Entries) (names : List NameView) (refusal_v
   pub resolved_names : ℕ → ResolvedView
   pub stand : AreResolvedNames expansion variables names resolved_names
   pub first : IsFirstRefused variables names resolved_names place why
-  pub refused : refusal_views ≡ instances_refusal block.label why ∷ []
+  pub refused : refusal_views ≡ instances_refusal block.addr why ∷ []
 
 -- The instances of all resources can be told in the expansion, and are too many.
 pub record AreManyInstances (variables : Entries) (names : List NameView) (refusal_views : List RefusalView) : Type 0 where
@@ -139,5 +139,5 @@ IsPlaced names TooMany = Unit {0}
 -- what is told of a fault of the expansion; of want of memory nothing is
 abbrev pub TellsFault : List NameView → ExpansionFault → RefusalView → Type 0
 TellsFault names OutOfMemory t = ⊥
-TellsFault names (Resource n why) t = (block : BlockView) × (meant_at names n ≡ Some (a_block block)) × (t ≡ instances_refusal block.label why)
+TellsFault names (Resource n why) t = (block : BlockView) × (meant_at names n ≡ Some (a_block block)) × (t ≡ instances_refusal block.addr why)
 TellsFault names TooMany t = t ≡ beyond_limit

@@ -8,8 +8,8 @@ use Rattle.tf_plan_decision.specs.Outcome.{WhyView, no_provider, refused}
 use Rattle.tf_plan_decision.specs.Decision.{unfit, faulty, prevented}
 use Rattle.tf_plan_decision.specs.Prior.{PriorFaultView, as_a_whole, at_attribute}
 use Rattle.tf_plan_data.specs.Address.{address_text}
-use Rattle.tf_refusal.specs.Code as code
-use Rattle.tf_refusal.specs.Refusal.{RefusalView, fault, bare, kind}
+use Rattle.tf_config_refusal.specs.Code as code
+use Rattle.tf_config_refusal.specs.Refusal.{RefusalView, fault, bare, kind}
 
 -- where an attribute's fault is told: at the instance's address, a dot and the attribute
 abbrev pub attribute_place : List ℕ → List ℕ → List ℕ
@@ -40,4 +40,4 @@ why_told address (refused (faulty why)) = fault_told address why
 why_told address (refused prevented) = fault code.prevent_destroy address bare
 
 abbrev pub instance_told : RefusedInstanceView → RefusalView
-instance_told r = why_told (address_text r.label r.key) r.why
+instance_told r = why_told (address_text r.addr r.key) r.why

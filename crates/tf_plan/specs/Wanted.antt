@@ -3,8 +3,8 @@ use Rattle.std.specs.Prelude.{◌⊎◌, ℕ, List, Contains}
 use Rattle.tf_config_data.specs.Names.{NameView, places}
 use Rattle.tf_expand.specs.Needed.{IsNeeded, IsNeededBy}
 use Rattle.tf_config_names.specs.declared.dependence.Dependence.{Dependence}
-use Rattle.tf_syntax.specs.ExprNames.{named_below}
-use Rattle.tf_syntax.specs.ExprTree as expr
+use Rattle.tf_expr_syntax.specs.ExprNames.{named_below}
+use Rattle.tf_expr_syntax.specs.ExprTree as expr
 
 -- an output names what stands at a place
 abbrev pub IsNamed : List NameView → expr.Entries → ℕ → Type 0

@@ -15,14 +15,14 @@ use crate::telling::refusals_of;
 use crate::wanted::wanted_names;
 use std::alloc::{AllocError, Global};
 use std::collections::BTreeMap;
+use tf_config_refusal::Refusal;
 use tf_expand::{InstanceKeys, Module};
+use tf_expr_syntax::Expr;
 use tf_plan_data::Action;
 use tf_plan_decision::{Decided, InOrder, PlannedValues, decide_in_order, gather};
 use tf_plan_order::{ResourceIndex, address_order};
-use tf_protocol::Provider;
-use tf_refusal::Refusal;
+use tf_provider_protocol::Provider;
 use tf_state_data::State;
-use tf_syntax::Expr;
 
 /// What is planned, and what is refused. Where anything is refused, nothing may be called.
 #[derive(Drop)]

@@ -1,20 +1,20 @@
 //! What is refused alone: a resource whose instances can't be told, and what is more than may be.
 
 ghost use Rattle.std.specs.Prelude.{◌≡◌, ◌<◌, ◌∷◌, [], IfOk, length, string_bytes};
-ghost use Rattle.tf_address.specs.Label.{label_of};
+ghost use Rattle.tf_config_address.specs.ResourceAddr.{addr_of};
 ghost use Rattle.tf_config_names.specs.Table.{names_in};
 ghost use Rattle.tf_plan.specs.Refused.{IsPlaced, Tells, TellsFault, beyond_limit, instances_refusal};
-ghost use Rattle.tf_refusal.specs.Refusal.{bare, fault, kind, refusal_of};
-ghost use Rattle.tf_refusal.specs.Code.{evaluate};
+ghost use Rattle.tf_config_refusal.specs.Refusal.{bare, fault, kind, refusal_of};
+ghost use Rattle.tf_config_refusal.specs.Code.{evaluate};
 
 use crate::refused::Refused;
 use std::alloc::{AllocError, Global};
-use tf_address::Label;
+use tf_config_address::ResourceAddr;
 use tf_config_names::{Declaration, Declarations};
-use tf_eval::EvalFault;
+use tf_config_refusal::code::{BAD_COUNT, BAD_FOR_EACH, EVALUATE, LIMIT, UNKNOWN_INSTANCES};
+use tf_config_refusal::{Detail, Refusal};
 use tf_expand::{ExpansionFault, RepetitionFault};
-use tf_refusal::code::{BAD_COUNT, BAD_FOR_EACH, EVALUATE, LIMIT, UNKNOWN_INSTANCES};
-use tf_refusal::{Detail, Refusal};
+use tf_expr_eval::EvalFault;
 
 /// The refusal of a fault of the expansion.
 ///
@@ -33,7 +33,7 @@ pub(crate) fn expansion_refusal(
         ExpansionFault::OutOfMemory => Err(AllocError),
         ExpansionFault::TooMany => limit_refusal(alloc),
         ExpansionFault::Resource(place, why) => match names.at(place) {
-            Declaration::Resource(label, _) => instances_refusal(alloc, label, why),
+            Declaration::Resource(addr, _) => instances_refusal(alloc, addr, why),
             Declaration::Local(_, _) => unreachable!(),
         },
     }
@@ -42,12 +42,12 @@ pub(crate) fn expansion_refusal(
 /// The refusal of a resource whose instances can't be told.
 fn instances_refusal(
     alloc: Global,
-    label: &Label,
+    addr: &ResourceAddr,
     why: RepetitionFault,
 ) -> Result<Refusal, AllocError>
-    ensures { IfOk result (λ refusal. refusal_of refusal ≡ instances_refusal (label_of label.now) why) }
+    ensures { IfOk result (λ refusal. refusal_of refusal ≡ instances_refusal (addr_of addr.now) why) }
 {
-    let place = label.to_string(alloc)?;
+    let place = addr.to_string(alloc)?;
     match why {
         RepetitionFault::BadCount => Ok(bare(BAD_COUNT, place)),
         RepetitionFault::BadForEach => Ok(bare(BAD_FOR_EACH, place)),

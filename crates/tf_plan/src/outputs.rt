@@ -3,16 +3,16 @@
 ghost use Rattle.std.specs.Prelude.{◌≡◌, ◌++◌, OnOk, map};
 ghost use Rattle.tf_plan_data.specs.Words.{entries_view, names_in, resolved_names_of};
 ghost use Rattle.tf_plan.specs.Outputs.{output_refusal, output_refusals};
-ghost use Rattle.tf_refusal.specs.Refusal.{refusal_of};
-ghost use Rattle.tf_syntax.specs.ExprTree.{entries_view as expressions_view, tree_of};
+ghost use Rattle.tf_config_refusal.specs.Refusal.{refusal_of};
+ghost use Rattle.tf_expr_syntax.specs.ExprTree.{entries_view as expressions_view, tree_of};
 
 use crate::faults::evaluation;
 use std::alloc::{AllocError, Global};
 use std::collections::BTreeMap;
-use tf_eval::{EvalFault, find_expr};
+use tf_config_refusal::Refusal;
 use tf_expand::{Module, NamesScope, Resolved, all_stand};
-use tf_refusal::Refusal;
-use tf_syntax::Expr;
+use tf_expr_eval::{EvalFault, find_expr};
+use tf_expr_syntax::Expr;
 
 /// Adds what is refused of outputs, by these resolved names.
 pub(crate) fn add_outputs(

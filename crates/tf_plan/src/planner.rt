@@ -19,7 +19,7 @@ use tf_expand::{InstanceKeys, Module, expand};
 use tf_graph::MAX_NODES;
 use tf_plan_data::{Action, Plan, Planned};
 use tf_plan_order::{Order, ResourceIndex};
-use tf_protocol::Provider;
+use tf_provider_protocol::Provider;
 use tf_state_data::State;
 use tf_value::Value;
 

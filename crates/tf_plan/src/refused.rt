@@ -4,7 +4,7 @@ ghost use Rattle.std.specs.Prelude.{◌≡◌};
 ghost use Rattle.tf_plan.specs.declared.refused.Refused.TheVariants.{NoMemory};
 
 use std::alloc::AllocError;
-use tf_refusal::Refusal;
+use tf_config_refusal::Refusal;
 
 /// Why nothing is planned.
 #[derive(Debug, Drop)]

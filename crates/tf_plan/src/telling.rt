@@ -5,17 +5,17 @@ ghost use Rattle.tf_plan_object.specs.Instance.{instance_fault_of};
 ghost use Rattle.tf_plan_decision.specs.Deciding.{refused_of};
 ghost use Rattle.tf_plan_decision.specs.Answer.{prior_fault_of};
 ghost use Rattle.tf_plan.specs.Told.{argument_told, fault_told, instance_told, unfit_told};
-ghost use Rattle.tf_refusal.specs.Refusal.{refusal_of};
+ghost use Rattle.tf_config_refusal.specs.Refusal.{refusal_of};
 
 use crate::faults::{bare, evaluation};
 use std::alloc::{AllocError, Global};
+use tf_config_refusal::Refusal;
+use tf_config_refusal::code::{BAD_ARGUMENT, BAD_STATE, NO_PROVIDER, PREVENT_DESTROY};
 use tf_plan_data::address_text;
 use tf_plan_decision::{
     DecisionFault as Cause, PriorFault, RefusedInstance as RefusedInstance, Why,
 };
 use tf_plan_object::{ArgumentFault, InstanceFault};
-use tf_refusal::Refusal;
-use tf_refusal::code::{BAD_ARGUMENT, BAD_STATE, NO_PROVIDER, PREVENT_DESTROY};
 
 /// The refusals of instances, in their order.
 pub(crate) fn refusals_of(
@@ -35,8 +35,8 @@ pub(crate) fn refusals_of(
 fn instance_refusal(alloc: Global, instance: RefusedInstance) -> Result<Refusal, AllocError>
     ensures { IfOk result (λ refusal. refusal_of refusal ≡ instance_told (refused_of instance)) }
 {
-    let RefusedInstance { label, key, why } = instance;
-    let address = address_text(alloc, &label, &key)?;
+    let RefusedInstance { addr, key, why } = instance;
+    let address = address_text(alloc, &addr, &key)?;
     match why {
         Why::NoProvider => Ok(bare(NO_PROVIDER, address)),
         Why::Refused(Cause::Unfit(fault)) => unfit(alloc, address, fault),

@@ -6,14 +6,14 @@ ghost use Rattle.tf_config_data.specs.Names.{places};
 ghost use Rattle.tf_plan_data.specs.Words.{IsDependence, names_in};
 ghost use Rattle.tf_graph.specs.NodeSet.{has};
 ghost use Rattle.tf_plan.specs.Wanted.{IsNamed, IsWanted};
-ghost use Rattle.tf_syntax.specs.ExprNames.{named_below};
-ghost use Rattle.tf_syntax.specs.ExprTree.{entries_view};
+ghost use Rattle.tf_expr_syntax.specs.ExprNames.{named_below};
+ghost use Rattle.tf_expr_syntax.specs.ExprTree.{entries_view};
 
 use std::alloc::{AllocError, Global};
 use std::collections::BTreeMap;
 use tf_config_names::Declarations;
 use tf_expand::{Module, is_marked, mark, needed_by, needed_by_resources, none_marked};
-use tf_syntax::Expr;
+use tf_expr_syntax::Expr;
 
 /// For each place, whether the name there is wanted: a resource or an output needs it.
 pub(crate) fn wanted_names(

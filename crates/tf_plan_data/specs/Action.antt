@@ -4,8 +4,8 @@ use Rattle.std.specs.declared.alloc.Global.{Global}
 use Rattle.tf_plan_data.specs.declared.action.Action.{Action}
 use Rattle.tf_plan_data.specs.declared.step.Step.{Step}
 use Rattle.tf_plan_data.specs.declared.step.Step.TheVariants as rust
-use Rattle.tf_address.specs.Label.{LabelView, label_of}
-use Rattle.tf_address.specs.ObjectId.{InstanceKeyView, instance_key_of}
+use Rattle.tf_config_address.specs.ResourceAddr.{ResourceAddrView, addr_of}
+use Rattle.tf_config_address.specs.ObjectId.{InstanceKeyView, instance_key_of}
 use Rattle.tf_state_data.specs.declared.object.Object.{Object}
 use Rattle.tf_value.specs.Tree.{Tree, tree_of}
 
@@ -29,7 +29,7 @@ pub data StepView : Type 0 where
 pub record ActionView : Type 0 where
   pub resource : ℕ
   pub instance : ℕ
-  pub label : LabelView
+  pub addr : ResourceAddrView
   pub key : InstanceKeyView
   pub step : StepView
   pub version : ℕ
@@ -52,4 +52,4 @@ step_of (rust.DestroyDeposed key prior) = deposed_destroyed (string_bytes key) (
 
 abbrev pub action_of : Action → ActionView
 action_of a =
-    record { resource = a.resource; instance = a.instance; label = label_of a.label; key = instance_key_of a.key; step = step_of a.step; version = a.version }
+    record { resource = a.resource; instance = a.instance; addr = addr_of a.addr; key = instance_key_of a.key; step = step_of a.step; version = a.version }

@@ -2,14 +2,14 @@
 use Rattle.std.specs.Prelude.{◌≡◌, ◌+◌, ◌<◌, ◌^◌, ℕ, Bool, true, false, List, Option, None, Some, map, slice_get, ⊤}
 use Rattle.std.specs.List.{AllByRecursion}
 use Rattle.tf_plan_data.specs.Action.{ActionView, StepView, create, update, replacement, replaced, destroyed, deposed_destroyed, action_of}
-use Rattle.tf_address.specs.Label.{LabelView}
-use Rattle.tf_address.specs.ObjectId.{InstanceKeyView, single, number, name}
+use Rattle.tf_config_address.specs.ResourceAddr.{ResourceAddrView}
+use Rattle.tf_config_address.specs.ObjectId.{InstanceKeyView, single, number, name}
 use Rattle.tf_config_data.specs.Config.{BlockView, config_of}
 use Rattle.tf_config_data.specs.Names.{NameView, a_block, meant_at, names_of}
 use Rattle.tf_config_names.specs.Needs.{IsAcyclic, IsDependence}
 use Rattle.tf_plan_order.specs.ResourceIndex.{ResourceRefView, numbered, place_in}
-use Rattle.tf_protocol.specs.declared.request.Op.{Op}
-use Rattle.tf_protocol.specs.declared.request.Op.TheVariants.{Create, Update, Destroy}
+use Rattle.tf_provider_protocol.specs.declared.request.Op.{Op}
+use Rattle.tf_provider_protocol.specs.declared.request.Op.TheVariants.{Create, Update, Destroy}
 use Rattle.tf_state_data.specs.State.{state_of}
 use Rattle.tf_plan_data.specs.declared.plan.Plan.{Plan}
 
@@ -34,7 +34,7 @@ deposed_key _ = None
 
 -- an action's resource is the one at its number
 abbrev pub IsPlaced : List ResourceRefView → ActionView → Type 0
-IsPlaced all a = place_in all a.label ≡ Some a.resource
+IsPlaced all a = place_in all a.addr ≡ Some a.resource
 
 -- the number of an instance is below the most instances that a configuration may have
 abbrev pub IsNumbered : InstanceKeyView → Type 0
@@ -46,7 +46,7 @@ IsNumbered (name s) = ⊤
 pub record IsOfBlock (names : List NameView) (a : ActionView) : Type 0 where
   pub block : BlockView
   pub stands : meant_at names a.resource ≡ Some (a_block block)
-  pub own : block.label ≡ a.label
+  pub own : block.addr ≡ a.addr
   pub numbered : IsNumbered a.key
 
 abbrev pub IsDeclared : List NameView → ActionView → Type 0
@@ -55,13 +55,13 @@ IsDeclared names a = is_apply a.step ≡ true → IsOfBlock names a
 -- What an action is about: an instance, whether an object is made or changed or else destroyed, and of a destroyed deposed
 -- object its key.
 pub record AboutView : Type 0 where
-  pub label : LabelView
+  pub addr : ResourceAddrView
   pub key : InstanceKeyView
   pub applies : Bool
   pub deposed : Option (List ℕ)
 
 abbrev pub about : ActionView → AboutView
-about a = record { label = a.label; key = a.key; applies = is_apply a.step; deposed = deposed_key a.step }
+about a = record { addr = a.addr; key = a.key; applies = is_apply a.step; deposed = deposed_key a.step }
 
 -- no two actions are about the same
 abbrev pub AreApart : List ActionView → Type 0

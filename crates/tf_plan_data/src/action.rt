@@ -5,7 +5,7 @@ ghost use Rattle.tf_plan_data.specs.Action.{action_of};
 ghost use Rattle.tf_plan_data.specs.Precedence.{ordered};
 
 use crate::step::Step;
-use tf_address::{InstanceKey, Label};
+use tf_config_address::{InstanceKey, ResourceAddr};
 
 /// An action of a plan from any prior state.
 #[derive(Debug, Drop)]
@@ -15,7 +15,7 @@ pub struct Action {
     /// The number of its instance, among the members of the resource (`tf_plan_order`).
     pub instance: usize,
     /// The resource.
-    pub label: Label,
+    pub addr: ResourceAddr,
     /// The instance.
     pub key: InstanceKey,
     /// What it does.

@@ -2,41 +2,45 @@
 
 ghost use Rattle.std.specs.Prelude.{◌≡◌, ◌++◌, ◌∷◌, [], IfOk, decimal, string_bytes};
 ghost use Rattle.json.specs.Print.{quoted};
-ghost use Rattle.tf_address.specs.Label.{label_of, label_text};
-ghost use Rattle.tf_address.specs.ObjectId.{instance_key_of};
+ghost use Rattle.tf_config_address.specs.ResourceAddr.{addr_of, addr_text};
+ghost use Rattle.tf_config_address.specs.ObjectId.{instance_key_of};
 ghost use Rattle.tf_plan_data.specs.Address.{address_text};
 
 use serde_json::Value as Json;
 use std::alloc::{AllocError, Global};
-use tf_address::{InstanceKey, Label};
+use tf_config_address::{InstanceKey, ResourceAddr};
 
 /// The address of an instance: `TYPE.NAME`, `TYPE.NAME[0]` or `TYPE.NAME["key"]`, the key as a compact JSON text.
 ///
 /// # Errors
 ///
 /// Only where memory runs out.
-pub fn address_text(alloc: Global, label: &Label, key: &InstanceKey) -> Result<String, AllocError>
-    ensures { IfOk result (λ text. string_bytes text ≡ address_text (label_of label.now) (instance_key_of key.now)) }
+pub fn address_text(
+    alloc: Global,
+    addr: &ResourceAddr,
+    key: &InstanceKey,
+) -> Result<String, AllocError>
+    ensures { IfOk result (λ text. string_bytes text ≡ address_text (addr_of addr.now) (instance_key_of key.now)) }
 {
     match key {
-        InstanceKey::Single => label_text(alloc, label),
-        InstanceKey::Number(number) => numbered(alloc, label, *number),
-        InstanceKey::Name(name) => named(alloc, label, name.as_str()),
+        InstanceKey::Single => addr_text(alloc, addr),
+        InstanceKey::Number(number) => numbered(alloc, addr, *number),
+        InstanceKey::Name(name) => named(alloc, addr, name.as_str()),
     }
 }
 
-fn numbered(alloc: Global, label: &Label, number: u64) -> Result<String, AllocError>
-    ensures { IfOk result (λ text. string_bytes text ≡ label_text (label_of label.now) ++ 91 ∷ (decimal number ++ 93 ∷ [])) }
+fn numbered(alloc: Global, addr: &ResourceAddr, number: u64) -> Result<String, AllocError>
+    ensures { IfOk result (λ text. string_bytes text ≡ addr_text (addr_of addr.now) ++ 91 ∷ (decimal number ++ 93 ∷ [])) }
 {
     let digits = digits(alloc, number)?;
-    in_brackets(alloc, label, digits.as_str())
+    in_brackets(alloc, addr, digits.as_str())
 }
 
-fn named(alloc: Global, label: &Label, name: &str) -> Result<String, AllocError>
-    ensures { IfOk result (λ text. string_bytes text ≡ label_text (label_of label.now) ++ 91 ∷ (quoted name.now ++ 93 ∷ [])) }
+fn named(alloc: Global, addr: &ResourceAddr, name: &str) -> Result<String, AllocError>
+    ensures { IfOk result (λ text. string_bytes text ≡ addr_text (addr_of addr.now) ++ 91 ∷ (quoted name.now ++ 93 ∷ [])) }
 {
     let quoted = in_quotes(alloc, name)?;
-    in_brackets(alloc, label, quoted.as_str())
+    in_brackets(alloc, addr, quoted.as_str())
 }
 
 /// The address `TYPE.NAME` of a resource.
@@ -44,17 +48,17 @@ fn named(alloc: Global, label: &Label, name: &str) -> Result<String, AllocError>
 /// # Errors
 ///
 /// Only where memory runs out.
-pub fn label_text(alloc: Global, label: &Label) -> Result<String, AllocError>
-    ensures { IfOk result (λ text. string_bytes text ≡ label_text (label_of label.now)) }
+pub fn addr_text(alloc: Global, addr: &ResourceAddr) -> Result<String, AllocError>
+    ensures { IfOk result (λ text. string_bytes text ≡ addr_text (addr_of addr.now)) }
 {
-    with_room(alloc, label, 0)
+    with_room(alloc, addr, 0)
 }
 
 /// A resource's address, and behind it a text in brackets.
-fn in_brackets(alloc: Global, label: &Label, text: &str) -> Result<String, AllocError>
-    ensures { IfOk result (λ whole. string_bytes whole ≡ label_text (label_of label.now) ++ 91 ∷ (text.now ++ 93 ∷ [])) }
+fn in_brackets(alloc: Global, addr: &ResourceAddr, text: &str) -> Result<String, AllocError>
+    ensures { IfOk result (λ whole. string_bytes whole ≡ addr_text (addr_of addr.now) ++ 91 ∷ (text.now ++ 93 ∷ [])) }
 {
-    let mut whole = with_room(alloc, label, text.len().saturating_add(2))?;
+    let mut whole = with_room(alloc, addr, text.len().saturating_add(2))?;
     whole.push('[')?;
     whole.push_str(text)?;
     whole.push(']')?;
@@ -62,11 +66,11 @@ fn in_brackets(alloc: Global, label: &Label, text: &str) -> Result<String, Alloc
 }
 
 /// A resource's address, in a text with room for so many bytes behind it: so the whole takes memory once.
-fn with_room(alloc: Global, label: &Label, more: usize) -> Result<String, AllocError>
-    ensures { IfOk result (λ text. string_bytes text ≡ label_text (label_of label.now)) }
+fn with_room(alloc: Global, addr: &ResourceAddr, more: usize) -> Result<String, AllocError>
+    ensures { IfOk result (λ text. string_bytes text ≡ addr_text (addr_of addr.now)) }
 {
-    let type_name = label.type_name.as_str();
-    let name = label.name.as_str();
+    let type_name = addr.type_name.as_str();
+    let name = addr.name.as_str();
     let own = type_name.len() + 1 + name.len();
     let mut text = String::with_capacity(alloc, own.saturating_add(more))?;
     text.push_str(type_name)?;

@@ -8,7 +8,7 @@ mod planned;
 mod step;
 
 pub use action::Action;
-pub use addresses::{address_text, label_text};
+pub use addresses::{addr_text, address_text};
 pub use plan::Plan;
 pub use planned::Planned;
 pub use step::Step;

@@ -6,7 +6,7 @@ ghost use Rattle.tf_plan_data.specs.Fits.{is_apply, op_of};
 ghost use Rattle.tf_plan_data.specs.Precedence.{is_half, kind_of};
 
 use tf_plan_order::ActionKind;
-use tf_protocol::Op;
+use tf_provider_protocol::Op;
 use tf_state_data::Object;
 use tf_value::Value;
 

@@ -6,8 +6,8 @@ use Rattle.std.specs.Ordering.{is_lt}
 use Rattle.std.specs.Str.{bytes_eq}
 use Rattle.std.proofs.lemmas.Map.Text.{is_eq-slice_cmp}
 use Rattle.std.proofs.lemmas.Slice.Eq.{bytes_eq-Decides}
-use Rattle.tf_protocol.specs.Schema.{AttributeView, ascends, is_below}
-use Rattle.tf_protocol.specs.Verdict.{same_names}
+use Rattle.tf_provider_protocol.specs.Schema.{AttributeView, ascends, is_below}
+use Rattle.tf_provider_protocol.specs.Verdict.{same_names}
 use Rattle.tf_value.specs.Equality.{same_Decides}
 use Rattle.tf_value.specs.Tree.{Tree, Entries, no_entries, entry, map, get, keys_of, part_at, same}
 use Rattle.tf_value.proofs.Conjunction.{and-first, and-second, and-both}

@@ -24,7 +24,7 @@ use Rattle.tf_graph.proofs.Solving.{all_by_both, seen_by-same}
 use Rattle.tf_graph.specs.NodeSet.{has}
 use Rattle.tf_graph.specs.Order.{IsInOrder}
 use Rattle.tf_plan_order.specs.ResourceIndex.{ResourceRefView, a_name, an_orphan}
-use Rattle.tf_protocol.specs.Meaning.{Meaning}
+use Rattle.tf_provider_protocol.specs.Meaning.{Meaning}
 use Rattle.tf_state_data.specs.Resource.{ResourceView}
 use Rattle.tf_value.specs.Tree.{Entries}
 

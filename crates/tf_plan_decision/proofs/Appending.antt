@@ -1,7 +1,7 @@
 -- What is decided apart and moved behind what is decided so far is what is decided there.
 use Rattle.std.proofs.Common.{◌≡◌, ◌++◌, ◌+◌, ℕ, Bool, true, false, if◌then◌else◌, List, [], ◌∷◌, map, Some, None, Option, Ok, Err, append_assoc, append-nil, refl, sym, ap, ◌∙◌}
 use Rattle.std.specs.Prelude.{fold, slice_get}
-use Rattle.tf_address.specs.ObjectId.{InstanceKeyView}
+use Rattle.tf_config_address.specs.ObjectId.{InstanceKeyView}
 use Rattle.tf_config_data.specs.Config.{BlockView}
 use Rattle.tf_config_data.specs.Names.{NameView, Meant, a_local, a_block, directly_before}
 use Rattle.tf_plan_decision.specs.Deciding.{DecidedView, OfView, action, with_block, with_members, with_outcome, version_of}
@@ -11,17 +11,17 @@ use Rattle.tf_plan_decision.specs.Stage.{block_members}
 use Rattle.tf_plan_decision.specs.Whole.{decided, nothing_decided, with_meant, with_numbered}
 use Rattle.tf_expand.specs.InstanceKeys.{InstanceKeysView}
 use Rattle.tf_expand.specs.Resolved.{ResolvedView, all_stand, environment}
-use Rattle.tf_eval.specs.Environment.{Environment}
+use Rattle.tf_expr_eval.specs.Environment.{Environment}
 use Rattle.tf_graph.specs.Solutions.{seen_by}
 use Rattle.tf_plan_order.specs.Members.{InstanceToPlanView}
 use Rattle.tf_plan_order.specs.ResourceIndex.{ResourceRefView, a_name, an_orphan}
-use Rattle.tf_protocol.specs.Meaning.{Meaning, schema_in}
+use Rattle.tf_provider_protocol.specs.Meaning.{Meaning, schema_in}
 use Rattle.tf_state_data.specs.Resource.{ResourceView}
 use Rattle.tf_value.specs.Tree.{Entries}
 
 outcome_followed : (of : OfView) (i : ℕ) (key : InstanceKeyView) (o : OutcomeView) (d e : DecidedView) → with_outcome of i key o (followed_by d e) ≡ followed_by d (with_outcome of i key o e)
 outcome_followed of i key (Ok steps) d e = (λ j. record { actions = append_assoc d.actions e.actions (map (action of i key) steps) j; refusals = d.refusals ++ e.refusals })
-outcome_followed of i key (Err why) d e = (λ j. record { actions = d.actions ++ e.actions; refusals = append_assoc d.refusals e.refusals (record { label = of.label; key = key; why = why } ∷ []) j })
+outcome_followed of i key (Err why) d e = (λ j. record { actions = d.actions ++ e.actions; refusals = append_assoc d.refusals e.refusals (record { addr = of.addr; key = key; why = why } ∷ []) j })
 
 members_followed : (of : OfView) (becomes : InstanceToPlanView → OutcomeView) (i : ℕ) (ms : List InstanceToPlanView) (d e : DecidedView) → with_members of becomes i ms (followed_by d e) ≡ followed_by d (with_members of becomes i ms e)
 members_followed of becomes i [] d e = refl
@@ -34,8 +34,8 @@ nothing_followed d = (λ j. record { actions = append-nil d.actions j; refusals 
 block_followed : (ms : List Meaning) (resources : List ResourceView) (n : ℕ) (block : BlockView) (env : Environment) (shape : InstanceKeysView) (d : DecidedView)
     → with_block ms resources n block env shape d ≡ followed_by d (with_block ms resources n block env shape nothing_decided)
 block_followed ms resources n block env shape d =
-    let schema = schema_in block.label.type_name ms in
-    let of : OfView = record { resource = n; label = block.label; version = version_of schema } in
+    let schema = schema_in block.addr.type_name ms in
+    let of : OfView = record { resource = n; addr = block.addr; version = version_of schema } in
     let becomes = member_outcome schema block env in
     let all = block_members shape block resources in
     ap (with_members of becomes 0 all) (sym (nothing_followed d)) ∙ members_followed of becomes 0 all d nothing_decided

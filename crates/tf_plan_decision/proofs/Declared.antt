@@ -6,7 +6,7 @@ use Rattle.tf_config_data.specs.Config.{LifecycleView}
 use Rattle.tf_plan_decision.specs.Outcome.{OutcomeView, by_decision, refused}
 use Rattle.tf_plan_decision.specs.Steps.{decided_steps}
 use Rattle.tf_plan_decision.specs.Decision.{DecisionView, DecisionFaultView, decision}
-use Rattle.tf_protocol.specs.Schema.{SchemaView}
+use Rattle.tf_provider_protocol.specs.Schema.{SchemaView}
 use Rattle.tf_state_data.specs.Record.{RecordView}
 use Rattle.tf_value.specs.Tree.{Tree}
 

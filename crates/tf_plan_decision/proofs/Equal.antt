@@ -3,8 +3,8 @@ use Rattle.std.proofs.Common.{◌≡◌, ℕ, Bool, true, false, not, cond, List
 use Rattle.std.specs.List.{list_all}
 use Rattle.std.specs.Option.{option_map_or}
 use Rattle.std.specs.Str.{bytes_eq}
-use Rattle.tf_protocol.specs.Schema.{AttributeView, SchemaView, IsSchema}
-use Rattle.tf_protocol.specs.Verdict.{has_attributes}
+use Rattle.tf_provider_protocol.specs.Schema.{AttributeView, SchemaView, IsSchema}
+use Rattle.tf_provider_protocol.specs.Verdict.{has_attributes}
 use Rattle.tf_value.specs.Equality.{same_Decides}
 use Rattle.tf_value.specs.Known.{known, known_entries}
 use Rattle.tf_value.specs.Tree.{Tree, null, boolean, whole, text, list, map, set, unknown, Entries, no_entries, entry, get, same}

@@ -9,9 +9,9 @@ use Rattle.std.specs.Option.{option_map_or}
 use Rattle.std.specs.Ordering.{is_lt}
 use Rattle.std.specs.Str.{bytes_eq}
 use Rattle.std.proofs.lemmas.Slice.Eq.{bytes_eq-Decides}
-use Rattle.tf_protocol.specs.Schema.{AttributeView, SchemaView, ascends, attribute_named, is_below}
-use Rattle.tf_protocol.specs.Verdict.{is_allowed, same_names}
-use Rattle.tf_protocol.proofs.Placed.{below-trans}
+use Rattle.tf_provider_protocol.specs.Schema.{AttributeView, SchemaView, ascends, attribute_named, is_below}
+use Rattle.tf_provider_protocol.specs.Verdict.{is_allowed, same_names}
+use Rattle.tf_provider_protocol.proofs.Placed.{below-trans}
 use Rattle.tf_value.specs.Tree.{Tree, null, boolean, whole, text, list, map, set, unknown, Entries, no_entries, entry, get, keys_of}
 use Rattle.tf_value.proofs.Conjunction.{and-first, and-second, and-both}
 use Rattle.tf_plan_decision.specs.Laws.{FitsExactly}

@@ -4,8 +4,8 @@ use Rattle.std.specs.List.{AllByRecursion, find, flat_map, list_all}
 use Rattle.std.specs.List.Sorted.{IsStrictlySortedBy}
 use Rattle.std.specs.Option.{option_or}
 use Rattle.std.specs.Prelude.{option_and_then}
-use Rattle.tf_address.specs.ObjectId.{InstanceKeyView, ObjectIdView, instance_key_cmp}
-use Rattle.tf_address.specs.Same.{object_id_Decides, same_instance_key}
+use Rattle.tf_config_address.specs.ObjectId.{InstanceKeyView, ObjectIdView, instance_key_cmp}
+use Rattle.tf_config_address.specs.Same.{object_id_Decides, same_instance_key}
 use Rattle.tf_plan_object.specs.Instance.{InstanceFaultView, instance_object}
 use Rattle.tf_config_data.specs.Config.{BlockView, LifecycleView}
 use Rattle.tf_plan_decision.specs.Deciding.{DecidedView, OfView, version_of, with_block, with_members, with_outcome}
@@ -21,13 +21,13 @@ use Rattle.tf_plan_decision.specs.Ignored.{heeding, ignored_fault}
 use Rattle.tf_plan_decision.specs.Prior.{PriorFaultView, first_unfit}
 use Rattle.tf_expand.specs.InstanceKeys.{InstanceKeysView, one, many, named, instance_keys, list_of, map_under, objects_at}
 use Rattle.tf_expand.specs.Resolved.{ResolvedView, together}
-use Rattle.tf_eval.specs.Environment.{Environment}
-use Rattle.tf_operators.specs.Answer.{limited}
+use Rattle.tf_expr_eval.specs.Environment.{Environment}
+use Rattle.tf_expr_operators.specs.Answer.{limited}
 use Rattle.tf_plan_order.proofs.InstanceOrder.{key_exact, key_total, same_ordered}
 use Rattle.tf_plan_order.proofs.Listing.{are_there}
 use Rattle.tf_plan_order.specs.Members.{InstanceToPlanView, all_keys, is_among, is_recorded, keys_of, member, members, records_of}
-use Rattle.tf_protocol.specs.Meaning.{Meaning, schema_in}
-use Rattle.tf_protocol.specs.Schema.{SchemaView}
+use Rattle.tf_provider_protocol.specs.Meaning.{Meaning, schema_in}
+use Rattle.tf_provider_protocol.specs.Schema.{SchemaView}
 use Rattle.tf_state_data.proofs.Edits.{Keeping}
 use Rattle.tf_state_data.specs.Record.{RecordView}
 use Rattle.tf_state_data.specs.Resource.{ResourceView}
@@ -190,15 +190,15 @@ module _ (block : BlockView) (env : Environment) where
 
   -- what becomes of its members says what a resource stands for
   pub settled_stands : (ms : List Meaning) (resources : List ResourceView) (n : ℕ) (shape : InstanceKeysView)
-      → settled_standing shape (settled_from (member_outcome (schema_in block.label.type_name ms) block env) 0 (block_members shape block resources)) ≡ block_standing ms resources n shape block env
+      → settled_standing shape (settled_from (member_outcome (schema_in block.addr.type_name ms) block env) 0 (block_members shape block resources)) ≡ block_standing ms resources n shape block env
   settled_stands ms resources n shape =
-      let found = schema_in block.label.type_name ms in
+      let found = schema_in block.addr.type_name ms in
       let all = settled_from (member_outcome found block env) 0 (block_members shape block resources) in
       ap (λ b. together (if b then Some shape else None) (settled_object all)) (all_same found 0 (block_members shape block resources))
       ∙ by_test (settled_object all) (decided_object ms resources n block env) (all_can_go ms resources shape block)
       (together_on (settled_object all) (decided_object ms resources n block env) shape
       (each_key (λ k. settled_object all k ≡ decided_object ms resources n block env k) (instance_keys shape)
-      (λ key among. object_found (instance_keys shape) (records_at block.label resources) found key among)))
+      (λ key among. object_found (instance_keys shape) (records_at block.addr resources) found key among)))
     where
       by_test : (f g : InstanceKeyView → Option Tree) (b : Bool) → together (Some shape) f ≡ together (Some shape) g → together (if b then Some shape else None) f ≡ together (if b then Some shape else None) g
       by_test f g true h = h
@@ -208,7 +208,7 @@ module _ (block : BlockView) (env : Environment) where
 pub block_sorted : (becomes : InstanceToPlanView → OutcomeView) (shape : InstanceKeysView) (block : BlockView) (resources : List ResourceView)
     → IsStrictlySortedBy instance_key_cmp (map settled_key (settled_from becomes 0 (block_members shape block resources)))
 block_sorted becomes shape block resources =
-    subst (IsStrictlySortedBy instance_key_cmp) (sym (keys_settled becomes 0 (block_members shape block resources))) (are_there (instance_keys shape) (records_at block.label resources)).sorted
+    subst (IsStrictlySortedBy instance_key_cmp) (sym (keys_settled becomes 0 (block_members shape block resources))) (are_there (instance_keys shape) (records_at block.addr resources)).sorted
 
 -- what becomes of members is kept by instance
 abbrev pub by_instance : Keeping Settled SettledView InstanceKeyView
@@ -216,18 +216,18 @@ by_instance = record { seen = settled_of; key = settled_key; cmp = instance_key_
 
 -- ---- what was worked out of a block
 
-module _ (ms : List Meaning) (resources : List ResourceView) (n : ℕ) (block : BlockView) (env : Environment) (shape : InstanceKeysView) (found : Option SchemaView) (all : List SettledView) (same : found ≡ schema_in block.label.type_name ms)
+module _ (ms : List Meaning) (resources : List ResourceView) (n : ℕ) (block : BlockView) (env : Environment) (shape : InstanceKeysView) (found : Option SchemaView) (all : List SettledView) (same : found ≡ schema_in block.addr.type_name ms)
     (settled : all ≡ settled_from (member_outcome found block env) 0 (block_members shape block resources)) where
   pub standing_by : (is_wanted : Bool) (s : ResolvedView) → s ≡ (if is_wanted then settled_standing shape all else None) → s ≡ (if is_wanted then block_standing ms resources n shape block env else None)
   standing_by true s h =
       h ∙ (ap (settled_standing shape) settled ∙ (ap (λ (o : Option SchemaView). settled_standing shape (settled_from (member_outcome o block env) 0 (block_members shape block resources))) same ∙ settled_stands block env ms resources n shape))
   standing_by false s h = h
 
-  pub decided_by : (version : ℕ) (d start : DecidedView) → version ≡ version_of found → start ≡ nothing_decided → d ≡ with_settled (record { resource = n; label = block.label; version = version }) all start → d ≡ with_block ms resources n block env shape nothing_decided
+  pub decided_by : (version : ℕ) (d start : DecidedView) → version ≡ version_of found → start ≡ nothing_decided → d ≡ with_settled (record { resource = n; addr = block.addr; version = version }) all start → d ≡ with_block ms resources n block env shape nothing_decided
   decided_by version d start versioned starts h =
       let members = block_members shape block resources in
-      h ∙ (ap (with_settled (record { resource = n; label = block.label; version = version }) all) starts
-      ∙ (ap (λ (xs : List SettledView). with_settled (record { resource = n; label = block.label; version = version }) xs nothing_decided) settled
-      ∙ (with_settled_from (member_outcome found block env) (record { resource = n; label = block.label; version = version }) 0 members nothing_decided
-      ∙ (ap (λ (v : ℕ). with_members (record { resource = n; label = block.label; version = v }) (member_outcome found block env) 0 members nothing_decided) versioned
-      ∙ ap (λ (o : Option SchemaView). with_members (record { resource = n; label = block.label; version = version_of o }) (member_outcome o block env) 0 members nothing_decided) same))))
+      h ∙ (ap (with_settled (record { resource = n; addr = block.addr; version = version }) all) starts
+      ∙ (ap (λ (xs : List SettledView). with_settled (record { resource = n; addr = block.addr; version = version }) xs nothing_decided) settled
+      ∙ (with_settled_from (member_outcome found block env) (record { resource = n; addr = block.addr; version = version }) 0 members nothing_decided
+      ∙ (ap (λ (v : ℕ). with_members (record { resource = n; addr = block.addr; version = v }) (member_outcome found block env) 0 members nothing_decided) versioned
+      ∙ ap (λ (o : Option SchemaView). with_members (record { resource = n; addr = block.addr; version = version_of o }) (member_outcome o block env) 0 members nothing_decided) same))))

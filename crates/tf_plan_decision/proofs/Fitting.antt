@@ -6,8 +6,8 @@ use Rattle.std.specs.Option.{option_map_or}
 use Rattle.std.specs.Str.{bytes_eq}
 use Rattle.std.proofs.lemmas.Slice.Eq.{bytes_eq-Decides}
 use Rattle.std.proofs.lemmas.List.{append_assoc}
-use Rattle.tf_protocol.specs.Schema.{AttributeView, SchemaView, attribute_named}
-use Rattle.tf_protocol.specs.Verdict.{fits, fits_in, has_attributes, is_allowed, same_names}
+use Rattle.tf_provider_protocol.specs.Schema.{AttributeView, SchemaView, attribute_named}
+use Rattle.tf_provider_protocol.specs.Verdict.{fits, fits_in, has_attributes, is_allowed, same_names}
 use Rattle.tf_value.specs.Stored.{may_be_stored}
 use Rattle.tf_value.specs.Tree.{Tree, map, Entries, no_entries, entry, get, keys_of}
 use Rattle.tf_value.proofs.Conjunction.{and-first, and-second}

@@ -1,6 +1,6 @@
 -- The members that were listed are those of the definition.
 use Rattle.std.proofs.Common.{◌≡◌, List, map, Result, Ok, Err, IfOk, Vec, Global, ap₂, ◌∙◌}
-use Rattle.tf_address.specs.ObjectId.{InstanceKeyView}
+use Rattle.tf_config_address.specs.ObjectId.{InstanceKeyView}
 use Rattle.tf_plan_order.proofs.Listing.{those_members}
 use Rattle.tf_plan_order.specs.Members.{AreMembers, members}
 use Rattle.tf_plan_order.specs.MemberViews.{member_of}

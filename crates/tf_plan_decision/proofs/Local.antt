@@ -1,7 +1,7 @@
 -- What a block refers to decides what it stands for.
 use Rattle.std.proofs.Common.{◌≡◌, ℕ, List, Option, Some, None, if◌then◌else◌, refl, ap}
 use Rattle.std.specs.Prelude.{option_and_then}
-use Rattle.tf_address.specs.ObjectId.{InstanceKeyView}
+use Rattle.tf_config_address.specs.ObjectId.{InstanceKeyView}
 use Rattle.tf_plan_object.proofs.Locals.{instances_local}
 use Rattle.tf_config_data.specs.Config.{BlockView}
 use Rattle.tf_config_data.specs.Names.{block_refers}
@@ -11,13 +11,13 @@ use Rattle.tf_plan_decision.specs.Outcome.{by_decision, member_outcome, removal_
 use Rattle.tf_plan_decision.specs.Stage.{all_can_go, block_members, decided_object, object_of, object_unless_refused, records_at}
 use Rattle.tf_plan_decision.specs.Decision.{decision}
 use Rattle.tf_expand.proofs.Locals.{together_same}
-use Rattle.tf_eval.proofs.Locality.{expressions_local}
-use Rattle.tf_eval.specs.Environment.{Environment}
-use Rattle.tf_eval.specs.Locality.{AgreeOn}
+use Rattle.tf_expr_eval.proofs.Locality.{expressions_local}
+use Rattle.tf_expr_eval.specs.Environment.{Environment}
+use Rattle.tf_expr_eval.specs.Locality.{AgreeOn}
 use Rattle.tf_expand.specs.InstanceKeys.{InstanceKeysView}
 use Rattle.tf_plan_order.specs.Members.{InstanceToPlanView, records_of}
-use Rattle.tf_protocol.specs.Meaning.{Meaning, schema_in}
-use Rattle.tf_protocol.specs.Schema.{SchemaView}
+use Rattle.tf_provider_protocol.specs.Meaning.{Meaning, schema_in}
+use Rattle.tf_provider_protocol.specs.Schema.{SchemaView}
 use Rattle.tf_state_data.specs.Record.{RecordView}
 use Rattle.tf_state_data.specs.Resource.{ResourceView}
 
@@ -34,7 +34,7 @@ by_schema (Some schema) block records e f key agree = object_local schema block 
 pub stage_local : DecidingIsLocal
 stage_local ms resources shapes n block e f agree =
     together_same (decided_object ms resources n block e) (decided_object ms resources n block f) (if all_can_go ms resources (shapes n) block then Some (shapes n) else None)
-    (λ key. by_schema (schema_in block.label.type_name ms) block (records_of key (records_at block.label resources)) e f key agree)
+    (λ key. by_schema (schema_in block.addr.type_name ms) block (records_of key (records_at block.addr resources)) e f key agree)
 
 -- what a block refers to decides what becomes of its members
 outcome_local : (found : Option SchemaView) (block : BlockView) (e f : Environment) (m : InstanceToPlanView) → AgreeOn e f (block_refers block) → member_outcome found block e m ≡ member_outcome found block f m
@@ -46,6 +46,6 @@ outcome_local (Some schema) block e f m agree =
 pub block_local : (ms : List Meaning) (resources : List ResourceView) (n : ℕ) (block : BlockView) (e f : Environment) (shape : InstanceKeysView) (d : DecidedView) → AgreeOn e f (block_refers block)
     → with_block ms resources n block e shape d ≡ with_block ms resources n block f shape d
 block_local ms resources n block e f shape d agree =
-    let schema = schema_in block.label.type_name ms in
+    let schema = schema_in block.addr.type_name ms in
     let each = λ (m : InstanceToPlanView). outcome_local schema block e f m agree in
-    (λ i. with_members (record { resource = n; label = block.label; version = version_of schema }) (λ m. each m i) 0 (block_members shape block resources) d)
+    (λ i. with_members (record { resource = n; addr = block.addr; version = version_of schema }) (λ m. each m i) 0 (block_members shape block resources) d)

@@ -14,7 +14,7 @@ use Rattle.tf_expand.specs.declared.shape.InstanceKeys.TheVariants.{One}
 use Rattle.tf_plan_decision.specs.Deciding.{with_block}
 use Rattle.tf_plan_decision.specs.Rows.{row}
 use Rattle.tf_plan_decision.specs.Whole.{nothing_decided}
-use Rattle.tf_protocol.specs.Meaning.{Meaning}
+use Rattle.tf_provider_protocol.specs.Meaning.{Meaning}
 use Rattle.tf_state_data.specs.Resource.{ResourceView}
 use Rattle.tf_value.specs.Tree.{Entries}
 

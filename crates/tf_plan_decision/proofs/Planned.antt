@@ -2,8 +2,8 @@
 use Rattle.std.proofs.Common.{◌≡◌, ℕ, Bool, true, false, List, [], ◌∷◌, Option, Some, None, refl, sym, subst}
 use Rattle.std.specs.List.{list_all}
 use Rattle.std.specs.Option.{option_map_or}
-use Rattle.tf_protocol.specs.Schema.{AttributeView, SchemaView, IsSchema}
-use Rattle.tf_protocol.specs.Verdict.{has_attributes}
+use Rattle.tf_provider_protocol.specs.Schema.{AttributeView, SchemaView, IsSchema}
+use Rattle.tf_provider_protocol.specs.Verdict.{has_attributes}
 use Rattle.tf_value.specs.Known.{known, known_entries}
 use Rattle.tf_value.specs.Tree.{Tree, map, Entries, get}
 use Rattle.tf_value.proofs.Conjunction.{and-both}

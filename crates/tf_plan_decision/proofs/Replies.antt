@@ -2,9 +2,9 @@
 use Rattle.std.proofs.Common.{◌≡◌, ◌⊎◌, inl, inr, ℕ, ◌+◌, Bool, true, false, ◌||◌, not, cond, List, [], ◌∷◌, Option, Some, None, refl, sym, ap, ◌∙◌, subst}
 use Rattle.std.specs.List.{list_all, position_from}
 use Rattle.std.specs.Option.{option_map_or, unwrap_or}
-use Rattle.tf_protocol.specs.Schema.{AttributeView, SchemaView, IsSchema}
-use Rattle.tf_protocol.specs.Verdict.{contradiction, contradicts, contradicts_at, fits, fits_in, has_attributes, is_allowed, is_good_verdict, well_formed}
-use Rattle.tf_protocol.specs.declared.verdict.Verdict.TheVariants.{Good, Contradicted, Malformed}
+use Rattle.tf_provider_protocol.specs.Schema.{AttributeView, SchemaView, IsSchema}
+use Rattle.tf_provider_protocol.specs.Verdict.{contradiction, contradicts, contradicts_at, fits, fits_in, has_attributes, is_allowed, is_good_verdict, well_formed}
+use Rattle.tf_provider_protocol.specs.declared.verdict.Verdict.TheVariants.{Good, Contradicted, Malformed}
 use Rattle.tf_state_data.specs.Record.{RecordView}
 use Rattle.tf_value.specs.Equality.{same_Decides}
 use Rattle.tf_value.specs.Known.{known}

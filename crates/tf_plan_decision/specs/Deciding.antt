@@ -2,8 +2,8 @@
 use Rattle.std.specs.Prelude.{ℕ, ◌+◌, List, [], ◌∷◌, ◌++◌, map, Option, Ok, Err}
 use Rattle.std.specs.Option.{option_map_or}
 use Rattle.tf_plan_data.specs.Action.{ActionView, StepView, action_of}
-use Rattle.tf_address.specs.Label.{LabelView, label_of}
-use Rattle.tf_address.specs.ObjectId.{InstanceKeyView, instance_key_of}
+use Rattle.tf_config_address.specs.ResourceAddr.{ResourceAddrView, addr_of}
+use Rattle.tf_config_address.specs.ObjectId.{InstanceKeyView, instance_key_of}
 use Rattle.tf_config_data.specs.Config.{BlockView}
 use Rattle.tf_plan_decision.specs.Outcome.{OutcomeView, WhyView, member_outcome, orphan_outcome}
 use Rattle.tf_plan_decision.specs.Stage.{block_members}
@@ -12,15 +12,15 @@ use Rattle.tf_plan_decision.specs.declared.collecting.Decided.{Decided}
 use Rattle.tf_plan_decision.specs.declared.collecting.OutcomeOf.{OutcomeOf}
 use Rattle.tf_plan_decision.specs.declared.collecting.RefusedInstance.{RefusedInstance}
 use Rattle.tf_expand.specs.InstanceKeys.{InstanceKeysView}
-use Rattle.tf_eval.specs.Environment.{Environment}
+use Rattle.tf_expr_eval.specs.Environment.{Environment}
 use Rattle.tf_plan_order.specs.Members.{InstanceToPlanView, members}
-use Rattle.tf_protocol.specs.Meaning.{Meaning, schema_in}
-use Rattle.tf_protocol.specs.Schema.{SchemaView}
+use Rattle.tf_provider_protocol.specs.Meaning.{Meaning, schema_in}
+use Rattle.tf_provider_protocol.specs.Schema.{SchemaView}
 use Rattle.tf_state_data.specs.Resource.{ResourceView}
 
 -- a refused instance, and why it is
 pub record RefusedInstanceView : Type 0 where
-  pub label : LabelView
+  pub addr : ResourceAddrView
   pub key : InstanceKeyView
   pub why : WhyView
 
@@ -32,17 +32,17 @@ pub record DecidedView : Type 0 where
 -- a resource as its actions name it: by its number and its address, with the version of the schema of its type
 pub record OfView : Type 0 where
   pub resource : ℕ
-  pub label : LabelView
+  pub addr : ResourceAddrView
   pub version : ℕ
 
 -- a step as the action of an instance, which is named by its number and its key
 abbrev pub action : OfView → ℕ → InstanceKeyView → StepView → ActionView
-action of i key step = record { resource = of.resource; instance = i; label = of.label; key = key; step = step; version = of.version }
+action of i key step = record { resource = of.resource; instance = i; addr = of.addr; key = key; step = step; version = of.version }
 
 -- what is decided so far with what becomes of one instance more: its actions, or its refusal
 abbrev pub with_outcome : OfView → ℕ → InstanceKeyView → OutcomeView → DecidedView → DecidedView
 with_outcome of i key (Ok steps) d = record { actions = d.actions ++ map (action of i key) steps; refusals = d.refusals }
-with_outcome of i key (Err why) d = record { actions = d.actions; refusals = d.refusals ++ record { label = of.label; key = key; why = why } ∷ [] }
+with_outcome of i key (Err why) d = record { actions = d.actions; refusals = d.refusals ++ record { addr = of.addr; key = key; why = why } ∷ [] }
 
 -- what is decided so far with what becomes of members, one after another, which are numbered from one number on
 abbrev pub with_members : OfView → (InstanceToPlanView → OutcomeView) → ℕ → List InstanceToPlanView → DecidedView → DecidedView
@@ -56,21 +56,21 @@ version_of schema = option_map_or (λ s. s.version) schema 0
 -- What is decided so far with the members of a resource whose block stands, numbered from 0 on.
 abbrev pub with_block : List Meaning → List ResourceView → ℕ → BlockView → Environment → InstanceKeysView → DecidedView → DecidedView
 with_block ms resources n block env shape d =
-    let schema = schema_in block.label.type_name ms in
-    with_members (record { resource = n; label = block.label; version = version_of schema }) (member_outcome schema block env) 0 (block_members shape block resources) d
+    let schema = schema_in block.addr.type_name ms in
+    with_members (record { resource = n; addr = block.addr; version = version_of schema }) (member_outcome schema block env) 0 (block_members shape block resources) d
 
 -- And with those of a resource whose block is gone.
 abbrev pub with_orphan : List Meaning → ℕ → ResourceView → DecidedView → DecidedView
 with_orphan ms n r d =
-    let schema = schema_in r.label.type_name ms in
-    with_members (record { resource = n; label = r.label; version = version_of schema }) (orphan_outcome schema) 0 (members [] r.records) d
+    let schema = schema_in r.addr.type_name ms in
+    with_members (record { resource = n; addr = r.addr; version = version_of schema }) (orphan_outcome schema) 0 (members [] r.records) d
 
 -- without where they lie in memory
 abbrev pub refused_of : RefusedInstance → RefusedInstanceView
-refused_of r = record { label = label_of r.label; key = instance_key_of r.key; why = why_of r.why }
+refused_of r = record { addr = addr_of r.addr; key = instance_key_of r.key; why = why_of r.why }
 
 abbrev pub decided_of : Decided → DecidedView
 decided_of d = record { actions = map action_of d.actions.items; refusals = map refused_of d.refusals.items }
 
 abbrev pub of_view : OutcomeOf → OfView
-of_view of = record { resource = of.resource; label = label_of of.label.now; version = of.version }
+of_view of = record { resource = of.resource; addr = addr_of of.addr.now; version = of.version }

@@ -1,7 +1,7 @@
 -- The attributes in which an object differs from the prior one.
 use Rattle.std.specs.Prelude.{ℕ, Bool, true, false, ◌||◌, not, if◌then◌else◌, List, [], ◌∷◌, filter, Option, Some, None}
 use Rattle.std.specs.Option.{option_map_or}
-use Rattle.tf_protocol.specs.Schema.{SchemaView, attribute_named}
+use Rattle.tf_provider_protocol.specs.Schema.{SchemaView, attribute_named}
 use Rattle.tf_value.specs.Known.{known}
 use Rattle.tf_value.specs.Tree.{Tree, Entries, no_entries, entry, map, part_at, same}
 

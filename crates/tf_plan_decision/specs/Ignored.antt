@@ -3,7 +3,7 @@ use Rattle.std.specs.Prelude.{ℕ, if◌then◌else◌, List, [], ◌∷◌, is_
 use Rattle.tf_plan_object.specs.Instance.{InstanceFaultView, for_each_fault, argument_fault}
 use Rattle.tf_plan_object.specs.Planned.{NamedFaultView}
 use Rattle.tf_plan_object.specs.declared.argument.ArgumentFault.TheVariants.{BadArgument}
-use Rattle.tf_protocol.specs.Schema.{SchemaView, attribute_named, is_below}
+use Rattle.tf_provider_protocol.specs.Schema.{SchemaView, attribute_named, is_below}
 use Rattle.tf_value.specs.Tree.{Tree}
 use Rattle.tf_plan_decision.specs.Names.{first_name}
 

@@ -3,7 +3,7 @@ use Rattle.std.specs.Prelude.{ℕ, List}
 use Rattle.tf_plan_decision.specs.Stage.{deciding}
 use Rattle.tf_expand.specs.StandingLaws.{IsLocal}
 use Rattle.tf_expand.specs.InstanceKeys.{InstanceKeysView}
-use Rattle.tf_protocol.specs.Meaning.{Meaning}
+use Rattle.tf_provider_protocol.specs.Meaning.{Meaning}
 use Rattle.tf_state_data.specs.Resource.{ResourceView}
 
 -- A block stands for the same in environments that agree on what it refers to, whatever the state has.

@@ -1,6 +1,6 @@
 -- Which of some names is first in byte order.
 use Rattle.std.specs.Prelude.{ℕ, if◌then◌else◌, List, fold, Option, Some, None}
-use Rattle.tf_protocol.specs.Schema.{is_below}
+use Rattle.tf_provider_protocol.specs.Schema.{is_below}
 
 -- of two names, the one that is first in byte order
 abbrev pub sooner_name : Option (List ℕ) → List ℕ → Option (List ℕ)

@@ -1,8 +1,8 @@
 -- Whether a prior object fits the schema of its type.
 use Rattle.std.specs.Prelude.{ℕ, Bool, false, if◌then◌else◌, ◌==◌, List, [], ◌∷◌, ◌++◌, is_some, Option, Some, None, option_map}
 use Rattle.std.specs.Option.{option_map_or, option_or}
-use Rattle.tf_protocol.specs.Schema.{AttributeView, SchemaView, attribute_named}
-use Rattle.tf_protocol.specs.Verdict.{is_allowed}
+use Rattle.tf_provider_protocol.specs.Schema.{AttributeView, SchemaView, attribute_named}
+use Rattle.tf_provider_protocol.specs.Verdict.{is_allowed}
 use Rattle.tf_state_data.specs.Record.{RecordView}
 use Rattle.tf_value.specs.Tree.{Tree, Entries, no_entries, entry, map, get}
 use Rattle.tf_plan_decision.specs.Names.{first_name}

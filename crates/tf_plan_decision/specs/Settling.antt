@@ -2,7 +2,7 @@
 use Rattle.std.specs.Prelude.{ℕ, ◌+◌, Bool, ◌||◌, if◌then◌else◌, is_ok, List, [], ◌∷◌, Option, Some, None, option_map, option_and_then, Ok, Err}
 use Rattle.std.specs.List.{list_all}
 use Rattle.std.specs.Option.{option_or}
-use Rattle.tf_address.specs.ObjectId.{InstanceKeyView, instance_key_cmp}
+use Rattle.tf_config_address.specs.ObjectId.{InstanceKeyView, instance_key_cmp}
 use Rattle.tf_plan_decision.specs.Deciding.{DecidedView, OfView, with_outcome}
 use Rattle.tf_plan_decision.specs.Outcome.{OutcomeView}
 use Rattle.tf_plan_decision.specs.Views.{outcome_of}

@@ -2,25 +2,25 @@
 use Rattle.std.specs.Prelude.{ℕ, Bool, false, ◌||◌, if◌then◌else◌, is_none, List, [], Option, Some, None, option_map, option_and_then, Result, Ok, Err}
 use Rattle.std.specs.List.{list_all}
 use Rattle.std.specs.Option.{option_map_or}
-use Rattle.tf_address.specs.Label.{LabelView}
-use Rattle.tf_address.specs.ObjectId.{InstanceKeyView}
+use Rattle.tf_config_address.specs.ResourceAddr.{ResourceAddrView}
+use Rattle.tf_config_address.specs.ObjectId.{InstanceKeyView}
 use Rattle.tf_plan_object.specs.Instance.{instance_object}
 use Rattle.tf_config_data.specs.Config.{BlockView, LifecycleView}
 use Rattle.tf_plan_decision.specs.Decision.{DecisionView, DecisionFaultView, nothing, create, update, replace, current, decision, removal_fault}
 use Rattle.tf_expand.specs.InstanceKeys.{InstanceKeysView, instance_keys}
 use Rattle.tf_expand.specs.Resolved.{ResourceValuesView, ResolvedView, together}
-use Rattle.tf_eval.specs.Environment.{Environment}
+use Rattle.tf_expr_eval.specs.Environment.{Environment}
 use Rattle.tf_plan_order.specs.Members.{InstanceToPlanView, members, records_of}
-use Rattle.tf_protocol.specs.Meaning.{Meaning, schema_in}
-use Rattle.tf_protocol.specs.Schema.{SchemaView}
+use Rattle.tf_provider_protocol.specs.Meaning.{Meaning, schema_in}
+use Rattle.tf_provider_protocol.specs.Schema.{SchemaView}
 use Rattle.tf_state_data.specs.Record.{RecordView}
 use Rattle.tf_state_data.specs.Resource.{ResourceView}
 use Rattle.tf_state_data.specs.State.{resource_at}
 use Rattle.tf_value.specs.Tree.{Tree}
 
 -- the records of the resource at an address; where the state hasn't got it there are none
-abbrev pub records_at : LabelView → List ResourceView → List RecordView
-records_at label resources = option_map_or (λ r. r.records) (resource_at label resources) []
+abbrev pub records_at : ResourceAddrView → List ResourceView → List RecordView
+records_at addr resources = option_map_or (λ r. r.records) (resource_at addr resources) []
 
 -- What an instance stands for beside its current object: for the object that is asked for, and for the one that is there
 -- where nothing is done.
@@ -43,11 +43,11 @@ object_of schema block records env key = object_unless_refused records (decision
 -- state; for nothing where no provider has the type.
 abbrev pub decided_object : List Meaning → List ResourceView → ℕ → BlockView → Environment → InstanceKeyView → Option Tree
 decided_object ms resources n block env key =
-    option_and_then (λ schema. object_of schema block (records_of key (records_at block.label resources)) env key) (schema_in block.label.type_name ms)
+    option_and_then (λ schema. object_of schema block (records_of key (records_at block.addr resources)) env key) (schema_in block.addr.type_name ms)
 
 -- the members of a resource whose block stands
 abbrev pub block_members : InstanceKeysView → BlockView → List ResourceView → List InstanceToPlanView
-block_members shape block resources = members (instance_keys shape) (records_at block.label resources)
+block_members shape block resources = members (instance_keys shape) (records_at block.addr resources)
 
 -- what the state alone has of an instance can be destroyed
 abbrev pub can_go : Option SchemaView → LifecycleView → InstanceToPlanView → Bool
@@ -60,7 +60,7 @@ stays_or_goes schema lifecycle m = m.is_declared || can_go schema lifecycle m
 
 -- no instance is refused which the configuration doesn't have
 abbrev pub all_can_go : List Meaning → List ResourceView → InstanceKeysView → BlockView → Bool
-all_can_go ms resources shape block = list_all (stays_or_goes (schema_in block.label.type_name ms) block.lifecycle) (block_members shape block resources)
+all_can_go ms resources shape block = list_all (stays_or_goes (schema_in block.addr.type_name ms) block.lifecycle) (block_members shape block resources)
 
 -- what the resource of a block stands for whose instances stand together so: for nothing where an instance of it is refused
 abbrev pub block_standing : List Meaning → List ResourceView → ℕ → InstanceKeysView → BlockView → Environment → ResolvedView

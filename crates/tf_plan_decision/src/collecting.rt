@@ -15,16 +15,16 @@ ghost use Rattle.tf_plan_order.specs.Words.{resource_of};
 use crate::outcome::{Why, orphan_outcome};
 use crate::settling::Settled;
 use std::alloc::{AllocError, Global};
-use tf_address::{InstanceKey, Label};
+use tf_config_address::{InstanceKey, ResourceAddr};
 use tf_plan_data::{Action, Step};
 use tf_plan_order::{InstanceToPlan, members};
-use tf_protocol::{Provider, Schema, schema_for};
+use tf_provider_protocol::{Provider, Schema, schema_for};
 
 /// An instance that is refused.
 #[derive(Debug, Drop)]
 pub struct RefusedInstance {
     /// Its resource.
-    pub label: Label,
+    pub addr: ResourceAddr,
     /// Which instance it is.
     pub key: InstanceKey,
     /// Why it is refused.
@@ -47,7 +47,7 @@ pub(crate) struct OutcomeOf<'a> {
     /// The number of the resource.
     pub(crate) resource: usize,
     /// Its address.
-    pub(crate) label: &'a Label,
+    pub(crate) addr: &'a ResourceAddr,
     /// The version of the schema of its type.
     pub(crate) version: u32,
 }
@@ -109,11 +109,11 @@ impl Decided {
     ) -> Result<(), AllocError>
         ensures { OnOk result (decided_of self.new ≡ with_orphan (map meaning providers.now) place (resource_of orphan.now) (decided_of self.old)) }
     {
-        let schema = schema_for(providers, orphan.label().type_name.as_str());
+        let schema = schema_for(providers, orphan.addr().type_name.as_str());
         let members = members(alloc, &[], orphan.records())?;
         let of = OutcomeOf {
             resource: place,
-            label: orphan.label(),
+            addr: orphan.addr(),
             version: version_of(schema),
         };
         add_gone(alloc, self, &of, schema, members.as_slice())
@@ -163,7 +163,7 @@ fn add_outcome(
         Ok(steps) => add_steps(decided, of, instance, key, steps),
         Err(why) => {
             decided.refusals.push(RefusedInstance {
-                label: of.label.clone()?,
+                addr: of.addr.clone()?,
                 key: key.clone()?,
                 why,
             })?;
@@ -188,7 +188,7 @@ fn add_steps(
         decided.actions.push(Action {
             resource: of.resource,
             instance,
-            label: of.label.clone()?,
+            addr: of.addr.clone()?,
             key: key.clone()?,
             step,
             version: of.version,

@@ -14,7 +14,7 @@ use crate::prior::{PriorFault, first_unfit};
 use std::alloc::{AllocError, Global};
 use tf_config_data::Lifecycle;
 use tf_plan_object::{InstanceFault, kept_object};
-use tf_protocol::Schema;
+use tf_provider_protocol::Schema;
 use tf_state_data::Record;
 use tf_value::Value;
 

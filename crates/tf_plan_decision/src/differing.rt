@@ -6,7 +6,7 @@ ghost use Rattle.tf_plan_decision.specs.Differing.{differing, differing_entries,
 
 use std::alloc::{AllocError, Global};
 use std::collections::BTreeMap;
-use tf_protocol::Schema;
+use tf_provider_protocol::Schema;
 use tf_value::{Value, is_known};
 
 /// The names of the attributes in which an object differs from the prior one, in byte order.

@@ -9,7 +9,7 @@ ghost use Rattle.tf_plan_decision.specs.Ignored.{heeding, ignored_fault, sooner_
 use crate::names::sooner;
 use std::alloc::{AllocError, Global};
 use tf_plan_object::{ArgumentFault, InstanceFault, NamedFault};
-use tf_protocol::Schema;
+use tf_provider_protocol::Schema;
 use tf_value::Value;
 
 /// The first name, in byte order, among those whose changes are ignored, that no attribute of the schema has.

@@ -2,8 +2,8 @@
 
 ghost use Rattle.std.specs.List.Sorted.{IsStrictlySortedBy, IsStrictlySortedBy-prop};
 ghost use Rattle.std.specs.Prelude.{◌≡◌, if◌then◌else◌, IfOk, map, None, option_map};
-ghost use Rattle.tf_address.specs.ObjectId.{instance_key_cmp};
-ghost use Rattle.tf_expand.specs.Words.{instance_key_of, label_of, shape_of, resolved_of, tree_of};
+ghost use Rattle.tf_config_address.specs.ObjectId.{instance_key_cmp};
+ghost use Rattle.tf_expand.specs.Words.{instance_key_of, addr_of, shape_of, resolved_of, tree_of};
 ghost use Rattle.tf_plan_decision.specs.Settling.{all_free, asked_by, asked_in, is_free, settled_at, settled_key, settled_object, settled_of, settled_standing, stood_for};
 ghost use Rattle.tf_plan_decision.specs.Stage.{records_at};
 ghost use Rattle.tf_plan_decision.specs.Views.{outcome_of, steps_of};
@@ -16,18 +16,18 @@ use crate::decision::current;
 use crate::outcome::Why;
 use crate::settling::Settled;
 use std::alloc::{AllocError, Global};
-use tf_address::{InstanceKey, Label};
+use tf_config_address::{InstanceKey, ResourceAddr};
 use tf_expand::{InstanceKeys, Keyed, Resolved, collect_instances};
 use tf_plan_data::Step;
 use tf_state_data::{Record, State};
 use tf_value::Value;
 
 /// The records of the resource at an address; none where the state hasn't got it.
-pub(crate) fn records_at<'a>(state: &'a State, label: &Label) -> &'a [Record]
-    ensures records { map record_of result.now ≡ records_at (label_of label.now) (state_of state.now).resources }
+pub(crate) fn records_at<'a>(state: &'a State, addr: &ResourceAddr) -> &'a [Record]
+    ensures records { map record_of result.now ≡ records_at (addr_of addr.now) (state_of state.now).resources }
     ensures ordered { AreById (map record_of result.now) }
 {
-    match state.resource(label) {
+    match state.resource(addr) {
         Some(resource) => resource.records(),
         None => &[],
     }

@@ -1,7 +1,7 @@
 //! What becomes of a member of a resource.
 
 ghost use Rattle.std.specs.Prelude.{◌≡◌, IfOk, option_map};
-ghost use Rattle.tf_address.specs.Label.{LabelView};
+ghost use Rattle.tf_config_address.specs.ResourceAddr.{ResourceAddrView};
 ghost use Rattle.tf_config_data.specs.Config.{block_at, lifecycle_of};
 ghost use Rattle.tf_plan_decision.specs.Outcome.{declared_outcome, member_outcome, orphan_outcome, removal_outcome};
 ghost use Rattle.tf_plan_decision.specs.Views.{outcome_of};
@@ -11,11 +11,11 @@ use crate::decision::{DecisionFault, decide, removal_fault_of};
 use crate::steps::{decided_steps, removal_steps};
 use std::alloc::{AllocError, Global};
 use tf_config_data::{Block, Lifecycle};
-use tf_eval::Scope;
+use tf_expr_eval::Scope;
 use tf_plan_data::Step;
 use tf_plan_object::plan_instance;
 use tf_plan_order::InstanceToPlan;
-use tf_protocol::Schema;
+use tf_provider_protocol::Schema;
 
 /// Why an instance is refused.
 #[derive(Debug, Drop)]
@@ -40,8 +40,8 @@ pub fn member_outcome<S: Scope>(
     scope: &S,
     member: &InstanceToPlan<'_>,
 ) -> Result<Result<Vec<Step>, Why>, AllocError>
-    ensures { (label : LabelView) → IfOk result (λ outcome. outcome_of outcome
-        ≡ member_outcome (option_map (λ s. s.now) schema.entry) (block_at label block.now) (S.environment scope.now) (member_of member.now)) }
+    ensures { (addr : ResourceAddrView) → IfOk result (λ outcome. outcome_of outcome
+        ≡ member_outcome (option_map (λ s. s.now) schema.entry) (block_at addr block.now) (S.environment scope.now) (member_of member.now)) }
 {
     let Some(schema) = schema else {
         return Ok(Err(Why::NoProvider));
@@ -80,8 +80,8 @@ fn declared_outcome<S: Scope>(
     scope: &S,
     member: &InstanceToPlan<'_>,
 ) -> Result<Result<Vec<Step>, Why>, AllocError>
-    ensures { (label : LabelView) → IfOk result (λ outcome. outcome_of outcome
-        ≡ declared_outcome schema.now (block_at label block.now) (S.environment scope.now) (member_of member.now)) }
+    ensures { (addr : ResourceAddrView) → IfOk result (λ outcome. outcome_of outcome
+        ≡ declared_outcome schema.now (block_at addr block.now) (S.environment scope.now) (member_of member.now)) }
 {
     let planned = plan_instance(alloc, schema, block, &member.key, scope)?;
     match decide(alloc, schema, &block.lifecycle, member.records, planned)? {

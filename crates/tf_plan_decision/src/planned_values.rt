@@ -1,7 +1,7 @@
 //! What is decided of a block, and what it stands for by that.
 
 ghost use Rattle.std.specs.Prelude.{◌≡◌, if◌then◌else◌, IfOk, map, None};
-ghost use Rattle.tf_expand.specs.Words.{block_at, label_of, shape_of, resolved_of};
+ghost use Rattle.tf_expand.specs.Words.{block_at, addr_of, shape_of, resolved_of};
 ghost use Rattle.tf_plan_decision.specs.Deciding.{decided_of, with_block};
 ghost use Rattle.tf_plan_decision.specs.Stage.{block_members, block_standing};
 ghost use Rattle.tf_plan_decision.specs.Whole.{nothing_decided};
@@ -12,12 +12,12 @@ use crate::collecting::{Decided, OutcomeOf, version_of};
 use crate::objects::{records_at, settled_standing};
 use crate::settling::settle;
 use std::alloc::{AllocError, Global};
-use tf_address::Label;
+use tf_config_address::ResourceAddr;
 use tf_config_data::Block;
-use tf_eval::Scope;
 use tf_expand::{InstanceKeys, Resolved, ResourceInScope};
+use tf_expr_eval::Scope;
 use tf_plan_order::{InstanceToPlan, members};
-use tf_protocol::{Provider, schema_for};
+use tf_provider_protocol::{Provider, schema_for};
 use tf_state_data::State;
 
 /// The plan from a prior state: each resource has the instances that the expansion gave it. Each type's provider is the first in
@@ -52,19 +52,19 @@ pub(crate) fn decide_block<S: Scope>(
 ) -> Result<Looked, AllocError>
     ensures resolved { IfOk result (λ looked. resolved_of looked.resolved ≡ (if is_wanted
         then block_standing (map meaning stage.now.providers.now) (state_of stage.now.state.now).resources resource.now.place (shape_of shape.now)
-        (block_at (label_of resource.now.label.now) resource.now.block.now) (S.environment resource.now.scope.now)
+        (block_at (addr_of resource.now.addr.now) resource.now.block.now) (S.environment resource.now.scope.now)
         else None)) }
     ensures decided { IfOk result (λ looked. decided_of looked.decided
         ≡ with_block (map meaning stage.now.providers.now) (state_of stage.now.state.now).resources resource.now.place
-        (block_at (label_of resource.now.label.now) resource.now.block.now) (S.environment resource.now.scope.now) (shape_of shape.now) nothing_decided) }
+        (block_at (addr_of resource.now.addr.now) resource.now.block.now) (S.environment resource.now.scope.now) (shape_of shape.now) nothing_decided) }
 {
-    let schema = schema_for(stage.providers, resource.label.type_name.as_str());
-    let members = block_members(alloc, stage.state, shape, resource.label, resource.block)?;
+    let schema = schema_for(stage.providers, resource.addr.type_name.as_str());
+    let members = block_members(alloc, stage.state, shape, resource.addr, resource.block)?;
     let settled = settle(alloc, schema, resource, members.as_slice())?;
     let resolved = settled_standing(alloc, shape, settled.as_slice(), is_wanted)?;
     let of = OutcomeOf {
         resource: resource.place,
-        label: resource.label,
+        addr: resource.addr,
         version: version_of(schema),
     };
     let mut decided = Decided::nothing(alloc);
@@ -77,12 +77,12 @@ fn block_members<'a>(
     alloc: Global,
     state: &'a State,
     shape: &InstanceKeys,
-    label: &Label,
+    addr: &ResourceAddr,
     block: &Block,
 ) -> Result<Vec<InstanceToPlan<'a>>, AllocError>
     ensures { IfOk result (λ members. map member_of members.items
-        ≡ block_members (shape_of shape.now) (block_at (label_of label.now) block.now) (state_of state.now).resources) }
+        ≡ block_members (shape_of shape.now) (block_at (addr_of addr.now) block.now) (state_of state.now).resources) }
 {
     let keys = shape.keys(alloc)?;
-    members(alloc, keys.as_slice(), records_at(state, label))
+    members(alloc, keys.as_slice(), records_at(state, addr))
 }

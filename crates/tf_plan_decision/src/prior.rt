@@ -1,7 +1,7 @@
 //! Whether a prior object fits the schema of its type.
 
 ghost use Rattle.std.specs.Prelude.{◌≡◌, fold, map, IfOk, option_map};
-ghost use Rattle.tf_protocol.specs.Schema.{attribute_of};
+ghost use Rattle.tf_provider_protocol.specs.Schema.{attribute_of};
 ghost use Rattle.tf_state_data.specs.Record.{record_of};
 ghost use Rattle.tf_value.specs.Tree.{entries_view};
 ghost use Rattle.tf_plan_decision.specs.Answer.{prior_fault_of};
@@ -11,7 +11,7 @@ ghost use Rattle.tf_plan_decision.specs.Prior.{all_misfits, first_unfit, has_all
 use crate::names::sooner;
 use std::alloc::{AllocError, Global};
 use std::collections::BTreeMap;
-use tf_protocol::{Attribute, Schema, is_allowed};
+use tf_provider_protocol::{Attribute, Schema, is_allowed};
 use tf_state_data::Record;
 use tf_value::{Value, find};
 

@@ -1,18 +1,18 @@
 //! What becomes of the members of a resource, each of which is decided once.
 
 ghost use Rattle.std.specs.Prelude.{◌≡◌, IfOk, map, option_map};
-ghost use Rattle.tf_expand.specs.Words.{block_at, label_of};
+ghost use Rattle.tf_expand.specs.Words.{block_at, addr_of};
 ghost use Rattle.tf_plan_decision.specs.Outcome.{member_outcome};
 ghost use Rattle.tf_plan_decision.specs.Settling.{settled_from, settled_of};
 ghost use Rattle.tf_plan_order.specs.MemberViews.{member_of};
 
 use crate::outcome::{Why, member_outcome};
 use std::alloc::{AllocError, Global};
-use tf_eval::Scope;
 use tf_expand::ResourceInScope;
+use tf_expr_eval::Scope;
 use tf_plan_data::Step;
 use tf_plan_order::InstanceToPlan;
-use tf_protocol::Schema;
+use tf_provider_protocol::Schema;
 
 /// A member of a resource, and what becomes of it.
 #[derive(Drop)]
@@ -33,7 +33,7 @@ pub(crate) fn settle<'a, S: Scope>(
     members: &'a [InstanceToPlan<'a>],
 ) -> Result<Vec<Settled<'a>>, AllocError>
     ensures { IfOk result (λ settled. map settled_of settled.items
-        ≡ settled_from (member_outcome (option_map (λ s. s.now) schema.entry) (block_at (label_of resource.now.label.now) resource.now.block.now) (S.environment resource.now.scope.now))
+        ≡ settled_from (member_outcome (option_map (λ s. s.now) schema.entry) (block_at (addr_of resource.now.addr.now) resource.now.block.now) (S.environment resource.now.scope.now))
         0 (map member_of members.now)) }
 {
     let mut settled = Vec::with_capacity(alloc, members.len())?;

@@ -8,8 +8,8 @@ ghost use Rattle.tf_plan_decision.specs.Stage.{deciding};
 ghost use Rattle.tf_expand.specs.Kept.{AreClosed};
 ghost use Rattle.tf_expand.specs.Resolved.{all_stand as all_that_stand, stands_at, where_all};
 ghost use Rattle.tf_expand.specs.Words.{entries_view, environment, has, AreResolved, IsDependence, IsInOrder, names_in, order_in, seen_by, shapes_of, resolved_of, resolved_names_of};
-ghost use Rattle.tf_eval.specs.ExprMeaning.{meaning as meaning_of};
-ghost use Rattle.tf_syntax.specs.ExprTree.{tree_of};
+ghost use Rattle.tf_expr_eval.specs.ExprMeaning.{meaning as meaning_of};
+ghost use Rattle.tf_expr_syntax.specs.ExprTree.{tree_of};
 ghost use Rattle.tf_plan_decision.specs.Whole.{nothing_decided};
 ghost use Rattle.tf_plan_order.specs.Table.{numbered_in};
 ghost use Rattle.tf_state_data.specs.State.{state_of};
@@ -19,14 +19,14 @@ use crate::planned_values::{Looked, PlannedValues, decide_block};
 use std::alloc::{AllocError, Global};
 use std::mem;
 use tf_config_names::Declaration;
-use tf_eval::Scope;
 use tf_expand::{
     InstanceKeys, Module, NamesScope, Resolved, ResourceInScope, all_stand, evaluated, is_marked,
     unresolved_names,
 };
+use tf_expr_eval::Scope;
+use tf_expr_syntax::Expr;
 use tf_plan_order::{ResourceIndex, ResourceRef};
-use tf_protocol::Provider;
-use tf_syntax::Expr;
+use tf_provider_protocol::Provider;
 
 /// What names stand for, and what is decided of each, by their places.
 #[derive(Drop)]
@@ -136,10 +136,10 @@ fn look_at(
     };
     match declared.names.at(place) {
         Declaration::Local(_, expr) => look_at_local(alloc, expr, &scope, is_wanted),
-        Declaration::Resource(label, block) => {
+        Declaration::Resource(addr, block) => {
             let resource = ResourceInScope {
                 place,
-                label,
+                addr,
                 block,
                 scope: &scope,
             };

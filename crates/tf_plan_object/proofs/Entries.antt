@@ -4,7 +4,7 @@ use Rattle.std.proofs.lemmas.Cmp.{nat_list_cmp_total}
 use Rattle.std.specs.Cmp.Lexicographic.{slice_cmp}
 use Rattle.std.specs.List.{list_all}
 use Rattle.std.specs.Ordering.{ordering_reverse, is_lt}
-use Rattle.tf_protocol.specs.Schema.{AttributeView, is_below, ascends}
+use Rattle.tf_provider_protocol.specs.Schema.{AttributeView, is_below, ascends}
 use Rattle.tf_value.specs.Tree.{Tree, Entries, no_entries, entry, put}
 use Rattle.tf_plan_object.specs.Planned.{with_value}
 use Rattle.tf_plan_object.specs.Stepped.{put_value}

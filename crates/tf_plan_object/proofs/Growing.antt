@@ -1,20 +1,20 @@
 -- What is known of planned objects only grows.
 use Rattle.std.proofs.Common.{◌≡◌, ℕ, List, [], ◌∷◌, Bool, if◌then◌else◌, codes, Option, Some, None, Result, Ok, Err, refl, ap}
 use Rattle.std.specs.Fmt.{signed_decimal}
-use Rattle.tf_operators.specs.Answer.{Answer}
-use Rattle.tf_protocol.specs.Schema.{AttributeView, SchemaView}
-use Rattle.tf_protocol.specs.declared.schema.Kind.{Kind}
-use Rattle.tf_protocol.specs.declared.schema.Kind.TheVariants as kinds
-use Rattle.tf_protocol.specs.declared.schema.Mode.{Mode}
-use Rattle.tf_protocol.specs.declared.schema.Mode.TheVariants as modes
-use Rattle.tf_syntax.specs.ExprTree as expr
+use Rattle.tf_expr_operators.specs.Answer.{Answer}
+use Rattle.tf_provider_protocol.specs.Schema.{AttributeView, SchemaView}
+use Rattle.tf_provider_protocol.specs.declared.schema.Kind.{Kind}
+use Rattle.tf_provider_protocol.specs.declared.schema.Kind.TheVariants as kinds
+use Rattle.tf_provider_protocol.specs.declared.schema.Mode.{Mode}
+use Rattle.tf_provider_protocol.specs.declared.schema.Mode.TheVariants as modes
+use Rattle.tf_expr_syntax.specs.ExprTree as expr
 use Rattle.tf_value.specs.Laws.{ListsRefine, RefinementIsReflexive}
 use Rattle.tf_value.specs.Refinement.{Refines, RefinesEntries}
 use Rattle.tf_value.specs.Sets.{with_lists}
 use Rattle.tf_value.specs.Tree.{Tree, null, boolean, whole, text, unknown, Entries}
-use Rattle.tf_eval.specs.Environment.{Environment, RefinesTo}
-use Rattle.tf_eval.specs.ExprMeaning.{meaning}
-use Rattle.tf_eval.specs.Growth.{ExprKnowledgeGrows}
+use Rattle.tf_expr_eval.specs.Environment.{Environment, RefinesTo}
+use Rattle.tf_expr_eval.specs.ExprMeaning.{meaning}
+use Rattle.tf_expr_eval.specs.Growth.{ExprKnowledgeGrows}
 use Rattle.tf_expand.specs.Instance.{instance_environment}
 use Rattle.tf_expand.specs.StandingLaws.{InstanceEnvironmentsGrow}
 use Rattle.tf_plan_object.specs.Argument.{attribute_value, converted, evaluated, given_value, or_bad_argument, result_then, set_value, unset_value}

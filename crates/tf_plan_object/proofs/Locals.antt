@@ -1,23 +1,23 @@
 -- What planned objects depend on.
 use Rattle.std.proofs.Common.{◌≡◌, ◌++◌, ◌&&◌, ℕ, Bool, true, false, if◌then◌else◌, List, [], ◌∷◌, map as each, Option, Some, Result, Ok, Err, refl, ap, ◌∙◌}
 use Rattle.std.specs.Str.{bytes_eq}
-use Rattle.tf_address.specs.ObjectId as keys
-use Rattle.tf_address.specs.ObjectId.{InstanceKeyView}
+use Rattle.tf_config_address.specs.ObjectId as keys
+use Rattle.tf_config_address.specs.ObjectId.{InstanceKeyView}
 use Rattle.tf_config_data.specs.Config.{RepetitionView, single, count, for_each}
-use Rattle.tf_config_data.specs.Names.{named_in_repetition, label_pair}
-use Rattle.tf_operators.specs.Answer.{Answer}
-use Rattle.tf_operators.specs.declared.fault.EvalFault.{EvalFault}
-use Rattle.tf_protocol.specs.Schema.{AttributeView, SchemaView}
-use Rattle.tf_syntax.specs.ExprNames.{named_by, named_below}
-use Rattle.tf_syntax.specs.ExprTree as expr
-use Rattle.tf_syntax.specs.TemplateNames.{Pair}
+use Rattle.tf_config_data.specs.Names.{named_in_repetition, addr_pair}
+use Rattle.tf_expr_operators.specs.Answer.{Answer}
+use Rattle.tf_expr_syntax.specs.declared.fault.EvalFault.{EvalFault}
+use Rattle.tf_provider_protocol.specs.Schema.{AttributeView, SchemaView}
+use Rattle.tf_expr_syntax.specs.ExprNames.{named_by, named_below}
+use Rattle.tf_expr_syntax.specs.ExprTree as expr
+use Rattle.tf_expr_syntax.specs.TemplateNames.{Pair}
 use Rattle.tf_value.specs.Tree.{map}
-use Rattle.tf_eval.specs.Constants.{ConstantView}
-use Rattle.tf_eval.specs.Environment.{Environment}
-use Rattle.tf_eval.specs.ExprMeaning.{meaning}
-use Rattle.tf_eval.specs.Locality.{AgreeOn, ExpressionsAreLocal}
-use Rattle.tf_eval.specs.Meaning.{and_then}
-use Rattle.tf_eval.proofs.Locality.{both_halves}
+use Rattle.tf_expr_eval.specs.Constants.{ConstantView}
+use Rattle.tf_expr_eval.specs.Environment.{Environment}
+use Rattle.tf_expr_eval.specs.ExprMeaning.{meaning}
+use Rattle.tf_expr_eval.specs.Locality.{AgreeOn, ExpressionsAreLocal}
+use Rattle.tf_expr_eval.specs.Meaning.{and_then}
+use Rattle.tf_expr_eval.proofs.Locality.{both_halves}
 use Rattle.tf_expand.specs.Instance.{bound, each_key, each_value, instance_constants, value_under}
 use Rattle.tf_plan_object.specs.Argument.{attribute_value, evaluated, given_value, result_then}
 use Rattle.tf_plan_object.specs.Instance.{object_in, or_argument_fault}
@@ -86,7 +86,7 @@ bound_local law schema arguments (Err why) e f h = refl
 
 pub instances_local : ExpressionsAreLocal → InstancesAreLocal
 instances_local law schema block key e f h =
-    let outer = agree_halves e f (named_in_repetition block.repetition ++ named_below block.arguments) (each label_pair block.depends_on) h in
+    let outer = agree_halves e f (named_in_repetition block.repetition ++ named_below block.arguments) (each addr_pair block.depends_on) h in
     let inner = agree_halves e f (named_in_repetition block.repetition) (named_below block.arguments) outer.0 in
     bound_local law schema block.arguments (instance_constants block.repetition key e) e f inner.1
     ∙ ap (λ (r : Result (List ConstantView) EvalFault). object_in schema block.arguments (and_then r (λ cs. Ok (bound cs f)))) (constants_local law block.repetition key e f inner.0)

@@ -3,15 +3,15 @@ use Rattle.std.specs.Prelude.{if◌then◌else◌, codes, Option, Some, None, Re
 use Rattle.std.specs.Fmt.{signed_decimal}
 use Rattle.tf_value.specs.Sets.{with_lists}
 use Rattle.tf_value.specs.Tree.{Tree, null, boolean, whole, text, unknown}
-use Rattle.tf_protocol.specs.Schema.{AttributeView}
-use Rattle.tf_protocol.specs.declared.schema.Kind.{Kind}
-use Rattle.tf_protocol.specs.declared.schema.Kind.TheVariants as kinds
-use Rattle.tf_protocol.specs.declared.schema.Mode.{Mode}
-use Rattle.tf_protocol.specs.declared.schema.Mode.TheVariants as modes
-use Rattle.tf_operators.specs.Answer.{Answer}
-use Rattle.tf_eval.specs.Environment.{Environment}
-use Rattle.tf_eval.specs.ExprMeaning.{meaning}
-use Rattle.tf_syntax.specs.ExprTree as expr
+use Rattle.tf_provider_protocol.specs.Schema.{AttributeView}
+use Rattle.tf_provider_protocol.specs.declared.schema.Kind.{Kind}
+use Rattle.tf_provider_protocol.specs.declared.schema.Kind.TheVariants as kinds
+use Rattle.tf_provider_protocol.specs.declared.schema.Mode.{Mode}
+use Rattle.tf_provider_protocol.specs.declared.schema.Mode.TheVariants as modes
+use Rattle.tf_expr_operators.specs.Answer.{Answer}
+use Rattle.tf_expr_eval.specs.Environment.{Environment}
+use Rattle.tf_expr_eval.specs.ExprMeaning.{meaning}
+use Rattle.tf_expr_syntax.specs.ExprTree as expr
 use Rattle.tf_plan_object.specs.declared.argument.ArgumentFault.{ArgumentFault}
 use Rattle.tf_plan_object.specs.declared.argument.ArgumentFault.TheVariants.{Evaluation, BadArgument}
 

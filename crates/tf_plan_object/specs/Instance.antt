@@ -1,13 +1,13 @@
 -- The object of one instance of a resource.
 use Rattle.std.specs.Prelude.{Result, Ok, Err}
-use Rattle.tf_address.specs.ObjectId.{InstanceKeyView}
+use Rattle.tf_config_address.specs.ObjectId.{InstanceKeyView}
 use Rattle.tf_config_data.specs.Config.{BlockView}
-use Rattle.tf_operators.specs.declared.fault.EvalFault.{EvalFault}
-use Rattle.tf_protocol.specs.Schema.{SchemaView}
-use Rattle.tf_syntax.specs.ExprTree as expr
+use Rattle.tf_expr_syntax.specs.declared.fault.EvalFault.{EvalFault}
+use Rattle.tf_provider_protocol.specs.Schema.{SchemaView}
+use Rattle.tf_expr_syntax.specs.ExprTree as expr
 use Rattle.tf_value.specs.Tree.{Tree, tree_of}
 use Rattle.tf_value.specs.declared.value.Value.{Value}
-use Rattle.tf_eval.specs.Environment.{Environment}
+use Rattle.tf_expr_eval.specs.Environment.{Environment}
 use Rattle.tf_expand.specs.Instance.{instance_environment}
 use Rattle.tf_plan_object.specs.Object.{named_fault_of}
 use Rattle.tf_plan_object.specs.Planned.{NamedFaultView, planned_object}

@@ -3,9 +3,9 @@ use Rattle.std.specs.Prelude.{ℕ, Bool, true, false, ◌||◌, if◌then◌else
 use Rattle.std.specs.List.{list_any}
 use Rattle.std.specs.Option.{option_map_or, unwrap_or}
 use Rattle.std.specs.Str.{bytes_eq}
-use Rattle.tf_protocol.specs.Schema.{SchemaView, attribute_named}
-use Rattle.tf_protocol.specs.declared.schema.Mode.{Mode}
-use Rattle.tf_protocol.specs.declared.schema.Mode.TheVariants.{Required, Optional, Computed}
+use Rattle.tf_provider_protocol.specs.Schema.{SchemaView, attribute_named}
+use Rattle.tf_provider_protocol.specs.declared.schema.Mode.{Mode}
+use Rattle.tf_provider_protocol.specs.declared.schema.Mode.TheVariants.{Required, Optional, Computed}
 use Rattle.tf_value.specs.Tree.{Tree, Entries, no_entries, entry, map, part_at}
 
 abbrev pub is_computed : Mode → Bool

@@ -1,7 +1,7 @@
 -- What holds of the object that an update asks for, whatever was there and is planned.
 use Rattle.std.specs.Prelude.{◌≡◌, ℕ, true, false, List, option_map}
-use Rattle.tf_protocol.specs.Schema.{SchemaView}
-use Rattle.tf_protocol.specs.Verdict.{has_attributes}
+use Rattle.tf_provider_protocol.specs.Schema.{SchemaView}
+use Rattle.tf_provider_protocol.specs.Verdict.{has_attributes}
 use Rattle.tf_value.specs.Refinement.{Refines}
 use Rattle.tf_value.specs.Tree.{Tree, part_at}
 use Rattle.tf_plan_object.specs.Kept.{is_kept, kept_object, kept_value}

@@ -1,15 +1,15 @@
 -- What holds of planned objects, whatever references stand for.
 use Rattle.std.specs.Prelude.{◌≡◌, true, Some, Ok}
-use Rattle.tf_address.specs.ObjectId.{InstanceKeyView}
+use Rattle.tf_config_address.specs.ObjectId.{InstanceKeyView}
 use Rattle.tf_config_data.specs.Config.{BlockView}
 use Rattle.tf_config_data.specs.Names.{block_refers}
-use Rattle.tf_protocol.specs.Schema.{SchemaView}
-use Rattle.tf_protocol.specs.Verdict.{has_attributes}
-use Rattle.tf_protocol.specs.declared.schema.Kind.{Kind}
+use Rattle.tf_provider_protocol.specs.Schema.{SchemaView}
+use Rattle.tf_provider_protocol.specs.Verdict.{has_attributes}
+use Rattle.tf_provider_protocol.specs.declared.schema.Kind.{Kind}
 use Rattle.tf_value.specs.Tree.{Tree}
 use Rattle.tf_value.specs.Refinement.{Refines}
-use Rattle.tf_eval.specs.Environment.{Environment, RefinesTo}
-use Rattle.tf_eval.specs.Locality.{AgreeOn}
+use Rattle.tf_expr_eval.specs.Environment.{Environment, RefinesTo}
+use Rattle.tf_expr_eval.specs.Locality.{AgreeOn}
 use Rattle.tf_plan_object.specs.Argument.{converted}
 use Rattle.tf_plan_object.specs.Instance.{instance_object}
 

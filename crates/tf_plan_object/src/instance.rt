@@ -1,17 +1,17 @@
 //! The object that is planned for one instance of a resource.
 
 ghost use Rattle.std.specs.Prelude.{◌≡◌, true, IfOk};
-ghost use Rattle.tf_expand.specs.Words.{block_at, instance_key_of, LabelView, tree_of};
+ghost use Rattle.tf_expand.specs.Words.{block_at, instance_key_of, ResourceAddrView, tree_of};
 ghost use Rattle.tf_plan_object.specs.Bounded.{has_planned_attributes};
 ghost use Rattle.tf_plan_object.specs.Instance.{instance_object, instance_of};
 
 use crate::object::{NamedFault, plan_object};
 use std::alloc::{AllocError, Global};
-use tf_address::InstanceKey;
+use tf_config_address::InstanceKey;
 use tf_config_data::Block;
-use tf_eval::{EvalFault, Scope};
 use tf_expand::{InstanceScope, instance_constants};
-use tf_protocol::Schema;
+use tf_expr_eval::{EvalFault, Scope};
+use tf_provider_protocol::Schema;
 use tf_value::Value;
 
 /// What is wrong with an instance.
@@ -38,8 +38,8 @@ pub fn plan_instance<S: Scope>(
     key: &InstanceKey,
     scope: &S,
 ) -> Result<Result<Value, InstanceFault>, AllocError>
-    ensures plans { (label : LabelView) → IfOk result (λ planned. instance_of planned
-        ≡ instance_object schema.now (block_at label block.now) (instance_key_of key.now) (S.environment scope.now)) }
+    ensures plans { (addr : ResourceAddrView) → IfOk result (λ planned. instance_of planned
+        ≡ instance_object schema.now (block_at addr block.now) (instance_key_of key.now) (S.environment scope.now)) }
     ensures within { IfOk result (λ planned. IfOk planned (λ v. has_planned_attributes (tree_of v) ≡ true)) }
 {
     match instance_constants(alloc, &block.repetition, key, scope) {

@@ -6,7 +6,7 @@ ghost use Rattle.tf_plan_object.specs.Kept.{is_ignored, is_kept, kept_entries, k
 
 use std::alloc::{AllocError, Global};
 use std::collections::BTreeMap;
-use tf_protocol::{Mode, Schema};
+use tf_provider_protocol::{Mode, Schema};
 use tf_value::Value;
 
 /// The planned object with the prior value of each attribute that is kept: those that the provider sets, and those whose

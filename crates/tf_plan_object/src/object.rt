@@ -2,8 +2,8 @@
 
 ghost use Rattle.std.specs.Prelude.{◌≡◌, true, Result, IfOk, fold, map, option_map};
 ghost use Rattle.tf_expand.specs.Words.{entries_view, get, may_be_planned, Tree, tree_of};
-ghost use Rattle.tf_syntax.specs.ExprTree.{tree_of as expr_of, entries_view as arguments_view};
-ghost use Rattle.tf_protocol.specs.Schema.{ascends, attribute_of};
+ghost use Rattle.tf_expr_syntax.specs.ExprTree.{tree_of as expr_of, entries_view as arguments_view};
+ghost use Rattle.tf_provider_protocol.specs.Schema.{ascends, attribute_of};
 ghost use Rattle.tf_plan_object.specs.declared.argument.ArgumentFault.{ArgumentFault};
 ghost use Rattle.tf_plan_object.specs.Bounded.{each_may_be_planned, has_planned_attributes};
 ghost use Rattle.tf_plan_object.specs.Gives.{Gives};
@@ -14,9 +14,9 @@ ghost use Rattle.tf_plan_object.specs.Planned.{fault_at, attribute_faults, first
 use crate::argument::{ArgumentFault, ValueFault, attribute_value};
 use std::alloc::{AllocError, Global};
 use std::collections::BTreeMap;
-use tf_eval::Scope;
-use tf_protocol::{Attribute, Schema};
-use tf_syntax::{Expr, find};
+use tf_expr_eval::Scope;
+use tf_expr_syntax::{Expr, find};
+use tf_provider_protocol::{Attribute, Schema};
 use tf_value::Value;
 
 /// A fault, with the name of the attribute that has it.

@@ -5,14 +5,14 @@ use Rattle.std.specs.Cmp.{IsTotalOrder, unsigned_tied}
 use Rattle.std.specs.Ordering.{ordering_then, ordering_reverse, match_ordering}
 use Rattle.std.proofs.lemmas.Map.Lookups.{CmpEqualImpliesEq, exact_unsigned, exact_bytes}
 use Rattle.std.proofs.lemmas.Map.Text.{is_eq-slice_cmp}
-use Rattle.tf_address.proofs.CopiedIds.{object_id_copied}
-use Rattle.tf_address.proofs.Totals.{object_id_total}
-use Rattle.tf_address.specs.ObjectId.{InstanceKeyView, ObjectIdView, single, number, name, instance_key_cmp, instance_key_of, object_id_cmp}
-use Rattle.tf_address.specs.Same.{same_instance_key}
-use Rattle.tf_address.specs.contracts.object_id.InstanceKeyClone.TheImpl as KeyClone
-use Rattle.tf_address.specs.contracts.object_id.InstanceKeyOrd.TheImpl as keys
-use Rattle.tf_address.specs.declared.object_id.InstanceKey.{InstanceKey}
-use Rattle.tf_address.specs.declared.object_id.InstanceKey.TheVariants.{Single, Number, Name}
+use Rattle.tf_config_address.proofs.CopiedIds.{object_id_copied}
+use Rattle.tf_config_address.proofs.Totals.{object_id_total}
+use Rattle.tf_config_address.specs.ObjectId.{InstanceKeyView, ObjectIdView, single, number, name, instance_key_cmp, instance_key_of, object_id_cmp}
+use Rattle.tf_config_address.specs.Same.{same_instance_key}
+use Rattle.tf_config_address.specs.contracts.object_id.InstanceKeyClone.TheImpl as KeyClone
+use Rattle.tf_config_address.specs.contracts.object_id.InstanceKeyOrd.TheImpl as keys
+use Rattle.tf_config_address.specs.declared.object_id.InstanceKey.{InstanceKey}
+use Rattle.tf_config_address.specs.declared.object_id.InstanceKey.TheVariants.{Single, Number, Name}
 use Rattle.std.specs.Prelude.{None}
 
 then_none : (o : Ordering) → ordering_then o Equal ≡ o

@@ -6,10 +6,10 @@ use Rattle.std.specs.List.{AllByRecursion, list_any}
 use Rattle.std.specs.List.Sorted.{IsStrictlySortedBy}
 use Rattle.std.specs.Ordering.{match_ordering, is_eq, ordering_reverse}
 use Rattle.std.proofs.lemmas.Map.Lookups.{btree_set_from_contains}
-use Rattle.tf_address.specs.ObjectId.{InstanceKeyView, instance_key_cmp, instance_key_of}
-use Rattle.tf_address.specs.contracts.object_id.InstanceKeyOrd.TheImpl as keys
-use Rattle.tf_address.specs.declared.object_id.InstanceKey.{InstanceKey}
-use Rattle.tf_address.specs.Same.{same_instance_key}
+use Rattle.tf_config_address.specs.ObjectId.{InstanceKeyView, instance_key_cmp, instance_key_of}
+use Rattle.tf_config_address.specs.contracts.object_id.InstanceKeyOrd.TheImpl as keys
+use Rattle.tf_config_address.specs.declared.object_id.InstanceKey.{InstanceKey}
+use Rattle.tf_config_address.specs.Same.{same_instance_key}
 use Rattle.tf_plan_order.proofs.InstanceOrder.{inserted, key_total, key_exact, keys_ordered, same_turned}
 use Rattle.tf_plan_order.specs.Members.{is_among, is_of, is_recorded, with_keys, recorded_keys}
 use Rattle.tf_state_data.specs.Record.{RecordView}

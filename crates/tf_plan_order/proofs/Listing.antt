@@ -8,9 +8,9 @@ use Rattle.std.proofs.lemmas.List.{map-append}
 use Rattle.std.proofs.lemmas.List.Elements.{All-contains, All-map, Contains-get_or, recursion_from_All}
 use Rattle.std.specs.Cmp.{unsigned_Decides}
 use Rattle.std.proofs.lemmas.Slice.Eq.{bytes_eq-Decides}
-use Rattle.tf_address.specs.ObjectId.{InstanceKeyView, single, number, name, instance_key_cmp, instance_key_of}
-use Rattle.tf_address.specs.Same.{same_instance_key}
-use Rattle.tf_address.specs.declared.object_id.InstanceKey.{InstanceKey}
+use Rattle.tf_config_address.specs.ObjectId.{InstanceKeyView, single, number, name, instance_key_cmp, instance_key_of}
+use Rattle.tf_config_address.specs.Same.{same_instance_key}
+use Rattle.tf_config_address.specs.declared.object_id.InstanceKey.{InstanceKey}
 use Rattle.tf_plan_order.proofs.Known.{among-with, among-recorded, nothing-sorted, sorted-with, same_keys}
 use Rattle.tf_plan_order.specs.Members.{InstanceToPlanView, AreMembers, declared_alone, is_among, is_recorded, records_of, keys_of, member, with_keys, recorded_keys, all_keys, members}
 use Rattle.tf_plan_order.specs.MemberViews.{member_of}

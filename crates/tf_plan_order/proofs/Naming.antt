@@ -6,7 +6,7 @@ use Rattle.std.proofs.lemmas.Bool.{cond-true, ne_eqb, not_from_false, or_from, o
 use Rattle.std.proofs.Math.Seq.{drop-append-add, take-append_seam}
 use Rattle.std.proofs.lemmas.List.Folds.{list_any-append}
 use Rattle.std.proofs.lemmas.List.Elements.{Contains-append_cases, Contains-append_left, Contains-append_right, Contains-get_or}
-use Rattle.tf_address.specs.Label.{LabelView}
+use Rattle.tf_config_address.specs.ResourceAddr.{ResourceAddrView}
 use Rattle.tf_graph.proofs.Edges.{contains_cases, contains_head, contains_tail}
 use Rattle.tf_graph.specs.Digraph.{IsWithin, edge_at}
 use Rattle.tf_plan_order.specs.Dependencies.{IsStoredDependency, dependencies, is_dot, named_address, named_place, pairs_from, record_pairs, resource_pairs, text_pairs}
@@ -28,9 +28,9 @@ dot-position (c ∷ front) back h =
     cond-true (not (is_dot c)) (1 + position_or_len is_dot (front ++ 46 ∷ back)) 0 (not_from_false (is_dot c) no.0) ∙ more
 
 pub addresses-named : AddressesAreNamed
-addresses-named label h =
-    let front = label.type_name in
-    let back = label.name in
+addresses-named addr h =
+    let front = addr.type_name in
+    let back = addr.name in
     let text : List ℕ = front ++ 46 ∷ back in
     let at : position_or_len is_dot text ≡ length front = dot-position front back h in
     let dotted : list_any is_dot text ≡ true = list_any-append is_dot front (46 ∷ back) ∙ or_right (list_any is_dot front) true refl in
@@ -45,21 +45,21 @@ pub option_suc : (o : Option ℕ) (n : ℕ) → option_map suc o ≡ Some n → 
 option_suc None n e = absurd (cc)
 option_suc (Some k) n e = (k, refl, cc)
 
-pub place-within : (all : List ResourceRefView) (label : LabelView) (n : ℕ) → place_in all label ≡ Some n → n < length all
-place-within [] label n e = absurd (cc)
-place-within (x ∷ all) label n e = by_test (is_at label x) (λ k h. place-within all label k h) e
+pub place-within : (all : List ResourceRefView) (addr : ResourceAddrView) (n : ℕ) → place_in all addr ≡ Some n → n < length all
+place-within [] addr n e = absurd (cc)
+place-within (x ∷ all) addr n e = by_test (is_at addr x) (λ k h. place-within all addr k h) e
   where
-    by_test : (b : Bool) → ((k : ℕ) → place_in all label ≡ Some k → k < length all) → cond b (Some 0) (option_map suc (place_in all label)) ≡ Some n → n < suc (length all)
+    by_test : (b : Bool) → ((k : ℕ) → place_in all addr ≡ Some k → k < length all) → cond b (Some 0) (option_map suc (place_in all addr)) ≡ Some n → n < suc (length all)
     by_test true again h = let zeroth : 0 ≡ n = cc in omega (arith, zeroth)
     by_test false again h =
-        let next = option_suc (place_in all label) n h in
+        let next = option_suc (place_in all addr) n h in
         let inside : next.0 < length all = again next.0 next.1 in
         let is : n ≡ suc next.0 = next.2 in
         omega (arith, is, inside)
 
-by_address : (all : List ResourceRefView) (o : Option LabelView) (n : ℕ) → option_and_then (place_in all) o ≡ Some n → n < length all
+by_address : (all : List ResourceRefView) (o : Option ResourceAddrView) (n : ℕ) → option_and_then (place_in all) o ≡ Some n → n < length all
 by_address all None n h = absurd (cc)
-by_address all (Some label) n h = place-within all label n h
+by_address all (Some addr) n h = place-within all addr n h
 
 named-within : (all : List ResourceRefView) (text : List ℕ) (n : ℕ) → named_place all text ≡ Some n → n < length all
 named-within all text n e = by_address all (named_address text) n e
@@ -142,7 +142,7 @@ module _ (all : List ResourceRefView) where
   from_list : (resources : List ResourceView) (place other : ℕ) → Contains (dependencies all resources) (place, other) → IsStoredDependency all resources place other
   from_list resources place other c =
       let p = in_flat_map (resource_pairs all) resources (place, other) c in
-      let q = in_resource p.0.records (place_in all p.0.label) (place, other) p.2 in
+      let q = in_resource p.0.records (place_in all p.0.addr) (place, other) p.2 in
       let t = in_texts place q.0.dependencies (place, other) q.2 in
       record { resource = p.0; of_state = p.1; own_place = q.3; object = q.0; of_resource = q.1; text = t.0; listed = t.1; other_place = t.2 }
 
@@ -152,11 +152,11 @@ module _ (all : List ResourceRefView) where
       let named = to_filter_map (named_place all) texts d.text other d.listed d.other_place in
       let paired = to_map (λ n. (place, n)) (filter_map (named_place all) texts) other named in
       let own = to_flat_map (record_pairs all place) d.resource.records d.object (place, other) d.of_resource paired in
-      to_flat_map (resource_pairs all) resources d.resource (place, other) d.of_state (to_resource d.resource.records (place_in all d.resource.label) place (place, other) d.own_place own)
+      to_flat_map (resource_pairs all) resources d.resource (place, other) d.of_state (to_resource d.resource.records (place_in all d.resource.addr) place (place, other) d.own_place own)
 
   pub pairs-within : (resources : List ResourceView) → IsWithin (length all) (dependencies all resources)
   pairs-within resources = record {
-    source_below = λ i h. let d = at i h in place-within all d.resource.label (edge_at (dependencies all resources) i).0 d.own_place;
+    source_below = λ i h. let d = at i h in place-within all d.resource.addr (edge_at (dependencies all resources) i).0 d.own_place;
     target_below = λ i h. let d = at i h in named-within all d.text (edge_at (dependencies all resources) i).1 d.other_place;
   }
     where

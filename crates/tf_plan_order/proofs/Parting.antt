@@ -4,9 +4,9 @@ use Rattle.std.specs.List.{AllByRecursion, AllWithin}
 use Rattle.std.specs.List.Sorted.{IsStrictlySortedBy, IsNonDecreasingBy, IsPartitionPoint}
 use Rattle.std.specs.Ordering.{ordering_index, ordering_then, is_lt, is_le}
 use Rattle.std.proofs.lemmas.List.{take_all}
-use Rattle.tf_address.specs.ObjectId.{InstanceKeyView, ObjectIdView, instance_key_cmp, deposed_cmp, instance_key_of, object_id_cmp, object_id_of}
-use Rattle.tf_address.specs.contracts.object_id.InstanceKeyOrd.TheImpl as keys
-use Rattle.tf_address.specs.declared.object_id.InstanceKey.{InstanceKey}
+use Rattle.tf_config_address.specs.ObjectId.{InstanceKeyView, ObjectIdView, instance_key_cmp, deposed_cmp, instance_key_of, object_id_cmp, object_id_of}
+use Rattle.tf_config_address.specs.contracts.object_id.InstanceKeyOrd.TheImpl as keys
+use Rattle.tf_config_address.specs.declared.object_id.InstanceKey.{InstanceKey}
 use Rattle.tf_plan_order.proofs.InstanceOrder.{key_total, keys_ordered, same_ordered}
 use Rattle.tf_plan_order.specs.Members.{is_of, records_of}
 use Rattle.tf_state_data.proofs.Sorted.{index_rises}

@@ -4,7 +4,7 @@ use Rattle.std.specs.List.{list_any}
 use Rattle.std.specs.Prelude.{slice_get}
 use Rattle.std.proofs.lemmas.List.{map-append, take_more}
 use Rattle.std.proofs.lemmas.Option.{get_or_from_slice_get, slice_get-map, slice_get_within}
-use Rattle.tf_address.specs.Label.{LabelView}
+use Rattle.tf_config_address.specs.ResourceAddr.{ResourceAddrView}
 use Rattle.tf_config_data.specs.Names.{NameView}
 use Rattle.tf_config_names.specs.Declaration.{declaration_of}
 use Rattle.tf_config_names.specs.declared.declaration.Declaration.{Declaration}
@@ -17,8 +17,8 @@ use Rattle.tf_plan_order.specs.declared.resource_ref.ResourceRef.{ResourceRef}
 use Rattle.tf_plan_order.specs.declared.resource_ref.ResourceRef.TheVariants.{Name}
 
 -- the place of a resource among those from a position on
-abbrev pub place_from : List ResourceRef → ℕ → LabelView → Option ℕ
-place_from all i label = option_map (λ k. k + i) (place_in (map resource_ref_of (drop i all)) label)
+abbrev pub place_from : List ResourceRef → ℕ → ResourceAddrView → Option ℕ
+place_from all i addr = option_map (λ k. k + i) (place_in (map resource_ref_of (drop i all)) addr)
 
 -- ---- names and orphans, from the first to the last
 
@@ -34,11 +34,11 @@ names-next items names i n so_far e =
 
 -- ---- a block is found exactly where there is one
 
-pub has_place : (names : List NameView) (label : LabelView) → is_some (place_in (map a_name names) label) ≡ has_block names label
-has_place [] label = refl
-has_place (n ∷ names) label = by_test (is_at label (a_name n)) (place_in (map a_name names) label) (has_place names label)
+pub has_place : (names : List NameView) (addr : ResourceAddrView) → is_some (place_in (map a_name names) addr) ≡ has_block names addr
+has_place [] addr = refl
+has_place (n ∷ names) addr = by_test (is_at addr (a_name n)) (place_in (map a_name names) addr) (has_place names addr)
   where
-    by_test : (b : Bool) (o : Option ℕ) → is_some o ≡ has_block names label → is_some (cond b (Some 0) (option_map suc o)) ≡ (b || has_block names label)
+    by_test : (b : Bool) (o : Option ℕ) → is_some o ≡ has_block names addr → is_some (cond b (Some 0) (option_map suc o)) ≡ (b || has_block names addr)
     by_test true o h = refl
     by_test false None h = h
     by_test false (Some k) h = h

@@ -9,9 +9,9 @@ use Rattle.std.proofs.lemmas.List.Elements.{Contains-append_left, Contains-appen
 use Rattle.std.proofs.lemmas.List.Folds.{Any-from_list_any}
 use Rattle.std.proofs.lemmas.List.Kept.{IsStrictlySortedBy-filter}
 use Rattle.std.proofs.lemmas.Option.{same_Some, slice_get-map, slice_get_past}
-use Rattle.tf_address.proofs.Totals.{label_total}
-use Rattle.tf_address.specs.Label.{LabelView, label_cmp}
-use Rattle.tf_address.specs.Same.{label_Decides}
+use Rattle.tf_config_address.proofs.Totals.{addr_total}
+use Rattle.tf_config_address.specs.ResourceAddr.{ResourceAddrView, addr_cmp}
+use Rattle.tf_config_address.specs.Same.{addr_Decides}
 use Rattle.tf_config_data.specs.Names.{NameView}
 use Rattle.tf_graph.proofs.Edges.{contains_cases, contains_head, contains_tail}
 use Rattle.tf_plan_order.proofs.Naming.{option_suc, to_map}
@@ -22,42 +22,42 @@ use Rattle.tf_state_data.specs.Resource.{ResourceView}
 
 -- ---- an address and the test on it
 
-address_from : (label : LabelView) (o : Option LabelView) → is_address label o ≡ true → o ≡ Some label
-address_from label None h = absurd (cc)
-address_from label (Some own) h = ap Some ((label_Decides own label).0 h)
+address_from : (addr : ResourceAddrView) (o : Option ResourceAddrView) → is_address addr o ≡ true → o ≡ Some addr
+address_from addr None h = absurd (cc)
+address_from addr (Some own) h = ap Some ((addr_Decides own addr).0 h)
 
-address-at : (label : LabelView) (x : ResourceRefView) → is_at label x ≡ true → address_of x ≡ Some label
-address-at label x h = address_from label (address_of x) h
+address-at : (addr : ResourceAddrView) (x : ResourceRefView) → is_at addr x ≡ true → address_of x ≡ Some addr
+address-at addr x h = address_from addr (address_of x) h
 
-at-address : (label : LabelView) (x : ResourceRefView) → address_of x ≡ Some label → is_at label x ≡ true
-at-address label x e = ap (is_address label) e ∙ (label_Decides label label).1 refl
+at-address : (addr : ResourceAddrView) (x : ResourceRefView) → address_of x ≡ Some addr → is_at addr x ≡ true
+at-address addr x e = ap (is_address addr) e ∙ (addr_Decides addr addr).1 refl
 
 -- ---- the place of an address
 
-place-true : (all : List ResourceRefView) (label : LabelView) (n : ℕ) → place_in all label ≡ Some n → (x : ResourceRefView) × (slice_get all n ≡ Some x) × (address_of x ≡ Some label)
-place-true [] label n e = absurd (cc)
-place-true (x ∷ all) label n e = by_test (is_at label x) refl (λ k h. place-true all label k h) e
+place-true : (all : List ResourceRefView) (addr : ResourceAddrView) (n : ℕ) → place_in all addr ≡ Some n → (x : ResourceRefView) × (slice_get all n ≡ Some x) × (address_of x ≡ Some addr)
+place-true [] addr n e = absurd (cc)
+place-true (x ∷ all) addr n e = by_test (is_at addr x) refl (λ k h. place-true all addr k h) e
   where
-    by_test : (b : Bool) → is_at label x ≡ b → ((k : ℕ) → place_in all label ≡ Some k → (y : ResourceRefView) × (slice_get all k ≡ Some y) × (address_of y ≡ Some label))
-        → cond b (Some 0) (option_map suc (place_in all label)) ≡ Some n → (y : ResourceRefView) × (slice_get (x ∷ all) n ≡ Some y) × (address_of y ≡ Some label)
-    by_test true is again h = let zeroth : n ≡ 0 = cc in (x, ap (slice_get (x ∷ all)) zeroth, address-at label x is)
+    by_test : (b : Bool) → is_at addr x ≡ b → ((k : ℕ) → place_in all addr ≡ Some k → (y : ResourceRefView) × (slice_get all k ≡ Some y) × (address_of y ≡ Some addr))
+        → cond b (Some 0) (option_map suc (place_in all addr)) ≡ Some n → (y : ResourceRefView) × (slice_get (x ∷ all) n ≡ Some y) × (address_of y ≡ Some addr)
+    by_test true is again h = let zeroth : n ≡ 0 = cc in (x, ap (slice_get (x ∷ all)) zeroth, address-at addr x is)
     by_test false is again h =
-        let next = option_suc (place_in all label) n h in
+        let next = option_suc (place_in all addr) n h in
         let y = again next.0 next.1 in
         (y.0, ap (slice_get (x ∷ all)) next.2 ∙ y.1, y.2)
 
-place-found : (all : List ResourceRefView) (label : LabelView) (x : ResourceRefView) → Contains all x → address_of x ≡ Some label → (n : ℕ) × (place_in all label ≡ Some n)
-place-found [] label x c e = absurd (omega (arith, c.1))
-place-found (z ∷ all) label x c e = by_test (is_at label z) refl (contains_cases x z all c) (λ d. place-found all label x d e)
+place-found : (all : List ResourceRefView) (addr : ResourceAddrView) (x : ResourceRefView) → Contains all x → address_of x ≡ Some addr → (n : ℕ) × (place_in all addr ≡ Some n)
+place-found [] addr x c e = absurd (omega (arith, c.1))
+place-found (z ∷ all) addr x c e = by_test (is_at addr z) refl (contains_cases x z all c) (λ d. place-found all addr x d e)
   where
-    by_test : (b : Bool) → is_at label z ≡ b → (z ≡ x) ⊎ Contains all x → (Contains all x → (n : ℕ) × (place_in all label ≡ Some n))
-        → (n : ℕ) × (cond b (Some 0) (option_map suc (place_in all label)) ≡ Some n)
+    by_test : (b : Bool) → is_at addr z ≡ b → (z ≡ x) ⊎ Contains all x → (Contains all x → (n : ℕ) × (place_in all addr ≡ Some n))
+        → (n : ℕ) × (cond b (Some 0) (option_map suc (place_in all addr)) ≡ Some n)
     by_test true is d again = (0, refl)
-    by_test false is (inl here) again = absurd (both_ways (is_at label z) is (at-address label z (ap address_of here ∙ e)))
+    by_test false is (inl here) again = absurd (both_ways (is_at addr z) is (at-address addr z (ap address_of here ∙ e)))
     by_test false is (inr rest) again = let later = again rest in (suc later.0, ap (option_map suc) later.1)
 
 pub places-true : PlacesAreTrue
-places-true all label n e = place-true all label n e
+places-true all addr n e = place-true all addr n e
 
 pub places-differ : PlacesDiffer
 places-differ all a b n e f =
@@ -106,10 +106,10 @@ shorter test (x ∷ xs) = by_test (test x) (shorter test xs)
     by_test false h = omega (arith, h)
 
 -- a resource that stands among names is a block
-block-at : (names : List NameView) (n : ℕ) (x : ResourceRefView) (label : LabelView) → slice_get (map a_name names) n ≡ Some x → address_of x ≡ Some label → has_block names label ≡ true
-block-at [] n x label e a = absurd (cc)
-block-at (m ∷ names) zero x label e a = or_left _ _ (at-address label (a_name m) (ap address_of (same_Some (a_name m) x e) ∙ a))
-block-at (m ∷ names) (suc n) x label e a = or_right _ _ (block-at names n x label e a)
+block-at : (names : List NameView) (n : ℕ) (x : ResourceRefView) (addr : ResourceAddrView) → slice_get (map a_name names) n ≡ Some x → address_of x ≡ Some addr → has_block names addr ≡ true
+block-at [] n x addr e a = absurd (cc)
+block-at (m ∷ names) zero x addr e a = or_left _ _ (at-address addr (a_name m) (ap address_of (same_Some (a_name m) x e) ∙ a))
+block-at (m ∷ names) (suc n) x addr e a = or_right _ _ (block-at names n x addr e a)
 
 orphan-at : (os : List ResourceView) (i : ℕ) (x : ResourceRefView) → slice_get (map an_orphan os) i ≡ Some x → (r : ResourceView) × (slice_get os i ≡ Some r) × (x ≡ an_orphan r)
 orphan-at os i x e = by_option (slice_get os i) (sym (slice_get-map an_orphan os i) ∙ e)
@@ -122,8 +122,8 @@ module _ (names : List NameView) (resources : List ResourceView) where
   abbrev left : List ResourceView
   left = orphans names resources
 
-  has_no_block : (i : ℕ) (r : ResourceView) → slice_get left i ≡ Some r → has_block names r.label ≡ false
-  has_no_block i r e = not-true (has_block names r.label) (passes (λ (x : ResourceView). not (has_block names x.label)) resources i r e)
+  has_no_block : (i : ℕ) (r : ResourceView) → slice_get left i ≡ Some r → has_block names r.addr ≡ false
+  has_no_block i r e = not-true (has_block names r.addr) (passes (λ (x : ResourceView). not (has_block names x.addr)) resources i r e)
 
   in_front : (n : ℕ) → n < length names → slice_get (numbered names resources) n ≡ slice_get (map a_name names) n
   in_front n h = get_front (map a_name names) (map an_orphan left) n (omega (arith, h, length-map names a_name))
@@ -137,33 +137,33 @@ module _ (names : List NameView) (resources : List ResourceView) where
       omega (arith, all, length-map names a_name, length-map left an_orphan)
 
   -- what stands behind the names is an orphan, without a block
-  orphan-behind : (k : ℕ) (x : ResourceRefView) (label : LabelView) → length names ≤ k → slice_get (numbered names resources) k ≡ Some x → address_of x ≡ Some label
-      → (r : ResourceView) × (slice_get left (k - length names) ≡ Some r) × (r.label ≡ label)
-  orphan-behind k x label h e a =
+  orphan-behind : (k : ℕ) (x : ResourceRefView) (addr : ResourceAddrView) → length names ≤ k → slice_get (numbered names resources) k ≡ Some x → address_of x ≡ Some addr
+      → (r : ResourceView) × (slice_get left (k - length names) ≡ Some r) × (r.addr ≡ addr)
+  orphan-behind k x addr h e a =
       let o = orphan-at left (k - length names) x (sym (behind k (k - length names) (omega (arith, h))) ∙ e) in
-      (o.0, o.1, same_Some o.0.label label (ap address_of (sym o.2) ∙ a))
+      (o.0, o.1, same_Some o.0.addr addr (ap address_of (sym o.2) ∙ a))
 
-  no_block-behind : (k : ℕ) (x : ResourceRefView) (label : LabelView) → length names ≤ k → slice_get (numbered names resources) k ≡ Some x → address_of x ≡ Some label
-      → has_block names label ≡ false
-  no_block-behind k x label h e a =
-      let o = orphan-behind k x label h e a in
+  no_block-behind : (k : ℕ) (x : ResourceRefView) (addr : ResourceAddrView) → length names ≤ k → slice_get (numbered names resources) k ≡ Some x → address_of x ≡ Some addr
+      → has_block names addr ≡ false
+  no_block-behind k x addr h e a =
+      let o = orphan-behind k x addr h e a in
       ap (has_block names) (sym o.2) ∙ has_no_block (k - length names) o.0 o.1
 
-  block-in_front : (k : ℕ) (x : ResourceRefView) (label : LabelView) → k < length names → slice_get (numbered names resources) k ≡ Some x → address_of x ≡ Some label
-      → has_block names label ≡ true
-  block-in_front k x label h e a = block-at names k x label (sym (in_front k h) ∙ e) a
+  block-in_front : (k : ℕ) (x : ResourceRefView) (addr : ResourceAddrView) → k < length names → slice_get (numbered names resources) k ≡ Some x → address_of x ≡ Some addr
+      → has_block names addr ≡ true
+  block-in_front k x addr h e a = block-at names k x addr (sym (in_front k h) ∙ e) a
 
-  place-among : (r : ResourceView) → Contains resources r → (b : Bool) → has_block names r.label ≡ b → (n : ℕ) × (place_in (numbered names resources) r.label ≡ Some n)
+  place-among : (r : ResourceView) → Contains resources r → (b : Bool) → has_block names r.addr ≡ b → (n : ℕ) × (place_in (numbered names resources) r.addr ≡ Some n)
   place-among r c true is =
-      let m = Any-from_list_any (λ (x : NameView). is_at r.label (a_name x)) names is in
-      place-found (numbered names resources) r.label (a_name m.1) (Contains-append_left (map a_name names) (map an_orphan left) (a_name m.1) (to_map a_name names m.1 (m.0, m.2, m.3)))
-      (address-at r.label (a_name m.1) m.4)
+      let m = Any-from_list_any (λ (x : NameView). is_at r.addr (a_name x)) names is in
+      place-found (numbered names resources) r.addr (a_name m.1) (Contains-append_left (map a_name names) (map an_orphan left) (a_name m.1) (to_map a_name names m.1 (m.0, m.2, m.3)))
+      (address-at r.addr (a_name m.1) m.4)
   place-among r c false is =
-      let own : Contains left r = to_filter (λ (x : ResourceView). not (has_block names x.label)) resources r c (not_from_false (has_block names r.label) is) in
-      place-found (numbered names resources) r.label (an_orphan r) (Contains-append_right (map a_name names) (map an_orphan left) (an_orphan r) (to_map an_orphan left r own)) refl
+      let own : Contains left r = to_filter (λ (x : ResourceView). not (has_block names x.addr)) resources r c (not_from_false (has_block names r.addr) is) in
+      place-found (numbered names resources) r.addr (an_orphan r) (Contains-append_right (map a_name names) (map an_orphan left) (an_orphan r) (to_map an_orphan left r own)) refl
 
 pub each-placed : EachHasAPlace
-each-placed names resources r c = place-among names resources r c (has_block names r.label) refl
+each-placed names resources r c = place-among names resources r c (has_block names r.addr) refl
 
 pub numbers-in_order : NumbersAreInOrder
 numbers-in_order names resources = record {
@@ -173,71 +173,71 @@ numbers-in_order names resources = record {
 }
 
 pub numbers-few : NumbersAreFew
-numbers-few names resources = omega (arith, long names resources, shorter (λ (r : ResourceView). not (has_block names r.label)) resources)
+numbers-few names resources = omega (arith, long names resources, shorter (λ (r : ResourceView). not (has_block names r.addr)) resources)
 
 pub blocks-first : BlocksComeFirst
-blocks-first names resources label n e =
-    let x = place-true (numbered names resources) label n e in (
-      λ h. block-in_front names resources n x.0 label h x.1 x.2,
+blocks-first names resources addr n e =
+    let x = place-true (numbered names resources) addr n e in (
+      λ h. block-in_front names resources n x.0 addr h x.1 x.2,
       λ block. elim (cases_lt n (length names)) [
         | inl here ↦ here
-        | inr back ↦ absurd (both_ways (has_block names label) (no_block-behind names resources n x.0 label back x.1 x.2) block)
+        | inr back ↦ absurd (both_ways (has_block names addr) (no_block-behind names resources n x.0 addr back x.1 x.2) block)
       ],
     )
 
 -- ---- each address once
 
-less_itself : (label : LabelView) → label_cmp label label ≡ Less → ⊥
-less_itself label h = let turned = label_total.antisymm label label in absurd (cc)
+less_itself : (addr : ResourceAddrView) → addr_cmp addr addr ≡ Less → ⊥
+less_itself addr h = let turned = addr_total.antisymm addr addr in absurd (cc)
 
-above_at : (label : LabelView) (labels : List LabelView) (j : ℕ) (other : LabelView) → AllByRecursion (λ y. label_cmp label y ≡ Less) labels → slice_get labels j ≡ Some other
-    → label_cmp label other ≡ Less
-above_at label [] j other h e = absurd (cc)
-above_at label (x ∷ labels) zero other h e = subst (λ y. label_cmp label y ≡ Less) (same_Some x other e) h.0
-above_at label (x ∷ labels) (suc j) other h e = above_at label labels j other h.1 e
+above_at : (addr : ResourceAddrView) (addrs : List ResourceAddrView) (j : ℕ) (other : ResourceAddrView) → AllByRecursion (λ y. addr_cmp addr y ≡ Less) addrs → slice_get addrs j ≡ Some other
+    → addr_cmp addr other ≡ Less
+above_at addr [] j other h e = absurd (cc)
+above_at addr (x ∷ addrs) zero other h e = subst (λ y. addr_cmp addr y ≡ Less) (same_Some x other e) h.0
+above_at addr (x ∷ addrs) (suc j) other h e = above_at addr addrs j other h.1 e
 
-sorted-apart : (labels : List LabelView) → IsStrictlySortedBy label_cmp labels → (i j : ℕ) (label : LabelView) → slice_get labels i ≡ Some label → slice_get labels j ≡ Some label → i ≡ j
+sorted-apart : (addrs : List ResourceAddrView) → IsStrictlySortedBy addr_cmp addrs → (i j : ℕ) (addr : ResourceAddrView) → slice_get addrs i ≡ Some addr → slice_get addrs j ≡ Some addr → i ≡ j
 unfolding IsStrictlySortedBy
-sorted-apart [] s i j label e f = absurd (cc)
-sorted-apart (x ∷ labels) s zero zero label e f = refl
-sorted-apart (x ∷ labels) s zero (suc j) label e f =
-    absurd (less_itself label (subst (λ y. label_cmp y label ≡ Less) (same_Some x label e) (above_at x labels j label s.0 f)))
-sorted-apart (x ∷ labels) s (suc i) zero label e f =
-    absurd (less_itself label (subst (λ y. label_cmp y label ≡ Less) (same_Some x label f) (above_at x labels i label s.0 e)))
-sorted-apart (x ∷ labels) s (suc i) (suc j) label e f = ap suc (sorted-apart labels s.1 i j label e f)
+sorted-apart [] s i j addr e f = absurd (cc)
+sorted-apart (x ∷ addrs) s zero zero addr e f = refl
+sorted-apart (x ∷ addrs) s zero (suc j) addr e f =
+    absurd (less_itself addr (subst (λ y. addr_cmp y addr ≡ Less) (same_Some x addr e) (above_at x addrs j addr s.0 f)))
+sorted-apart (x ∷ addrs) s (suc i) zero addr e f =
+    absurd (less_itself addr (subst (λ y. addr_cmp y addr ≡ Less) (same_Some x addr f) (above_at x addrs i addr s.0 e)))
+sorted-apart (x ∷ addrs) s (suc i) (suc j) addr e f = ap suc (sorted-apart addrs s.1 i j addr e f)
 
-addresses-filter : (test : LabelView → Bool) (rs : List ResourceView) → addresses_of (filter (λ r. test r.label) rs) ≡ filter test (addresses_of rs)
+addresses-filter : (test : ResourceAddrView → Bool) (rs : List ResourceView) → addresses_of (filter (λ r. test r.addr) rs) ≡ filter test (addresses_of rs)
 addresses-filter test [] = refl
-addresses-filter test (r ∷ rs) = by_test (test r.label) (addresses-filter test rs)
+addresses-filter test (r ∷ rs) = by_test (test r.addr) (addresses-filter test rs)
   where
-    by_test : (b : Bool) → addresses_of (filter (λ x. test x.label) rs) ≡ filter test (addresses_of rs)
-        → addresses_of (cond b (r ∷ filter (λ x. test x.label) rs) (filter (λ x. test x.label) rs)) ≡ cond b (r.label ∷ filter test (addresses_of rs)) (filter test (addresses_of rs))
-    by_test true h = ap (λ ls. r.label ∷ ls) h
+    by_test : (b : Bool) → addresses_of (filter (λ x. test x.addr) rs) ≡ filter test (addresses_of rs)
+        → addresses_of (cond b (r ∷ filter (λ x. test x.addr) rs) (filter (λ x. test x.addr) rs)) ≡ cond b (r.addr ∷ filter test (addresses_of rs)) (filter test (addresses_of rs))
+    by_test true h = ap (λ ls. r.addr ∷ ls) h
     by_test false h = h
 
 orphans-sorted : (names : List NameView) (resources : List ResourceView) → AreByAddress resources → AreByAddress (orphans names resources)
 orphans-sorted names resources s =
-    subst (IsStrictlySortedBy label_cmp) (sym (addresses-filter (λ label. not (has_block names label)) resources))
-    (IsStrictlySortedBy-filter label_cmp (λ label. not (has_block names label)) (addresses_of resources) s)
+    subst (IsStrictlySortedBy addr_cmp) (sym (addresses-filter (λ addr. not (has_block names addr)) resources))
+    (IsStrictlySortedBy-filter addr_cmp (λ addr. not (has_block names addr)) (addresses_of resources) s)
 
-address-in : (rs : List ResourceView) (i : ℕ) (r : ResourceView) (label : LabelView) → slice_get rs i ≡ Some r → r.label ≡ label → slice_get (addresses_of rs) i ≡ Some label
-address-in rs i r label e is = slice_get-map (λ x. x.label) rs i ∙ ap (option_map (λ x. x.label)) e ∙ ap Some is
+address-in : (rs : List ResourceView) (i : ℕ) (r : ResourceView) (addr : ResourceAddrView) → slice_get rs i ≡ Some r → r.addr ≡ addr → slice_get (addresses_of rs) i ≡ Some addr
+address-in rs i r addr e is = slice_get-map (λ x. x.addr) rs i ∙ ap (option_map (λ x. x.addr)) e ∙ ap Some is
 
 pub resources-apart : ResourcesStayApart
-resources-apart names resources apart sorted i j x y label ei ej ai aj = elim (cases_lt i (length names)) [
+resources-apart names resources apart sorted i j x y addr ei ej ai aj = elim (cases_lt i (length names)) [
   | inl fi ↦ elim (cases_lt j (length names)) [
-    | inl fj ↦ apart i j x y label (sym (in_front names resources i fi) ∙ ei) (sym (in_front names resources j fj) ∙ ej) ai aj
-    | inr bj ↦ absurd (both_ways (has_block names label) (no_block-behind names resources j y label bj ej aj) (block-in_front names resources i x label fi ei ai))
+    | inl fj ↦ apart i j x y addr (sym (in_front names resources i fi) ∙ ei) (sym (in_front names resources j fj) ∙ ej) ai aj
+    | inr bj ↦ absurd (both_ways (has_block names addr) (no_block-behind names resources j y addr bj ej aj) (block-in_front names resources i x addr fi ei ai))
   ]
   | inr bi ↦ elim (cases_lt j (length names)) [
-    | inl fj ↦ absurd (both_ways (has_block names label) (no_block-behind names resources i x label bi ei ai) (block-in_front names resources j y label fj ej aj))
+    | inl fj ↦ absurd (both_ways (has_block names addr) (no_block-behind names resources i x addr bi ei ai) (block-in_front names resources j y addr fj ej aj))
     | inr bj ↦
-        let o = orphan-behind names resources i x label bi ei ai in
-        let p = orphan-behind names resources j y label bj ej aj in
+        let o = orphan-behind names resources i x addr bi ei ai in
+        let p = orphan-behind names resources j y addr bj ej aj in
         let own : List ResourceView = orphans names resources in
         let same : i - length names ≡ j - length names =
-        sorted-apart (addresses_of own) (orphans-sorted names resources sorted) (i - length names) (j - length names) label
-        (address-in own (i - length names) o.0 label o.1 o.2) (address-in own (j - length names) p.0 label p.1 p.2) in
+        sorted-apart (addresses_of own) (orphans-sorted names resources sorted) (i - length names) (j - length names) addr
+        (address-in own (i - length names) o.0 addr o.1 o.2) (address-in own (j - length names) p.0 addr p.1 p.2) in
         omega (arith, same, bi, bj)
   ]
 ]

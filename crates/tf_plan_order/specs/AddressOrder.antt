@@ -5,11 +5,11 @@ use Rattle.std.specs.List.Sorted.{IsPermutation, IsSortedBy}
 use Rattle.std.specs.Option.{option_cmp}
 use Rattle.std.specs.Ordering.{is_lt}
 use Rattle.std.specs.declared.cmp.Ordering.{Ordering}
-use Rattle.tf_address.specs.Label.{LabelView, label_cmp}
+use Rattle.tf_config_address.specs.ResourceAddr.{ResourceAddrView, addr_cmp}
 use Rattle.tf_plan_order.specs.ResourceIndex.{ResourceRefView, address_of}
 
 -- the address of the resource at a place; a local has none, and past the end there is none
-abbrev pub address_at : List ResourceRefView → ℕ → Option LabelView
+abbrev pub address_at : List ResourceRefView → ℕ → Option ResourceAddrView
 address_at all n = option_and_then address_of (slice_get all n)
 
 -- a resource, which is a block or an orphan, stands at a place
@@ -22,7 +22,7 @@ resource_places all = filter (is_resource all) (range_with_len 0 (length all))
 
 -- places stand to one another as the addresses there do
 abbrev pub address_cmp : List ResourceRefView → ℕ → ℕ → Ordering
-address_cmp all a b = option_cmp label_cmp (address_at all a) (address_at all b)
+address_cmp all a b = option_cmp addr_cmp (address_at all a) (address_at all b)
 
 -- the address at one place comes before that at another
 abbrev pub is_below : List ResourceRefView → ℕ → ℕ → Bool

@@ -1,7 +1,7 @@
 -- The dependencies that a state has stored, by number.
 use Rattle.std.specs.Prelude.{◌≡◌, ℕ, Bool, ◌==◌, if◌then◌else◌, Option, Some, None, option_and_then, List, [], map, Contains}
 use Rattle.std.specs.List.{after_first, before_first, filter_map, flat_map, list_any}
-use Rattle.tf_address.specs.Label.{LabelView}
+use Rattle.tf_config_address.specs.ResourceAddr.{ResourceAddrView}
 use Rattle.tf_plan_order.specs.ResourceIndex.{ResourceRefView, place_in}
 use Rattle.tf_state_data.specs.Record.{RecordView}
 use Rattle.tf_state_data.specs.Resource.{ResourceView}
@@ -12,7 +12,7 @@ is_dot c = c == 46
 
 -- The address that a text names: a type, which stands before its first dot, and a name, which stands behind it. A text
 -- without a dot names none.
-abbrev pub named_address : List ℕ → Option LabelView
+abbrev pub named_address : List ℕ → Option ResourceAddrView
 named_address text = if list_any is_dot text then Some (record { type_name = before_first is_dot text; name = after_first is_dot text }) else None
 
 -- the place of the resource that a text names; none where it is neither declared nor in the state
@@ -33,7 +33,7 @@ pairs_from all records (Some place) = flat_map (record_pairs all place) records
 
 -- the place of a resource with those of what the record of each of its objects lists, current or deposed
 abbrev pub resource_pairs : List ResourceRefView → ResourceView → List (ℕ × ℕ)
-resource_pairs all r = pairs_from all r.records (place_in all r.label)
+resource_pairs all r = pairs_from all r.records (place_in all r.addr)
 
 -- The stored dependencies of all resources of a state: each pair is of the place of a resource and the place of one that
 -- an object of it depends on.
@@ -45,7 +45,7 @@ dependencies all resources = flat_map (resource_pairs all) resources
 pub record IsStoredDependency (all : List ResourceRefView) (resources : List ResourceView) (place other : ℕ) : Type 0 where
   pub resource : ResourceView
   pub of_state : Contains resources resource
-  pub own_place : place_in all resource.label ≡ Some place
+  pub own_place : place_in all resource.addr ≡ Some place
   pub object : RecordView
   pub of_resource : Contains resource.records object
   pub text : List ℕ

@@ -1,6 +1,6 @@
 -- What holds of the members of each resource.
 use Rattle.std.specs.Prelude.{◌≡◌, List}
-use Rattle.tf_address.specs.ObjectId.{InstanceKeyView}
+use Rattle.tf_config_address.specs.ObjectId.{InstanceKeyView}
 use Rattle.tf_plan_order.specs.Members.{InstanceToPlanView, AreMembers, members}
 use Rattle.tf_state_data.specs.Record.{RecordView}
 

@@ -1,8 +1,8 @@
 -- Members without where they lie in memory.
 use Rattle.std.specs.Prelude.{List, map}
 use Rattle.std.specs.BTreeSet.{BTreeSet}
-use Rattle.tf_address.specs.ObjectId.{InstanceKeyView, instance_key_of}
-use Rattle.tf_address.specs.declared.object_id.InstanceKey.{InstanceKey}
+use Rattle.tf_config_address.specs.ObjectId.{InstanceKeyView, instance_key_of}
+use Rattle.tf_config_address.specs.declared.object_id.InstanceKey.{InstanceKey}
 use Rattle.tf_plan_order.specs.Members.{InstanceToPlanView}
 use Rattle.tf_plan_order.specs.declared.instance_to_plan.InstanceToPlan.{InstanceToPlan}
 use Rattle.tf_state_data.specs.Record.{record_of}

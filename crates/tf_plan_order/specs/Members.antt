@@ -3,8 +3,8 @@ use Rattle.std.specs.Prelude.{◌≡◌, Bool, true, ◌||◌, List, [], map, fi
 use Rattle.std.specs.BTreeSet.{insert_key}
 use Rattle.std.specs.List.{list_any}
 use Rattle.std.specs.List.Sorted.{IsStrictlySortedBy}
-use Rattle.tf_address.specs.ObjectId.{InstanceKeyView, instance_key_cmp}
-use Rattle.tf_address.specs.Same.{same_instance_key}
+use Rattle.tf_config_address.specs.ObjectId.{InstanceKeyView, instance_key_cmp}
+use Rattle.tf_config_address.specs.Same.{same_instance_key}
 use Rattle.tf_state_data.specs.Record.{RecordView}
 
 -- An instance of a resource: whether the configuration has it, and the records of its objects.

@@ -1,7 +1,7 @@
 -- What holds of the numbers of a configuration's names and of a state's resources, and of the stored dependencies.
 use Rattle.std.specs.Prelude.{◌≡◌, ◌+◌, ◌<◌, ◌≤◌, ◌↔◌, ℕ, true, false, Some, None, option_map, List, length, map, slice_get, Contains}
 use Rattle.std.specs.List.{list_any}
-use Rattle.tf_address.specs.Label.{LabelView, label_text}
+use Rattle.tf_config_address.specs.ResourceAddr.{ResourceAddrView, addr_text}
 use Rattle.tf_config_data.specs.Names.{NameView}
 use Rattle.tf_plan_order.specs.Dependencies.{IsStoredDependency, dependencies, is_dot, named_address}
 use Rattle.tf_plan_order.specs.ResourceIndex.{ResourceRefView, a_name, an_orphan, address_of, has_block, numbered, orphans, place_in}
@@ -11,21 +11,21 @@ use Rattle.tf_state_data.specs.Resource.{ResourceView}
 -- Each resource of the state has a place.
 abbrev pub EachHasAPlace : Type 0
 EachHasAPlace =
-    (names : List NameView) (resources : List ResourceView) (r : ResourceView) → Contains resources r → (n : ℕ) × (place_in (numbered names resources) r.label ≡ Some n)
+    (names : List NameView) (resources : List ResourceView) (r : ResourceView) → Contains resources r → (n : ℕ) × (place_in (numbered names resources) r.addr ≡ Some n)
 
 -- At the place of an address stands the resource at that address.
 abbrev pub PlacesAreTrue : Type 0
 PlacesAreTrue =
-    (all : List ResourceRefView) (label : LabelView) (n : ℕ) → place_in all label ≡ Some n → (x : ResourceRefView) × (slice_get all n ≡ Some x) × (address_of x ≡ Some label)
+    (all : List ResourceRefView) (addr : ResourceAddrView) (n : ℕ) → place_in all addr ≡ Some n → (x : ResourceRefView) × (slice_get all n ≡ Some x) × (address_of x ≡ Some addr)
 
 -- Two different addresses have different places.
 abbrev pub PlacesDiffer : Type 0
-PlacesDiffer = (all : List ResourceRefView) (a b : LabelView) (n : ℕ) → place_in all a ≡ Some n → place_in all b ≡ Some n → a ≡ b
+PlacesDiffer = (all : List ResourceRefView) (a b : ResourceAddrView) (n : ℕ) → place_in all a ≡ Some n → place_in all b ≡ Some n → a ≡ b
 
 -- no two resources are at one address
 abbrev pub AreApart : List ResourceRefView → Type 0
 AreApart all =
-    (i j : ℕ) (x y : ResourceRefView) (label : LabelView) → slice_get all i ≡ Some x → slice_get all j ≡ Some y → address_of x ≡ Some label → address_of y ≡ Some label
+    (i j : ℕ) (x y : ResourceRefView) (addr : ResourceAddrView) → slice_get all i ≡ Some x → slice_get all j ≡ Some y → address_of x ≡ Some addr → address_of y ≡ Some addr
     → i ≡ j
 
 -- Where no two blocks are at one address, no two resources of both together are. So each resource of the state stands at
@@ -46,8 +46,8 @@ NumbersAreInOrder = (names : List NameView) (resources : List ResourceView) → 
 -- A resource stands among the names exactly where the configuration has a block of it.
 abbrev pub BlocksComeFirst : Type 0
 BlocksComeFirst =
-    (names : List NameView) (resources : List ResourceView) (label : LabelView) (n : ℕ) → place_in (numbered names resources) label ≡ Some n
-    → (n < length names) ↔ (has_block names label ≡ true)
+    (names : List NameView) (resources : List ResourceView) (addr : ResourceAddrView) (n : ℕ) → place_in (numbered names resources) addr ≡ Some n
+    → (n < length names) ↔ (has_block names addr ≡ true)
 
 -- There are at most as many numbers as names and resources of the state.
 abbrev pub NumbersAreFew : Type 0
@@ -55,7 +55,7 @@ NumbersAreFew = (names : List NameView) (resources : List ResourceView) → leng
 
 -- The address of a resource names it, as a text, where its type has no dot.
 abbrev pub AddressesAreNamed : Type 0
-AddressesAreNamed = (label : LabelView) → list_any is_dot label.type_name ≡ false → named_address (label_text label) ≡ Some label
+AddressesAreNamed = (addr : ResourceAddrView) → list_any is_dot addr.type_name ≡ false → named_address (addr_text addr) ≡ Some addr
 
 -- The list of stored dependencies has exactly those pairs of places.
 abbrev pub DependenciesAreThose : Type 0

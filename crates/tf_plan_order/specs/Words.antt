@@ -1,5 +1,5 @@
 -- What contracts of this crate and of those above cite of those below, from one place.
-pub use Rattle.tf_config_data.specs.Words.{label_of, label_pair, LabelView}
+pub use Rattle.tf_config_data.specs.Words.{addr_of, addr_pair, ResourceAddrView}
 pub use Rattle.tf_config_names.specs.Places.{found_in}
 pub use Rattle.tf_state_data.specs.Record.{record_of}
 pub use Rattle.tf_state_data.specs.Resource.{resource_of}

@@ -1,14 +1,14 @@
 //! Address order.
 
 ghost use Rattle.std.specs.Prelude.{◌≡◌, IfOk, option_map};
-ghost use Rattle.tf_address.specs.Label.{label_of};
+ghost use Rattle.tf_config_address.specs.ResourceAddr.{addr_of};
 ghost use Rattle.tf_plan_order.specs.AddressOrder.{AreInAddressOrder, address_at, address_cmp, is_resource, resource_places};
 ghost use Rattle.tf_plan_order.specs.Table.{numbered_in};
 
 use crate::resource_index::ResourceIndex;
 use std::alloc::{AllocError, Global};
 use std::cmp::Ordering;
-use tf_address::Label;
+use tf_config_address::ResourceAddr;
 
 /// The places of all resources of a configuration and a state together, in the order of their addresses: by type and then by
 /// name, byte by byte. Locals are no resources.
@@ -58,8 +58,8 @@ fn compare(resource_index: &ResourceIndex<'_>, a: usize, b: usize) -> Ordering
 }
 
 /// The address of the resource at a place, where there is one.
-fn address_at<'a>(resource_index: &ResourceIndex<'a>, place: usize) -> Option<&'a Label>
-    ensures { option_map (λ label. label_of label.now) result ≡ address_at (numbered_in resource_index.now) place }
+fn address_at<'a>(resource_index: &ResourceIndex<'a>, place: usize) -> Option<&'a ResourceAddr>
+    ensures { option_map (λ addr. addr_of addr.now) result ≡ address_at (numbered_in resource_index.now) place }
 {
     if place < resource_index.len() {
         resource_index.at(place).address()

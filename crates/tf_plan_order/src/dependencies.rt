@@ -53,7 +53,7 @@ impl ResourceIndex<'_> {
         ensures { OnOk result (pairs.new.items
             ≡ pairs.old.items ++ resource_pairs (numbered_in self.now) (resource_of resource.now)) }
     {
-        match self.place(resource.label()) {
+        match self.place(resource.addr()) {
             Some(place) => self.add_records(pairs, place, resource.records()),
             None => Ok(()),
         }

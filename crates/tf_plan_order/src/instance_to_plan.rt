@@ -1,6 +1,6 @@
 //! An instance of a resource.
 
-use tf_address::InstanceKey;
+use tf_config_address::InstanceKey;
 use tf_state_data::Record;
 
 /// An instance of a resource, by its configuration and by what its state has, together.

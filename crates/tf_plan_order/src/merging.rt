@@ -1,7 +1,7 @@
 //! All instances of a resource.
 
 ghost use Rattle.std.specs.Prelude.{◌≡◌, ◌∷◌, [], IfOk, OnOk, map};
-ghost use Rattle.tf_address.specs.ObjectId.{instance_key_of};
+ghost use Rattle.tf_config_address.specs.ObjectId.{instance_key_of};
 ghost use Rattle.tf_plan_order.specs.Members.{AreMembers, all_keys, declared_alone, member, recorded_keys, with_keys};
 ghost use Rattle.tf_plan_order.specs.MemberViews.{keys_in, member_of};
 ghost use Rattle.tf_state_data.specs.Ids.{AreById};
@@ -11,7 +11,7 @@ use crate::instance_to_plan::InstanceToPlan;
 use crate::own::records_of;
 use std::alloc::{AllocError, Global};
 use std::collections::BTreeSet;
-use tf_address::InstanceKey;
+use tf_config_address::InstanceKey;
 use tf_state_data::Record;
 
 /// The instances of a resource of which the configuration has those with some keys, and the state has some records: all of

@@ -1,12 +1,12 @@
 //! The records of one instance.
 
 ghost use Rattle.std.specs.Prelude.{◌≡◌, map};
-ghost use Rattle.tf_address.specs.ObjectId.{instance_key_of};
+ghost use Rattle.tf_config_address.specs.ObjectId.{instance_key_of};
 ghost use Rattle.tf_plan_order.specs.Members.{records_of};
 ghost use Rattle.tf_state_data.specs.Ids.{AreById};
 ghost use Rattle.tf_state_data.specs.Record.{record_of};
 
-use tf_address::InstanceKey;
+use tf_config_address::InstanceKey;
 use tf_state_data::Record;
 
 /// The records of an instance's objects among those of its resource, which stand by their ids: the current one, if there is

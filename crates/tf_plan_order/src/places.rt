@@ -3,7 +3,7 @@
 ghost use Rattle.std.specs.Prelude.{◌≡◌, Some, IfOk, OnOk, if◌then◌else◌, map};
 ghost use Rattle.tf_plan_order.specs.ResourceRef.{resource_ref_of};
 ghost use Rattle.tf_plan_order.specs.ResourceIndex.{is_at, place_in};
-ghost use Rattle.tf_plan_order.specs.Words.{found_in, label_pair, LabelView};
+ghost use Rattle.tf_plan_order.specs.Words.{found_in, addr_pair, ResourceAddrView};
 
 use crate::resource_ref::ResourceRef;
 use std::alloc::{AllocError, Global};
@@ -16,8 +16,8 @@ use tf_config_names::Places;
 ///
 /// Only where memory runs out.
 pub(crate) fn places_of(alloc: Global, numbered: &[ResourceRef<'_>]) -> Result<Places, AllocError>
-    ensures { IfOk result (λ places. (label : LabelView)
-        → found_in places (label_pair label) ≡ place_in (map resource_ref_of numbered.now) label) }
+    ensures { IfOk result (λ places. (addr : ResourceAddrView)
+        → found_in places (addr_pair addr) ≡ place_in (map resource_ref_of numbered.now) addr) }
 {
     let mut places = Places::empty(alloc);
     for place in (0..numbered.len()).rev() {
@@ -33,12 +33,12 @@ fn put(
     numbered: ResourceRef<'_>,
     place: usize,
 ) -> Result<(), AllocError>
-    ensures { OnOk result ((label : LabelView) → found_in places.new (label_pair label)
-        ≡ (if is_at label (resource_ref_of numbered.entry) then Some place else found_in places.old (label_pair label))) }
+    ensures { OnOk result ((addr : ResourceAddrView) → found_in places.new (addr_pair addr)
+        ≡ (if is_at addr (resource_ref_of numbered.entry) then Some place else found_in places.old (addr_pair addr))) }
 {
     match numbered.address() {
-        Some(label) => {
-            places.put(alloc, label.type_name.as_str(), label.name.as_str(), place)?;
+        Some(addr) => {
+            places.put(alloc, addr.type_name.as_str(), addr.name.as_str(), place)?;
             Ok(())
         }
         None => Ok(()),

@@ -5,12 +5,12 @@ ghost use Rattle.tf_config_names.specs.Table.{names_in};
 ghost use Rattle.tf_plan_order.specs.Dependencies.{named_place};
 ghost use Rattle.tf_plan_order.specs.ResourceRef.{resource_ref_of};
 ghost use Rattle.tf_plan_order.specs.ResourceIndex.{a_name, an_orphan, numbered, place_in};
-ghost use Rattle.tf_plan_order.specs.Words.{found_in, label_of, label_pair, LabelView, resource_of, state_of};
+ghost use Rattle.tf_plan_order.specs.Words.{found_in, addr_of, addr_pair, ResourceAddrView, resource_of, state_of};
 
 use crate::places::places_of;
 use crate::resource_ref::ResourceRef;
 use std::alloc::{AllocError, Global};
-use tf_address::Label;
+use tf_config_address::ResourceAddr;
 use tf_config_names::{Declarations, Places};
 use tf_state_data::{Resource, State};
 
@@ -22,7 +22,7 @@ pub struct ResourceIndex<'a> {
     numbered: Vec<ResourceRef<'a>>,
     places: Places,
     state: &'a State,
-    ghost placed: { (label : LabelView) → found_in places (label_pair label) ≡ place_in (map resource_ref_of numbered.items) label },
+    ghost placed: { (addr : ResourceAddrView) → found_in places (addr_pair addr) ≡ place_in (map resource_ref_of numbered.items) addr },
 }
 
 impl<'a> ResourceIndex<'a> {
@@ -72,11 +72,11 @@ impl<'a> ResourceIndex<'a> {
     }
 
     /// The place of the resource at an address, which is a block or an orphan; `None` where there is none.
-    pub fn place(&self, label: &Label) -> Option<usize>
-        ensures { result ≡ place_in (numbered_in self.now) (label_of label.now) }
+    pub fn place(&self, addr: &ResourceAddr) -> Option<usize>
+        ensures { result ≡ place_in (numbered_in self.now) (addr_of addr.now) }
     {
         self.places
-            .find(label.type_name.as_str(), label.name.as_str())
+            .find(addr.type_name.as_str(), addr.name.as_str())
     }
 
     /// The place of the resource that a text `TYPE.NAME` names; `None` where it is neither declared nor in the state.
@@ -118,11 +118,11 @@ fn add_orphans<'a>(
     resources: &'a [Resource],
 ) -> Result<(), AllocError>
     ensures { OnOk result (map resource_ref_of numbered.new.items ≡ map resource_ref_of numbered.old.items
-        ++ map an_orphan (filter (λ r. not (is_some (found_in blocks.now (label_pair r.label)))) (map resource_of resources.now))) }
+        ++ map an_orphan (filter (λ r. not (is_some (found_in blocks.now (addr_pair r.addr)))) (map resource_of resources.now))) }
 {
     for resource in resources {
-        let label = resource.label();
-        let block = blocks.find(label.type_name.as_str(), label.name.as_str());
+        let addr = resource.addr();
+        let block = blocks.find(addr.type_name.as_str(), addr.name.as_str());
         add_orphan(numbered, block, resource)?;
     }
     Ok(())

@@ -1,11 +1,11 @@
 //! What has a number.
 
 ghost use Rattle.std.specs.Prelude.{◌≡◌, option_map};
-ghost use Rattle.tf_address.specs.Label.{label_of};
+ghost use Rattle.tf_config_address.specs.ResourceAddr.{addr_of};
 ghost use Rattle.tf_plan_order.specs.ResourceRef.{resource_ref_of};
 ghost use Rattle.tf_plan_order.specs.ResourceIndex.{address_of};
 
-use tf_address::Label;
+use tf_config_address::ResourceAddr;
 use tf_config_names::Declaration;
 use tf_state_data::Resource;
 
@@ -20,13 +20,13 @@ pub enum ResourceRef<'a> {
 
 impl<'a> ResourceRef<'a> {
     /// The address of a resource; `None` for a local.
-    pub fn address(self) -> Option<&'a Label>
-        ensures { option_map (λ label. label_of label.now) result ≡ address_of (resource_ref_of self.entry) }
+    pub fn address(self) -> Option<&'a ResourceAddr>
+        ensures { option_map (λ addr. addr_of addr.now) result ≡ address_of (resource_ref_of self.entry) }
     {
         match self {
             ResourceRef::Name(Declaration::Local(_, _)) => None,
-            ResourceRef::Name(Declaration::Resource(label, _)) => Some(label),
-            ResourceRef::Orphan(resource) => Some(resource.label()),
+            ResourceRef::Name(Declaration::Resource(addr, _)) => Some(addr),
+            ResourceRef::Orphan(resource) => Some(resource.addr()),
         }
     }
 }

@@ -20,7 +20,7 @@ label late address (deposed_destroyed key prior) = codes "- " ++ address ++ code
 
 -- what the node of an action says, where it is told of each resource whether it is late
 abbrev pub node_label : (ℕ → Bool) → ActionView → List ℕ
-node_label late a = label (late a.resource) (address_text a.label a.key) a.step
+node_label late a = label (late a.resource) (address_text a.addr a.key) a.step
 
 -- the name of an action's node, which is the action's place in the plan, and what stands before its label
 abbrev pub node_opening : ℕ → List ℕ

@@ -49,7 +49,7 @@ step_lines late address (deposed_destroyed key prior) = codes "- " ++ address ++
 
 -- the lines of an action, where it is told of each resource whether it is late
 abbrev pub action_lines : (ℕ → Bool) → ActionView → List ℕ
-action_lines late a = step_lines (late a.resource) (address_text a.label a.key) a.step
+action_lines late a = step_lines (late a.resource) (address_text a.addr a.key) a.step
 
 -- a step makes an object, also in the place of one
 abbrev pub adds : StepView → Bool

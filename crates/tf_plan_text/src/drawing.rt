@@ -94,7 +94,7 @@ fn push_label(
 fn node_label(alloc: Global, action: &Action, late: &[bool]) -> Result<String, AllocError>
     ensures { IfOk result (λ text. string_bytes text ≡ node_label (λ n. slice_index_or late.now n false) (action_of action.now)) }
 {
-    let address = address_text(alloc, &action.label, &action.key)?;
+    let address = address_text(alloc, &action.addr, &action.key)?;
     let is_late = late.get(action.resource).copied().unwrap_or(false);
     let mut text = String::new(alloc);
     push_step(&mut text, address.as_str(), &action.step, is_late)?;

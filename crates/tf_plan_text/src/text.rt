@@ -42,7 +42,7 @@ fn show_action(
 ) -> Result<(), AllocError>
     ensures { OnOk result (string_bytes text.new ≡ string_bytes text.old ++ action_lines (λ n. slice_index_or late.now n false) (action_of action.now)) }
 {
-    let address = address_text(alloc, &action.label, &action.key)?;
+    let address = address_text(alloc, &action.addr, &action.key)?;
     let is_late = late.get(action.resource).copied().unwrap_or(false);
     show_step(alloc, text, address.as_str(), &action.step, is_late)
 }

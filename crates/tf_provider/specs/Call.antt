@@ -1,11 +1,11 @@
 -- A call of a provider.
 use Rattle.std.specs.Prelude.{◌≡◌, ℕ, Bool, true, false, IsTrue, IsSomeAnd}
-use Rattle.tf_protocol.specs.Meaning.{Asked, Meaning}
-use Rattle.tf_protocol.specs.Verdict.{asks_fully}
-use Rattle.tf_protocol.specs.declared.request.Request.{Request}
-use Rattle.tf_protocol.specs.declared.request.Reply.{Reply}
-use Rattle.tf_protocol.specs.declared.verdict.Verdict.{Verdict}
-use Rattle.tf_protocol.specs.declared.verdict.Verdict.TheVariants.{Excused}
+use Rattle.tf_provider_protocol.specs.Meaning.{Asked, Meaning}
+use Rattle.tf_provider_protocol.specs.Verdict.{asks_fully}
+use Rattle.tf_provider_protocol.specs.declared.request.Request.{Request}
+use Rattle.tf_provider_protocol.specs.declared.request.Reply.{Reply}
+use Rattle.tf_provider_protocol.specs.declared.verdict.Verdict.{Verdict}
+use Rattle.tf_provider_protocol.specs.declared.verdict.Verdict.TheVariants.{Excused}
 
 -- the action that a call was made for, what was asked and replied, and the verdict on the reply
 pub record Call : Type 0 where

@@ -4,9 +4,9 @@ use Rattle.std.specs.List.{list_all, list_any}
 use Rattle.tf_graph.specs.Digraph.{Digraph, predecessors_of}
 use Rattle.tf_graph.specs.Order.{IsInOrder}
 use Rattle.tf_provider.specs.Call.{Call}
-use Rattle.tf_protocol.specs.declared.request.Op.{Op}
-use Rattle.tf_protocol.specs.declared.request.Op.TheVariants.{Create, Update, Destroy}
-use Rattle.tf_protocol.specs.Verdict.{is_good_verdict}
+use Rattle.tf_provider_protocol.specs.declared.request.Op.{Op}
+use Rattle.tf_provider_protocol.specs.declared.request.Op.TheVariants.{Create, Update, Destroy}
+use Rattle.tf_provider_protocol.specs.Verdict.{is_good_verdict}
 use Rattle.tf_provider.specs.declared.journal.Entry.{Entry}
 use Rattle.tf_provider.specs.declared.journal.RecordFault.{RecordFault}
 use Rattle.tf_provider.specs.declared.journal.RecordFault.TheVariants.{Early, Twice}

@@ -1,5 +1,5 @@
 pub mod Call
 pub mod Entries
-pub use Rattle.tf_protocol.specs.Meaning
-pub use Rattle.tf_protocol.specs.Schema
-pub use Rattle.tf_protocol.specs.Verdict
+pub use Rattle.tf_provider_protocol.specs.Meaning
+pub use Rattle.tf_provider_protocol.specs.Schema
+pub use Rattle.tf_provider_protocol.specs.Verdict

@@ -3,13 +3,13 @@
 ghost use Rattle.std.specs.Coded.{codes};
 ghost use Rattle.std.specs.Prelude.{◌≡◌, ℕ, false, true, IfSome, MatchResult};
 ghost use Rattle.tf_provider.specs.Call.{Call, IsServed, is_excused};
-ghost use Rattle.tf_protocol.specs.Meaning.{asked, answered};
-ghost use Rattle.tf_protocol.specs.Verdict.{verdict_on};
+ghost use Rattle.tf_provider_protocol.specs.Meaning.{asked, answered};
+ghost use Rattle.tf_provider_protocol.specs.Verdict.{verdict_on};
 ghost use Rattle.tf_value.specs.contracts.value.Value as value;
 
 use std::marker::Model;
 use tf_claim::{Finished, Permit, waive};
-use tf_protocol::{Op, Provider, Reply, Request, Verdict, judge};
+use tf_provider_protocol::{Op, Provider, Reply, Request, Verdict, judge};
 
 /// A call that was made: the action that it was made for, the request, the reply and the verdict on it. It
 /// can't be copied or let go: it has to be recorded. Contracts see a `Call`.

@@ -8,7 +8,7 @@ use crate::called::{Called, Recorded};
 use std::alloc::{AllocError, Global};
 use std::marker::Model;
 use tf_graph::Graph;
-use tf_protocol::{Op, Verdict};
+use tf_provider_protocol::{Op, Verdict};
 
 /// One call: the action, what the provider was asked to do, and the verdict on its reply.
 #[derive(Clone, Copy, Debug, PartialEq, Eq)]

@@ -12,7 +12,7 @@ mod waived;
 
 pub use called::{Called, Judged, Recorded, Unserved, call};
 pub use journal::{Entry, Journal, RecordFault};
-pub use tf_protocol::{
+pub use tf_provider_protocol::{
     Attribute, Kind, Mode, Op, Provider, Reply, Request, Schema, SchemaFault, Verdict, asks_fully,
     first_provider, has_attributes, judge, schema_for, well_formed,
 };

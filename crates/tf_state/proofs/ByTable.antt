@@ -5,7 +5,7 @@ use Rattle.std.proofs.lemmas.Bool.{and_parts}
 use Rattle.serde_json.specs.Data.{Data, array}
 use Rattle.serde_json.specs.Find.{get}
 use Rattle.tf_value.specs.Tree.{Tree, Entries}
-use Rattle.tf_address.specs.ObjectId.{InstanceKeyView, ObjectIdView}
+use Rattle.tf_config_address.specs.ObjectId.{InstanceKeyView, ObjectIdView}
 use Rattle.tf_state.specs.Arrangement.{record_cmp, resource_cmp, with_records}
 use Rattle.tf_state.specs.Reading.{text_in, below, name_in, text_or, below_or_zero, key_in, deposed_in, attributes_in, tainted_in, flag_in, dependencies_in, is_unsensitive, is_unchecked, is_managed, is_version, outputs_in, instances_in, all_resources_in, resources_in, is_record, is_state, record_in, resource_in, state_in}
 use Rattle.tf_state_data.specs.Record.{RecordView}
@@ -89,14 +89,14 @@ whole_resource ok kinds names providers lists =
     cond ok
     (option_and_then
     (λ type_name. option_and_then (λ its_name. option_and_then (λ provider. option_map {U = ResourceView}
-    (λ records. record { label = record { type_name = type_name; name = its_name }; provider = provider; records = records }) lists) providers) names) kinds)
+    (λ records. record { addr = record { type_name = type_name; name = its_name }; provider = provider; records = records }) lists) providers) names) kinds)
     None
 
 record ResourceParts (shaped managed : Bool) (kinds names providers : Option (List ℕ)) (lists : Option (List RecordView)) (r : ResourceView) : Type 0 where
   only : shaped ≡ true
   mode : managed ≡ true
-  type_name : kinds ≡ Some r.label.type_name
-  name : names ≡ Some r.label.name
+  type_name : kinds ≡ Some r.addr.type_name
+  name : names ≡ Some r.addr.name
   provider : providers ≡ Some r.provider
   records : lists ≡ Some r.records
 
@@ -111,15 +111,15 @@ resource_says d r e =
     record {
       only = parts.only;
       mode = managed_says (get (codes "mode") d) parts.mode;
-      type_name = name_says (get (codes "type") d) r.label.type_name parts.type_name;
-      name = name_says (get (codes "name") d) r.label.name parts.name;
+      type_name = name_says (get (codes "type") d) r.addr.type_name parts.type_name;
+      name = name_says (get (codes "name") d) r.addr.name parts.name;
       provider = text_says (get (codes "provider") d) r.provider parts.provider;
       instances = instances_say (get (codes "instances") d) r.records parts.records;
     }
 
 pub resource_said : (d : Data) (r : ResourceView) → SaysResource d r → resource_in d ≡ Some r
 resource_said d r h =
-    rw (h.only, managed_said (get (codes "mode") d) h.mode, name_said (get (codes "type") d) r.label.type_name h.type_name, name_said (get (codes "name") d) r.label.name h.name, text_said (get (codes "provider") d) r.provider h.provider, instances_said (get (codes "instances") d) r.records h.instances)
+    rw (h.only, managed_said (get (codes "mode") d) h.mode, name_said (get (codes "type") d) r.addr.type_name h.type_name, name_said (get (codes "name") d) r.addr.name h.name, text_said (get (codes "provider") d) r.provider h.provider, instances_said (get (codes "instances") d) r.records h.instances)
     refl
 
 resources_say : (o : Option Data) (rs : List ResourceView) → all_resources_in o ≡ Some rs → SaysResources o rs

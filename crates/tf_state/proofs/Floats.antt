@@ -10,7 +10,7 @@ use Rattle.serde_json.specs.Written.{has_float, items_have_float, members_have_f
 use Rattle.tf_value.specs.Json.{value_data, items_data, entries_data, texts_data}
 use Rattle.tf_value.specs.Tree.{Tree, whole as whole_number, list, map, set, Items, no_items, item, Entries, no_entries, entry}
 use Rattle.std.specs.Prelude.{Option, Some, None, option_map}
-use Rattle.tf_address.specs.ObjectId.{InstanceKeyView, single, number, name}
+use Rattle.tf_config_address.specs.ObjectId.{InstanceKeyView, single, number, name}
 use Rattle.tf_state_data.specs.Record.{RecordView}
 use Rattle.tf_state_data.specs.Resource.{ResourceView}
 use Rattle.tf_state_data.specs.State.{StateView}
@@ -130,7 +130,7 @@ records-whole (r ∷ rs) = neither _ _ (record_data-whole r) (records-whole rs)
 resource_data-whole : (r : ResourceView) → has_float (resource_data r) ≡ false
 resource_data-whole r =
     (put-whole (codes "instances") _ _ (whole (json.array (items_of (each record_data r.records))) (records-whole r.records)) (put-whole (codes "mode") _ _ (text-whole (codes "managed"))
-    (put-whole (codes "name") _ _ (text-whole r.label.name) (put-whole (codes "provider") _ _ (text-whole r.provider) (put-whole (codes "type") _ _ (text-whole r.label.type_name) no_members-whole))))).fact
+    (put-whole (codes "name") _ _ (text-whole r.addr.name) (put-whole (codes "provider") _ _ (text-whole r.provider) (put-whole (codes "type") _ _ (text-whole r.addr.type_name) no_members-whole))))).fact
 
 resources-whole : (rs : List ResourceView) → items_have_float (items_of (each resource_data rs)) ≡ false
 resources-whole [] = refl

@@ -4,13 +4,13 @@ use Rattle.std.specs.Cmp.{IsTotalOrder}
 use Rattle.std.specs.List.{AllByRecursion}
 use Rattle.std.specs.List.Sorted.{IsStrictlySortedBy}
 use Rattle.std.specs.Ordering.{is_lt, is_gt}
-use Rattle.tf_address.specs.Label.{label_cmp}
+use Rattle.tf_config_address.specs.ResourceAddr.{addr_cmp}
 use Rattle.tf_state_data.specs.Order.{before, after, with_one, without_one}
-use Rattle.tf_address.specs.ObjectId.{object_id_cmp}
+use Rattle.tf_config_address.specs.ObjectId.{object_id_cmp}
 use Rattle.tf_state_data.specs.Record.{RecordView}
 use Rattle.tf_state_data.specs.Resource.{ResourceView, with_record}
 use Rattle.tf_state_data.proofs.OrderKept.{with-sorted, without-sorted}
-use Rattle.tf_address.proofs.Totals.{object_id_total, label_total}
+use Rattle.tf_config_address.proofs.Totals.{object_id_total, addr_total}
 use Rattle.tf_value.proofs.Tables.{no_table}
 use Rattle.tf_state.specs.Laws.{EmptyIsValid, OutputsKeepState, SerialKeepsState, PutKeepsState, PutKeepsResource, RemoveKeepsState, RemoveKeepsResource}
 use Rattle.tf_state.specs.Arrangement.{is_some_record}
@@ -52,7 +52,7 @@ some_among (q ∷ rs) r qs = refl
 -- ---- the laws
 
 pub put_keeps_state : PutKeepsState
-put_keeps_state new s p h = record { serial = h.serial; outputs = h.outputs; resources = with_one-whole (λ (r : ResourceView). r.label) label_cmp label_total IsPresent new s.resources p h.resources }
+put_keeps_state new s p h = record { serial = h.serial; outputs = h.outputs; resources = with_one-whole (λ (r : ResourceView). r.addr) addr_cmp addr_total IsPresent new s.resources p h.resources }
 
 pub put_keeps_resource : PutKeepsResource
 put_keeps_resource new r p h =
@@ -60,8 +60,8 @@ put_keeps_resource new r p h =
     (whole, some_among (before (λ q. q.id) object_id_cmp new.id r.records) new (after (λ q. q.id) object_id_cmp new.id r.records))
 
 pub remove_keeps_state : RemoveKeepsState
-remove_keeps_state label s h =
-    record { serial = h.serial; outputs = h.outputs; resources = without_one-whole (λ (r : ResourceView). r.label) label_cmp label_total IsPresent label s.resources h.resources }
+remove_keeps_state addr s h =
+    record { serial = h.serial; outputs = h.outputs; resources = without_one-whole (λ (r : ResourceView). r.addr) addr_cmp addr_total IsPresent addr s.resources h.resources }
 
 pub remove_keeps_resource : RemoveKeepsResource
 remove_keeps_resource id r h =
@@ -70,7 +70,7 @@ remove_keeps_resource id r h =
 pub empty_valid : EmptyIsValid
 empty_valid lineage =
     let small : 0 < 2 ^ 32 = omega arith in
-    record { serial = small; outputs = no_table; resources = (tt, nothing_ordered label_cmp) }
+    record { serial = small; outputs = no_table; resources = (tt, nothing_ordered addr_cmp) }
 
 pub serial_keeps_state : SerialKeepsState
 serial_keeps_state serial s small h = record { serial = small; outputs = h.outputs; resources = h.resources }

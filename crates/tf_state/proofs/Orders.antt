@@ -8,7 +8,7 @@ use Rattle.std.specs.Prelude.{option_map}
 use Rattle.std.proofs.lemmas.List.Kept.{IsStrictlySortedBy-filter}
 use Rattle.tf_state_data.specs.Record.{RecordView}
 use Rattle.tf_state_data.specs.Resource.{ResourceView}
-use Rattle.tf_address.proofs.Totals.{object_id_total, label_total}
+use Rattle.tf_config_address.proofs.Totals.{object_id_total, addr_total}
 use Rattle.tf_state.specs.Arrangement.{record_cmp, resource_cmp}
 use Rattle.tf_state.specs.Reading.{put_new}
 use Rattle.tf_state.proofs.Properties.{mapped}
@@ -17,7 +17,7 @@ pub record_total : IsTotalOrder record_cmp
 record_total = on_total (λ (r : RecordView). r.id) object_id_total
 
 pub resource_total : IsTotalOrder resource_cmp
-resource_total = on_total (λ (r : ResourceView). r.label) label_total
+resource_total = on_total (λ (r : ResourceView). r.addr) addr_total
 
 -- ---- of each element, and of each key
 

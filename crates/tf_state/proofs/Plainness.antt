@@ -4,12 +4,12 @@ use Rattle.std.specs.List.{AllByRecursion}
 use Rattle.std.specs.Prelude.{⊤}
 use Rattle.serde_json.specs.Data.{Data, object, string, array, number as json_number, unsigned, Members, no_members, put, depth, items_depth, members_depth}
 use Rattle.serde_json.specs.View.{items_of}
-use Rattle.tf_json_text.specs.Plain.{IsPlain, ArePlain, ArePlainMembers, AreAbove}
-use Rattle.tf_json_text.proofs.Puts.{plain-put, depth-put}
+use Rattle.tf_state_json.specs.Plain.{IsPlain, ArePlain, ArePlainMembers, AreAbove}
+use Rattle.tf_state_json.proofs.Puts.{plain-put, depth-put}
 use Rattle.tf_value.specs.Json.{value_data, items_data, entries_data, texts_data}
 use Rattle.tf_value.specs.Measure as measure
 use Rattle.tf_value.specs.Tree.{Tree, null, boolean as truth, whole, text, list, map, set, unknown, Items, no_items, item, Entries, no_entries, entry}
-use Rattle.tf_address.specs.ObjectId.{InstanceKeyView, single, number, name}
+use Rattle.tf_config_address.specs.ObjectId.{InstanceKeyView, single, number, name}
 use Rattle.tf_state_data.specs.Record.{RecordView}
 use Rattle.tf_state_data.specs.Resource.{ResourceView}
 use Rattle.tf_state_data.specs.State.{StateView}
@@ -121,7 +121,7 @@ records-plain (r ∷ rs) h = (record-plain r h.0, records-plain rs h.1)
 resource-plain : (r : ResourceView) → IsResource r → IsPlain (resource_data r)
 resource-plain r h =
     (and_put (codes "instances") (array (items_of (each record_data r.records))) _ (records-plain r.records h.records.0) (and_put (codes "mode") (string (codes "managed")) _ tt
-    (and_put (codes "name") (string r.label.name) _ tt (and_put (codes "provider") (string r.provider) _ tt (and_put (codes "type") (string r.label.type_name) _ tt nothing_put))))).fact
+    (and_put (codes "name") (string r.addr.name) _ tt (and_put (codes "provider") (string r.provider) _ tt (and_put (codes "type") (string r.addr.type_name) _ tt nothing_put))))).fact
 
 -- those with records are so still
 kept-present : (rs : List ResourceView) → AllByRecursion IsPresent rs → AllByRecursion IsPresent (with_records rs)

@@ -5,8 +5,8 @@ use Rattle.std.specs.Str.{bytes_eq}
 use Rattle.std.proofs.lemmas.Bool.{eqb-true}
 use Rattle.std.proofs.lemmas.Slice.Eq.{bytes_eq-Decides}
 use Rattle.serde_json.specs.Data.{Data, null, boolean, number as json_number, unsigned, string, array, no_items, item}
-use Rattle.tf_address.specs.Name.{is_name}
-use Rattle.tf_address.specs.ObjectId.{InstanceKeyView, number}
+use Rattle.tf_config_address.specs.Name.{is_name}
+use Rattle.tf_config_address.specs.ObjectId.{InstanceKeyView, number}
 use Rattle.tf_state.specs.Reading.{text_in, below, name_in, text_or, below_or_zero, key_in, deposed_in, tainted_in, flag_in, is_unsensitive, is_unchecked, is_managed, is_version}
 use Rattle.tf_state.specs.Table.{SaysText, SaysNumber, SaysName, SaysTextOr, SaysNumberOrZero, SaysKey, SaysDeposed, SaysStatus, SaysFlag, SaysNothingSensitive, SaysNoChecks}
 use Rattle.tf_state.specs.Words.{is_deposed_key}

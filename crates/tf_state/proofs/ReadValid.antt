@@ -10,9 +10,9 @@ use Rattle.std.proofs.lemmas.Bool.{and_parts}
 use Rattle.std.proofs.lemmas.Cmp.{nat_list_cmp_total}
 use Rattle.serde_json.specs.Data as json
 use Rattle.serde_json.specs.Find.{get}
-use Rattle.tf_json_text.specs.Plain.{IsPlain, ArePlain, ArePlainMembers, IsSorted, IsAny, AreOrderly, AreOrderlyMembers}
-use Rattle.tf_json_text.proofs.Puts.{plain-put}
-use Rattle.tf_json_text.proofs.Sorted.{read_is_sorted, sorted-get}
+use Rattle.tf_state_json.specs.Plain.{IsPlain, ArePlain, ArePlainMembers, IsSorted, IsAny, AreOrderly, AreOrderlyMembers}
+use Rattle.tf_state_json.proofs.Puts.{plain-put}
+use Rattle.tf_state_json.proofs.Sorted.{read_is_sorted, sorted-get}
 use Rattle.tf_value.specs.Json.{IsJson, IsArray, IsObject, AreTexts, value_data, entries_data, tree_from}
 use Rattle.tf_value.specs.Known.{known}
 use Rattle.tf_value.specs.Tree.{Tree, null, boolean, whole, text, list, map, set, Items, no_items, item, Entries, no_entries, entry, put}
@@ -20,13 +20,13 @@ use Rattle.tf_value.proofs.Forms.{form_of, form-held, form-tree_from, tree_from-
 use Rattle.tf_value.proofs.Tables.{at_order}
 use Rattle.tf_value.specs.Stored.{IsTable}
 use Rattle.tf_state.specs.Laws.{ReadIsValid}
-use Rattle.tf_address.specs.Label.{label_cmp}
+use Rattle.tf_config_address.specs.ResourceAddr.{addr_cmp}
 use Rattle.tf_state_data.specs.Addresses.{AreByAddress}
-use Rattle.tf_address.specs.ObjectId.{InstanceKeyView, object_id_cmp}
+use Rattle.tf_config_address.specs.ObjectId.{InstanceKeyView, object_id_cmp}
 use Rattle.tf_state_data.specs.Record.{RecordView}
 use Rattle.tf_state_data.specs.Resource.{ResourceView}
 use Rattle.tf_state_data.specs.State.{StateView}
-use Rattle.tf_address.proofs.Totals.{object_id_total, label_total}
+use Rattle.tf_config_address.proofs.Totals.{object_id_total, addr_total}
 use Rattle.tf_state.specs.Arrangement.{is_some_record, with_records}
 use Rattle.tf_state.specs.Reading.{gather, put_text, put_new, is_within, value_in, values_in, attributes_in, address_in, addresses_in, dependencies_in, record_in, instances_in, resource_in, resources_in, all_resources_in, outputs_in, output_in, required_value, state_in}
 use Rattle.tf_state.specs.Table.{SaysKey, SaysDeposed, SaysNumberOrZero}
@@ -234,13 +234,13 @@ with_records-present [] h = tt
 with_records-present (r ∷ rs) h = present_at (is_some_record r.records) r (with_records rs) refl h.0 (with_records-present rs h.1)
 
 with_records-valid : (rs : List ResourceView) → AreParts rs → AreResources (with_records rs)
-with_records-valid rs h = (with_records-present rs h.0, order-filter (λ r. r.label) label_cmp (λ r. is_some_record r.records) rs h.1)
+with_records-valid rs h = (with_records-present rs h.0, order-filter (λ r. r.addr) addr_cmp (λ r. is_some_record r.records) rs h.1)
 
 resources-valid : (o : Option json.Data) (rs : List ResourceView) → ((e : json.Data) → o ≡ Some e → IsSorted e) → all_resources_in o ≡ Some rs → AreResources rs
-resources-valid None rs s e = subst AreResources (same [] rs e) (tt, nothing_ordered label_cmp)
+resources-valid None rs s e = subst AreResources (same [] rs e) (tt, nothing_ordered addr_cmp)
 resources-valid (Some (json.array ds)) rs s e =
     let m = mapped with_records (resources_in ds []) rs e in
-    subst AreResources m.2 (with_records-valid m.0 (gathered resource_in (λ (r : ResourceView). r.label) label_cmp label_total IsResource resource-valid ds [] m.0 (s (json.array ds) refl) (tt, nothing_ordered label_cmp) m.1))
+    subst AreResources m.2 (with_records-valid m.0 (gathered resource_in (λ (r : ResourceView). r.addr) addr_cmp addr_total IsResource resource-valid ds [] m.0 (s (json.array ds) refl) (tt, nothing_ordered addr_cmp) m.1))
 resources-valid (Some _) rs s e = absurd (cc)
 
 outputs-valid : (o : Option json.Data) (es : Entries) → ((e : json.Data) → o ≡ Some e → IsSorted e) → outputs_in o ≡ Some es → IsTable es

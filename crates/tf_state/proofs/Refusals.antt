@@ -4,7 +4,7 @@ use Rattle.std.specs.Prelude.{IsUtf8}
 use Rattle.serde_json.specs.Data.{Data}
 use Rattle.serde_json.specs.Read.{read}
 use Rattle.tf_state_data.specs.State.{StateView}
-use Rattle.tf_address.specs.ObjectId.{ObjectIdView}
+use Rattle.tf_config_address.specs.ObjectId.{ObjectIdView}
 use Rattle.tf_state.specs.Reading.{IsNoJson, IsRefused, is_record, id_in, record_at, record_in, state_in}
 use Rattle.tf_state.specs.Table.{IsBeyond, IsUnread, Reads}
 use Rattle.tf_state.specs.declared.fault.StateFault.{StateFault}

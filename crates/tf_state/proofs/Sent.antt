@@ -8,7 +8,7 @@ use Rattle.serde.specs.declared.name.Case.TheVariants.{AsIs}
 use Rattle.serde_json.specs.Data.{Data, number as json_number, unsigned, string, array, object, Members, no_members, member, put}
 use Rattle.serde_json.specs.Events.{SendsValue, SendsItems, SendsMembers, members_len}
 use Rattle.serde_json.specs.View.{items_of}
-use Rattle.tf_json_text.specs.Plain.{AreAbove}
+use Rattle.tf_state_json.specs.Plain.{AreAbove}
 use Rattle.tf_state_data.specs.Record.{RecordView}
 use Rattle.tf_state_data.specs.Resource.{ResourceView}
 use Rattle.tf_state_data.specs.State.{StateView}
@@ -181,11 +181,11 @@ resource_in_order a b c d e = refl
 
 -- What is sent of a resource, member after member, is the resource.
 pub resource_sent : (r : ResourceView) (l0 l1 l2 l3 l4 l5 l6 l7 : Log) → Logs l0 l1 (map_begins (Some 5)) → Sends (codes "instances") (array (items_of (each record_data r.records))) l1 l2 → Sends (codes "mode") (string (codes "managed")) l2 l3
-    → Sends (codes "name") (string r.label.name) l3 l4 → Sends (codes "provider") (string r.provider) l4 l5 → Sends (codes "type") (string r.label.type_name) l5 l6 → Logs l6 l7 map_ends → SendsValue (resource_data r) l0 l7
+    → Sends (codes "name") (string r.addr.name) l3 l4 → Sends (codes "provider") (string r.provider) l4 l5 → Sends (codes "type") (string r.addr.type_name) l5 l6 → Logs l6 l7 map_ends → SendsValue (resource_data r) l0 l7
 resource_sent r l0 l1 l2 l3 l4 l5 l6 l7 begun instances mode name provider type_name ended =
-    let members : SendsMembers (member (codes "instances") (array (items_of (each record_data r.records))) (member (codes "mode") (string (codes "managed")) (member (codes "name") (string r.label.name) (member (codes "provider") (string r.provider) (member (codes "type") (string r.label.type_name) no_members))))) l1 l7 =
+    let members : SendsMembers (member (codes "instances") (array (items_of (each record_data r.records))) (member (codes "mode") (string (codes "managed")) (member (codes "name") (string r.addr.name) (member (codes "provider") (string r.provider) (member (codes "type") (string r.addr.type_name) no_members))))) l1 l7 =
     (instances.0, l2, instances.1, instances.2, (mode.0, l3, mode.1, mode.2, (name.0, l4, name.1, name.2, (provider.0, l5, provider.1, provider.2, (type_name.0, l6, type_name.1, type_name.2, ended))))) in
-    subst (λ ms. SendsValue (object ms) l0 l7) (sym (resource_in_order (array (items_of (each record_data r.records))) (string (codes "managed")) (string r.label.name) (string r.provider) (string r.label.type_name))) (l1, begun, members)
+    subst (λ ms. SendsValue (object ms) l0 l7) (sym (resource_in_order (array (items_of (each record_data r.records))) (string (codes "managed")) (string r.addr.name) (string r.provider) (string r.addr.type_name))) (l1, begun, members)
 
 state_in_order : (a b c d e f : Data) → put (codes "lineage") a (put (codes "outputs") b (put (codes "resources") c (put (codes "serial") d (put (codes "terraform_version") e (put (codes "version") f no_members)))))
     ≡ member (codes "lineage") a (member (codes "outputs") b (member (codes "resources") c (member (codes "serial") d (member (codes "terraform_version") e (member (codes "version") f no_members)))))

@@ -9,10 +9,10 @@ use Rattle.serde_json.specs.Data.{Data}
 use Rattle.serde_json.specs.View.{items_of}
 use Rattle.tf_state.specs.Arrangement.{record_cmp, resource_cmp, with_records}
 use Rattle.tf_state.specs.Reading.{gather, record_in, records_in, resource_in, resources_in, state_in, put_new}
-use Rattle.tf_address.specs.Label.{label_cmp}
-use Rattle.tf_address.proofs.Totals.{object_id_total, label_total}
+use Rattle.tf_config_address.specs.ResourceAddr.{addr_cmp}
+use Rattle.tf_config_address.proofs.Totals.{object_id_total, addr_total}
 use Rattle.tf_state_data.specs.Addresses.{AreByAddress}
-use Rattle.tf_address.specs.ObjectId.{object_id_cmp}
+use Rattle.tf_config_address.specs.ObjectId.{object_id_cmp}
 use Rattle.tf_state_data.specs.Ids.{AreById}
 use Rattle.tf_state_data.specs.Record.{RecordView}
 use Rattle.tf_state_data.specs.Resource.{ResourceView}
@@ -44,7 +44,7 @@ resource-back r h = rw (h.type_name, h.name, records-back r.records h.records.0 
 
 resources-back : (rs : List ResourceView) → AllByRecursion IsPresent rs → AreByAddress rs → resources_in (items_of (each resource_data rs)) [] ≡ Some rs
 resources-back rs h order =
-    onto resource_in resource_data (λ (r : ResourceView). r.label) label_cmp label_total IsPresent (λ r p. resource-back r p.0) rs [] h order (EachAbove-nothing resource_cmp rs)
+    onto resource_in resource_data (λ (r : ResourceView). r.addr) addr_cmp addr_total IsPresent (λ r p. resource-back r p.0) rs [] h order (EachAbove-nothing resource_cmp rs)
 
 all_with_records : (rs : List ResourceView) → AllByRecursion IsPresent rs → with_records rs ≡ rs
 all_with_records [] h = refl

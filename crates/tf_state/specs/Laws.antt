@@ -1,7 +1,7 @@
 -- What holds of states and their texts, whatever they are.
 use Rattle.std.specs.Prelude.{◌≡◌, ℕ, ◌^◌, ◌<◌, List, IsUtf8}
-use Rattle.tf_address.specs.Label.{LabelView}
-use Rattle.tf_address.specs.ObjectId.{ObjectIdView}
+use Rattle.tf_config_address.specs.ResourceAddr.{ResourceAddrView}
+use Rattle.tf_config_address.specs.ObjectId.{ObjectIdView}
 use Rattle.tf_state_data.specs.Record.{RecordView}
 use Rattle.tf_state_data.specs.Resource.{ResourceView, with_record, without_record}
 use Rattle.tf_state_data.specs.State.{StateView, empty_state, with_resource, without_resource}
@@ -37,7 +37,7 @@ PutKeepsResource = (new : RecordView) (r : ResourceView) → IsRecord new → Is
 
 -- A valid state without the resource at an address is valid.
 abbrev pub RemoveKeepsState : Type 0
-RemoveKeepsState = (label : LabelView) (s : StateView) → IsValid s → IsValid (without_resource label s)
+RemoveKeepsState = (addr : ResourceAddrView) (s : StateView) → IsValid s → IsValid (without_resource addr s)
 
 -- A valid resource without the record of an object is valid, though it may be left without records.
 abbrev pub RemoveKeepsResource : Type 0

@@ -1,14 +1,14 @@
 -- Records, resources and outputs that were read, as plain data.
 use Rattle.std.specs.Prelude.{List, map, string_bytes}
-use Rattle.tf_address.specs.Label.{label_of}
-use Rattle.tf_address.specs.declared.label.Label.{Label}
+use Rattle.tf_config_address.specs.ResourceAddr.{addr_of}
+use Rattle.tf_config_address.specs.declared.addr.ResourceAddr.{ResourceAddr}
 use Rattle.tf_value.specs.Tree.{tree_of}
-use Rattle.tf_address.specs.ObjectId.{object_id_of}
+use Rattle.tf_config_address.specs.ObjectId.{object_id_of}
 use Rattle.tf_state_data.specs.Record.{RecordView, record_of}
 use Rattle.tf_state_data.specs.Resource.{ResourceView}
 use Rattle.tf_state.specs.declared.body.Body.{Body}
 use Rattle.tf_state.specs.declared.body.Held.{Held}
-use Rattle.tf_address.specs.declared.object_id.ObjectId.{ObjectId}
+use Rattle.tf_config_address.specs.declared.object_id.ObjectId.{ObjectId}
 
 -- the record of an object with a body
 abbrev pub record_made : ObjectId → Body → RecordView
@@ -27,9 +27,9 @@ abbrev pub records_made : List (ObjectId × Body) → List RecordView
 records_made es = map (λ e. record_made e.0 e.1) es
 
 -- the resource of an address with a provider and records
-abbrev pub resource_made : Label → Held → ResourceView
-resource_made l h = record { label = label_of l; provider = string_bytes h.provider; records = map record_of h.records.items }
+abbrev pub resource_made : ResourceAddr → Held → ResourceView
+resource_made l h = record { addr = addr_of l; provider = string_bytes h.provider; records = map record_of h.records.items }
 
 -- the resources under their addresses
-abbrev pub resources_made : List (Label × Held) → List ResourceView
+abbrev pub resources_made : List (ResourceAddr × Held) → List ResourceView
 resources_made es = map (λ e. resource_made e.0 e.1) es

@@ -9,12 +9,12 @@ use Rattle.std.specs.declared.cmp.Ordering.{Ordering}
 use Rattle.serde_json.specs.Data.{Data, null, boolean, number as json_number, unsigned, string, array, object, Items, no_items, item, Members, no_members, member}
 use Rattle.serde_json.specs.Find.{get}
 use Rattle.serde_json.specs.Read.{read}
-use Rattle.tf_address.specs.Name.{is_name}
+use Rattle.tf_config_address.specs.Name.{is_name}
 use Rattle.tf_value.specs.Json.{tree_from}
 use Rattle.tf_value.specs.Known.{known}
 use Rattle.tf_value.specs.Measure.{weight, depth, max_weight, max_depth}
 use Rattle.tf_value.specs.Tree.{Tree, map, Entries, no_entries, put}
-use Rattle.tf_address.specs.ObjectId.{InstanceKeyView, single, number, name, ObjectIdView}
+use Rattle.tf_config_address.specs.ObjectId.{InstanceKeyView, single, number, name, ObjectIdView}
 use Rattle.tf_state_data.specs.Record.{RecordView}
 use Rattle.tf_state_data.specs.Resource.{ResourceView}
 use Rattle.tf_state_data.specs.State.{StateView}
@@ -171,7 +171,7 @@ resource_in d =
     if is_shaped shapes.Resource d && is_managed (get (codes "mode") d)
     then option_and_then
     (λ type_name. option_and_then (λ its_name. option_and_then (λ provider. option_map
-    (λ records. record { label = record { type_name = type_name; name = its_name }; provider = provider; records = records }) (instances_in (get (codes "instances") d)))
+    (λ records. record { addr = record { type_name = type_name; name = its_name }; provider = provider; records = records }) (instances_in (get (codes "instances") d)))
     (text_in (get (codes "provider") d))) (name_in (get (codes "name") d))) (name_in (get (codes "type") d))
     else None
 

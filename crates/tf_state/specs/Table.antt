@@ -11,12 +11,12 @@ use Rattle.std.specs.declared.cmp.Ordering.{Ordering}
 use Rattle.serde_json.specs.Data.{Data, null, boolean, number as json_number, unsigned, string, array, object, Items, no_items, item, Members, no_members, member}
 use Rattle.serde_json.specs.Find.{get}
 use Rattle.serde_json.specs.Read.{read}
-use Rattle.tf_address.specs.Name.{is_name}
+use Rattle.tf_config_address.specs.Name.{is_name}
 use Rattle.tf_value.specs.Json.{IsJson}
 use Rattle.tf_value.specs.Measure.{IsWithinLimits}
 use Rattle.tf_value.specs.Sets.{has_no_set}
 use Rattle.tf_value.specs.Tree.{Tree, map, Entries, no_entries, entry, get as value_at}
-use Rattle.tf_address.specs.ObjectId.{InstanceKeyView, single, number, name}
+use Rattle.tf_config_address.specs.ObjectId.{InstanceKeyView, single, number, name}
 use Rattle.tf_state.specs.Arrangement.{record_cmp, resource_cmp, with_records}
 use Rattle.tf_state_data.specs.Record.{RecordView}
 use Rattle.tf_state_data.specs.Resource.{ResourceView}
@@ -174,8 +174,8 @@ SaysInstances _ rs = ⊥
 pub record SaysResource (d : Data) (r : ResourceView) : Type 0 where
   pub only : is_shaped shapes.Resource d ≡ true
   pub mode : SaysText (get (codes "mode") d) (codes "managed")
-  pub type_name : SaysName (get (codes "type") d) r.label.type_name
-  pub name : SaysName (get (codes "name") d) r.label.name
+  pub type_name : SaysName (get (codes "type") d) r.addr.type_name
+  pub name : SaysName (get (codes "name") d) r.addr.name
   pub provider : SaysText (get (codes "provider") d) r.provider
   pub instances : SaysInstances (get (codes "instances") d) r.records
 

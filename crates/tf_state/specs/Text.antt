@@ -2,10 +2,10 @@
 use Rattle.std.specs.Prelude.{ℕ, Bool, true, false, List, [], ◌∷◌, Option, Some, None, option_map, codes, map as each}
 use Rattle.serde_json.specs.Data.{Data, number as json_number, unsigned, string, boolean, array, object, Members, no_members, member, put}
 use Rattle.serde_json.specs.View.{items_of}
-use Rattle.tf_json_text.specs.Text.{text_of}
+use Rattle.tf_state_json.specs.Text.{text_of}
 use Rattle.tf_value.specs.Json.{value_data}
 use Rattle.tf_value.specs.Tree.{Tree, Entries, no_entries, entry}
-use Rattle.tf_address.specs.ObjectId.{InstanceKeyView, single, number, name}
+use Rattle.tf_config_address.specs.ObjectId.{InstanceKeyView, single, number, name}
 use Rattle.tf_state_data.specs.Record.{RecordView}
 use Rattle.tf_state_data.specs.Resource.{ResourceView}
 use Rattle.tf_state_data.specs.State.{StateView}
@@ -48,7 +48,7 @@ record_data r =
 -- a resource that the engine manages, with its objects
 abbrev pub resource_data : ResourceView → Data
 resource_data r =
-    object (put (codes "instances") (array (items_of (each record_data r.records))) (put (codes "mode") (string (codes "managed")) (put (codes "name") (string r.label.name) (put (codes "provider") (string r.provider) (put (codes "type") (string r.label.type_name) no_members)))))
+    object (put (codes "instances") (array (items_of (each record_data r.records))) (put (codes "mode") (string (codes "managed")) (put (codes "name") (string r.addr.name) (put (codes "provider") (string r.provider) (put (codes "type") (string r.addr.type_name) no_members)))))
 
 -- an output: its value, and the type of the value
 abbrev pub output_data : Tree → Data

@@ -4,11 +4,11 @@ use Rattle.std.specs.Cmp.Lexicographic.{slice_cmp}
 use Rattle.std.specs.List.{AllByRecursion}
 use Rattle.std.specs.Ordering.{nat_cmp}
 use Rattle.std.specs.declared.cmp.Ordering.TheVariants.{Greater}
-use Rattle.tf_address.specs.Name.{is_name}
+use Rattle.tf_config_address.specs.Name.{is_name}
 use Rattle.tf_value.specs.Stored.{IsTable}
 use Rattle.tf_value.specs.Tree.{Tree, map}
 use Rattle.tf_state_data.specs.Addresses.{AreByAddress}
-use Rattle.tf_address.specs.ObjectId.{InstanceKeyView, single, number, name}
+use Rattle.tf_config_address.specs.ObjectId.{InstanceKeyView, single, number, name}
 use Rattle.tf_state_data.specs.Ids.{AreById}
 use Rattle.tf_state.specs.Arrangement.{is_some_record}
 use Rattle.tf_state_data.specs.Record.{RecordView}
@@ -50,8 +50,8 @@ AreRecords rs = AllByRecursion IsRecord rs × AreById rs
 
 -- a resource, which may be one without records
 pub record IsResource (r : ResourceView) : Type 0 where
-  pub type_name : is_name r.label.type_name ≡ true
-  pub name : is_name r.label.name ≡ true
+  pub type_name : is_name r.addr.type_name ≡ true
+  pub name : is_name r.addr.name ≡ true
   pub records : AreRecords r.records
 
 -- a resource with a record

@@ -3,7 +3,7 @@ use Rattle.std.specs.Prelude.{ℕ, Bool, true, false, ◌&&◌, ◌||◌, ◌==�
 use Rattle.std.specs.List.{list_all, list_any, before_first, after_first}
 use Rattle.std.specs.Str.{bytes_eq}
 use Rattle.serde_json.specs.Data.{Data, null, boolean, number, string, array, object, Members, no_members, member}
-use Rattle.tf_address.specs.Name.{is_name}
+use Rattle.tf_config_address.specs.Name.{is_name}
 use Rattle.tf_state.specs.declared.shape.Shape.{Shape}
 use Rattle.tf_state.specs.declared.shape.Shape.TheVariants as shapes
 

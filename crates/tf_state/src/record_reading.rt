@@ -3,8 +3,8 @@
 ghost use Rattle.std.specs.Prelude.{◌≡◌, ◌++◌, [], Some, IfErr, IfOk, OnOk, map, option_map};
 ghost use Rattle.serde_json.specs.View.{view, items_view};
 ghost use Rattle.tf_state.specs.Made.{record_made, records_made};
-ghost use Rattle.tf_address.specs.ObjectId.{object_id_of};
-ghost use Rattle.tf_address.specs.declared.object_id.ObjectId.{ObjectId};
+ghost use Rattle.tf_config_address.specs.ObjectId.{object_id_of};
+ghost use Rattle.tf_config_address.specs.declared.object_id.ObjectId.{ObjectId};
 ghost use Rattle.tf_state_data.specs.Ids.{AreById};
 ghost use Rattle.tf_state.specs.Arrangement.{record_cmp};
 ghost use Rattle.tf_state.specs.Reading.{IsRefused, instances_in, is_record, put_new, record_at, record_in, records_in};
@@ -20,7 +20,7 @@ use crate::value_reading::{
 use serde_json::Value as Json;
 use std::alloc::{AllocError, Global};
 use std::collections::BTreeMap;
-use tf_address::ObjectId;
+use tf_config_address::ObjectId;
 use tf_state_data::Record;
 
 /// The records of a resource, in the order of their ids. Each part of the tree goes once it is read.

@@ -4,14 +4,14 @@ ghost use Rattle.std.specs.Prelude.{◌≡◌, OnOk, codes, map, option_map, str
 ghost use Rattle.serde_json.specs.Data.{array, string};
 ghost use Rattle.serde_json.specs.Events.{SendsValue};
 ghost use Rattle.serde_json.specs.View.{items_of};
-ghost use Rattle.tf_address.specs.ObjectId.{deposed_of, instance_key_of};
+ghost use Rattle.tf_config_address.specs.ObjectId.{deposed_of, instance_key_of};
 ghost use Rattle.tf_state_data.specs.Record.{record_of};
 ghost use Rattle.tf_state.specs.Sending.{SendsSome, member_count};
 ghost use Rattle.tf_state.specs.Text.{dependencies_data, flag_data, key_data, record_data, status_data};
 
 use serde::{Serialize, Serializer};
 use std::collections::BTreeSet;
-use tf_address::InstanceKey;
+use tf_config_address::InstanceKey;
 use tf_state_data::Record;
 
 pub(crate) fn send_record<S: Serializer>(instance: &Record, out: &mut S) -> Result<(), S::Error>

@@ -17,7 +17,7 @@ use crate::value_reading::{read_name, read_text};
 use serde_json::Value as Json;
 use std::alloc::{AllocError, Global};
 use std::collections::BTreeMap;
-use tf_address::Label;
+use tf_config_address::ResourceAddr;
 use tf_state_data::{Record, Resource};
 
 /// The resources of a state that have records, in the order of their addresses. Each part of the tree goes once it
@@ -37,14 +37,17 @@ pub(crate) fn read_resources(alloc: Global, json: Option<Json>) -> Result<Vec<Re
     }
 }
 
-fn in_order(alloc: Global, resources: BTreeMap<Label, Held>) -> Result<Vec<Resource>, AllocError>
+fn in_order(
+    alloc: Global,
+    resources: BTreeMap<ResourceAddr, Held>,
+) -> Result<Vec<Resource>, AllocError>
     ensures all { IfOk result (λ rs. map resource_of rs.items ≡ with_records (resources_made resources.entries)) }
     ensures ordered { IfOk result (λ rs. AreByAddress (map resource_of rs.items)) }
 {
     let mut ordered = Vec::with_capacity(alloc, resources.len())?;
-    for (label, held) in resources {
+    for (addr, held) in resources {
         if has_records(&held.records) {
-            ordered.push(Resource::new(label, held.provider, held.records))?;
+            ordered.push(Resource::new(addr, held.provider, held.records))?;
         }
     }
     Ok(ordered)
@@ -60,34 +63,34 @@ pub(crate) fn has_records(records: &[Record]) -> bool
     }
 }
 
-fn read_each(alloc: Global, items: Vec<Json>) -> Result<BTreeMap<Label, Held>, StateFault>
+fn read_each(alloc: Global, items: Vec<Json>) -> Result<BTreeMap<ResourceAddr, Held>, StateFault>
     ensures ok { IfOk result (λ m. resources_in (items_view items.items) [] ≡ Some (resources_made m.entries)) }
     ensures err { IfErr result (λ e. IsRefused (resources_in (items_view items.items) []) e) }
 {
     let mut resources = BTreeMap::new(alloc);
     for item in items {
-        let (label, held) = read_resource(alloc, item)?;
-        add_resource(&mut resources, label, held)?;
+        let (addr, held) = read_resource(alloc, item)?;
+        add_resource(&mut resources, addr, held)?;
     }
     Ok(resources)
 }
 
 fn add_resource(
-    resources: &mut BTreeMap<Label, Held>,
-    label: Label,
+    resources: &mut BTreeMap<ResourceAddr, Held>,
+    addr: ResourceAddr,
     held: Held,
 ) -> Result<(), StateFault>
-    ensures ok { OnOk result (put_new resource_cmp (resource_made label held) (resources_made resources.old.entries) ≡ Some (resources_made resources.new.entries)) }
-    ensures err { IfErr result (λ e. IsRefused (put_new resource_cmp (resource_made label held) (resources_made resources.old.entries)) e) }
+    ensures ok { OnOk result (put_new resource_cmp (resource_made addr held) (resources_made resources.old.entries) ≡ Some (resources_made resources.new.entries)) }
+    ensures err { IfErr result (λ e. IsRefused (put_new resource_cmp (resource_made addr held) (resources_made resources.old.entries)) e) }
 {
-    let is_taken = resources.insert(label, held)?.is_some();
+    let is_taken = resources.insert(addr, held)?.is_some();
     if is_taken {
         return Err(StateFault::BadState);
     }
     Ok(())
 }
 
-fn read_resource(alloc: Global, json: Json) -> Result<(Label, Held), StateFault>
+fn read_resource(alloc: Global, json: Json) -> Result<(ResourceAddr, Held), StateFault>
     ensures ok { IfOk result (λ r. resource_in (view json) ≡ Some (resource_made r.0 r.1)) }
     ensures err { IfErr result (λ e. IsRefused (resource_in (view json)) e) }
 {
@@ -98,7 +101,7 @@ fn read_resource(alloc: Global, json: Json) -> Result<(Label, Held), StateFault>
     let name = read_name(alloc, json.get("name"))?;
     let provider = read_text(alloc, json.get("provider"))?;
     let records = read_instances(alloc, take_member(json, "instances"))?;
-    Ok((Label { type_name, name }, Held { provider, records }))
+    Ok((ResourceAddr { type_name, name }, Held { provider, records }))
 }
 
 fn is_managed(json: Option<&Json>) -> bool

@@ -8,7 +8,7 @@ ghost use Rattle.serde_json.specs.View.{view, members_view};
 ghost use Rattle.tf_state.specs.Words.{has_only, is_address, is_deposed_key, is_hex, is_shaped, properties_of};
 
 use serde_json::{Map, Value as Json};
-use tf_address::is_name;
+use tf_config_address::is_name;
 
 /// What an object of a state's JSON is.
 #[derive(Clone, Copy)]

@@ -3,7 +3,7 @@
 ghost use Rattle.std.specs.Prelude.{◌≡◌, ◌^◌, [], Some, IfErr, IfOk, map, option_map, string_bytes};
 ghost use Rattle.serde_json.specs.Data.{array};
 ghost use Rattle.serde_json.specs.View.{view, items_view, members_view};
-ghost use Rattle.tf_address.specs.ObjectId.{deposed_of, instance_key_of, object_id_of};
+ghost use Rattle.tf_config_address.specs.ObjectId.{deposed_of, instance_key_of, object_id_of};
 ghost use Rattle.tf_state.specs.Reading.{IsRefused, address_in, addresses_in, attributes_in, below, below_or_zero, dependencies_in, deposed_in, flag_in, is_unsensitive, key_in, name_in, id_in, tainted_in, text_in, text_or, value_in, values_in};
 ghost use Rattle.tf_value.specs.Tree.{no_entries, tree_of, entries_view};
 
@@ -12,7 +12,7 @@ use crate::shape::{is_address, is_deposed_key};
 use serde_json::{Map, Value as Json};
 use std::alloc::Global;
 use std::collections::{BTreeMap, BTreeSet};
-use tf_address::{InstanceKey, ObjectId, is_name};
+use tf_config_address::{InstanceKey, ObjectId, is_name};
 use tf_state_data::Object;
 use tf_value::{JsonFault, Value, from_json};
 

@@ -25,7 +25,7 @@ use tf_state_data::{Object, Record, Resource, State};
 pub fn write(alloc: Global, state: &State) -> Result<String, AllocError>
     ensures { IfOk result (λ text. string_bytes text ≡ state_text (state_of state.now)) }
 {
-    match tf_json_text::text(alloc, &StateFile { state }) {
+    match tf_state_json::text(alloc, &StateFile { state }) {
         Ok(text) => Ok(text),
         // What is sent is well formed, so that only memory can be wanting.
         Err(_) => Err(AllocError),
@@ -135,11 +135,11 @@ fn send_resource<S: Serializer>(resource: &Resource, out: &mut S) -> Result<(), 
     out.key("mode")?;
     out.str("managed")?;
     out.key("name")?;
-    out.str(&resource.label().name)?;
+    out.str(&resource.addr().name)?;
     out.key("provider")?;
     out.str(resource.provider())?;
     out.key("type")?;
-    out.str(&resource.label().type_name)?;
+    out.str(&resource.addr().type_name)?;
     out.end_map()
 }
 

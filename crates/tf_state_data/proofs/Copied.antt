@@ -2,8 +2,8 @@
 use Rattle.std.proofs.Common.{◌≡◌, ℕ, Bool, List, [], ◌∷◌, String, string_bytes, refl, ap, ap₂, ◌∙◌}
 use Rattle.std.specs.List.{AllZip}
 use Rattle.std.specs.declared.alloc.Global.{Global}
-use Rattle.tf_address.proofs.CopiedIds.{object_id_copied}
-use Rattle.tf_address.specs.ObjectId.{ObjectIdView}
+use Rattle.tf_config_address.proofs.CopiedIds.{object_id_copied}
+use Rattle.tf_config_address.specs.ObjectId.{ObjectIdView}
 use Rattle.tf_state_data.specs.Record.{RecordView, record_of}
 use Rattle.tf_state_data.specs.State.{outputs_of}
 use Rattle.tf_state_data.specs.contracts.record.RecordClone.TheImpl as RecordClone

@@ -6,16 +6,16 @@ use Rattle.std.proofs.lemmas.List.{map-append, take-map, drop-map}
 use Rattle.std.specs.Cmp.{IsTotalOrder}
 use Rattle.std.specs.List.{insert, remove}
 use Rattle.std.specs.List.Sorted.{IsStrictlySortedBy, IsBinarySearchResult, IsSearchInRange}
-use Rattle.tf_address.specs.Label.{LabelView, label_cmp}
+use Rattle.tf_config_address.specs.ResourceAddr.{ResourceAddrView, addr_cmp}
 use Rattle.tf_state_data.specs.Order.{at_key, with_one, without_one, IsAt, IsGapFor}
-use Rattle.tf_address.specs.ObjectId.{ObjectIdView, object_id_cmp}
+use Rattle.tf_config_address.specs.ObjectId.{ObjectIdView, object_id_cmp}
 use Rattle.tf_state_data.specs.Record.{RecordView, record_of}
 use Rattle.tf_state_data.specs.Resource.{ResourceView, resource_of}
 use Rattle.tf_state_data.specs.declared.record.Record.{Record}
 use Rattle.tf_state_data.specs.declared.resource.Resource.{Resource}
 use Rattle.tf_state_data.proofs.OrderKept.{with-sorted, without-sorted}
 use Rattle.tf_state_data.proofs.Sorted.{sought}
-use Rattle.tf_address.proofs.Totals.{object_id_total, label_total}
+use Rattle.tf_config_address.proofs.Totals.{object_id_total, addr_total}
 
 -- how elements are kept: what each is seen as, its key, and the order of keys
 pub record Keeping (X A K : Type 0) : Type 0 where
@@ -29,8 +29,8 @@ abbrev pub by_id : Keeping Record RecordView ObjectIdView
 by_id = record { seen = record_of; key = λ r. r.id; cmp = object_id_cmp; total = object_id_total }
 
 -- resources are kept by address
-abbrev pub by_address : Keeping Resource ResourceView LabelView
-by_address = record { seen = resource_of; key = λ r. r.label; cmp = label_cmp; total = label_total }
+abbrev pub by_address : Keeping Resource ResourceView ResourceAddrView
+by_address = record { seen = resource_of; key = λ r. r.addr; cmp = addr_cmp; total = addr_total }
 
 set_parts : {X : Type 0} (xs : List X) (i : ℕ) (x : X) → i < length xs → set xs i x ≡ take i xs ++ x ∷ drop (suc i) xs
 set_parts [] i x within = absurd (omega (arith, within))

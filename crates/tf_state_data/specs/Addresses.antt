@@ -1,13 +1,13 @@
 -- The addresses of resources, of which no two are one: each stands before those after it.
 use Rattle.std.specs.Prelude.{List, map}
 use Rattle.std.specs.List.Sorted.{IsStrictlySortedBy}
-use Rattle.tf_address.specs.Label.{LabelView, label_cmp}
+use Rattle.tf_config_address.specs.ResourceAddr.{ResourceAddrView, addr_cmp}
 use Rattle.tf_state_data.specs.Resource.{ResourceView}
 
 -- the addresses of resources
-abbrev pub addresses_of : List ResourceView → List LabelView
-addresses_of = map (λ r. r.label)
+abbrev pub addresses_of : List ResourceView → List ResourceAddrView
+addresses_of = map (λ r. r.addr)
 
 -- resources stand in the order of their addresses, no two at one
 abbrev pub AreByAddress : List ResourceView → Type 0
-AreByAddress rs = IsStrictlySortedBy label_cmp (addresses_of rs)
+AreByAddress rs = IsStrictlySortedBy addr_cmp (addresses_of rs)

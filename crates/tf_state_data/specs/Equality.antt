@@ -6,7 +6,7 @@ use Rattle.std.specs.Cmp.Lexicographic.{pointwise, pointwise_decides}
 use Rattle.std.specs.Ordering.{on}
 use Rattle.std.proofs.lemmas.Bool.Decides.{Decides-and, Decides-like}
 use Rattle.std.proofs.lemmas.Slice.Eq.{bytes_eq-Decides}
-use Rattle.tf_address.specs.Same.{same_label, label_Decides, same_object_id, object_id_Decides}
+use Rattle.tf_config_address.specs.Same.{same_addr, addr_Decides, same_object_id, object_id_Decides}
 use Rattle.tf_state_data.specs.Record.{RecordView, record_of}
 use Rattle.tf_state_data.specs.Resource.{ResourceView, resource_of}
 use Rattle.tf_state_data.specs.State.{StateView, state_of}
@@ -27,7 +27,7 @@ same_record r s =
 
 -- resources are the same where their addresses and their providers are, and they have the same records
 abbrev pub same_resource : ResourceView → ResourceView → Bool
-same_resource r s = same_label r.label s.label && bytes_eq r.provider s.provider && pointwise same_record r.records s.records
+same_resource r s = same_addr r.addr s.addr && bytes_eq r.provider s.provider && pointwise same_record r.records s.records
 
 -- states are the same where each part is: serial, lineage, version, outputs and resources
 abbrev pub same_state : StateView → StateView → Bool
@@ -58,9 +58,9 @@ record_Decides r s =
 -- `same_resource` is equality of resources
 pub resource_Decides : (r s : ResourceView) → Decides (same_resource r s) (r ≡ s)
 resource_Decides r s =
-    let provided = Decides-and _ _ (label_Decides r.label s.label) (bytes_eq-Decides r.provider s.provider) in
+    let provided = Decides-and _ _ (addr_Decides r.addr s.addr) (bytes_eq-Decides r.provider s.provider) in
     let all = Decides-and _ _ provided (pointwise_decides record_Decides r.records s.records) in
-    Decides-like _ (λ h i. record { label = h.0.0 i; provider = h.0.1 i; records = h.1 i }) (λ e. ((λ i. (e i).label, λ i. (e i).provider), λ i. (e i).records)) all
+    Decides-like _ (λ h i. record { addr = h.0.0 i; provider = h.0.1 i; records = h.1 i }) (λ e. ((λ i. (e i).addr, λ i. (e i).provider), λ i. (e i).records)) all
 
 -- `same_state` is equality of states
 pub state_Decides : (s t : StateView) → Decides (same_state s t) (s ≡ t)

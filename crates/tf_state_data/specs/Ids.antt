@@ -1,7 +1,7 @@
 -- Which objects records are of, no two of one: each stands before those after it.
 use Rattle.std.specs.Prelude.{List, map}
 use Rattle.std.specs.List.Sorted.{IsStrictlySortedBy}
-use Rattle.tf_address.specs.ObjectId.{ObjectIdView, object_id_cmp}
+use Rattle.tf_config_address.specs.ObjectId.{ObjectIdView, object_id_cmp}
 use Rattle.tf_state_data.specs.Record.{RecordView}
 
 -- the objects that records are of, by their ids

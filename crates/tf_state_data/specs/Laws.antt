@@ -1,10 +1,10 @@
 -- What a put and a remove change: what stands at the one address, or is known of the one object, and nothing else.
 use Rattle.std.specs.Prelude.{◌≡◌, false, Some, None}
 use Rattle.std.specs.Ordering.{is_eq}
-pub use Rattle.tf_address.specs.Label.{LabelView}
-use Rattle.tf_address.specs.Label.{label_cmp}
-pub use Rattle.tf_address.specs.ObjectId.{ObjectIdView}
-use Rattle.tf_address.specs.ObjectId.{object_id_cmp}
+pub use Rattle.tf_config_address.specs.ResourceAddr.{ResourceAddrView}
+use Rattle.tf_config_address.specs.ResourceAddr.{addr_cmp}
+pub use Rattle.tf_config_address.specs.ObjectId.{ObjectIdView}
+use Rattle.tf_config_address.specs.ObjectId.{object_id_cmp}
 pub use Rattle.tf_state_data.specs.Record.{RecordView}
 pub use Rattle.tf_state_data.specs.Resource.{ResourceView}
 use Rattle.tf_state_data.specs.Resource.{record_at, with_record, without_record}
@@ -13,13 +13,13 @@ use Rattle.tf_state_data.specs.State.{resource_at, with_resource, without_resour
 
 -- A resource that was put stands at its address, and at each other address what stood there before.
 pub record PutChangesOneResource (new : ResourceView) (s : StateView) : Type 0 where
-  pub there : resource_at new.label (with_resource new s).resources ≡ Some new
-  pub others : (label : LabelView) → is_eq (label_cmp label new.label) ≡ false → resource_at label (with_resource new s).resources ≡ resource_at label s.resources
+  pub there : resource_at new.addr (with_resource new s).resources ≡ Some new
+  pub others : (addr : ResourceAddrView) → is_eq (addr_cmp addr new.addr) ≡ false → resource_at addr (with_resource new s).resources ≡ resource_at addr s.resources
 
 -- Where a resource was taken out there is none, and at each other address what stood there before.
-pub record RemoveChangesOneResource (label : LabelView) (s : StateView) : Type 0 where
-  pub gone : resource_at label (without_resource label s).resources ≡ None
-  pub others : (other : LabelView) → is_eq (label_cmp other label) ≡ false → resource_at other (without_resource label s).resources ≡ resource_at other s.resources
+pub record RemoveChangesOneResource (addr : ResourceAddrView) (s : StateView) : Type 0 where
+  pub gone : resource_at addr (without_resource addr s).resources ≡ None
+  pub others : (other : ResourceAddrView) → is_eq (addr_cmp other addr) ≡ false → resource_at other (without_resource addr s).resources ≡ resource_at other s.resources
 
 -- A record that was put is that of its object, and of each other object there is what there was before.
 pub record PutChangesOneRecord (new : RecordView) (r : ResourceView) : Type 0 where

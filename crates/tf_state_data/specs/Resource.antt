@@ -1,20 +1,20 @@
 -- A resource and its records, as plain data.
 use Rattle.std.specs.Option.{option_map_or}
 use Rattle.std.specs.Prelude.{◌+◌, ◌≤◌, ℕ, Bool, List, Option, map, string_bytes, vec_len, vec_capacity}
-use Rattle.tf_address.specs.Label.{LabelView, label_of}
+use Rattle.tf_config_address.specs.ResourceAddr.{ResourceAddrView, addr_of}
 use Rattle.tf_state_data.specs.Order.{at_key, with_one, without_one}
-use Rattle.tf_address.specs.ObjectId.{ObjectIdView, object_id_cmp}
+use Rattle.tf_config_address.specs.ObjectId.{ObjectIdView, object_id_cmp}
 use Rattle.tf_state_data.specs.Record.{RecordView, record_of}
 use Rattle.tf_state_data.specs.declared.resource.Resource.{Resource}
 
 -- a resource and its objects
 pub record ResourceView : Type 0 where
-  pub label : LabelView
+  pub addr : ResourceAddrView
   pub provider : List ℕ
   pub records : List RecordView
 
 abbrev pub resource_of : Resource → ResourceView
-resource_of r = record { label = label_of r.label; provider = string_bytes r.provider; records = map record_of r.records.items }
+resource_of r = record { addr = addr_of r.addr; provider = string_bytes r.provider; records = map record_of r.records.items }
 
 -- the record of an object
 abbrev pub record_at : ObjectIdView → List RecordView → Option RecordView

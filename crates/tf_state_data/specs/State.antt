@@ -1,9 +1,9 @@
 -- What a state holds, as plain data.
 use Rattle.std.specs.Prelude.{◌+◌, ◌≤◌, ℕ, List, [], Option, option_and_then, map, codes, String, string_bytes, vec_len, vec_capacity}
 use Rattle.std.specs.declared.alloc.Global.{Global}
-use Rattle.tf_address.specs.Label.{LabelView, label_cmp}
+use Rattle.tf_config_address.specs.ResourceAddr.{ResourceAddrView, addr_cmp}
 use Rattle.tf_state_data.specs.Order.{at_key, with_one, without_one}
-use Rattle.tf_address.specs.ObjectId.{ObjectIdView}
+use Rattle.tf_config_address.specs.ObjectId.{ObjectIdView}
 use Rattle.tf_state_data.specs.Record.{RecordView}
 use Rattle.tf_state_data.specs.Resource.{ResourceView, record_at, resource_of}
 use Rattle.tf_state_data.specs.declared.object.Object.{Object}
@@ -31,20 +31,20 @@ abbrev pub empty_state : List ℕ → StateView
 empty_state lineage = record { serial = 0; lineage = lineage; terraform_version = codes "1.0.0"; outputs = no_entries; resources = [] }
 
 -- the resource at an address
-abbrev pub resource_at : LabelView → List ResourceView → Option ResourceView
-resource_at = at_key (λ r. r.label) label_cmp
+abbrev pub resource_at : ResourceAddrView → List ResourceView → Option ResourceView
+resource_at = at_key (λ r. r.addr) addr_cmp
 
 -- the record of a state, by the address of its resource and by its id
-abbrev pub record_in : LabelView → ObjectIdView → StateView → Option RecordView
-record_in label id s = option_and_then (λ r. record_at id r.records) (resource_at label s.resources)
+abbrev pub record_in : ResourceAddrView → ObjectIdView → StateView → Option RecordView
+record_in addr id s = option_and_then (λ r. record_at id r.records) (resource_at addr s.resources)
 
 -- the state with a resource at its address, whether one was there or not
 abbrev pub with_resource : ResourceView → StateView → StateView
-with_resource new s = record s { resources = with_one (λ r. r.label) label_cmp new s.resources }
+with_resource new s = record s { resources = with_one (λ r. r.addr) addr_cmp new s.resources }
 
 -- the state without the resource at an address
-abbrev pub without_resource : LabelView → StateView → StateView
-without_resource label s = record s { resources = without_one (λ r. r.label) label_cmp label s.resources }
+abbrev pub without_resource : ResourceAddrView → StateView → StateView
+without_resource addr s = record s { resources = without_one (λ r. r.addr) addr_cmp addr s.resources }
 
 -- there is room for so many resources more
 abbrev pub HasRoomForResources : ℕ → State → Type 0

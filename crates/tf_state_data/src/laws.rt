@@ -1,11 +1,11 @@
 // Laws of puts and removes, proved for every state and resource: each function's contract is a law, and its body
 // does nothing.
-ghost use Rattle.tf_state_data.specs.Laws.{LabelView, ObjectIdView, PutChangesOneRecord, PutChangesOneResource, RecordView, RemoveChangesOneRecord, RemoveChangesOneResource, ResourceView, StateView};
+ghost use Rattle.tf_state_data.specs.Laws.{ResourceAddrView, ObjectIdView, PutChangesOneRecord, PutChangesOneResource, RecordView, RemoveChangesOneRecord, RemoveChangesOneResource, ResourceView, StateView};
 
 /// A put and a remove of a resource change what stands at its address alone.
 pub fn puts_and_removes_change_one_resource()
     ensures put { (new : ResourceView) (s : StateView) → PutChangesOneResource new s }
-    ensures removed { (label : LabelView) (s : StateView) → RemoveChangesOneResource label s }
+    ensures removed { (addr : ResourceAddrView) (s : StateView) → RemoveChangesOneResource addr s }
 {}
 
 /// A put and a remove of a record change what is known of its object alone.

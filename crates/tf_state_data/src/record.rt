@@ -2,7 +2,7 @@
 
 use crate::object::Object;
 use std::collections::BTreeSet;
-use tf_address::ObjectId;
+use tf_config_address::ObjectId;
 
 /// One object of a resource that exists: which one it is, its attributes, and how it came to be.
 #[derive(Clone, Debug, Drop)]

@@ -9,12 +9,12 @@ use crate::record::Record;
 use std::alloc::{AllocError, Global};
 use std::collections::BTreeSet;
 use std::mem;
-use tf_address::{Label, ObjectId};
+use tf_config_address::{ObjectId, ResourceAddr};
 
 /// A resource and the records of its objects, which stand in the order of their ids, no two with one.
 #[derive(Debug, Drop)]
 pub struct Resource {
-    label: Label,
+    addr: ResourceAddr,
     provider: String,
     records: Vec<Record>,
     pub ghost ordered: { AreById (map record_of records.items) } by { IsStrictlySortedBy-prop _ _ },
@@ -22,41 +22,41 @@ pub struct Resource {
 
 impl Resource {
     ghost use Rattle.std.specs.Prelude.{◌+◌, [], ◌<◌, ℕ, IfErr, IfOk, IfSome, OnOk, option_map, string_bytes};
-    ghost use Rattle.tf_address.specs.Label.{label_of};
+    ghost use Rattle.tf_config_address.specs.ResourceAddr.{addr_of};
     ghost use Rattle.tf_state_data.specs.Order.{IsAt, IsGapFor};
-    ghost use Rattle.tf_address.specs.ObjectId.{object_id_cmp, object_id_of};
+    ghost use Rattle.tf_config_address.specs.ObjectId.{object_id_cmp, object_id_of};
     ghost use Rattle.tf_state_data.specs.Resource.{HasRoomForRecords, record_at, resource_of, with_metadata, with_record, without_record};
 
     /// A resource at an address, with the address of its provider, and without records yet.
-    pub fn empty(alloc: Global, label: Label, provider: String) -> Resource
-        ensures { resource_of result ≡ record { label = label_of label; provider = string_bytes provider; records = [] } }
+    pub fn empty(alloc: Global, addr: ResourceAddr, provider: String) -> Resource
+        ensures { resource_of result ≡ record { addr = addr_of addr; provider = string_bytes provider; records = [] } }
     {
         let records = Vec::new(alloc);
         Resource {
-            label,
+            addr,
             provider,
             records,
         }
     }
 
     /// A resource at an address, with the address of its provider, and with records in the order of their ids.
-    pub fn new(label: Label, provider: String, records: Vec<Record>) -> Resource
+    pub fn new(addr: ResourceAddr, provider: String, records: Vec<Record>) -> Resource
         requires { AreById (map record_of records.items) }
         ensures { resource_of result
-            ≡ record { label = label_of label; provider = string_bytes provider; records = map record_of records.items } }
+            ≡ record { addr = addr_of addr; provider = string_bytes provider; records = map record_of records.items } }
     {
         Resource {
-            label,
+            addr,
             provider,
             records,
         }
     }
 
     /// Its type and its name.
-    pub fn label(&self) -> &Label
-        ensures { label_of result.now ≡ (resource_of self.now).label }
+    pub fn addr(&self) -> &ResourceAddr
+        ensures { addr_of result.now ≡ (resource_of self.now).addr }
     {
-        &self.label
+        &self.addr
     }
 
     /// The address of the provider that made it, as Terraform writes it.
@@ -159,11 +159,11 @@ impl Clone for Resource {
     ghost is_clone = { λ r copy. resource_of copy ≡ resource_of r };
 
     fn clone(&self) -> Result<Resource, AllocError> {
-        let label = self.label.clone()?;
+        let addr = self.addr.clone()?;
         let provider = self.provider.clone()?;
         let records = self.records.clone()?;
         Ok(Resource {
-            label,
+            addr,
             provider,
             records,
         })
@@ -185,9 +185,7 @@ impl PartialEq for Resource {
         ensures value { result ≡ same_resource (resource_of self.now) (resource_of other.now) }
         ensures exact { IsTrue result ↔ (resource_of self.now ≡ resource_of other.now) }
     {
-        self.label == other.label
-            && self.provider == other.provider
-            && self.records == other.records
+        self.addr == other.addr && self.provider == other.provider && self.records == other.records
     }
 }
 

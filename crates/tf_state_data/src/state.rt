@@ -11,7 +11,7 @@ use crate::resource::Resource;
 use std::alloc::{AllocError, Global};
 use std::collections::BTreeMap;
 use std::mem;
-use tf_address::{Label, ObjectId};
+use tf_config_address::{ObjectId, ResourceAddr};
 
 /// All that is known of what exists: the content of a state file. Its resources stand in the order of their
 /// addresses, no two at one address.
@@ -27,9 +27,9 @@ pub struct State {
 
 impl State {
     ghost use Rattle.std.specs.Prelude.{◌+◌, ℕ, IfErr, IfOk, IfSome, OnOk, option_map, string_bytes};
-    ghost use Rattle.tf_address.specs.Label.{label_cmp, label_of};
+    ghost use Rattle.tf_config_address.specs.ResourceAddr.{addr_cmp, addr_of};
     ghost use Rattle.tf_state_data.specs.Order.{IsAt, IsGapFor};
-    ghost use Rattle.tf_address.specs.ObjectId.{object_id_of};
+    ghost use Rattle.tf_config_address.specs.ObjectId.{object_id_of};
     ghost use Rattle.tf_state_data.specs.Record.{record_of};
     ghost use Rattle.tf_state_data.specs.State.{HasRoomForResources, empty_state, outputs_of, record_in, resource_at, state_of, with_resource, without_resource};
 
@@ -128,20 +128,20 @@ impl State {
     }
 
     /// The resource at an address, where the state has one.
-    pub fn resource(&self, label: &Label) -> Option<&Resource>
-        ensures { option_map (λ r. resource_of r.now) result ≡ resource_at (label_of label.now) (state_of self.now).resources }
+    pub fn resource(&self, addr: &ResourceAddr) -> Option<&Resource>
+        ensures { option_map (λ r. resource_of r.now) result ≡ resource_at (addr_of addr.now) (state_of self.now).resources }
     {
-        match self.search(label) {
+        match self.search(addr) {
             Ok(index) => Some(&self.resources[index]),
             Err(_) => None,
         }
     }
 
     /// The record of an object, by the address of its resource and by its id, where the state has one.
-    pub fn record(&self, label: &Label, id: &ObjectId) -> Option<&Record>
-        ensures { option_map (λ r. record_of r.now) result ≡ record_in (label_of label.now) (object_id_of id.now) (state_of self.now) }
+    pub fn record(&self, addr: &ResourceAddr, id: &ObjectId) -> Option<&Record>
+        ensures { option_map (λ r. record_of r.now) result ≡ record_in (addr_of addr.now) (object_id_of id.now) (state_of self.now) }
     {
-        match self.resource(label) {
+        match self.resource(addr) {
             Some(resource) => resource.record(id),
             None => None,
         }
@@ -160,10 +160,10 @@ impl State {
     pub fn put(&mut self, resource: Resource) -> Option<Resource>
         requires { HasRoomForResources 1 self.old }
         ensures put { state_of self.new ≡ with_resource (resource_of resource) (state_of self.old) }
-        ensures replaced { option_map resource_of result ≡ resource_at (resource_of resource).label (state_of self.old).resources }
+        ensures replaced { option_map resource_of result ≡ resource_at (resource_of resource).addr (state_of self.old).resources }
         ensures room { (n : ℕ) → HasRoomForResources (n + 1) self.old → HasRoomForResources n self.new }
     {
-        match self.search(resource.label()) {
+        match self.search(resource.addr()) {
             Ok(index) => Some(mem::replace(&mut self.resources[index], resource)),
             Err(index) => {
                 self.resources.insert(index, resource).unwrap();
@@ -174,25 +174,25 @@ impl State {
 
     /// Takes the resource at an address out of the state, where it has one. Its room is free again, so it can be put
     /// back, changed, without memory.
-    pub fn remove(&mut self, label: &Label) -> Option<Resource>
-        ensures taken { option_map resource_of result ≡ resource_at (label_of label.now) (state_of self.old).resources }
-        ensures left { state_of self.new ≡ without_resource (label_of label.now) (state_of self.old) }
+    pub fn remove(&mut self, addr: &ResourceAddr) -> Option<Resource>
+        ensures taken { option_map resource_of result ≡ resource_at (addr_of addr.now) (state_of self.old).resources }
+        ensures left { state_of self.new ≡ without_resource (addr_of addr.now) (state_of self.old) }
         ensures room { (n : ℕ) → HasRoomForResources n self.old → HasRoomForResources n self.new }
         ensures freed { IfSome result (λ _. (n : ℕ) → HasRoomForResources n self.old → HasRoomForResources (n + 1) self.new) }
     {
-        match self.search(label) {
+        match self.search(addr) {
             Ok(index) => Some(self.resources.remove(index)),
             Err(_) => None,
         }
     }
 
     /// Where the resource at an address stands, or where it would stand.
-    fn search(&self, label: &Label) -> Result<usize, usize>
-        ensures found { IfOk result (IsAt (λ r. r.label) label_cmp (label_of label.now) (state_of self.now).resources) }
-        ensures absent { IfErr result (IsGapFor (λ r. r.label) label_cmp (label_of label.now) (state_of self.now).resources) }
+    fn search(&self, addr: &ResourceAddr) -> Result<usize, usize>
+        ensures found { IfOk result (IsAt (λ r. r.addr) addr_cmp (addr_of addr.now) (state_of self.now).resources) }
+        ensures absent { IfErr result (IsGapFor (λ r. r.addr) addr_cmp (addr_of addr.now) (state_of self.now).resources) }
     {
         self.resources
-            .binary_search_by(|resource| resource.label().cmp(label))
+            .binary_search_by(|resource| resource.addr().cmp(addr))
     }
 }
 

@@ -3,7 +3,7 @@ use Rattle.std.proofs.Common.{◌≡◌, ℕ, Bool, true, false, cond, List, [],
 use Rattle.std.proofs.lemmas.Slice.Eq.{bytes_eq-Decides}
 use Rattle.std.specs.Option.{option_eq, option_map_or, option_or}
 use Rattle.std.specs.Prelude.{bytes_eq}
-use Rattle.tf_address.specs.ObjectId.{InstanceKeyView, ObjectIdView}
+use Rattle.tf_config_address.specs.ObjectId.{InstanceKeyView, ObjectIdView}
 use Rattle.tf_state_next.specs.After.{IsAfter, after_destroy, as_deposed, current_after, deposed_anew, destroy_under, instance_after, left_of_record, object_at, places_in, record_of_saved, renewed}
 use Rattle.tf_state_next.specs.Ends.{SavedView, LeftView, gone, changed, unchanged, ApplyResultView, unwanted, unplanned, nothing, saved, RecordInputView, apply_of, destroy_of}
 use Rattle.tf_state_next.specs.Room.{deposed_by, with_any}
@@ -45,7 +45,7 @@ none_deposed g unwanted left t still = refl
 pub current_set : (g : RecordInputView) (a : ApplyResultView) (destroyed : Option LeftView) (r s : ResourceView) → IsStill a
     → IsSet (object_at g.key None) (current_after g a (after_destroy destroyed (record_at (object_at g.key None) r.records))) r s
     → IsAfter g (record { applied = a; destroyed = destroyed; deposed = [] }) r s
-current_set g a destroyed r s still is = record { own = own; others = λ id not. is.others id (other_apart g.key None id not); label = is.label; provider = is.provider }
+current_set g a destroyed r s still is = record { own = own; others = λ id not. is.others id (other_apart g.key None id not); addr = is.addr; provider = is.provider }
   where
     own : (d : Option (List ℕ)) → places_in g.key s.records d ≡ instance_after g (record { applied = a; destroyed = destroyed; deposed = [] }) (places_in g.key r.records) d
     own None = is.there
@@ -74,7 +74,7 @@ deposed_own g key left r s is t false e =
 destroyed_at : (g : RecordInputView) (deposed : Option (List ℕ)) (left : LeftView) (r s : ResourceView)
     → IsSet (object_at g.key deposed) (after_destroy (Some left) (record_at (object_at g.key deposed) r.records)) r s → IsAfter g (destroy_of deposed left) r s
 destroyed_at g None left r s is = current_set g unwanted (Some left) r s tt is
-destroyed_at g (Some key) left r s is = record { own = own; others = λ id not. is.others id (other_apart g.key (Some key) id not); label = is.label; provider = is.provider }
+destroyed_at g (Some key) left r s is = record { own = own; others = λ id not. is.others id (other_apart g.key (Some key) id not); addr = is.addr; provider = is.provider }
   where
     own : (d : Option (List ℕ)) → places_in g.key s.records d ≡ instance_after g (destroy_of (Some key) left) (places_in g.key r.records) d
     own None = is.others (object_at g.key None) (λ e. current_apart g.key key (sym e))
@@ -104,7 +104,7 @@ record IsDeposed (key : InstanceKeyView) (to : Option (List ℕ)) (left : Option
   own : (t : List ℕ) → record_at (object_at key (Some t)) after.records ≡ option_or (anew to left t) (record_at (object_at key (Some t)) before.records)
   current : record_at (object_at key None) after.records ≡ record_at (object_at key None) before.records
   others : (id : ObjectIdView) → ¬ (id.key ≡ key) → record_at id after.records ≡ record_at id before.records
-  label : after.label ≡ before.label
+  addr : after.addr ≡ before.addr
   provider : after.provider ≡ before.provider
 
 anew_at : (to t : List ℕ) (x : RecordView) (b : Bool) → bytes_eq to t ≡ b → anew (Some to) (Some x) t ≡ cond b (Some (as_deposed t x)) None
@@ -123,9 +123,9 @@ deposed_there key to x r s is t false e =
     is.others (object_at key (Some t)) not ∙ sym (ap (λ o. option_or o (record_at (object_at key (Some t)) r.records)) (anew_at to t x false e))
 
 old_deposed : (key : InstanceKeyView) (to : Option (List ℕ)) (left : Option RecordView) (r : ResourceView) → HasId (object_at key None) left → IsDeposed key to left r (with_any (deposed_by to left) r)
-old_deposed key None left r named = record { own = λ t. refl; current = refl; others = λ id not. refl; label = refl; provider = refl }
+old_deposed key None left r named = record { own = λ t. refl; current = refl; others = λ id not. refl; addr = refl; provider = refl }
 old_deposed key (Some to) None r named =
-    record { own = λ t. sym (ap (λ o. option_or o (record_at (object_at key (Some t)) r.records)) (none_anew (bytes_eq to t) t)); current = refl; others = λ id not. refl; label = refl; provider = refl }
+    record { own = λ t. sym (ap (λ o. option_or o (record_at (object_at key (Some t)) r.records)) (none_anew (bytes_eq to t) t)); current = refl; others = λ id not. refl; addr = refl; provider = refl }
 old_deposed key (Some to) (Some x) r named =
     let is : IsSet (object_at key (Some to)) (Some (as_deposed to x)) r (with_record (as_deposed to x) r) =
     put_sets (object_at key (Some to)) (as_deposed to x) r (ap (λ i. object_at i.key (Some to)) (named x refl)) in
@@ -133,7 +133,7 @@ old_deposed key (Some to) (Some x) r named =
       own = λ t. deposed_there key to x r (with_record (as_deposed to x) r) is t (bytes_eq to t) refl;
       current = is.others (object_at key None) (λ e. current_apart key to (sym e));
       others = λ id not. is.others id (other_apart key (Some to) id not);
-      label = is.label;
+      addr = is.addr;
       provider = is.provider;
     }
 
@@ -152,7 +152,7 @@ saved_after g x new r s what is =
     record {
       own = λ d. own put old current d;
       others = λ other not. old.others other not ∙ put.others other (other_apart g.key None other not);
-      label = old.label ∙ put.label;
+      addr = old.addr ∙ put.addr;
       provider = old.provider ∙ put.provider;
     }
   where
@@ -171,7 +171,7 @@ saved_in_place g x b r s same none is =
     let put : IsSet (object_at g.key None) (Some (record_of_saved g x)) r s =
     subst (λ q. IsSet (object_at g.key None) (Some (record_of_saved g x)) r q) (sym is) (put_sets (object_at g.key None) (record_of_saved g x) r refl) in
     subst (λ (c : ApplyResultView). IsAfter g (record { applied = c; destroyed = None; deposed = [] }) r s) (sym same)
-    (record { own = own put; others = λ other not. put.others other (other_apart g.key None other not); label = put.label; provider = put.provider })
+    (record { own = own put; others = λ other not. put.others other (other_apart g.key None other not); addr = put.addr; provider = put.provider })
   where
     own : IsSet (object_at g.key None) (Some (record_of_saved g x)) r s
         → (d : Option (List ℕ)) → places_in g.key s.records d ≡ instance_after g (record { applied = saved x; destroyed = None; deposed = [] }) (places_in g.key r.records) d
@@ -184,7 +184,7 @@ saved_in_place g x b r s same none is =
 
 renewed_set : (id : ObjectIdView) (dependencies : List (List ℕ)) (late : Bool) (r : ResourceView) (there : Option RecordView) → record_at id r.records ≡ there
     → IsSet id (option_map (renewed dependencies late) there) r (option_map_or (λ x. with_record (record x { id = id; dependencies = dependencies; create_before_destroy = late }) r) there r)
-renewed_set id dependencies late r None e = record { there = e; others = λ other not. refl; label = refl; provider = refl }
+renewed_set id dependencies late r None e = record { there = e; others = λ other not. refl; addr = refl; provider = refl }
 renewed_set id dependencies late r (Some x) e =
     let own : x.id ≡ id = found_id id x r.records e in
     let new : RecordView = record x { id = id; dependencies = dependencies; create_before_destroy = late } in

@@ -3,13 +3,13 @@ use Rattle.std.proofs.Common.{◌≡◌, ℕ, ◌&&◌, ◌||◌, Bool, true, fa
 use Rattle.std.specs.List.{AllByRecursion, cons_option, filter_map, find, list_any}
 use Rattle.std.specs.Option.{option_eq, option_map_or, option_or}
 use Rattle.std.specs.Prelude.{bytes_eq, option_and_then}
-use Rattle.tf_address.proofs.Totals.{label_total}
-use Rattle.tf_address.specs.Label.{LabelView, label_cmp}
-use Rattle.tf_address.specs.ObjectId.{InstanceKeyView, ObjectIdView}
-use Rattle.tf_address.specs.Same.{same_label, same_instance_key}
+use Rattle.tf_config_address.proofs.Totals.{addr_total}
+use Rattle.tf_config_address.specs.ResourceAddr.{ResourceAddrView, addr_cmp}
+use Rattle.tf_config_address.specs.ObjectId.{InstanceKeyView, ObjectIdView}
+use Rattle.tf_config_address.specs.Same.{same_addr, same_instance_key}
 use Rattle.tf_state_next.proofs.Finding.{filtered_ordered, found_filtered, found_first}
 use Rattle.tf_state_next.proofs.Changing.{heads_ordered, heads_providers}
-use Rattle.tf_state_next.proofs.OneByOne.{applied_joined, destroys_it, label_itself}
+use Rattle.tf_state_next.proofs.OneByOne.{applied_joined, destroys_it, addr_itself}
 use Rattle.tf_state_next.specs.Events.{DestroyView, EventsView, AreEachAboutOne, as_apply, wanted, applied_by, given_in, ends_in, left_of_object, left_of_deposed}
 use Rattle.tf_state_next.specs.StateDraft.{home_at, empty_home}
 use Rattle.tf_state_next.specs.Recorded.{AreApplied, AreDestroyed, AreThere, IsRecorded, heads_of, record_among, places_among}
@@ -32,7 +32,7 @@ use Rattle.tf_value.specs.Tree.{Entries}
 abbrev left_by : Option DestroyView → Option LeftView
 left_by o = option_map (λ d. d.left) o
 
-module _ (label : LabelView) (key : InstanceKeyView) (k : List ℕ) where
+module _ (addr : ResourceAddrView) (key : InstanceKeyView) (k : List ℕ) where
   under_first : (j : List ℕ) (left : LeftView) (xs : List (List ℕ × LeftView)) (b : Bool) → bytes_eq j k ≡ b → destroy_under k ((j, left) ∷ xs) ≡ cond b (Some left) (destroy_under k xs)
   under_first j left xs true e = rw e refl
   under_first j left xs false e = rw e refl
@@ -50,47 +50,47 @@ module _ (label : LabelView) (key : InstanceKeyView) (k : List ℕ) where
       matched false e = under_first j d.left rest false e ∙ h ∙ ap (λ c. left_by (cond c (Some d) o)) (sym e)
 
   -- what came of the destroy of a deposed object is found under its key
-  pub deposed_found : (ds : List DestroyView) → destroy_under k (filter_map (left_of_deposed label key) ds) ≡ left_of_object label (object_at key (Some k)) ds
+  pub deposed_found : (ds : List DestroyView) → destroy_under k (filter_map (left_of_deposed addr key) ds) ≡ left_of_object addr (object_at key (Some k)) ds
   deposed_found [] = refl
   deposed_found (d ∷ ds) =
-      deposed_at d (filter_map (left_of_deposed label key) ds) (find (destroys_it label (object_at key (Some k))) ds) (same_label d.label label) (same_instance_key d.id.key key) d.id.deposed (deposed_found ds)
-      ∙ ap left_by (sym (found_first (destroys_it label (object_at key (Some k))) d ds (destroys_it label (object_at key (Some k)) d) refl))
+      deposed_at d (filter_map (left_of_deposed addr key) ds) (find (destroys_it addr (object_at key (Some k))) ds) (same_addr d.addr addr) (same_instance_key d.id.key key) d.id.deposed (deposed_found ds)
+      ∙ ap left_by (sym (found_first (destroys_it addr (object_at key (Some k))) d ds (destroys_it addr (object_at key (Some k)) d) refl))
 
 -- the destroys come first, and then what is wanted
-combined : (g : RecordInputView) (a : ApplyResultView) (label : LabelView) (key : InstanceKeyView) (ds : List DestroyView) (before mid : Places) (deposed : Option (List ℕ))
-    → ((d : Option (List ℕ)) → mid d ≡ after_destroy (left_of_object label (object_at key d) ds) (before d))
+combined : (g : RecordInputView) (a : ApplyResultView) (addr : ResourceAddrView) (key : InstanceKeyView) (ds : List DestroyView) (before mid : Places) (deposed : Option (List ℕ))
+    → ((d : Option (List ℕ)) → mid d ≡ after_destroy (left_of_object addr (object_at key d) ds) (before d))
     → instance_after g (record { applied = a; destroyed = None; deposed = [] }) mid deposed
-    ≡ instance_after g (record { applied = a; destroyed = left_of_object label (object_at key None) ds; deposed = filter_map (left_of_deposed label key) ds }) before deposed
-combined g a label key ds before mid None is = ap (current_after g a) (is None)
-combined g a label key ds before mid (Some k) is =
+    ≡ instance_after g (record { applied = a; destroyed = left_of_object addr (object_at key None) ds; deposed = filter_map (left_of_deposed addr key) ds }) before deposed
+combined g a addr key ds before mid None is = ap (current_after g a) (is None)
+combined g a addr key ds before mid (Some k) is =
     ap₂ (λ (left : Option RecordView) (there : Option RecordView). option_or (deposed_anew g a left k) there) (is None)
-    (is (Some k) ∙ ap (λ (o : Option LeftView). after_destroy o (before (Some k))) (sym (deposed_found label key k ds)))
+    (is (Some k) ∙ ap (λ (o : Option LeftView). after_destroy o (before (Some k))) (sym (deposed_found addr key k ds)))
 
-home_known : (prior : Option ResourceView) (b : Bool) (label : LabelView) (id : ObjectIdView)
-    → option_and_then (λ r. record_at id r.records) (option_or prior (cond b (Some (empty_home label)) None)) ≡ option_and_then (λ r. record_at id r.records) prior
-home_known (Some r) b label id = refl
-home_known None true label id = refl
-home_known None false label id = refl
+home_known : (prior : Option ResourceView) (b : Bool) (addr : ResourceAddrView) (id : ObjectIdView)
+    → option_and_then (λ r. record_at id r.records) (option_or prior (cond b (Some (empty_home addr)) None)) ≡ option_and_then (λ r. record_at id r.records) prior
+home_known (Some r) b addr id = refl
+home_known None true addr id = refl
+home_known None false addr id = refl
 
 -- what is known of each object after all
-pub known_after : (prior : List ResourceView) (labels : List LabelView) (e : EventsView) (draft mid late after : List ResourceView) → ((label : LabelView) → resource_at label draft ≡ home_at prior labels label) → AreEachAboutOne e
+pub known_after : (prior : List ResourceView) (addrs : List ResourceAddrView) (e : EventsView) (draft mid late after : List ResourceView) → ((addr : ResourceAddrView) → resource_at addr draft ≡ home_at prior addrs addr) → AreEachAboutOne e
     → AreDestroyed e.destroys draft mid → AreApplied (map as_apply e.metadata_updates) mid late → AreApplied e.applies late after
-    → (label : LabelView) (id : ObjectIdView) → record_among label id after ≡ instance_after (given_in e label id.key) (ends_in e label id.key) (λ d. record_among label (object_at id.key d) prior) id.deposed
-known_after prior labels e draft mid late after are apart destroyed renewed applied label id =
+    → (addr : ResourceAddrView) (id : ObjectIdView) → record_among addr id after ≡ instance_after (given_in e addr id.key) (ends_in e addr id.key) (λ d. record_among addr (object_at id.key d) prior) id.deposed
+known_after prior addrs e draft mid late after are apart destroyed renewed applied addr id =
     let all = applied_joined e.applies (map as_apply e.metadata_updates) mid late after apart.wanted renewed applied in
-    all.known label id.key id.deposed
-    ∙ combined (given_in e label id.key) (applied_by (wanted e) label id.key) label id.key e.destroys (λ d. record_among label (object_at id.key d) prior) (places_among label id.key mid) id.deposed
-    (λ d. destroyed.known label (object_at id.key d)
-    ∙ ap (after_destroy (left_of_object label (object_at id.key d) e.destroys))
-    (ap (option_and_then (λ (r : ResourceView). record_at (object_at id.key d) r.records)) (are label) ∙ home_known (resource_at label prior) _ label (object_at id.key d)))
+    all.known addr id.key id.deposed
+    ∙ combined (given_in e addr id.key) (applied_by (wanted e) addr id.key) addr id.key e.destroys (λ d. record_among addr (object_at id.key d) prior) (places_among addr id.key mid) id.deposed
+    (λ d. destroyed.known addr (object_at id.key d)
+    ∙ ap (after_destroy (left_of_object addr (object_at id.key d) e.destroys))
+    (ap (option_and_then (λ (r : ResourceView). record_at (object_at id.key d) r.records)) (are addr) ∙ home_known (resource_at addr prior) _ addr (object_at id.key d)))
 
 -- ---- the state
 
-home_provider : (prior : StateView) (o : Option ResourceView) (b : Bool) (label : LabelView) (p : List ℕ) → Some p ≡ option_map (λ r. r.provider) (option_or o (cond b (Some (empty_home label)) None))
-    → p ≡ option_map_or (λ r. r.provider) o (provider_text label.type_name)
-home_provider prior (Some r) b label p e = cc
-home_provider prior None true label p e = cc
-home_provider prior None false label p e = absurd (cc)
+home_provider : (prior : StateView) (o : Option ResourceView) (b : Bool) (addr : ResourceAddrView) (p : List ℕ) → Some p ≡ option_map (λ r. r.provider) (option_or o (cond b (Some (empty_home addr)) None))
+    → p ≡ option_map_or (λ r. r.provider) o (provider_text addr.type_name)
+home_provider prior (Some r) b addr p e = cc
+home_provider prior None true addr p e = cc
+home_provider prior None false addr p e = absurd (cc)
 
 kept_records : (o : Option ResourceView) (id : ObjectIdView) → option_and_then (λ r. record_at id r.records) (option_and_then (λ r. cond (has_records r) (Some r) None) o) ≡ option_and_then (λ r. record_at id r.records) o
 kept_records None id = refl
@@ -120,25 +120,25 @@ pub state_is : (n : ℕ) (l v : List ℕ) (o p : Entries) (qs rs : List Resource
     → ◌≡◌ {A = StateView} (record { serial = n; lineage = l; terraform_version = v; outputs = o; resources = qs }) (record { serial = m; lineage = k; terraform_version = w; outputs = p; resources = rs })
 state_is n l v o p qs rs m k w e f g h i = cc
 
-module _ (prior : StateView) (given : LabelView → InstanceKeyView → RecordInputView) (ends : LabelView → InstanceKeyView → InstanceResultView) (outputs : Entries) (labels : List LabelView) (draft rs : List ResourceView) where
+module _ (prior : StateView) (given : ResourceAddrView → InstanceKeyView → RecordInputView) (ends : ResourceAddrView → InstanceKeyView → InstanceResultView) (outputs : Entries) (addrs : List ResourceAddrView) (draft rs : List ResourceView) where
   -- a state of these resources, as far as objects are known of them
   abbrev kept_state : StateView
   kept_state = record { serial = prior.serial; lineage = prior.lineage; terraform_version = prior.terraform_version; outputs = outputs; resources = filter has_records rs }
 
-  pub is_after : AreByAddress rs → ((label : LabelView) → resource_at label draft ≡ home_at prior.resources labels label)
-      → ((label : LabelView) → option_map (λ r. r.provider) (resource_at label rs) ≡ option_map (λ r. r.provider) (resource_at label draft))
-      → ((label : LabelView) (id : ObjectIdView) → record_among label id rs ≡ instance_after (given label id.key) (ends label id.key) (λ d. record_among label (object_at id.key d) prior.resources) id.deposed)
+  pub is_after : AreByAddress rs → ((addr : ResourceAddrView) → resource_at addr draft ≡ home_at prior.resources addrs addr)
+      → ((addr : ResourceAddrView) → option_map (λ r. r.provider) (resource_at addr rs) ≡ option_map (λ r. r.provider) (resource_at addr draft))
+      → ((addr : ResourceAddrView) (id : ObjectIdView) → record_among addr id rs ≡ instance_after (given addr id.key) (ends addr id.key) (λ d. record_among addr (object_at id.key d) prior.resources) id.deposed)
       → IsStateAfter prior given ends outputs (record kept_state { serial = next_serial prior kept_state })
   is_after ordered are providers known =
-      let found : (label : LabelView) → resource_at label (filter has_records rs) ≡ option_and_then (λ r. cond (has_records r) (Some r) None) (resource_at label rs) =
-      λ label. found_filtered (λ (r : ResourceView). r.label) label_cmp label_total has_records label rs ordered in
+      let found : (addr : ResourceAddrView) → resource_at addr (filter has_records rs) ≡ option_and_then (λ r. cond (has_records r) (Some r) None) (resource_at addr rs) =
+      λ addr. found_filtered (λ (r : ResourceView). r.addr) addr_cmp addr_total has_records addr rs ordered in
       record {
-        records = λ label id. ap (option_and_then (λ (r : ResourceView). record_at id r.records)) (found label) ∙ kept_records (resource_at label rs) id ∙ known label id;
+        records = λ addr id. ap (option_and_then (λ (r : ResourceView). record_at id r.records)) (found addr) ∙ kept_records (resource_at addr rs) id ∙ known addr id;
         present = all_kept has_records rs;
-        providers = λ label r e.
-            let there : resource_at label rs ≡ Some r = kept_provider (resource_at label rs) r (sym (found label) ∙ e) in
-            home_provider prior (resource_at label prior.resources) _ label r.provider
-            (sym (ap (option_map (λ (r : ResourceView). r.provider)) there) ∙ providers label ∙ ap (option_map (λ (r : ResourceView). r.provider)) (are label));
+        providers = λ addr r e.
+            let there : resource_at addr rs ≡ Some r = kept_provider (resource_at addr rs) r (sym (found addr) ∙ e) in
+            home_provider prior (resource_at addr prior.resources) _ addr r.provider
+            (sym (ap (option_map (λ (r : ResourceView). r.provider)) there) ∙ providers addr ∙ ap (option_map (λ (r : ResourceView). r.provider)) (are addr));
         outputs_are = refl;
         lineage = refl;
         version = refl;
@@ -160,22 +160,22 @@ recorded_heads e before after h = h.applied.heads ∙ h.renewed.heads ∙ h.dest
 
 pub recorded_ordered : (e : EventsView) (before after : List ResourceView) → IsRecorded e before after → AreByAddress before → AreByAddress (filter has_records after)
 recorded_ordered e before after h ordered =
-    filtered_ordered (λ (r : ResourceView). r.label) label_cmp label_total has_records after (heads_ordered before after (recorded_heads e before after h) ordered)
+    filtered_ordered (λ (r : ResourceView). r.addr) addr_cmp addr_total has_records after (heads_ordered before after (recorded_heads e before after h) ordered)
 
 -- the state that the code makes of a draft and of what was recorded in it
-pub whole_is : (prior : StateView) (e : EventsView) (outputs : Entries) (labels : List LabelView) (draft rs : List ResourceView) (n : ℕ) (l v : List ℕ) (qs : List ResourceView) (s t : StateView)
-    → AreByAddress draft → ((label : LabelView) → resource_at label draft ≡ home_at prior.resources labels label) → AreEachAboutOne e → IsRecorded e draft rs
+pub whole_is : (prior : StateView) (e : EventsView) (outputs : Entries) (addrs : List ResourceAddrView) (draft rs : List ResourceView) (n : ℕ) (l v : List ℕ) (qs : List ResourceView) (s t : StateView)
+    → AreByAddress draft → ((addr : ResourceAddrView) → resource_at addr draft ≡ home_at prior.resources addrs addr) → AreEachAboutOne e → IsRecorded e draft rs
     → n ≡ prior.serial → l ≡ prior.lineage → v ≡ prior.terraform_version → qs ≡ filter has_records rs
     → s ≡ record { serial = n; lineage = l; terraform_version = v; outputs = outputs; resources = qs } → t ≡ record s { serial = next_serial prior s }
     → IsStateAfter prior (given_in e) (ends_in e) outputs t
-whole_is prior e outputs labels draft rs n l v qs s t ordered are apart h serial lineage version resources is raised =
+whole_is prior e outputs addrs draft rs n l v qs s t ordered are apart h serial lineage version resources is raised =
     let heads = recorded_heads e draft rs h in
-    is_after_of prior (given_in e) (ends_in e) outputs labels draft rs n l v qs s t serial lineage version resources is raised
-    (is_after prior (given_in e) (ends_in e) outputs labels draft rs (heads_ordered draft rs heads ordered) are (λ label. heads_providers label draft rs heads)
-    (known_after prior.resources labels e draft h.mid h.late rs are apart h.destroyed h.renewed h.applied))
+    is_after_of prior (given_in e) (ends_in e) outputs addrs draft rs n l v qs s t serial lineage version resources is raised
+    (is_after prior (given_in e) (ends_in e) outputs addrs draft rs (heads_ordered draft rs heads ordered) are (λ addr. heads_providers addr draft rs heads)
+    (known_after prior.resources addrs e draft h.mid h.late rs are apart h.destroyed h.renewed h.applied))
 
-any_at : (x l : LabelView) (b : Bool) → b ≡ true → (same_label x l || b) ≡ true
-any_at x l true e = or_true (same_label x l)
+any_at : (x l : ResourceAddrView) (b : Bool) → b ≡ true → (same_addr x l || b) ≡ true
+any_at x l true e = or_true (same_addr x l)
   where
     or_true : (c : Bool) → (c || true) ≡ true
     or_true true = refl
@@ -187,23 +187,23 @@ first_true true d e = refl
 first_true false d e = absurd (cc)
 
 -- each of some addresses is one of them
-each_is : (labels : List LabelView) → AllByRecursion (λ l. list_any (λ k. same_label k l) labels ≡ true) labels
+each_is : (addrs : List ResourceAddrView) → AllByRecursion (λ l. list_any (λ k. same_addr k l) addrs ≡ true) addrs
 each_is [] = tt
-each_is (x ∷ labels) = (
-  first_true (same_label x x) _ (label_itself x),
-  all_mono (λ l. list_any (λ k. same_label k l) labels ≡ true) (λ l. list_any (λ k. same_label k l) (x ∷ labels) ≡ true) labels (λ l h. any_at x l (list_any (λ k. same_label k l) labels) h) (each_is labels),
+each_is (x ∷ addrs) = (
+  first_true (same_addr x x) _ (addr_itself x),
+  all_mono (λ l. list_any (λ k. same_addr k l) addrs ≡ true) (λ l. list_any (λ k. same_addr k l) (x ∷ addrs) ≡ true) addrs (λ l h. any_at x l (list_any (λ k. same_addr k l) addrs) h) (each_is addrs),
 )
 
-home_there : (prior : Option ResourceView) (b : Bool) (l : LabelView) → b ≡ true → ¬ (option_or prior (cond b (Some (empty_home l)) None) ≡ None)
+home_there : (prior : Option ResourceView) (b : Bool) (l : ResourceAddrView) → b ≡ true → ¬ (option_or prior (cond b (Some (empty_home l)) None) ≡ None)
 home_there (Some r) b l e h = absurd (cc)
 home_there None true l e h = absurd (cc)
 home_there None false l e h = absurd (cc)
 
 -- there is a home at each of the addresses
-pub homes_there : (prior : List ResourceView) (labels : List LabelView) (draft : List ResourceView) → ((label : LabelView) → resource_at label draft ≡ home_at prior labels label) → AreThere labels draft
-homes_there prior labels draft are =
-    all_mono (λ l. list_any (λ k. same_label k l) labels ≡ true) (λ l. ¬ (resource_at l draft ≡ None)) labels
-    (λ l one none. home_there (resource_at l prior) (list_any (λ k. same_label k l) labels) l one (sym (are l) ∙ none)) (each_is labels)
+pub homes_there : (prior : List ResourceView) (addrs : List ResourceAddrView) (draft : List ResourceView) → ((addr : ResourceAddrView) → resource_at addr draft ≡ home_at prior addrs addr) → AreThere addrs draft
+homes_there prior addrs draft are =
+    all_mono (λ l. list_any (λ k. same_addr k l) addrs ≡ true) (λ l. ¬ (resource_at l draft ≡ None)) addrs
+    (λ l one none. home_there (resource_at l prior) (list_any (λ k. same_addr k l) addrs) l one (sym (are l) ∙ none)) (each_is addrs)
 
 -- the records of each resource are in order
 pub records_ordered : (rs : List Resource) → AllByRecursion (λ r. AreById r.records) (map resource_of rs)

@@ -4,10 +4,10 @@ use Rattle.std.proofs.lemmas.List.{get_or_default, length-map}
 use Rattle.std.proofs.lemmas.List.Sums.{count_by-le-length, count_by_more_no, count_by_more_yes}
 use Rattle.std.specs.List.{AllByRecursion, find}
 use Rattle.std.specs.Ordering.{is_lt, is_eq, is_gt}
-use Rattle.tf_address.specs.Label.{LabelView, label_cmp}
-use Rattle.tf_address.specs.Same.{same_label}
-use Rattle.tf_state_next.proofs.Changing.{found_label, labels_apart, labels_tied}
-use Rattle.tf_state_next.proofs.OneByOne.{label_itself}
+use Rattle.tf_config_address.specs.ResourceAddr.{ResourceAddrView, addr_cmp}
+use Rattle.tf_config_address.specs.Same.{same_addr}
+use Rattle.tf_state_next.proofs.Changing.{found_addr, addrs_apart, addrs_tied}
+use Rattle.tf_state_next.proofs.OneByOne.{addr_itself}
 use Rattle.tf_state_next.specs.StateDraft.{count_of, counts_at, empty_home}
 use Rattle.tf_state_data.specs.Order.{IsAt, IsGapFor}
 use Rattle.tf_state_data.specs.Resource.{ResourceView}
@@ -66,38 +66,38 @@ not_equal_greater Equal e = absurd (cc)
 not_equal_greater Greater e = refl
 
 -- an address in another place of the order is another one
-apart : (l : LabelView) (r : ResourceView) → is_eq (label_cmp r.label l) ≡ false → same_label l r.label ≡ false
-apart l r e = sym (labels_tied l r.label) ∙ labels_apart r.label l (sym (labels_tied r.label l) ∙ e)
+apart : (l : ResourceAddrView) (r : ResourceView) → is_eq (addr_cmp r.addr l) ≡ false → same_addr l r.addr ≡ false
+apart l r e = sym (addrs_tied l r.addr) ∙ addrs_apart r.addr l (sym (addrs_tied r.addr l) ∙ e)
 
-module _ (labels : List LabelView) (i : ℕ) (l : LabelView) (within : i < length labels) (is : get_or labels i l ≡ l) where
+module _ (addrs : List ResourceAddrView) (i : ℕ) (l : ResourceAddrView) (within : i < length addrs) (is : get_or addrs i l ≡ l) where
   -- one more of them leaves the count of another address
-  count_of_other : (r : ResourceView) → is_eq (label_cmp r.label l) ≡ false → count_of (take (i + 1) labels) r.label ≡ count_of (take i labels) r.label
-  count_of_other r e = count_by_more_no (λ k. same_label k r.label) labels i l within (ap (λ k. same_label k r.label) is ∙ apart l r e)
+  count_of_other : (r : ResourceView) → is_eq (addr_cmp r.addr l) ≡ false → count_of (take (i + 1) addrs) r.addr ≡ count_of (take i addrs) r.addr
+  count_of_other r e = count_by_more_no (λ k. same_addr k r.addr) addrs i l within (ap (λ k. same_addr k r.addr) is ∙ apart l r e)
 
   -- and adds one to its own
-  count_of_own : (r : ResourceView) → r.label ≡ l → count_of (take (i + 1) labels) r.label ≡ count_of (take i labels) r.label + 1
+  count_of_own : (r : ResourceView) → r.addr ≡ l → count_of (take (i + 1) addrs) r.addr ≡ count_of (take i addrs) r.addr + 1
   count_of_own r e =
-      count_by_more_yes (λ k. same_label k r.label) labels i l within (ap (λ k. same_label k r.label) is ∙ ap (same_label l) e ∙ label_itself l)
+      count_by_more_yes (λ k. same_addr k r.addr) addrs i l within (ap (λ k. same_addr k r.addr) is ∙ ap (same_addr l) e ∙ addr_itself l)
 
   -- one more where a resource has the address
-  pub one_more : (rs : List ResourceView) (k : ℕ) → IsAt (λ r. r.label) label_cmp l rs k → counts_at (take (i + 1) labels) rs ≡ set (counts_at (take i labels) rs) k (get_or (counts_at (take i labels) rs) k 0 + 1)
+  pub one_more : (rs : List ResourceView) (k : ℕ) → IsAt (λ r. r.addr) addr_cmp l rs k → counts_at (take (i + 1) addrs) rs ≡ set (counts_at (take i addrs) rs) k (get_or (counts_at (take i addrs) rs) k 0 + 1)
   one_more rs k at =
       let d = empty_home l in
-      let f = λ (r : ResourceView). count_of (take i labels) r.label in
-      let g = λ (r : ResourceView). count_of (take (i + 1) labels) r.label in
+      let f = λ (r : ResourceView). count_of (take i addrs) r.addr in
+      let g = λ (r : ResourceView). count_of (take (i + 1) addrs) r.addr in
       let lower : AllByRecursion (λ r. g r ≡ f r) (take k rs) =
       subst (AllByRecursion (λ r. g r ≡ f r)) (sym at.lower)
-      (all_weaker (λ (r : ResourceView). is_lt (label_cmp r.label l) ≡ true) (λ r. g r ≡ f r) _ (λ r e. count_of_other r (not_equal_less (label_cmp r.label l) e)) (all_pass (λ (r : ResourceView). is_lt (label_cmp r.label l)) rs)) in
+      (all_weaker (λ (r : ResourceView). is_lt (addr_cmp r.addr l) ≡ true) (λ r. g r ≡ f r) _ (λ r e. count_of_other r (not_equal_less (addr_cmp r.addr l) e)) (all_pass (λ (r : ResourceView). is_lt (addr_cmp r.addr l)) rs)) in
       let upper : AllByRecursion (λ r. g r ≡ f r) (drop (suc k) rs) =
       subst (AllByRecursion (λ r. g r ≡ f r)) (sym at.upper)
-      (all_weaker (λ (r : ResourceView). is_gt (label_cmp r.label l) ≡ true) (λ r. g r ≡ f r) _ (λ r e. count_of_other r (not_equal_greater (label_cmp r.label l) e)) (all_pass (λ (r : ResourceView). is_gt (label_cmp r.label l)) rs)) in
-      one_differs f g rs k d at.within lower upper (count_of_own (get_or rs k d) (found_label l rs (get_or rs k d) (at.found d)))
+      (all_weaker (λ (r : ResourceView). is_gt (addr_cmp r.addr l) ≡ true) (λ r. g r ≡ f r) _ (λ r e. count_of_other r (not_equal_greater (addr_cmp r.addr l) e)) (all_pass (λ (r : ResourceView). is_gt (addr_cmp r.addr l)) rs)) in
+      one_differs f g rs k d at.within lower upper (count_of_own (get_or rs k d) (found_addr l rs (get_or rs k d) (at.found d)))
 
   -- none where none has it
-  pub none_more : (rs : List ResourceView) (k : ℕ) → IsGapFor (λ r. r.label) label_cmp l rs k → counts_at (take (i + 1) labels) rs ≡ counts_at (take i labels) rs
+  pub none_more : (rs : List ResourceView) (k : ℕ) → IsGapFor (λ r. r.addr) addr_cmp l rs k → counts_at (take (i + 1) addrs) rs ≡ counts_at (take i addrs) rs
   none_more rs k gap =
-      same_map (λ (r : ResourceView). count_of (take i labels) r.label) (λ (r : ResourceView). count_of (take (i + 1) labels) r.label) rs
-      (all_weaker (λ (r : ResourceView). is_eq (label_cmp r.label l) ≡ false) (λ r. count_of (take (i + 1) labels) r.label ≡ count_of (take i labels) r.label) rs (λ r e. count_of_other r e) (none_pass (λ (r : ResourceView). is_eq (label_cmp r.label l)) rs gap.absent))
+      same_map (λ (r : ResourceView). count_of (take i addrs) r.addr) (λ (r : ResourceView). count_of (take (i + 1) addrs) r.addr) rs
+      (all_weaker (λ (r : ResourceView). is_eq (addr_cmp r.addr l) ≡ false) (λ r. count_of (take (i + 1) addrs) r.addr ≡ count_of (take i addrs) r.addr) rs (λ r e. count_of_other r e) (none_pass (λ (r : ResourceView). is_eq (addr_cmp r.addr l)) rs gap.absent))
 
 -- of none, each counts none
 pub none_counted : (rs : List ResourceView) → replicate (length rs) 0 ≡ counts_at [] rs
@@ -105,10 +105,10 @@ none_counted [] = refl
 none_counted (r ∷ rs) = ap (λ ns. 0 ∷ ns) (none_counted rs)
 
 -- no address counts more than there are
-pub counted_at_most : (labels : List LabelView) (rs : List ResourceView) (k : ℕ) → get_or (counts_at labels rs) k 0 ≤ length labels
-counted_at_most labels rs k = all_at_most (λ (r : ResourceView). count_of labels r.label) (length labels) rs k (λ r. count_by-le-length (λ l. same_label l r.label) labels)
+pub counted_at_most : (addrs : List ResourceAddrView) (rs : List ResourceView) (k : ℕ) → get_or (counts_at addrs rs) k 0 ≤ length addrs
+counted_at_most addrs rs k = all_at_most (λ (r : ResourceView). count_of addrs r.addr) (length addrs) rs k (λ r. count_by-le-length (λ l. same_addr l r.addr) addrs)
 
 -- the count at a place is what stands there
-pub at_counted : (labels : List LabelView) (rs : List ResourceView) (counts : List ℕ) (k n : ℕ) → counts ≡ counts_at labels rs → k < length rs → n ≡ get_or counts k n → n ≡ get_or (counts_at labels rs) k 0
-at_counted labels rs counts k n is within e =
-    e ∙ ap (λ ns. get_or ns k n) is ∙ get_or_default (counts_at labels rs) k n 0 (omega (arith, within, length-map rs (λ (r : ResourceView). count_of labels r.label)))
+pub at_counted : (addrs : List ResourceAddrView) (rs : List ResourceView) (counts : List ℕ) (k n : ℕ) → counts ≡ counts_at addrs rs → k < length rs → n ≡ get_or counts k n → n ≡ get_or (counts_at addrs rs) k 0
+at_counted addrs rs counts k n is within e =
+    e ∙ ap (λ ns. get_or ns k n) is ∙ get_or_default (counts_at addrs rs) k n 0 (omega (arith, within, length-map rs (λ (r : ResourceView). count_of addrs r.addr)))

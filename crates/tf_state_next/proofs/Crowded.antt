@@ -2,8 +2,8 @@
 use Rattle.std.proofs.Common.{◌≡◌, ℕ, zero, suc, ◌≤◌, ◌<◌, ◌^◌, Bool, true, false, cond, ◌||◌, List, [], ◌∷◌, length, Some, refl, sym, ap, ◌∙◌, arith, eqb, eqb-true, ne_eqb}
 use Rattle.std.proofs.lemmas.Map.Steps.{length-le_from_distinct_below}
 use Rattle.std.specs.List.{list_any, AllByRecursion, IsDistinct}
-use Rattle.tf_address.specs.ObjectId.{InstanceKeyView}
-use Rattle.tf_address.specs.Same.{same_object_id, object_id_Decides}
+use Rattle.tf_config_address.specs.ObjectId.{InstanceKeyView}
+use Rattle.tf_config_address.specs.Same.{same_object_id, object_id_Decides}
 use Rattle.tf_state_next.specs.After.{object_at}
 use Rattle.tf_state_next.specs.DeposedKey.{is_used, key_text, serial_after}
 use Rattle.tf_state_next.proofs.Hex.{steps_apart}

@@ -1,8 +1,8 @@
 -- The key of an object that becomes deposed: there is one, and it is free.
 use Rattle.std.proofs.Common.{◌≡◌, ℕ, zero, suc, ◌<◌, ◌⊎◌, inl, inr, Bool, true, false, ◌||◌, List, [], ◌∷◌, length, Some, None, is_eq, refl, sym, ap, ◌∙◌, subst, arith}
 use Rattle.std.specs.List.{list_any}
-use Rattle.tf_address.specs.ObjectId.{ObjectIdView, object_id_cmp}
-use Rattle.tf_address.specs.Same.{same_object_id}
+use Rattle.tf_config_address.specs.ObjectId.{ObjectIdView, object_id_cmp}
+use Rattle.tf_config_address.specs.Same.{same_object_id}
 use Rattle.tf_state_next.specs.After.{object_at}
 use Rattle.tf_state_next.specs.DeposedKey.{IsFirstFree, is_key, is_used, key_text, serial_after}
 use Rattle.std.proofs.lemmas.Bool.{cases_order}

@@ -4,9 +4,9 @@ use Rattle.std.specs.List.{AllByRecursion}
 use Rattle.std.specs.List.Sorted.{IsStrictlySortedBy}
 use Rattle.std.specs.Ordering.{ordering_reverse}
 use Rattle.std.proofs.lemmas.Cmp.{tied_itself}
-use Rattle.tf_address.specs.ObjectId.{ObjectIdView, object_id_cmp}
-use Rattle.tf_address.specs.Same.{same_object_id, object_id_Decides}
-use Rattle.tf_address.proofs.Totals.{object_id_total}
+use Rattle.tf_config_address.specs.ObjectId.{ObjectIdView, object_id_cmp}
+use Rattle.tf_config_address.specs.Same.{same_object_id, object_id_Decides}
+use Rattle.tf_config_address.proofs.Totals.{object_id_total}
 use Rattle.tf_state_next.specs.After.{object_at}
 use Rattle.tf_state_next.specs.ObjectLaws.{AfterIsOne}
 use Rattle.tf_state_next.proofs.Places.{objects_tied}
@@ -87,4 +87,4 @@ after_one g ends before r s sorted ordered first second =
       | inr other ↦ first.others id other ∙ sym (second.others id other)
     ] in
     let records = same_records r.records s.records sorted ordered each in
-    λ t. record { label = (first.label ∙ sym second.label) t; provider = (first.provider ∙ sym second.provider) t; records = records t }
+    λ t. record { addr = (first.addr ∙ sym second.addr) t; provider = (first.provider ∙ sym second.provider) t; records = records t }

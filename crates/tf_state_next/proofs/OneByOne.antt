@@ -4,9 +4,9 @@ use Rattle.std.proofs.lemmas.Slice.Eq.{bytes_eq-Decides}
 use Rattle.std.specs.List.{find}
 use Rattle.std.specs.Option.{option_eq, option_map_or, option_or}
 use Rattle.std.specs.Prelude.{bytes_eq, option_and_then}
-use Rattle.tf_address.specs.Label.{LabelView}
-use Rattle.tf_address.specs.ObjectId.{InstanceKeyView, ObjectIdView}
-use Rattle.tf_address.specs.Same.{same_label, same_instance_key, same_object_id, label_Decides, object_id_Decides}
+use Rattle.tf_config_address.specs.ResourceAddr.{ResourceAddrView}
+use Rattle.tf_config_address.specs.ObjectId.{InstanceKeyView, ObjectIdView}
+use Rattle.tf_config_address.specs.Same.{same_addr, same_instance_key, same_object_id, addr_Decides, object_id_Decides}
 use Rattle.tf_state_next.proofs.Finding.{found_first, found_joined, found_once}
 use Rattle.tf_state_next.specs.Events.{ApplyView, DestroyView, AreApart, instance_of, object_of, is_instance, apply_of_instance, left_of_object, nothing_given}
 use Rattle.tf_state_next.specs.Recorded.{AreApplied, AreDestroyed, record_among, places_among, heads_of}
@@ -37,25 +37,25 @@ keys_same j k e =
 pub key_itself : (k : InstanceKeyView) → same_instance_key k k ≡ true
 key_itself k = (and_both (same_instance_key k k) (option_eq bytes_eq None None) ((object_id_Decides (object_at k None) (object_at k None)).1 refl)).0
 
-pub label_itself : (l : LabelView) → same_label l l ≡ true
-label_itself l = (label_Decides l l).1 refl
+pub addr_itself : (l : ResourceAddrView) → same_addr l l ≡ true
+addr_itself l = (addr_Decides l l).1 refl
 
 -- the test of the destroy of an object, and of the apply of an instance
-abbrev pub destroys_it : LabelView → ObjectIdView → DestroyView → Bool
-destroys_it label id d = same_label d.label label && same_object_id d.id id
+abbrev pub destroys_it : ResourceAddrView → ObjectIdView → DestroyView → Bool
+destroys_it addr id d = same_addr d.addr addr && same_object_id d.id id
 
-abbrev pub applies_it : LabelView → InstanceKeyView → ApplyView → Bool
-applies_it label key a = is_instance label key a.label a.given.key
+abbrev pub applies_it : ResourceAddrView → InstanceKeyView → ApplyView → Bool
+applies_it addr key a = is_instance addr key a.addr a.given.key
 
-pub destroys_one : (label : LabelView) (id : ObjectIdView) (d : DestroyView) → destroys_it label id d ≡ true → object_of d ≡ (label, id)
-destroys_one label id d e =
-    let both = and_both (same_label d.label label) (same_object_id d.id id) e in
-    ap₂ {C = LabelView × ObjectIdView} (λ l i. (l, i)) ((label_Decides d.label label).0 both.0) ((object_id_Decides d.id id).0 both.1)
+pub destroys_one : (addr : ResourceAddrView) (id : ObjectIdView) (d : DestroyView) → destroys_it addr id d ≡ true → object_of d ≡ (addr, id)
+destroys_one addr id d e =
+    let both = and_both (same_addr d.addr addr) (same_object_id d.id id) e in
+    ap₂ {C = ResourceAddrView × ObjectIdView} (λ l i. (l, i)) ((addr_Decides d.addr addr).0 both.0) ((object_id_Decides d.id id).0 both.1)
 
-pub applies_one : (label : LabelView) (key : InstanceKeyView) (a : ApplyView) → applies_it label key a ≡ true → instance_of a ≡ (label, key)
-applies_one label key a e =
-    let both = and_both (same_label a.label label) (same_instance_key a.given.key key) e in
-    ap₂ {C = LabelView × InstanceKeyView} (λ l k. (l, k)) ((label_Decides a.label label).0 both.0) (keys_same a.given.key key both.1)
+pub applies_one : (addr : ResourceAddrView) (key : InstanceKeyView) (a : ApplyView) → applies_it addr key a ≡ true → instance_of a ≡ (addr, key)
+applies_one addr key a e =
+    let both = and_both (same_addr a.addr addr) (same_instance_key a.given.key key) e in
+    ap₂ {C = ResourceAddrView × InstanceKeyView} (λ l k. (l, k)) ((addr_Decides a.addr addr).0 both.0) (keys_same a.given.key key both.1)
 
 -- ---- destroys
 
@@ -64,7 +64,7 @@ left_by o = option_map (λ d. d.left) o
 
 -- no destroy changes nothing
 pub none_destroyed : (rs : List ResourceView) → AreDestroyed [] rs rs
-none_destroyed rs = record { known = λ label id. refl; heads = refl }
+none_destroyed rs = record { known = λ addr id. refl; heads = refl }
 
 left_joined : (o p : Option DestroyView) (before : Option RecordView) → ((d : DestroyView) → o ≡ Some d → p ≡ None) → after_destroy (left_by o) (after_destroy (left_by p) before) ≡ after_destroy (left_by (option_or o p)) before
 left_joined None p before once = refl
@@ -73,11 +73,11 @@ left_joined (Some d) p before once = ap (λ (q : Option DestroyView). after_dest
 -- destroys after others are all of them
 pub destroyed_joined : (xs ys : List DestroyView) (before mid after : List ResourceView) → AreApart object_of (xs ++ ys) → AreDestroyed ys before mid → AreDestroyed xs mid after → AreDestroyed (xs ++ ys) before after
 destroyed_joined xs ys before mid after apart first second = record {
-  known = λ label id.
-      let q : DestroyView → Bool = destroys_it label id in
-      second.known label id ∙ ap (after_destroy (left_of_object label id xs)) (first.known label id)
-      ∙ left_joined (find q xs) (find q ys) (record_among label id before) (λ d e. found_once object_of q (label, id) (destroys_one label id) xs ys d apart e)
-      ∙ ap (λ (o : Option DestroyView). after_destroy (left_by o) (record_among label id before)) (sym (found_joined q xs ys));
+  known = λ addr id.
+      let q : DestroyView → Bool = destroys_it addr id in
+      second.known addr id ∙ ap (after_destroy (left_of_object addr id xs)) (first.known addr id)
+      ∙ left_joined (find q xs) (find q ys) (record_among addr id before) (λ d e. found_once object_of q (addr, id) (destroys_one addr id) xs ys d apart e)
+      ∙ ap (λ (o : Option DestroyView). after_destroy (left_by o) (record_among addr id before)) (sym (found_joined q xs ys));
   heads = second.heads ∙ first.heads;
 }
 
@@ -93,7 +93,7 @@ nothing_by key before None = refl
 nothing_by key before (Some k) = refl
 
 pub none_applied : (rs : List ResourceView) → AreApplied [] rs rs
-none_applied rs = record { known = λ label key deposed. sym (nothing_by key (places_among label key rs) deposed); heads = refl }
+none_applied rs = record { known = λ addr key deposed. sym (nothing_by key (places_among addr key rs) deposed); heads = refl }
 
 after_joined : (o p : Option ApplyView) (key : InstanceKeyView) (before mid : Places) (deposed : Option (List ℕ)) → ((a : ApplyView) → o ≡ Some a → p ≡ None)
     → ((d : Option (List ℕ)) → mid d ≡ after_by p key before d) → after_by o key mid deposed ≡ after_by (option_or o p) key before deposed
@@ -105,21 +105,21 @@ after_joined (Some a) p key before mid deposed once is =
 -- applies after others are all of them
 pub applied_joined : (xs ys : List ApplyView) (before mid after : List ResourceView) → AreApart instance_of (xs ++ ys) → AreApplied ys before mid → AreApplied xs mid after → AreApplied (xs ++ ys) before after
 applied_joined xs ys before mid after apart first second = record {
-  known = λ label key deposed.
-      let q : ApplyView → Bool = applies_it label key in
-      second.known label key deposed
-      ∙ after_joined (find q xs) (find q ys) key (places_among label key before) (places_among label key mid) deposed (λ a e. found_once instance_of q (label, key) (applies_one label key) xs ys a apart e) (first.known label key)
-      ∙ ap (λ (o : Option ApplyView). after_by o key (places_among label key before) deposed) (sym (found_joined q xs ys));
+  known = λ addr key deposed.
+      let q : ApplyView → Bool = applies_it addr key in
+      second.known addr key deposed
+      ∙ after_joined (find q xs) (find q ys) key (places_among addr key before) (places_among addr key mid) deposed (λ a e. found_once instance_of q (addr, key) (applies_one addr key) xs ys a apart e) (first.known addr key)
+      ∙ ap (λ (o : Option ApplyView). after_by o key (places_among addr key before) deposed) (sym (found_joined q xs ys));
   heads = second.heads ∙ first.heads;
 }
 
 -- ---- one resource is changed
 
 -- one resource among others is another one, at the same address and of the same provider
-pub record IsChanged (label : LabelView) (r s : ResourceView) (before after : List ResourceView) : Type 0 where
-  pub was : resource_at label before ≡ Some r
-  pub there : resource_at label after ≡ Some s
-  pub others : (l : LabelView) → same_label label l ≡ false → resource_at l after ≡ resource_at l before
+pub record IsChanged (addr : ResourceAddrView) (r s : ResourceView) (before after : List ResourceView) : Type 0 where
+  pub was : resource_at addr before ≡ Some r
+  pub there : resource_at addr after ≡ Some s
+  pub others : (l : ResourceAddrView) → same_addr addr l ≡ false → resource_at l after ≡ resource_at l before
   pub heads : heads_of after ≡ heads_of before
 
 false_and : (b c : Bool) → c ≡ false → (b && c) ≡ false
@@ -130,45 +130,45 @@ false_first : (b c : Bool) → b ≡ false → (b && c) ≡ false
 false_first false c e = refl
 false_first true c e = absurd (cc)
 
-known_of : (label : LabelView) (id : ObjectIdView) (rs : List ResourceView) (r : ResourceView) → resource_at label rs ≡ Some r → record_among label id rs ≡ record_at id r.records
-known_of label id rs r e = ap (option_and_then (λ (r : ResourceView). record_at id r.records)) e
+known_of : (addr : ResourceAddrView) (id : ObjectIdView) (rs : List ResourceView) (r : ResourceView) → resource_at addr rs ≡ Some r → record_among addr id rs ≡ record_at id r.records
+known_of addr id rs r e = ap (option_and_then (λ (r : ResourceView). record_at id r.records)) e
 
-module _ (a : ApplyView) (before after : List ResourceView) (r s : ResourceView) (change : IsChanged a.label r s before after) (is : IsAfter a.given (record { applied = a.applied; destroyed = None; deposed = [] }) r s) where
-  abbrev AppliedAt : LabelView → InstanceKeyView → Option (List ℕ) → Type 0
-  AppliedAt label key deposed = record_among label (object_at key deposed) after ≡ after_by (apply_of_instance label key (a ∷ [])) key (places_among label key before) deposed
+module _ (a : ApplyView) (before after : List ResourceView) (r s : ResourceView) (change : IsChanged a.addr r s before after) (is : IsAfter a.given (record { applied = a.applied; destroyed = None; deposed = [] }) r s) where
+  abbrev AppliedAt : ResourceAddrView → InstanceKeyView → Option (List ℕ) → Type 0
+  AppliedAt addr key deposed = record_among addr (object_at key deposed) after ≡ after_by (apply_of_instance addr key (a ∷ [])) key (places_among addr key before) deposed
 
-  unapplied : (label : LabelView) (key : InstanceKeyView) (deposed : Option (List ℕ)) → applies_it label key a ≡ false → record_among label (object_at key deposed) after ≡ record_among label (object_at key deposed) before → AppliedAt label key deposed
-  unapplied label key deposed e same =
-      same ∙ sym (nothing_by key (places_among label key before) deposed)
-      ∙ ap (λ (o : Option ApplyView). after_by o key (places_among label key before) deposed) (sym (found_first (applies_it label key) a [] false e))
+  unapplied : (addr : ResourceAddrView) (key : InstanceKeyView) (deposed : Option (List ℕ)) → applies_it addr key a ≡ false → record_among addr (object_at key deposed) after ≡ record_among addr (object_at key deposed) before → AppliedAt addr key deposed
+  unapplied addr key deposed e same =
+      same ∙ sym (nothing_by key (places_among addr key before) deposed)
+      ∙ ap (λ (o : Option ApplyView). after_by o key (places_among addr key before) deposed) (sym (found_first (applies_it addr key) a [] false e))
 
   -- the instance itself
-  applied_here : (deposed : Option (List ℕ)) → AppliedAt a.label a.given.key deposed
+  applied_here : (deposed : Option (List ℕ)) → AppliedAt a.addr a.given.key deposed
   applied_here deposed =
-      let test : applies_it a.label a.given.key a ≡ true = both_and (same_label a.label a.label) (same_instance_key a.given.key a.given.key) (label_itself a.label) (key_itself a.given.key) in
-      let places : (d : Option (List ℕ)) → places_among a.label a.given.key before d ≡ places_in a.given.key r.records d = λ d. known_of a.label (object_at a.given.key d) before r change.was in
-      known_of a.label (object_at a.given.key deposed) after s change.there ∙ is.own deposed
+      let test : applies_it a.addr a.given.key a ≡ true = both_and (same_addr a.addr a.addr) (same_instance_key a.given.key a.given.key) (addr_itself a.addr) (key_itself a.given.key) in
+      let places : (d : Option (List ℕ)) → places_among a.addr a.given.key before d ≡ places_in a.given.key r.records d = λ d. known_of a.addr (object_at a.given.key d) before r change.was in
+      known_of a.addr (object_at a.given.key deposed) after s change.there ∙ is.own deposed
       ∙ ap (λ (p : Places). after_by (Some a) a.given.key p deposed) (λ i d. sym (places d) i)
-      ∙ ap (λ (o : Option ApplyView). after_by o a.given.key (places_among a.label a.given.key before) deposed) (sym (found_first (applies_it a.label a.given.key) a [] true test))
+      ∙ ap (λ (o : Option ApplyView). after_by o a.given.key (places_among a.addr a.given.key before) deposed) (sym (found_first (applies_it a.addr a.given.key) a [] true test))
 
   -- another instance of the resource
-  applied_beside : (key : InstanceKeyView) (deposed : Option (List ℕ)) → same_instance_key a.given.key key ≡ false → AppliedAt a.label key deposed
+  applied_beside : (key : InstanceKeyView) (deposed : Option (List ℕ)) → same_instance_key a.given.key key ≡ false → AppliedAt a.addr key deposed
   applied_beside key deposed e =
       let other : ¬ (key ≡ a.given.key) = λ h. let yes : same_instance_key a.given.key key ≡ true = ap (same_instance_key a.given.key) h ∙ key_itself a.given.key in let no : true ≡ false = sym yes ∙ e in absurd (cc) in
-      unapplied a.label key deposed (false_and (same_label a.label a.label) (same_instance_key a.given.key key) e)
-      (known_of a.label (object_at key deposed) after s change.there ∙ is.others (object_at key deposed) other ∙ sym (known_of a.label (object_at key deposed) before r change.was))
+      unapplied a.addr key deposed (false_and (same_addr a.addr a.addr) (same_instance_key a.given.key key) e)
+      (known_of a.addr (object_at key deposed) after s change.there ∙ is.others (object_at key deposed) other ∙ sym (known_of a.addr (object_at key deposed) before r change.was))
 
-  applied_at : (label : LabelView) (key : InstanceKeyView) (deposed : Option (List ℕ)) (b c : Bool) → same_label a.label label ≡ b → same_instance_key a.given.key key ≡ c → AppliedAt label key deposed
-  applied_at label key deposed false c e f =
-      unapplied label key deposed (false_first (same_label a.label label) (same_instance_key a.given.key key) e)
-      (ap (option_and_then (λ (r : ResourceView). record_at (object_at key deposed) r.records)) (change.others label e))
-  applied_at label key deposed true false e f = subst (λ l. AppliedAt l key deposed) ((label_Decides a.label label).0 e) (applied_beside key deposed f)
-  applied_at label key deposed true true e f =
-      subst (λ l. AppliedAt l key deposed) ((label_Decides a.label label).0 e) (subst (λ k. AppliedAt a.label k deposed) (keys_same a.given.key key f) (applied_here deposed))
+  applied_at : (addr : ResourceAddrView) (key : InstanceKeyView) (deposed : Option (List ℕ)) (b c : Bool) → same_addr a.addr addr ≡ b → same_instance_key a.given.key key ≡ c → AppliedAt addr key deposed
+  applied_at addr key deposed false c e f =
+      unapplied addr key deposed (false_first (same_addr a.addr addr) (same_instance_key a.given.key key) e)
+      (ap (option_and_then (λ (r : ResourceView). record_at (object_at key deposed) r.records)) (change.others addr e))
+  applied_at addr key deposed true false e f = subst (λ l. AppliedAt l key deposed) ((addr_Decides a.addr addr).0 e) (applied_beside key deposed f)
+  applied_at addr key deposed true true e f =
+      subst (λ l. AppliedAt l key deposed) ((addr_Decides a.addr addr).0 e) (subst (λ k. AppliedAt a.addr k deposed) (keys_same a.given.key key f) (applied_here deposed))
 
   -- what came of one apply
   pub one_applied : AreApplied (a ∷ []) before after
-  one_applied = record { known = λ label key deposed. applied_at label key deposed (same_label a.label label) (same_instance_key a.given.key key) refl refl; heads = change.heads }
+  one_applied = record { known = λ addr key deposed. applied_at addr key deposed (same_addr a.addr addr) (same_instance_key a.given.key key) refl refl; heads = change.heads }
 
 -- ---- one destroy
 
@@ -191,19 +191,19 @@ other_left id left None (Some j) before e = refl
 other_left id left (Some k) None before e = refl
 other_left id left (Some k) (Some j) before e = ap (λ (o : Option LeftView). after_destroy o (before (Some j))) (under_first k j left false e)
 
-module _ (d : DestroyView) (before after : List ResourceView) (r s : ResourceView) (change : IsChanged d.label r s before after) (is : IsAfter (nothing_given d.id.key) (destroy_of d.id.deposed d.left) r s) where
-  abbrev DestroyedAt : LabelView → ObjectIdView → Type 0
-  DestroyedAt label id = record_among label id after ≡ after_destroy (left_of_object label id (d ∷ [])) (record_among label id before)
+module _ (d : DestroyView) (before after : List ResourceView) (r s : ResourceView) (change : IsChanged d.addr r s before after) (is : IsAfter (nothing_given d.id.key) (destroy_of d.id.deposed d.left) r s) where
+  abbrev DestroyedAt : ResourceAddrView → ObjectIdView → Type 0
+  DestroyedAt addr id = record_among addr id after ≡ after_destroy (left_of_object addr id (d ∷ [])) (record_among addr id before)
 
-  undestroyed : (label : LabelView) (id : ObjectIdView) → destroys_it label id d ≡ false → record_among label id after ≡ record_among label id before → DestroyedAt label id
-  undestroyed label id e same = same ∙ ap (λ (o : Option DestroyView). after_destroy (left_by o) (record_among label id before)) (sym (found_first (destroys_it label id) d [] false e))
+  undestroyed : (addr : ResourceAddrView) (id : ObjectIdView) → destroys_it addr id d ≡ false → record_among addr id after ≡ record_among addr id before → DestroyedAt addr id
+  undestroyed addr id e same = same ∙ ap (λ (o : Option DestroyView). after_destroy (left_by o) (record_among addr id before)) (sym (found_first (destroys_it addr id) d [] false e))
 
-  destroyed_here : DestroyedAt d.label d.id
+  destroyed_here : DestroyedAt d.addr d.id
   destroyed_here =
-      let test : destroys_it d.label d.id d ≡ true = both_and (same_label d.label d.label) (same_object_id d.id d.id) (label_itself d.label) ((object_id_Decides d.id d.id).1 refl) in
-      known_of d.label d.id after s change.there ∙ is.own d.id.deposed ∙ own_left d.id d.left d.id.deposed (places_in d.id.key r.records)
-      ∙ ap (after_destroy (Some d.left)) (sym (known_of d.label d.id before r change.was))
-      ∙ ap (λ (o : Option DestroyView). after_destroy (left_by o) (record_among d.label d.id before)) (sym (found_first (destroys_it d.label d.id) d [] true test))
+      let test : destroys_it d.addr d.id d ≡ true = both_and (same_addr d.addr d.addr) (same_object_id d.id d.id) (addr_itself d.addr) ((object_id_Decides d.id d.id).1 refl) in
+      known_of d.addr d.id after s change.there ∙ is.own d.id.deposed ∙ own_left d.id d.left d.id.deposed (places_in d.id.key r.records)
+      ∙ ap (after_destroy (Some d.left)) (sym (known_of d.addr d.id before r change.was))
+      ∙ ap (λ (o : Option DestroyView). after_destroy (left_by o) (record_among d.addr d.id before)) (sym (found_first (destroys_it d.addr d.id) d [] true test))
 
   -- another object of the instance
   beside_at : (id : ObjectIdView) → same_instance_key d.id.key id.key ≡ true → option_eq bytes_eq d.id.deposed id.deposed ≡ false → record_at id s.records ≡ record_at id r.records
@@ -219,18 +219,18 @@ module _ (d : DestroyView) (before after : List ResourceView) (r s : ResourceVie
   destroyed_beside id false c e f n =
       is.others id (λ h. let yes : same_instance_key d.id.key id.key ≡ true = ap (same_instance_key d.id.key) h ∙ key_itself d.id.key in let no : true ≡ false = sym yes ∙ e in absurd (cc))
 
-  destroyed_at : (label : LabelView) (id : ObjectIdView) (b c : Bool) → same_label d.label label ≡ b → same_object_id d.id id ≡ c → DestroyedAt label id
-  destroyed_at label id false c e f =
-      undestroyed label id (false_first (same_label d.label label) (same_object_id d.id id) e) (ap (option_and_then (λ (r : ResourceView). record_at id r.records)) (change.others label e))
-  destroyed_at label id true true e f =
-      subst (λ l. DestroyedAt l id) ((label_Decides d.label label).0 e) (subst (λ i. DestroyedAt d.label i) ((object_id_Decides d.id id).0 f) destroyed_here)
-  destroyed_at label id true false e f =
-      subst (λ l. DestroyedAt l id) ((label_Decides d.label label).0 e)
-      (undestroyed d.label id (false_and (same_label d.label d.label) (same_object_id d.id id) f)
-      (known_of d.label id after s change.there ∙ destroyed_beside id (same_instance_key d.id.key id.key) (option_eq bytes_eq d.id.deposed id.deposed) refl refl f ∙ sym (known_of d.label id before r change.was)))
+  destroyed_at : (addr : ResourceAddrView) (id : ObjectIdView) (b c : Bool) → same_addr d.addr addr ≡ b → same_object_id d.id id ≡ c → DestroyedAt addr id
+  destroyed_at addr id false c e f =
+      undestroyed addr id (false_first (same_addr d.addr addr) (same_object_id d.id id) e) (ap (option_and_then (λ (r : ResourceView). record_at id r.records)) (change.others addr e))
+  destroyed_at addr id true true e f =
+      subst (λ l. DestroyedAt l id) ((addr_Decides d.addr addr).0 e) (subst (λ i. DestroyedAt d.addr i) ((object_id_Decides d.id id).0 f) destroyed_here)
+  destroyed_at addr id true false e f =
+      subst (λ l. DestroyedAt l id) ((addr_Decides d.addr addr).0 e)
+      (undestroyed d.addr id (false_and (same_addr d.addr d.addr) (same_object_id d.id id) f)
+      (known_of d.addr id after s change.there ∙ destroyed_beside id (same_instance_key d.id.key id.key) (option_eq bytes_eq d.id.deposed id.deposed) refl refl f ∙ sym (known_of d.addr id before r change.was)))
 
   -- what came of one destroy
   pub one_destroyed : AreDestroyed (d ∷ []) before after
-  one_destroyed = record { known = λ label id. destroyed_at label id (same_label d.label label) (same_object_id d.id id) refl refl; heads = change.heads }
+  one_destroyed = record { known = λ addr id. destroyed_at addr id (same_addr d.addr addr) (same_object_id d.id id) refl refl; heads = change.heads }
 
 -- ---- what is there for nothing

@@ -1,6 +1,6 @@
 -- Events that are recorded one by one, the last of those that are left first.
 use Rattle.std.proofs.Common.{◌≡◌, ◌∷◌, ◌++◌, ℕ, List, [], map, sym, subst}
-use Rattle.tf_address.specs.Label.{LabelView}
+use Rattle.tf_config_address.specs.ResourceAddr.{ResourceAddrView}
 use Rattle.tf_state_next.proofs.Changing.{heads_ordered}
 use Rattle.tf_state_next.proofs.Finding.{apart_front}
 use Rattle.tf_state_next.specs.Events.{AreApart}
@@ -15,7 +15,7 @@ pub record Pending {A B : Type 0} (Done : List A → List ResourceView → List 
   pub recorded : (after : List ResourceView) → Done left (map resource_of now) after → Done all (map resource_of first) after
   pub ordered : AreByAddress (map resource_of now)
   pub apart : AreApart about left
-  pub room : (count : LabelView → ℕ) → HaveRoom count first → HaveRoom count now
+  pub room : (count : ResourceAddrView → ℕ) → HaveRoom count first → HaveRoom count now
 
 -- events after others are all of them
 abbrev pub Joined : {A B : Type 0} → (List A → List ResourceView → List ResourceView → Type 0) → (A → B) → Type 0
@@ -24,7 +24,7 @@ Joined {A} Done about = (xs ys : List A) (before mid after : List ResourceView) 
 -- one more event is recorded
 pub pending_fewer : {A B : Type 0} (Done : List A → List ResourceView → List ResourceView → Type 0) (about : A → B) (front : List A) (x : A) (left all : List A) (now next first : List Resource) → Joined Done about
     → left ≡ front ++ x ∷ [] → Done (x ∷ []) (map resource_of now) (map resource_of next) → heads_of (map resource_of next) ≡ heads_of (map resource_of now)
-    → ((count : LabelView → ℕ) → HaveRoom count now → HaveRoom count next) → Pending Done about left all now first → Pending Done about front all next first
+    → ((count : ResourceAddrView → ℕ) → HaveRoom count now → HaveRoom count next) → Pending Done about left all now first → Pending Done about front all next first
 pending_fewer {A} Done about front x left all now next first joined is step heads room p =
     let apart = subst (λ (xs : List A). AreApart about xs) is p.apart in
     record {

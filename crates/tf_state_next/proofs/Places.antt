@@ -4,9 +4,9 @@ use Rattle.std.proofs.lemmas.Map.Text.{is_eq-slice_cmp}
 use Rattle.std.specs.Cmp.{unsigned_tied, tied_then}
 use Rattle.std.specs.Option.{option_eq}
 use Rattle.std.specs.Prelude.{bytes_eq}
-use Rattle.tf_address.specs.ObjectId.{InstanceKeyView, single, number, name, ObjectIdView, instance_key_cmp, deposed_cmp, object_id_cmp}
-use Rattle.tf_address.specs.Same.{same_instance_key, same_object_id, object_id_Decides}
-use Rattle.tf_address.proofs.Totals.{object_id_total}
+use Rattle.tf_config_address.specs.ObjectId.{InstanceKeyView, single, number, name, ObjectIdView, instance_key_cmp, deposed_cmp, object_id_cmp}
+use Rattle.tf_config_address.specs.Same.{same_instance_key, same_object_id, object_id_Decides}
+use Rattle.tf_config_address.proofs.Totals.{object_id_total}
 use Rattle.tf_state_next.specs.Room.{with_any}
 use Rattle.tf_state_data.proofs.OneChanged.{put_changes_one, remove_changes_one}
 use Rattle.tf_state_data.specs.Record.{RecordView}
@@ -52,7 +52,7 @@ found_id id y (x ∷ rs) found = found_at id (is_eq (object_id_cmp x.id id)) x y
 pub record IsSet (id : ObjectIdView) (kept : Option RecordView) (before after : ResourceView) : Type 0 where
   pub there : record_at id after.records ≡ kept
   pub others : (other : ObjectIdView) → ¬ (other ≡ id) → record_at other after.records ≡ record_at other before.records
-  pub label : after.label ≡ before.label
+  pub addr : after.addr ≡ before.addr
   pub provider : after.provider ≡ before.provider
 
 -- where there is a record, it is that of the object
@@ -65,14 +65,14 @@ put_sets id new r is =
     record {
       there = subst (λ i. record_at i (with_record new r).records ≡ Some new) is one.0;
       others = λ other not. one.1 other (apart other new.id (λ e. not (e ∙ is)));
-      label = refl;
+      addr = refl;
       provider = refl;
     }
 
 pub taken_sets : (id : ObjectIdView) (r : ResourceView) → IsSet id None r (without_record id r)
 taken_sets id r =
     let one = remove_changes_one (λ (r : RecordView). r.id) object_id_cmp object_id_total id r.records in
-    record { there = one.0; others = λ other not. one.1 other (apart other id not); label = refl; provider = refl }
+    record { there = one.0; others = λ other not. one.1 other (apart other id not); addr = refl; provider = refl }
 
 -- of two in a row at one place the second stays
 pub set_again : (id : ObjectIdView) (kept again : Option RecordView) (r s t : ResourceView) → IsSet id kept r s → IsSet id again s t → IsSet id again r t
@@ -80,7 +80,7 @@ set_again id kept again r s t first second =
     record {
       there = second.there;
       others = λ other not. second.others other not ∙ first.others other not;
-      label = second.label ∙ first.label;
+      addr = second.addr ∙ first.addr;
       provider = second.provider ∙ first.provider;
     }
 

@@ -4,7 +4,7 @@ use Rattle.std.proofs.lemmas.List.{map-append}
 use Rattle.std.specs.List.{AllByRecursion, find}
 use Rattle.std.specs.Option.{option_or}
 use mathlib.Core.List.{reverse-cons}
-use Rattle.tf_address.specs.Label.{LabelView}
+use Rattle.tf_config_address.specs.ResourceAddr.{ResourceAddrView}
 use Rattle.tf_state_data.specs.Resource.{ResourceView}
 use Rattle.tf_state_data.specs.declared.resource.Resource.{Resource}
 use Rattle.tf_state_next.proofs.Changing.{count_joined, room_fewer}
@@ -56,22 +56,22 @@ found_reversed about q k one (x ∷ xs) h =
 -- and the same comes of them
 pub applied_reversed : (xs : List ApplyView) (before after : List ResourceView) → AreApart instance_of xs → AreApplied (reverse xs) before after → AreApplied xs before after
 applied_reversed xs before after apart h = record {
-  known = λ label key deposed.
-      h.known label key deposed
-      ∙ ap (λ (o : Option ApplyView). after_by o key (places_among label key before) deposed) (found_reversed instance_of (applies_it label key) (label, key) (applies_one label key) xs apart);
+  known = λ addr key deposed.
+      h.known addr key deposed
+      ∙ ap (λ (o : Option ApplyView). after_by o key (places_among addr key before) deposed) (found_reversed instance_of (applies_it addr key) (addr, key) (applies_one addr key) xs apart);
   heads = h.heads;
 }
 
-pub there_reversed : (labels : List LabelView) (rs : List ResourceView) → AreThere labels rs → AreThere (reverse labels) rs
-there_reversed labels rs h = all_reversed _ labels h
+pub there_reversed : (addrs : List ResourceAddrView) (rs : List ResourceView) → AreThere addrs rs → AreThere (reverse addrs) rs
+there_reversed addrs rs h = all_reversed _ addrs h
 
-counted_reversed : (labels : List LabelView) (l : LabelView) → count_of (reverse labels) l ≡ count_of labels l
+counted_reversed : (addrs : List ResourceAddrView) (l : ResourceAddrView) → count_of (reverse addrs) l ≡ count_of addrs l
 counted_reversed [] l = refl
-counted_reversed (x ∷ labels) l =
-    let behind = count_joined (reverse labels) (x ∷ []) l in
-    let before = count_joined (x ∷ []) labels l in
-    let rest = counted_reversed labels l in
-    ap (λ ls. count_of ls l) (reverse-cons x labels) ∙ omega (arith, behind, before, rest)
+counted_reversed (x ∷ addrs) l =
+    let behind = count_joined (reverse addrs) (x ∷ []) l in
+    let before = count_joined (x ∷ []) addrs l in
+    let rest = counted_reversed addrs l in
+    ap (λ ls. count_of ls l) (reverse-cons x addrs) ∙ omega (arith, behind, before, rest)
 
-pub room_reversed : (labels : List LabelView) (rs : List Resource) → HaveRoom (count_of labels) rs → HaveRoom (count_of (reverse labels)) rs
-room_reversed labels rs h = room_fewer (count_of labels) (count_of (reverse labels)) rs (λ l. let same = counted_reversed labels l in omega (arith, same)) h
+pub room_reversed : (addrs : List ResourceAddrView) (rs : List Resource) → HaveRoom (count_of addrs) rs → HaveRoom (count_of (reverse addrs)) rs
+room_reversed addrs rs h = room_fewer (count_of addrs) (count_of (reverse addrs)) rs (λ l. let same = counted_reversed addrs l in omega (arith, same)) h

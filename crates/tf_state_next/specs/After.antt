@@ -2,7 +2,7 @@
 use Rattle.std.specs.Option.{option_eq, option_or}
 use Rattle.std.specs.Prelude.{◌≡◌, ℕ, Bool, List, Option, Some, None, find, option_map, option_and_then, if◌then◌else◌}
 use Rattle.std.specs.Str.{bytes_eq}
-use Rattle.tf_address.specs.ObjectId.{InstanceKeyView, ObjectIdView}
+use Rattle.tf_config_address.specs.ObjectId.{InstanceKeyView, ObjectIdView}
 use Rattle.tf_state_next.specs.Ends.{SavedView, LeftView, gone, changed, unchanged, ApplyResultView, unwanted, unplanned, nothing, saved, InstanceResultView, RecordInputView}
 use Rattle.tf_state_data.specs.Record.{RecordView}
 use Rattle.tf_state_data.specs.Resource.{ResourceView, record_at}
@@ -80,5 +80,5 @@ instance_after g ends before (Some key) =
 pub record IsAfter (g : RecordInputView) (ends : InstanceResultView) (before after : ResourceView) : Type 0 where
   pub own : (deposed : Option (List ℕ)) → places_in g.key after.records deposed ≡ instance_after g ends (places_in g.key before.records) deposed
   pub others : (id : ObjectIdView) → ¬ (id.key ≡ g.key) → record_at id after.records ≡ record_at id before.records
-  pub label : after.label ≡ before.label
+  pub addr : after.addr ≡ before.addr
   pub provider : after.provider ≡ before.provider

@@ -2,8 +2,8 @@
 use Rattle.std.specs.Fmt.{digit_glyph}
 use Rattle.std.specs.List.{list_all, list_any}
 use Rattle.std.specs.Prelude.{◌≡◌, ℕ, zero, suc, ◌+◌, ◌/◌, ◌%◌, ◌^◌, ◌<◌, ◌==◌, ◌&&◌, ◌||◌, nat_le, Bool, true, false, List, [], ◌∷◌, ◌++◌, Some, length}
-use Rattle.tf_address.specs.ObjectId.{InstanceKeyView}
-use Rattle.tf_address.specs.Same.{same_object_id}
+use Rattle.tf_config_address.specs.ObjectId.{InstanceKeyView}
+use Rattle.tf_config_address.specs.Same.{same_object_id}
 use Rattle.tf_state_next.specs.After.{object_at}
 use Rattle.tf_state_data.specs.Record.{RecordView}
 

@@ -1,6 +1,6 @@
 -- What came of the actions of an instance, as plain data.
 use Rattle.std.specs.Prelude.{ℕ, Bool, List, [], ◌∷◌, Option, Some, None, option_map, map, string_bytes}
-use Rattle.tf_address.specs.ObjectId.{InstanceKeyView, instance_key_of}
+use Rattle.tf_config_address.specs.ObjectId.{InstanceKeyView, instance_key_of}
 use Rattle.tf_state_next.specs.declared.ends.ApplyResult.{ApplyResult}
 use Rattle.tf_state_next.specs.declared.ends.ApplyResult.TheVariants as applies
 use Rattle.tf_state_next.specs.declared.ends.RecordInput.{RecordInput}

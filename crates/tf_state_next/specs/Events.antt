@@ -2,9 +2,9 @@
 use Rattle.std.specs.Prelude.{◌≡◌, ℕ, Bool, false, ◌&&◌, if◌then◌else◌, List, [], ◌∷◌, ◌++◌, map, find, Option, None, option_map, ⊤}
 use Rattle.std.specs.List.{AllByRecursion, filter_map}
 use Rattle.std.specs.Option.{option_map_or}
-use Rattle.tf_address.specs.Label.{LabelView, label_of}
-use Rattle.tf_address.specs.ObjectId.{InstanceKeyView, ObjectIdView, object_id_of}
-use Rattle.tf_address.specs.Same.{same_instance_key, same_label, same_object_id}
+use Rattle.tf_config_address.specs.ResourceAddr.{ResourceAddrView, addr_of}
+use Rattle.tf_config_address.specs.ObjectId.{InstanceKeyView, ObjectIdView, object_id_of}
+use Rattle.tf_config_address.specs.Same.{same_instance_key, same_addr, same_object_id}
 use Rattle.tf_state_next.specs.declared.events.Apply.{Apply}
 use Rattle.tf_state_next.specs.declared.events.Destroy.{Destroy}
 use Rattle.tf_state_next.specs.declared.events.Events.{Events}
@@ -14,19 +14,19 @@ use Rattle.tf_state_next.specs.Ends.{LeftView, left_of, ApplyResultView, unwante
 
 -- what came of the create or the update of an instance
 pub record ApplyView : Type 0 where
-  pub label : LabelView
+  pub addr : ResourceAddrView
   pub given : RecordInputView
   pub applied : ApplyResultView
 
 -- what came of the destroy of an object
 pub record DestroyView : Type 0 where
-  pub label : LabelView
+  pub addr : ResourceAddrView
   pub id : ObjectIdView
   pub left : LeftView
 
 -- an instance that is wanted and for which no create or update was planned
 pub record MetadataUpdateView : Type 0 where
-  pub label : LabelView
+  pub addr : ResourceAddrView
   pub given : RecordInputView
 
 pub record EventsView : Type 0 where
@@ -38,19 +38,19 @@ pub record EventsView : Type 0 where
 
 -- A metadata update is as an apply for which nothing was planned.
 abbrev pub as_apply : MetadataUpdateView → ApplyView
-as_apply r = record { label = r.label; given = r.given; applied = unplanned }
+as_apply r = record { addr = r.addr; given = r.given; applied = unplanned }
 
 -- what came of the instances that are wanted
 abbrev pub wanted : EventsView → List ApplyView
 wanted e = e.applies ++ map as_apply e.metadata_updates
 
 -- the instance that an apply is about
-abbrev pub instance_of : ApplyView → LabelView × InstanceKeyView
-instance_of a = (a.label, a.given.key)
+abbrev pub instance_of : ApplyView → ResourceAddrView × InstanceKeyView
+instance_of a = (a.addr, a.given.key)
 
 -- the object that a destroy is about
-abbrev pub object_of : DestroyView → LabelView × ObjectIdView
-object_of d = (d.label, d.id)
+abbrev pub object_of : DestroyView → ResourceAddrView × ObjectIdView
+object_of d = (d.addr, d.id)
 
 -- no two are about the same
 abbrev pub AreApart : {A B : Type 0} → (A → B) → List A → Type 0
@@ -64,56 +64,56 @@ pub record AreEachAboutOne (e : EventsView) : Type 0 where
 
 -- ---- what they tell of an instance
 
-abbrev pub is_instance : LabelView → InstanceKeyView → LabelView → InstanceKeyView → Bool
-is_instance label key l k = same_label l label && same_instance_key k key
+abbrev pub is_instance : ResourceAddrView → InstanceKeyView → ResourceAddrView → InstanceKeyView → Bool
+is_instance addr key l k = same_addr l addr && same_instance_key k key
 
 -- the apply of an instance, where there is one
-abbrev pub apply_of_instance : LabelView → InstanceKeyView → List ApplyView → Option ApplyView
-apply_of_instance label key = find (λ a. is_instance label key a.label a.given.key)
+abbrev pub apply_of_instance : ResourceAddrView → InstanceKeyView → List ApplyView → Option ApplyView
+apply_of_instance addr key = find (λ a. is_instance addr key a.addr a.given.key)
 
 -- what the destroy of an object left of it, where there is one
-abbrev pub left_of_object : LabelView → ObjectIdView → List DestroyView → Option LeftView
-left_of_object label id destroys = option_map (λ d. d.left) (find (λ d. same_label d.label label && same_object_id d.id id) destroys)
+abbrev pub left_of_object : ResourceAddrView → ObjectIdView → List DestroyView → Option LeftView
+left_of_object addr id destroys = option_map (λ d. d.left) (find (λ d. same_addr d.addr addr && same_object_id d.id id) destroys)
 
 -- a destroy of a deposed object of an instance: its key, and what is left of it
-abbrev pub left_of_deposed : LabelView → InstanceKeyView → DestroyView → Option (List ℕ × LeftView)
-left_of_deposed label key d = if is_instance label key d.label d.id.key then option_map (λ k. (k, d.left)) d.id.deposed else None
+abbrev pub left_of_deposed : ResourceAddrView → InstanceKeyView → DestroyView → Option (List ℕ × LeftView)
+left_of_deposed addr key d = if is_instance addr key d.addr d.id.key then option_map (λ k. (k, d.left)) d.id.deposed else None
 
 -- What the record of an object is given where nothing came of its instance: nothing is told of it.
 abbrev pub nothing_given : InstanceKeyView → RecordInputView
 nothing_given key = record { key = key; schema_version = 0; dependencies = []; create_before_destroy = false; deposed_key = None }
 
 -- what the record of an object of an instance is given
-abbrev pub given_by : List ApplyView → LabelView → InstanceKeyView → RecordInputView
-given_by applies label key = option_map_or (λ a. a.given) (apply_of_instance label key applies) (nothing_given key)
+abbrev pub given_by : List ApplyView → ResourceAddrView → InstanceKeyView → RecordInputView
+given_by applies addr key = option_map_or (λ a. a.given) (apply_of_instance addr key applies) (nothing_given key)
 
 -- what came of the create or the update of an instance
-abbrev pub applied_by : List ApplyView → LabelView → InstanceKeyView → ApplyResultView
-applied_by applies label key = option_map_or (λ a. a.applied) (apply_of_instance label key applies) unwanted
+abbrev pub applied_by : List ApplyView → ResourceAddrView → InstanceKeyView → ApplyResultView
+applied_by applies addr key = option_map_or (λ a. a.applied) (apply_of_instance addr key applies) unwanted
 
-abbrev pub given_in : EventsView → LabelView → InstanceKeyView → RecordInputView
+abbrev pub given_in : EventsView → ResourceAddrView → InstanceKeyView → RecordInputView
 given_in e = given_by (wanted e)
 
 -- What came of all actions of an instance: of the create or the update, of the destroy of the object that was current, and
 -- of the destroys of deposed ones.
-abbrev pub ends_in : EventsView → LabelView → InstanceKeyView → InstanceResultView
-ends_in e label key =
+abbrev pub ends_in : EventsView → ResourceAddrView → InstanceKeyView → InstanceResultView
+ends_in e addr key =
     record {
-      applied = applied_by (wanted e) label key;
-      destroyed = left_of_object label (object_at key None) e.destroys;
-      deposed = filter_map (left_of_deposed label key) e.destroys;
+      applied = applied_by (wanted e) addr key;
+      destroyed = left_of_object addr (object_at key None) e.destroys;
+      deposed = filter_map (left_of_deposed addr key) e.destroys;
     }
 
 -- ---- what the code's types stand for
 
 abbrev pub apply_of : Apply → ApplyView
-apply_of a = record { label = label_of a.label.now; given = record_input_of a.given; applied = apply_result_of a.applied }
+apply_of a = record { addr = addr_of a.addr.now; given = record_input_of a.given; applied = apply_result_of a.applied }
 
 abbrev pub destroy_of : Destroy → DestroyView
-destroy_of d = record { label = label_of d.label.now; id = object_id_of d.id; left = left_of d.left }
+destroy_of d = record { addr = addr_of d.addr.now; id = object_id_of d.id; left = left_of d.left }
 
 abbrev pub metadata_update_of : MetadataUpdate → MetadataUpdateView
-metadata_update_of r = record { label = label_of r.label.now; given = record_input_of r.given }
+metadata_update_of r = record { addr = addr_of r.addr.now; given = record_input_of r.given }
 
 abbrev pub events_of : Events → EventsView
 events_of e = record { destroys = map destroy_of e.destroys.items; applies = map apply_of e.applies.items; metadata_updates = map metadata_update_of e.metadata_updates.items }

@@ -1,8 +1,8 @@
 -- What holds of each state after an apply.
 use Rattle.std.specs.Prelude.{◌≡◌, ◌+◌, ◌<◌, ◌^◌}
 use Rattle.std.specs.List.{AllByRecursion}
-use Rattle.tf_address.specs.Label.{LabelView}
-use Rattle.tf_address.specs.ObjectId.{InstanceKeyView}
+use Rattle.tf_config_address.specs.ResourceAddr.{ResourceAddrView}
+use Rattle.tf_config_address.specs.ObjectId.{InstanceKeyView}
 use Rattle.tf_state_next.specs.Events.{EventsView, ends_in, given_in}
 use Rattle.tf_state_next.specs.Sound.{AreSound}
 use Rattle.tf_state_next.specs.StateAfter.{IsStateAfter}
@@ -22,7 +22,7 @@ pub record IsInOrder (s : StateView) : Type 0 where
 -- At most one state comes of what each instance is given and of what came of its actions.
 abbrev pub StateAfterIsOne : Type 0
 StateAfterIsOne =
-    (prior : StateView) (given : LabelView → InstanceKeyView → RecordInputView) (ends : LabelView → InstanceKeyView → InstanceResultView) (outputs : Entries) (s t : StateView)
+    (prior : StateView) (given : ResourceAddrView → InstanceKeyView → RecordInputView) (ends : ResourceAddrView → InstanceKeyView → InstanceResultView) (outputs : Entries) (s t : StateView)
     → IsInOrder s → IsInOrder t → IsStateAfter prior given ends outputs s → IsStateAfter prior given ends outputs t → s ≡ t
 
 -- What comes of a valid state is valid, where what was recorded is sound and the outputs may be stored.

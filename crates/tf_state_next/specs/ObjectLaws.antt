@@ -1,6 +1,6 @@
 -- What holds of an instance's objects after its actions, whatever was there and came of them.
 use Rattle.std.specs.Prelude.{◌≡◌, ◌<◌, ◌≤◌, ◌^◌, ◌⊎◌, ℕ, Bool, true, false, List, ◌∷◌, length, Option, Some, None, sum_by, count_by}
-use Rattle.tf_address.specs.ObjectId.{InstanceKeyView}
+use Rattle.tf_config_address.specs.ObjectId.{InstanceKeyView}
 use Rattle.tf_state_next.specs.After.{Places, IsAfter, after_destroy, as_deposed, destroy_under, instance_after, places_in, record_of_saved}
 use Rattle.tf_state_next.specs.DeposedKey.{IsDeposedKey, is_key}
 use Rattle.tf_state_next.specs.Ends.{SavedView, LeftView, gone, changed, ApplyResultView, unwanted, unplanned, nothing, saved, InstanceResultView, RecordInputView, destroy_of}

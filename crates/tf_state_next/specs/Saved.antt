@@ -1,11 +1,11 @@
 -- What an action saves of an object, and what it leaves of one, by the reply and its verdict.
 use Rattle.std.specs.Prelude.{Bool, true, false, if◌then◌else◌, Option, Some, None, option_map}
 use Rattle.std.specs.Option.{option_map_or}
-use Rattle.tf_protocol.specs.Meaning.{Asked, Answer, object, failed}
-use Rattle.tf_protocol.specs.Schema.{SchemaView}
-use Rattle.tf_protocol.specs.Verdict.{well_formed}
-use Rattle.tf_protocol.specs.declared.verdict.Verdict.{Verdict}
-use Rattle.tf_protocol.specs.declared.verdict.Verdict.TheVariants as verdict
+use Rattle.tf_provider_protocol.specs.Meaning.{Asked, Answer, object, failed}
+use Rattle.tf_provider_protocol.specs.Schema.{SchemaView}
+use Rattle.tf_provider_protocol.specs.Verdict.{well_formed}
+use Rattle.tf_provider_protocol.specs.declared.verdict.Verdict.{Verdict}
+use Rattle.tf_provider_protocol.specs.declared.verdict.Verdict.TheVariants as verdict
 use Rattle.tf_state_next.specs.Ends.{SavedView, LeftView, gone, changed, unchanged}
 use Rattle.tf_value.specs.Nulls.{with_nulls}
 use Rattle.tf_value.specs.Tree.{Tree}

@@ -1,7 +1,7 @@
 -- What is recorded may be part of a valid state.
 use Rattle.std.specs.Prelude.{◌≡◌, ◌<◌, ◌^◌, true, ⊤}
 use Rattle.std.specs.List.{AllByRecursion}
-use Rattle.tf_address.specs.Name.{is_name}
+use Rattle.tf_config_address.specs.Name.{is_name}
 use Rattle.tf_state_next.specs.Events.{ApplyView, DestroyView, EventsView, wanted}
 use Rattle.tf_state.specs.Valid.{AreAddresses, IsAttributes, IsDeposed, IsKey}
 use Rattle.tf_state_next.specs.Ends.{LeftView, gone, changed, unchanged, SavedView, ApplyResultView, unwanted, unplanned, nothing, saved}
@@ -9,8 +9,8 @@ use Rattle.tf_state_next.specs.Ends.{LeftView, gone, changed, unchanged, SavedVi
 -- An object that was saved: its address is of names, its instance and what it is given are such as a valid state has, and its
 -- attributes may be stored.
 pub record IsSoundObject (a : ApplyView) (s : SavedView) : Type 0 where
-  pub type_name : is_name a.label.type_name ≡ true
-  pub name : is_name a.label.name ≡ true
+  pub type_name : is_name a.addr.type_name ≡ true
+  pub name : is_name a.addr.name ≡ true
   pub key : IsKey a.given.key
   pub version : a.given.schema_version < 2 ^ 32
   pub dependencies : AreAddresses a.given.dependencies

@@ -2,8 +2,8 @@
 use Rattle.std.specs.Prelude.{◌≡◌, ◌+◌, ℕ, Bool, true, if◌then◌else◌, List, Some}
 use Rattle.std.specs.List.{AllByRecursion}
 use Rattle.std.specs.Option.{option_map_or}
-use Rattle.tf_address.specs.Label.{LabelView}
-use Rattle.tf_address.specs.ObjectId.{InstanceKeyView, ObjectIdView}
+use Rattle.tf_config_address.specs.ResourceAddr.{ResourceAddrView}
+use Rattle.tf_config_address.specs.ObjectId.{InstanceKeyView, ObjectIdView}
 use Rattle.tf_state.specs.Arrangement.{is_some_record}
 use Rattle.tf_state_next.specs.After.{Places, instance_after, object_at}
 use Rattle.tf_state_next.specs.Ends.{InstanceResultView, RecordInputView}
@@ -14,16 +14,16 @@ use Rattle.tf_state_data.specs.State.{StateView, record_in, resource_at}
 use Rattle.tf_value.specs.Tree.{Entries}
 
 -- what a state knows of the objects of an instance
-abbrev pub places_at : LabelView → InstanceKeyView → StateView → Places
-places_at label key s deposed = record_in label (object_at key deposed) s
+abbrev pub places_at : ResourceAddrView → InstanceKeyView → StateView → Places
+places_at addr key s deposed = record_in addr (object_at key deposed) s
 
 -- a resource of which an object is known
 abbrev pub has_records : ResourceView → Bool
 has_records r = is_some_record r.records
 
 -- The provider of a resource: that of the prior state, where it has the resource; else that of its type.
-abbrev pub provider_after : StateView → LabelView → List ℕ
-provider_after prior label = option_map_or (λ r. r.provider) (resource_at label prior.resources) (provider_text label.type_name)
+abbrev pub provider_after : StateView → ResourceAddrView → List ℕ
+provider_after prior addr = option_map_or (λ r. r.provider) (resource_at addr prior.resources) (provider_text addr.type_name)
 
 -- whether states are the same but for their serials
 abbrev pub is_same : StateView → StateView → Bool
@@ -37,10 +37,10 @@ next_serial prior after = if is_same prior after then prior.serial else prior.se
 -- of each object is what comes of its instance's actions; a resource is there exactly where an object of it is known, with
 -- its provider; outputs are these; lineage and version stay; and the serial is one more exactly where the rest
 -- isn't the same.
-pub record IsStateAfter (prior : StateView) (given : LabelView → InstanceKeyView → RecordInputView) (ends : LabelView → InstanceKeyView → InstanceResultView) (outputs : Entries) (after : StateView) : Type 0 where
-  pub records : (label : LabelView) (id : ObjectIdView) → record_in label id after ≡ instance_after (given label id.key) (ends label id.key) (places_at label id.key prior) id.deposed
+pub record IsStateAfter (prior : StateView) (given : ResourceAddrView → InstanceKeyView → RecordInputView) (ends : ResourceAddrView → InstanceKeyView → InstanceResultView) (outputs : Entries) (after : StateView) : Type 0 where
+  pub records : (addr : ResourceAddrView) (id : ObjectIdView) → record_in addr id after ≡ instance_after (given addr id.key) (ends addr id.key) (places_at addr id.key prior) id.deposed
   pub present : AllByRecursion (λ r. has_records r ≡ true) after.resources
-  pub providers : (label : LabelView) (r : ResourceView) → resource_at label after.resources ≡ Some r → r.provider ≡ provider_after prior label
+  pub providers : (addr : ResourceAddrView) (r : ResourceView) → resource_at addr after.resources ≡ Some r → r.provider ≡ provider_after prior addr
   pub outputs_are : after.outputs ≡ outputs
   pub lineage : after.lineage ≡ prior.lineage
   pub version : after.terraform_version ≡ prior.terraform_version

@@ -1,7 +1,7 @@
 //! What the state after an apply is made of.
 
 ghost use Rattle.std.specs.Prelude.{◌≡◌, [], ◌∷◌, IfOk, OnOk, map, replicate};
-ghost use Rattle.tf_address.specs.Label.{label_of};
+ghost use Rattle.tf_config_address.specs.ResourceAddr.{addr_of};
 ghost use Rattle.tf_state_next.specs.StateDraft.{AreAdded, IsStateDraft, HaveRoom, count_of, counts_at};
 ghost use Rattle.tf_state_data.specs.Addresses.{AreByAddress};
 ghost use Rattle.tf_state_data.specs.Resource.{resource_of};
@@ -9,7 +9,7 @@ ghost use Rattle.tf_state_data.specs.State.{state_of};
 
 use crate::recording::search_near;
 use std::alloc::{AllocError, Global};
-use tf_address::Label;
+use tf_config_address::ResourceAddr;
 use tf_state_data::{Resource, State, provider_address};
 
 /// What the state after an apply is made of, all of which is had before the first call.
@@ -30,15 +30,15 @@ pub struct StateDraft<'a> {
 pub fn draft_state<'a>(
     alloc: Global,
     prior: &'a State,
-    labels: &[&Label],
+    addrs: &[&ResourceAddr],
 ) -> Result<StateDraft<'a>, AllocError>
-    ensures { IfOk result (IsStateDraft (state_of prior.now) (map (λ l. label_of l.now) labels.now)) }
+    ensures { IfOk result (IsStateDraft (state_of prior.now) (map (λ l. addr_of l.now) addrs.now)) }
 {
     let lineage = String::from_str(alloc, prior.lineage())?;
     let terraform_version = String::from_str(alloc, prior.terraform_version())?;
     let mut resources = copies(alloc, prior.resources())?;
-    add_all(alloc, &mut resources, labels)?;
-    make_room(alloc, &mut resources, labels)?;
+    add_all(alloc, &mut resources, addrs)?;
+    make_room(alloc, &mut resources, addrs)?;
     Ok(StateDraft {
         prior,
         lineage,
@@ -62,13 +62,13 @@ fn copies(alloc: Global, resources: &[Resource]) -> Result<Vec<Resource>, AllocE
 fn add_all(
     alloc: Global,
     resources: &mut Vec<Resource>,
-    labels: &[&Label],
+    addrs: &[&ResourceAddr],
 ) -> Result<(), AllocError>
     requires { AreByAddress (map resource_of resources.old.items) }
-    ensures { OnOk result (AreAdded (map (λ l. label_of l.now) labels.now) (map resource_of resources.old.items) (map resource_of resources.new.items)) }
+    ensures { OnOk result (AreAdded (map (λ l. addr_of l.now) addrs.now) (map resource_of resources.old.items) (map resource_of resources.new.items)) }
 {
-    for label in labels {
-        add_missing(alloc, resources, label)?;
+    for addr in addrs {
+        add_missing(alloc, resources, addr)?;
     }
     Ok(())
 }
@@ -77,26 +77,30 @@ fn add_all(
 fn add_missing(
     alloc: Global,
     resources: &mut Vec<Resource>,
-    label: &Label,
+    addr: &ResourceAddr,
 ) -> Result<(), AllocError>
     requires { AreByAddress (map resource_of resources.old.items) }
-    ensures { OnOk result (AreAdded (label_of label.now ∷ []) (map resource_of resources.old.items) (map resource_of resources.new.items)) }
+    ensures { OnOk result (AreAdded (addr_of addr.now ∷ []) (map resource_of resources.old.items) (map resource_of resources.new.items)) }
 {
-    if let Err(index) = search_near(resources, label, resources.len()) {
-        let provider = provider_address(alloc, label.type_name.as_str())?;
-        let resource = Resource::empty(alloc, label.clone()?, provider);
+    if let Err(index) = search_near(resources, addr, resources.len()) {
+        let provider = provider_address(alloc, addr.type_name.as_str())?;
+        let resource = Resource::empty(alloc, addr.clone()?, provider);
         resources.insert(index, resource)?;
     }
     Ok(())
 }
 
 /// Makes room in each resource for one record for each time that its address is one of these.
-fn make_room(alloc: Global, resources: &mut [Resource], labels: &[&Label]) -> Result<(), AllocError>
+fn make_room(
+    alloc: Global,
+    resources: &mut [Resource],
+    addrs: &[&ResourceAddr],
+) -> Result<(), AllocError>
     requires { AreByAddress (map resource_of resources.old) }
     ensures same { map resource_of resources.new ≡ map resource_of resources.old }
-    ensures room { OnOk result (HaveRoom (count_of (map (λ l. label_of l.now) labels.now)) resources.new) }
+    ensures room { OnOk result (HaveRoom (count_of (map (λ l. addr_of l.now) addrs.now)) resources.new) }
 {
-    let counts = counts_of(alloc, resources, labels)?;
+    let counts = counts_of(alloc, resources, addrs)?;
     for index in 0..resources.len() {
         resources[index].reserve(counts[index])?;
     }
@@ -107,15 +111,15 @@ fn make_room(alloc: Global, resources: &mut [Resource], labels: &[&Label]) -> Re
 fn counts_of(
     alloc: Global,
     resources: &[Resource],
-    labels: &[&Label],
+    addrs: &[&ResourceAddr],
 ) -> Result<Vec<usize>, AllocError>
     requires { AreByAddress (map resource_of resources.now) }
-    ensures { IfOk result (λ counts. counts.items ≡ counts_at (map (λ l. label_of l.now) labels.now) (map resource_of resources.now)) }
+    ensures { IfOk result (λ counts. counts.items ≡ counts_at (map (λ l. addr_of l.now) addrs.now) (map resource_of resources.now)) }
 {
     let mut counts = no_counts(alloc, resources.len())?;
     let mut place = 0;
-    for label in labels {
-        match search_near(resources, label, place) {
+    for addr in addrs {
+        match search_near(resources, addr, place) {
             Ok(index) => {
                 counts[index] += 1;
                 place = index;

@@ -1,7 +1,7 @@
 //! What came of the actions of an instance.
 
 use std::collections::BTreeSet;
-use tf_address::InstanceKey;
+use tf_config_address::InstanceKey;
 use tf_state_data::Object;
 
 /// An object that a create or an update saved. A provider made it, so it can be neither copied nor let go.

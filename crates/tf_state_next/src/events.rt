@@ -1,12 +1,12 @@
 //! What came of the actions of an apply.
 
 use crate::ends::{ApplyResult, Left, RecordInput};
-use tf_address::{Label, ObjectId};
+use tf_config_address::{ObjectId, ResourceAddr};
 
 /// What came of a create or an update. As it may hold what a provider made, it can be neither copied nor let go.
 pub struct Apply<'a> {
     /// The resource.
-    pub label: &'a Label,
+    pub addr: &'a ResourceAddr,
     /// The instance, and what the record of its object is given.
     pub given: RecordInput,
     /// What came of it.
@@ -16,7 +16,7 @@ pub struct Apply<'a> {
 /// What came of the destroy of an object. As it may hold what a provider replied, it can be neither copied nor let go.
 pub struct Destroy<'a> {
     /// The resource.
-    pub label: &'a Label,
+    pub addr: &'a ResourceAddr,
     /// The object: the current one of an instance as it stood before the apply, or a deposed one.
     pub id: ObjectId,
     /// What the destroy left of it.
@@ -28,7 +28,7 @@ pub struct Destroy<'a> {
 #[derive(Drop)]
 pub struct MetadataUpdate<'a> {
     /// The resource.
-    pub label: &'a Label,
+    pub addr: &'a ResourceAddr,
     /// The instance, and what the record of its object is given.
     pub given: RecordInput,
 }

@@ -1,14 +1,14 @@
 //! The key of an object that becomes deposed.
 
 ghost use Rattle.std.specs.Prelude.{◌≡◌, ◌<◌, ◌^◌, IfOk, length, map, string_bytes};
-ghost use Rattle.tf_address.specs.ObjectId.{instance_key_of, object_id_of};
-ghost use Rattle.tf_address.specs.Same.{same_object_id};
+ghost use Rattle.tf_config_address.specs.ObjectId.{instance_key_of, object_id_of};
+ghost use Rattle.tf_config_address.specs.Same.{same_object_id};
 ghost use Rattle.tf_state_next.specs.After.{object_at};
 ghost use Rattle.tf_state_next.specs.DeposedKey.{IsDeposedKey, is_used, key_text};
 ghost use Rattle.tf_state_data.specs.Record.{record_of};
 
 use std::alloc::{AllocError, Global};
-use tf_address::InstanceKey;
+use tf_config_address::InstanceKey;
 use tf_state_data::Record;
 
 /// The key that an object of an instance has if it becomes deposed: eight lower-case hex digits of the new serial, or of the

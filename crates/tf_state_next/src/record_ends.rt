@@ -1,7 +1,7 @@
 //! What came of an instance's actions is recorded, without memory.
 
 ghost use Rattle.std.specs.Prelude.{◌≡◌, ◌+◌, ℕ, None, IfNone, IfSome, IsSome, option_and_then, option_map, string_bytes};
-ghost use Rattle.tf_address.specs.ObjectId.{object_id_of};
+ghost use Rattle.tf_config_address.specs.ObjectId.{object_id_of};
 ghost use Rattle.tf_state_next.specs.After.{IsAfter, left_of_record, object_at, record_of_saved};
 ghost use Rattle.tf_state_next.specs.Ends.{RecordInputView, apply_of, apply_result_of, destroy_of, left_of, record_input_of, saved, saved_of};
 ghost use Rattle.tf_state_next.specs.Room.{deposed_by, records_more, with_any};
@@ -9,7 +9,7 @@ ghost use Rattle.tf_state_data.specs.Record.{record_of};
 ghost use Rattle.tf_state_data.specs.Resource.{HasRoomForRecords, resource_of, with_metadata, with_record};
 
 use crate::ends::{ApplyResult, Left, RecordInput, Saved};
-use tf_address::ObjectId;
+use tf_config_address::ObjectId;
 use tf_state_data::{Record, Resource};
 
 /// Records what came of the create or the update of an instance. Where an object was saved and a key is given for the one that

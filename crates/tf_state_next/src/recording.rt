@@ -1,7 +1,7 @@
 //! What came of the actions is recorded in the resources, without taking memory.
 
 ghost use Rattle.std.specs.Prelude.{◌≡◌, ℕ, List, [], ◌∷◌, ◌++◌, IfErr, IfOk, length, map, true};
-ghost use Rattle.tf_address.specs.Label.{LabelView, label_cmp, label_of};
+ghost use Rattle.tf_config_address.specs.ResourceAddr.{ResourceAddrView, addr_cmp, addr_of};
 ghost use Rattle.tf_state_next.specs.Events.{AreApart, apply_of, as_apply, destroy_of, instance_of, object_of, metadata_update_of};
 ghost use Rattle.tf_state_next.specs.StateDraft.{HaveRoom, count_of};
 ghost use Rattle.tf_state_next.specs.Recorded.{AreApplied, AreDestroyed, AreThere};
@@ -12,62 +12,62 @@ ghost use Rattle.tf_state_data.specs.Resource.{resource_of};
 use crate::ends::{ApplyResult, Left};
 use crate::events::{Apply, Destroy, MetadataUpdate};
 use crate::record_ends::{record_apply, record_destroy};
-use tf_address::Label;
+use tf_config_address::ResourceAddr;
 use tf_state_data::Resource;
 
 /// Where the resource at an address stands among resources in the order of their addresses, or where it would stand.
-pub(crate) fn search(resources: &[Resource], label: &Label) -> Result<usize, usize>
+pub(crate) fn search(resources: &[Resource], addr: &ResourceAddr) -> Result<usize, usize>
     requires { AreByAddress (map resource_of resources.now) }
-    ensures found { IfOk result (IsAt (λ r. r.label) label_cmp (label_of label.now) (map resource_of resources.now)) }
-    ensures absent { IfErr result (IsGapFor (λ r. r.label) label_cmp (label_of label.now) (map resource_of resources.now)) }
+    ensures found { IfOk result (IsAt (λ r. r.addr) addr_cmp (addr_of addr.now) (map resource_of resources.now)) }
+    ensures absent { IfErr result (IsGapFor (λ r. r.addr) addr_cmp (addr_of addr.now) (map resource_of resources.now)) }
 {
-    resources.binary_search_by(|resource| resource.label().cmp(label))
+    resources.binary_search_by(|resource| resource.addr().cmp(addr))
 }
 
 /// The same, looked for first where it is likely to be: at the place of another, beside it, or behind all. Addresses that
 /// are looked for in order, one after another, are so found without a search.
 pub(crate) fn search_near(
     resources: &[Resource],
-    label: &Label,
+    addr: &ResourceAddr,
     place: usize,
 ) -> Result<usize, usize>
     requires { AreByAddress (map resource_of resources.now) }
-    ensures found { IfOk result (IsAt (λ r. r.label) label_cmp (label_of label.now) (map resource_of resources.now)) }
-    ensures absent { IfErr result (IsGapFor (λ r. r.label) label_cmp (label_of label.now) (map resource_of resources.now)) }
+    ensures found { IfOk result (IsAt (λ r. r.addr) addr_cmp (addr_of addr.now) (map resource_of resources.now)) }
+    ensures absent { IfErr result (IsGapFor (λ r. r.addr) addr_cmp (addr_of addr.now) (map resource_of resources.now)) }
 {
     let next = place.saturating_add(1);
     let last = place.saturating_sub(1);
-    if stands_at(resources, label, place) {
+    if stands_at(resources, addr, place) {
         Ok(place)
-    } else if stands_at(resources, label, next) {
+    } else if stands_at(resources, addr, next) {
         Ok(next)
-    } else if stands_at(resources, label, last) {
+    } else if stands_at(resources, addr, last) {
         Ok(last)
-    } else if is_behind(resources, label) {
+    } else if is_behind(resources, addr) {
         Err(resources.len())
     } else {
-        search(resources, label)
+        search(resources, addr)
     }
 }
 
 /// Whether the resource at an address stands at a place.
-fn stands_at(resources: &[Resource], label: &Label, place: usize) -> bool
+fn stands_at(resources: &[Resource], addr: &ResourceAddr, place: usize) -> bool
     requires { AreByAddress (map resource_of resources.now) }
-    ensures { result ≡ true → IsAt (λ r. r.label) label_cmp (label_of label.now) (map resource_of resources.now) place }
+    ensures { result ≡ true → IsAt (λ r. r.addr) addr_cmp (addr_of addr.now) (map resource_of resources.now) place }
 {
     match resources.get(place) {
-        Some(resource) => resource.label().cmp(label).is_eq(),
+        Some(resource) => resource.addr().cmp(addr).is_eq(),
         None => false,
     }
 }
 
 /// Whether an address comes behind those of all resources.
-fn is_behind(resources: &[Resource], label: &Label) -> bool
+fn is_behind(resources: &[Resource], addr: &ResourceAddr) -> bool
     requires { AreByAddress (map resource_of resources.now) }
-    ensures { result ≡ true → IsGapFor (λ r. r.label) label_cmp (label_of label.now) (map resource_of resources.now) (length resources.now) }
+    ensures { result ≡ true → IsGapFor (λ r. r.addr) addr_cmp (addr_of addr.now) (map resource_of resources.now) (length resources.now) }
 {
     match resources.last() {
-        Some(last) => last.label().cmp(label).is_lt(),
+        Some(last) => last.addr().cmp(addr).is_lt(),
         None => true,
     }
 }
@@ -77,7 +77,7 @@ pub(crate) fn destroy_all(resources: &mut [Resource], mut destroys: Vec<Destroy<
     requires ordered { AreByAddress (map resource_of resources.old) }
     requires apart { AreApart object_of (map destroy_of destroys.items) }
     ensures recorded { AreDestroyed (map destroy_of destroys.entry.items) (map resource_of resources.old) (map resource_of resources.new) }
-    ensures room { (count : LabelView → ℕ) → HaveRoom count resources.old → HaveRoom count resources.new }
+    ensures room { (count : ResourceAddrView → ℕ) → HaveRoom count resources.old → HaveRoom count resources.new }
 {
     while let Some(event) = destroys.pop() {
         destroy(resources, event);
@@ -89,10 +89,10 @@ pub(crate) fn destroy_all(resources: &mut [Resource], mut destroys: Vec<Destroy<
 fn destroy(resources: &mut [Resource], event: Destroy<'_>)
     requires ordered { AreByAddress (map resource_of resources.old) }
     ensures recorded { AreDestroyed (destroy_of event.entry ∷ []) (map resource_of resources.old) (map resource_of resources.new) }
-    ensures room { (count : LabelView → ℕ) → HaveRoom count resources.old → HaveRoom count resources.new }
+    ensures room { (count : ResourceAddrView → ℕ) → HaveRoom count resources.old → HaveRoom count resources.new }
 {
-    let Destroy { label, id, left } = event;
-    match search(resources, label) {
+    let Destroy { addr, id, left } = event;
+    match search(resources, addr) {
         Ok(index) => record_destroy(&mut resources[index], &id, left),
         Err(_) => leave_nothing(left),
     }
@@ -111,7 +111,7 @@ pub(crate) fn renew_all(resources: &mut [Resource], mut metadata_updates: Vec<Me
     requires ordered { AreByAddress (map resource_of resources.old) }
     requires apart { AreApart instance_of (map as_apply (map metadata_update_of metadata_updates.items)) }
     ensures recorded { AreApplied (map as_apply (map metadata_update_of metadata_updates.entry.items)) (map resource_of resources.old) (map resource_of resources.new) }
-    ensures room { (count : LabelView → ℕ) → HaveRoom count resources.old → HaveRoom count resources.new }
+    ensures room { (count : ResourceAddrView → ℕ) → HaveRoom count resources.old → HaveRoom count resources.new }
 {
     while let Some(event) = metadata_updates.pop() {
         renew(resources, event);
@@ -122,10 +122,10 @@ pub(crate) fn renew_all(resources: &mut [Resource], mut metadata_updates: Vec<Me
 fn renew(resources: &mut [Resource], event: MetadataUpdate<'_>)
     requires ordered { AreByAddress (map resource_of resources.old) }
     ensures recorded { AreApplied (as_apply (metadata_update_of event.entry) ∷ []) (map resource_of resources.old) (map resource_of resources.new) }
-    ensures room { (count : LabelView → ℕ) → HaveRoom count resources.old → HaveRoom count resources.new }
+    ensures room { (count : ResourceAddrView → ℕ) → HaveRoom count resources.old → HaveRoom count resources.new }
 {
-    let MetadataUpdate { label, given } = event;
-    if let Ok(index) = search(resources, label) {
+    let MetadataUpdate { addr, given } = event;
+    if let Ok(index) = search(resources, addr) {
         record_apply(&mut resources[index], given, ApplyResult::Unplanned);
     }
 }
@@ -134,8 +134,8 @@ fn renew(resources: &mut [Resource], event: MetadataUpdate<'_>)
 pub(crate) fn apply_all(resources: &mut [Resource], mut applies: Vec<Apply<'_>>)
     requires ordered { AreByAddress (map resource_of resources.old) }
     requires apart { AreApart instance_of (map apply_of applies.items) }
-    requires there { AreThere (map (λ a. a.label) (map apply_of applies.items)) (map resource_of resources.old) }
-    requires room { HaveRoom (count_of (map (λ a. a.label) (map apply_of applies.items))) resources.old }
+    requires there { AreThere (map (λ a. a.addr) (map apply_of applies.items)) (map resource_of resources.old) }
+    requires room { HaveRoom (count_of (map (λ a. a.addr) (map apply_of applies.items))) resources.old }
     ensures { AreApplied (map apply_of applies.entry.items) (map resource_of resources.old) (map resource_of resources.new) }
 {
     let mut place = resources.len();
@@ -148,17 +148,17 @@ pub(crate) fn apply_all(resources: &mut [Resource], mut applies: Vec<Apply<'_>>)
 /// Records what came of a create or an update, and tells where its resource stands, which is looked for near a place.
 fn apply(resources: &mut [Resource], event: Apply<'_>, near: usize) -> usize
     requires ordered { AreByAddress (map resource_of resources.old) }
-    requires there { AreThere (label_of event.label.now ∷ []) (map resource_of resources.old) }
-    requires room { HaveRoom (count_of (label_of event.label.now ∷ [])) resources.old }
+    requires there { AreThere (addr_of event.addr.now ∷ []) (map resource_of resources.old) }
+    requires room { HaveRoom (count_of (addr_of event.addr.now ∷ [])) resources.old }
     ensures recorded { AreApplied (apply_of event.entry ∷ []) (map resource_of resources.old) (map resource_of resources.new) }
-    ensures room { (labels : List LabelView) → HaveRoom (count_of (labels ++ label_of event.entry.label.now ∷ [])) resources.old → HaveRoom (count_of labels) resources.new }
+    ensures room { (addrs : List ResourceAddrView) → HaveRoom (count_of (addrs ++ addr_of event.entry.addr.now ∷ [])) resources.old → HaveRoom (count_of addrs) resources.new }
 {
     let Apply {
-        label,
+        addr,
         given,
         applied,
     } = event;
-    let Ok(index) = search_near(resources, label, near) else {
+    let Ok(index) = search_near(resources, addr, near) else {
         unreachable!()
     };
     record_apply(&mut resources[index], given, applied);

@@ -1,16 +1,16 @@
 //! What an action saves of an object, or leaves of one, by the reply and its verdict.
 
 ghost use Rattle.std.specs.Prelude.{◌≡◌, Option, Some, option_map};
-ghost use Rattle.tf_protocol.specs.Meaning.{Answer, Asked};
-ghost use Rattle.tf_protocol.specs.Schema.{SchemaView};
-ghost use Rattle.tf_protocol.specs.Verdict.{verdict_on};
+ghost use Rattle.tf_provider_protocol.specs.Meaning.{Answer, Asked};
+ghost use Rattle.tf_provider_protocol.specs.Schema.{SchemaView};
+ghost use Rattle.tf_provider_protocol.specs.Verdict.{verdict_on};
 ghost use Rattle.tf_state_next.specs.Ends.{left_of, saved_of};
 ghost use Rattle.tf_state_next.specs.Saved.{as_saved, formed_in, left_by_destroy, saved_by_create, saved_by_update};
 ghost use Rattle.tf_value.specs.Nulls.{with_nulls};
 ghost use Rattle.tf_value.specs.Tree.{tree_of};
 
 use crate::ends::{Left, Saved};
-use tf_protocol::Verdict;
+use tf_provider_protocol::Verdict;
 use tf_state_data::Object;
 
 /// What a create saves, by the verdict on its reply, the object in the reply where that is well formed, and the object that

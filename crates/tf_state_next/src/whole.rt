@@ -25,7 +25,7 @@ pub fn state_after(
     events: Events<'_>,
     outputs: BTreeMap<String, Object>,
 ) -> State
-    requires draft { IsStateDraft (state_of draft.prior.now) (map (λ a. a.label) (events_of events).applies) draft }
+    requires draft { IsStateDraft (state_of draft.prior.now) (map (λ a. a.addr) (events_of events).applies) draft }
     requires serial { (state_of draft.prior.now).serial + 1 < 2 ^ 32 }
     requires apart { AreEachAboutOne (events_of events) }
     ensures after { IsStateAfter (state_of draft.entry.prior.now) (given_in (events_of events.entry)) (ends_in (events_of events.entry)) (outputs_of outputs.entries) (state_of result) }
@@ -52,8 +52,8 @@ pub fn state_after(
 fn recorded(mut resources: Vec<Resource>, events: Events<'_>) -> Vec<Resource>
     requires ordered { AreByAddress (map resource_of resources.items) }
     requires apart { AreEachAboutOne (events_of events) }
-    requires there { AreThere (map (λ a. a.label) (events_of events).applies) (map resource_of resources.items) }
-    requires room { HaveRoom (count_of (map (λ a. a.label) (events_of events).applies)) resources.items }
+    requires there { AreThere (map (λ a. a.addr) (events_of events).applies) (map resource_of resources.items) }
+    requires room { HaveRoom (count_of (map (λ a. a.addr) (events_of events).applies)) resources.items }
     ensures { IsRecorded (events_of events.entry) (map resource_of resources.items) (map resource_of result.items) }
 {
     record_all(&mut resources, events);
@@ -65,8 +65,8 @@ fn recorded(mut resources: Vec<Resource>, events: Events<'_>) -> Vec<Resource>
 fn record_all(resources: &mut [Resource], events: Events<'_>)
     requires ordered { AreByAddress (map resource_of resources.old) }
     requires apart { AreEachAboutOne (events_of events) }
-    requires there { AreThere (map (λ a. a.label) (events_of events).applies) (map resource_of resources.old) }
-    requires room { HaveRoom (count_of (map (λ a. a.label) (events_of events).applies)) resources.old }
+    requires there { AreThere (map (λ a. a.addr) (events_of events).applies) (map resource_of resources.old) }
+    requires room { HaveRoom (count_of (map (λ a. a.addr) (events_of events).applies)) resources.old }
     ensures { IsRecorded (events_of events.entry) (map resource_of resources.old) (map resource_of resources.new) }
 {
     let Events {

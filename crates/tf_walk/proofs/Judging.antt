@@ -8,7 +8,7 @@ use Rattle.tf_graph.specs.Solutions.{Ranked, seen_by}
 use Rattle.tf_walk_action.specs.Excuse.{Moment, during_call}
 use Rattle.tf_walk_action.specs.Outcome.{ActionResultView, excused, Requests, AreRequests, call_at, done_at, is_faulted, op_of}
 use Rattle.tf_plan_data.specs.Plan.{PlanView}
-use Rattle.tf_protocol.specs.Meaning.{Meaning}
+use Rattle.tf_provider_protocol.specs.Meaning.{Meaning}
 use Rattle.tf_walk_report.proofs.Excused.{excuses-with_outputs}
 use Rattle.tf_walk_report.proofs.JudgedAsAsked.{outcomes-judged}
 use Rattle.tf_walk_report.specs.Outcomes.{excuses_from}

@@ -9,8 +9,8 @@ use Rattle.tf_graph.proofs.Solving.{seen_by-same}
 use Rattle.tf_graph.specs.Solutions.{seen_by}
 use Rattle.tf_provider.specs.declared.journal.Entry.{Entry}
 use Rattle.tf_plan_data.specs.Plan.{PlanView}
-use Rattle.tf_protocol.specs.Meaning.{Meaning}
-use Rattle.tf_protocol.specs.declared.request.Op.{Op}
+use Rattle.tf_provider_protocol.specs.Meaning.{Meaning}
+use Rattle.tf_provider_protocol.specs.declared.request.Op.{Op}
 use Rattle.tf_walk_action.specs.ResultViews.{action_result_of}
 use Rattle.tf_walk_action.specs.Excuse.{Moment, before_call, during_call, by_stop, excuse_of}
 use Rattle.tf_walk_action.specs.Journal.{op_at, verdict_in, entered_verdict}

@@ -8,7 +8,7 @@ use Rattle.tf_walk_action.specs.Journal.{IsJournal, entered_verdict}
 use Rattle.tf_walk_action.specs.Outcome.{ActionResultView, skipped, excused, faulted, called, done_at, excuse_in}
 use Rattle.tf_walk_report.specs.Outputs.{end_of}
 use Rattle.tf_plan_data.specs.Plan.{PlanView}
-use Rattle.tf_protocol.specs.Meaning.{Meaning}
+use Rattle.tf_provider_protocol.specs.Meaning.{Meaning}
 use Rattle.tf_walk_report.specs.Outcomes.{outcome_of}
 use Rattle.tf_walk_report.specs.Report.{IsReported, report_of}
 use Rattle.tf_walk_report.specs.declared.report.Report.{Report}

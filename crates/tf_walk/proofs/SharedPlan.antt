@@ -10,8 +10,8 @@ use Rattle.std.proofs.Crossing.{crosses}
 use Rattle.std.proofs.MapsCrossing as maps
 use Rattle.tf_plan_data.specs.contracts.action.Action as action
 use Rattle.tf_plan_data.specs.contracts.step.Step as step
-use Rattle.tf_address.specs.contracts.label.Label as label
-use Rattle.tf_address.specs.contracts.object_id.InstanceKey as key
+use Rattle.tf_config_address.specs.contracts.addr.ResourceAddr as addr
+use Rattle.tf_config_address.specs.contracts.object_id.InstanceKey as key
 use Rattle.tf_walk_workers.proofs.SharedCells.{cells_sync}
 use Rattle.tf_walk_workers.specs.declared.walk_brand.WalkBrand.{Ghosts}
 use Rattle.tf_config_data.specs.contracts.config.Block as block
@@ -25,16 +25,16 @@ use Rattle.tf_plan_data.specs.contracts.plan.Plan as plan
 use Rattle.tf_plan_order.specs.contracts.order.Order as order
 use Rattle.tf_walk.specs.contracts.shared.BorrowedInput as walk_inputs
 use Rattle.tf_state_data.specs.contracts.state.State as state
-use Rattle.tf_syntax.proofs.expr.Expr.TheLaws.TheKnot as expr
-use Rattle.tf_syntax.proofs.tree.Term.TheLaws.TheKnot as term
-use Rattle.tf_syntax.specs.contracts.expr.Expr as expression
+use Rattle.tf_expr_syntax.proofs.expr.Expr.TheLaws.TheKnot as expr
+use Rattle.tf_expr_syntax.proofs.tree.Term.TheLaws.TheKnot as term
+use Rattle.tf_expr_syntax.specs.contracts.expr.Expr as expression
 use Rattle.tf_value.proofs.value.Value.TheLaws.TheKnot as value
 
-label_sync : IsSync label.the_row
-label_sync = search (maps.crosses, crosses, sendable) depth 60 fits 20000
+addr_sync : IsSync addr.the_row
+addr_sync = search (maps.crosses, crosses, sendable) depth 60 fits 20000
 
-label_part : IsSync (Struct (shape label.the_type))
-label_part = search (maps.crosses, crosses, sendable) depth 60 fits 20000
+addr_part : IsSync (Struct (shape addr.the_type))
+addr_part = search (maps.crosses, crosses, sendable) depth 60 fits 20000
 
 key_part : IsSync (Enum (choice.shape key.the_type))
 key_part = search (maps.crosses, crosses, sendable) depth 60 fits 20000
@@ -43,7 +43,7 @@ step_part : IsSync (Enum (choice.shape step.the_type))
 step_part = search (value.crosses, maps.crosses, crosses, sendable) depth 60 fits 20000
 
 action_sync : IsSync action.the_row
-action_sync = search (step_part, label_part, key_part, sendable) depth 60 fits 20000
+action_sync = search (step_part, addr_part, key_part, sendable) depth 60 fits 20000
 
 block_sync : IsSync block.the_row
 block_sync = search (expr.crosses, term.crosses, maps.crosses, crosses, sendable) depth 60 fits 20000
@@ -73,7 +73,7 @@ expression_sync : IsSync expression.the_row
 expression_sync = search (expr.crosses, term.crosses, maps.crosses, crosses, sendable) depth 60 fits 20000
 
 named_sync : (κ : NamedLft) → IsSync (named.the_row κ)
-named_sync κ = search (label_sync, block_sync, expression_sync, maps.String-sync, sendable) depth 60 fits 20000
+named_sync κ = search (addr_sync, block_sync, expression_sync, maps.String-sync, sendable) depth 60 fits 20000
 
 names_sync : (κ : NamedLft) → IsSync (names.the_row κ)
 names_sync κ = search (named_sync, places_sync, maps.crosses, crosses, sendable) depth 60 fits 20000

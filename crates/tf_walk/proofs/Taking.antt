@@ -8,7 +8,7 @@ use Rattle.tf_walk_action.specs.ResultViews.{result_or_skipped, action_results_o
 use Rattle.tf_walk_action.specs.Outcome.{done_at}
 use Rattle.tf_walk_action.specs.declared.action_result.ActionResult.{ActionResult}
 use Rattle.tf_plan_data.specs.Plan.{PlanView}
-use Rattle.tf_protocol.specs.Meaning.{Meaning}
+use Rattle.tf_provider_protocol.specs.Meaning.{Meaning}
 use Rattle.tf_walk.specs.Fitting.{IsSkippedRightly, AreSkippedRightly}
 use Rattle.tf_walk.proofs.Carried.{taken-back}
 

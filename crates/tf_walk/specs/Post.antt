@@ -4,7 +4,7 @@ use Rattle.tf_claim.specs.Claims.{Shared}
 use Rattle.tf_config_data.specs.Names.{NameView}
 use Rattle.tf_plan_data.specs.Plan.{PlanView}
 use Rattle.tf_plan_data.specs.declared.plan.Plan.{Plan}
-use Rattle.tf_protocol.specs.Meaning.{Meaning}
+use Rattle.tf_provider_protocol.specs.Meaning.{Meaning}
 use Rattle.tf_walk.specs.declared.worker.Post.{Post}
 use Rattle.tf_walk_workers.specs.Memo.{IsTrueMemo}
 

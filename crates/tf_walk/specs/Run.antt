@@ -2,7 +2,7 @@
 use Rattle.std.specs.Prelude.{ℕ, ◌&&◌, Bool, true, false, nat_le, List}
 use Rattle.tf_walk_action.specs.Journal.{IsJournal}
 use Rattle.tf_plan_data.specs.Plan.{PlanView}
-use Rattle.tf_protocol.specs.Meaning.{Meaning}
+use Rattle.tf_provider_protocol.specs.Meaning.{Meaning}
 use Rattle.tf_walk_report.specs.Report.{IsReported, IsWalked}
 use Rattle.tf_walk_report.specs.declared.report.Report.{Report}
 use Rattle.tf_walk_report.specs.declared.report.Walked.{Walked}

@@ -2,14 +2,14 @@
 
 ghost use Rattle.std.specs.Prelude.{◌≡◌, List, map, true, IfOk, MatchBool, MatchResult};
 ghost use Rattle.tf_walk_action.specs.Words.{action_of, AreServed, FitsTogether, plan_of};
-ghost use Rattle.tf_refusal.specs.Refusal.{no_memory, refusal_of, workers as wrong_workers};
+ghost use Rattle.tf_config_refusal.specs.Refusal.{no_memory, refusal_of, workers as wrong_workers};
 ghost use Rattle.tf_walk_report.specs.Report.{report_of};
 ghost use Rattle.tf_walk.specs.PreparedMany.{IsPrepared};
 ghost use Rattle.tf_walk.specs.Run.{IsRun, are_workers, is_whole};
 
 use crate::ending::report_walk;
 use crate::prepared_many::{PreparedWalk, Team, prepare};
-use crate::progress::Progress;
+use crate::progress::WalkProgress;
 use crate::result_cells::ResultCells;
 use crate::shared::{BorrowedInput, SharedWalk};
 use crate::sharing::share_out;
@@ -18,9 +18,9 @@ use std::alloc::{AllocError, Global};
 use std::marker::Brand;
 use std::sync::{Mutex, Wait};
 use std::thread::Threads;
+use tf_config_refusal::Refusal;
 use tf_plan_data::{Plan, Planned};
 use tf_provider::Provider;
-use tf_refusal::Refusal;
 use tf_walk_action::Stop;
 use tf_walk_report::Walked;
 use tf_walk_workers::{Log, WalkBrand};
@@ -150,7 +150,7 @@ fn carry_out<N: WalkBrand + Send + Sync, R: Threads + Wait + Sync>(
         buffers,
     } = prepared;
     let journal = Mutex::new(Log::new(journal));
-    let progress = Progress::new();
+    let progress = WalkProgress::new();
     let walk_input = BorrowedInput {
         plan,
         names: &names,

@@ -7,7 +7,7 @@ use std::sync::atomic::{AtomicU64, Ordering};
 
 /// How far a walk is, and on what workers wait that find nothing to do.
 #[derive(Drop)]
-pub(crate) struct Progress {
+pub(crate) struct WalkProgress {
     /// How many actions have ended.
     ended: AtomicU64,
     /// The first action that no worker has looked at since they last began anew.
@@ -18,10 +18,10 @@ pub(crate) struct Progress {
     waiting: AtomicU64,
 }
 
-impl Progress {
+impl WalkProgress {
     /// No action has ended.
-    pub fn new() -> Progress {
-        Progress {
+    pub fn new() -> WalkProgress {
+        WalkProgress {
             ended: AtomicU64::new(0),
             next: AtomicU64::new(0),
             news: AtomicU64::new(0),

@@ -4,7 +4,7 @@ ghost use Rattle.std.specs.Prelude.{◌≡◌, ℕ, List};
 
 use crate::bound::PlanBound;
 use crate::hinting::Hinting;
-use crate::progress::Progress;
+use crate::progress::WalkProgress;
 use std::alloc::Global;
 use std::sync::Mutex;
 use tf_claim::{Claims, Seat};
@@ -29,7 +29,7 @@ pub(crate) struct SharedWalk<'a, N: WalkBrand> {
     pub claims: &'a Claims,
     pub journal: &'a Mutex<Log<N>>,
     pub stealers: &'a [HintStealer<PlanBound<N>>],
-    pub progress: &'a Progress,
+    pub progress: &'a WalkProgress,
 }
 
 /// What workers read: the plan, the names of its configuration, and the cells. They reach it through this trait, so that it

@@ -2,16 +2,16 @@
 
 ghost use Rattle.std.specs.Prelude.{◌≡◌, map, IfOk, IfErr};
 ghost use Rattle.tf_walk_action.specs.Words.{action_of, AreServed, FitsTogether, plan_of};
-ghost use Rattle.tf_refusal.specs.Refusal.{no_memory, refusal_of};
+ghost use Rattle.tf_config_refusal.specs.Refusal.{no_memory, refusal_of};
 ghost use Rattle.tf_walk_report.specs.Report.{IsWalked, IsWhole, report_of};
 ghost use Rattle.tf_walk.specs.Prepared.{IsPrepared};
 
 use crate::prepared::{Prepared, prepare};
 use std::alloc::{AllocError, Global};
+use tf_config_refusal::Refusal;
 use tf_expand::Module;
 use tf_plan_data::{Plan, Planned};
 use tf_provider::Provider;
-use tf_refusal::Refusal;
 use tf_walk_action::Stop;
 use tf_walk_report::{Report, Walked, report_of};
 use tf_walk_single::walk;

@@ -4,15 +4,15 @@ use Rattle.std.proofs.Common.{◌≡◌, ◌<◌, ℕ, zero, suc, Bool, true, fa
 use Rattle.std.proofs.lemmas.List.{get_or_default}
 use Rattle.std.specs.Prelude.{slice_index}
 use Rattle.std.specs.List.{AllByRecursion}
-use Rattle.tf_address.specs.ObjectId.{InstanceKeyView}
+use Rattle.tf_config_address.specs.ObjectId.{InstanceKeyView}
 use Rattle.tf_config_data.specs.Names.{NameView, Meant, a_local, a_block, meant_at, refers_at, directly_before}
 use Rattle.tf_graph.proofs.Edges.{all_by_contained}
 use Rattle.tf_graph.proofs.Solving.{all_by_at}
 use Rattle.tf_graph.specs.Solutions.{Ranked, seen_by}
 use Rattle.tf_value.specs.Tree.{Tree, Entries}
-use Rattle.tf_eval.proofs.Locality.{expressions_local}
-use Rattle.tf_eval.specs.Environment.{Environment}
-use Rattle.tf_eval.specs.Locality.{AgreeOn}
+use Rattle.tf_expr_eval.proofs.Locality.{expressions_local}
+use Rattle.tf_expr_eval.specs.Environment.{Environment}
+use Rattle.tf_expr_eval.specs.Locality.{AgreeOn}
 use Rattle.tf_expand.proofs.Locals.{all_seen, applying_local}
 use Rattle.tf_expand.proofs.Places.{along, names_stay}
 use Rattle.tf_expand.proofs.Seen.{agree_on}

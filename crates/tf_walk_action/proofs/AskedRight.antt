@@ -2,7 +2,7 @@
 use Rattle.std.proofs.Common.{◌≡◌, ◌∙◌, ℕ, true, List, length, Option, Some, Result, Ok, Err, IfOk, sym, ap, subst}
 use Rattle.std.specs.Option.{option_map_or}
 use Rattle.std.specs.declared.alloc.AllocError.{AllocError}
-use Rattle.tf_address.specs.ObjectId.{InstanceKeyView}
+use Rattle.tf_config_address.specs.ObjectId.{InstanceKeyView}
 use Rattle.tf_plan_object.proofs.Named.{instances_named}
 use Rattle.tf_plan_object.specs.Instance.{InstanceFaultView, instance_of}
 use Rattle.tf_plan_object.specs.declared.instance.InstanceFault.{InstanceFault}
@@ -17,9 +17,9 @@ use Rattle.tf_graph.specs.Solutions.{Ranked}
 use Rattle.tf_plan_data.specs.Action.{ActionView}
 use Rattle.tf_plan_data.specs.Fits.{IsOfBlock}
 use Rattle.tf_plan_data.specs.Plan.{PlanView, plan_names}
-use Rattle.tf_protocol.specs.Meaning.{Asked, Meaning, schema_in}
-use Rattle.tf_protocol.specs.Schema.{SchemaView}
-use Rattle.tf_protocol.specs.Verdict.{has_attributes}
+use Rattle.tf_provider_protocol.specs.Meaning.{Asked, Meaning, schema_in}
+use Rattle.tf_provider_protocol.specs.Schema.{SchemaView}
+use Rattle.tf_provider_protocol.specs.Verdict.{has_attributes}
 use Rattle.tf_walk_action.specs.Requests.{IsRequest}
 use Rattle.tf_value.specs.Tree.{Tree, tree_of}
 use Rattle.tf_value.specs.declared.value.Value.{Value}
@@ -91,7 +91,7 @@ module _ (plan : PlanView) (ranked : Ranked (directly_before (plan_names plan)))
 
 -- what comes of asking by the schema of the first provider that has the type is what comes of the action
 pub asked-with : (ms : List Meaning) (requests : Requests) (plan : PlanView) (objects : ℕ → InstanceKeyView → Tree) (a : ActionView) (schema : SchemaView) (made : Result Asked InstanceFaultView)
-    → schema_in a.label.type_name ms ≡ Some schema → made ≡ asked_for (plan_names plan) schema a (requests objects a schema) → comes_of ms made ≡ call_with ms requests plan objects a
+    → schema_in a.addr.type_name ms ≡ Some schema → made ≡ asked_for (plan_names plan) schema a (requests objects a schema) → comes_of ms made ≡ call_with ms requests plan objects a
 asked-with ms requests plan objects a schema made there e =
     ap (comes_of ms) e
     ∙ sym (ap (λ (o : Option SchemaView). option_map_or {U = ActionResultView} (λ s. comes_of ms (asked_for (plan_names plan) s a (requests objects a s))) o skipped) there)

@@ -6,7 +6,7 @@ use Rattle.std.specs.Option.{option_map_or}
 use Rattle.tf_config_data.specs.Names.{NameView}
 use Rattle.tf_plan_data.specs.Action.{ActionView}
 use Rattle.tf_plan_data.specs.Plan.{PlanView, plan_names}
-use Rattle.tf_protocol.specs.Meaning.{Meaning}
+use Rattle.tf_provider_protocol.specs.Meaning.{Meaning}
 use Rattle.tf_walk_action.specs.Outcome.{ActionResultView, skipped, Requests, call_at, call_with, objects_by, objects_seen}
 use Rattle.tf_walk_action.specs.Run.{IsRun}
 

@@ -3,11 +3,11 @@ use Rattle.std.proofs.Common.{◌≡◌, false, Option, Some, None, IfSome, refl
 use Rattle.std.specs.Prelude.{IsSomeAnd, IsTrue}
 use Rattle.std.specs.Option.{option_map_or}
 use Rattle.tf_provider.specs.Call.{IsServed}
-use Rattle.tf_protocol.specs.Meaning.{Asked, Answer, Meaning}
-use Rattle.tf_protocol.specs.Schema.{SchemaView}
-use Rattle.tf_protocol.specs.Verdict.{verdict_on, asks_fully}
-use Rattle.tf_protocol.specs.declared.verdict.Verdict.{Verdict}
-use Rattle.tf_protocol.specs.declared.verdict.Verdict.TheVariants as verdict
+use Rattle.tf_provider_protocol.specs.Meaning.{Asked, Answer, Meaning}
+use Rattle.tf_provider_protocol.specs.Schema.{SchemaView}
+use Rattle.tf_provider_protocol.specs.Verdict.{verdict_on, asks_fully}
+use Rattle.tf_provider_protocol.specs.declared.verdict.Verdict.{Verdict}
+use Rattle.tf_provider_protocol.specs.declared.verdict.Verdict.TheVariants as verdict
 use Rattle.tf_walk_action.specs.ResultViews.{result_by}
 use Rattle.tf_walk_action.specs.Journal.{entered_verdict}
 use Rattle.tf_walk_action.specs.Outcome.{called, skipped, call_of_provider, is_faulted}

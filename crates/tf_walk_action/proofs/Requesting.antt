@@ -2,23 +2,23 @@
 use Rattle.std.proofs.Common.{◌≡◌, ◌++◌, ℕ, List, [], ◌∷◌, zero, suc, ◌<◌, length, true, Some, Result, Ok, Err, IfOk, refl, sym, ap, subst, ◌∙◌, arith}
 use Rattle.std.specs.declared.alloc.AllocError.{AllocError}
 use Rattle.std.specs.List.{AllByRecursion}
-use Rattle.tf_address.specs.ObjectId as keys
-use Rattle.tf_address.specs.ObjectId.{InstanceKeyView}
+use Rattle.tf_config_address.specs.ObjectId as keys
+use Rattle.tf_config_address.specs.ObjectId.{InstanceKeyView}
 use Rattle.tf_config_data.specs.Config.{BlockView, RepetitionView, single, count, for_each}
 use Rattle.tf_config_data.specs.Names.{NameView, a_block, meant_at, block_refers, named_in_repetition, places}
-use Rattle.tf_operators.specs.Answer.{Answers}
-use Rattle.tf_operators.specs.declared.fault.EvalFault.{EvalFault}
-use Rattle.tf_protocol.specs.Schema.{SchemaView}
-use Rattle.tf_syntax.specs.ExprNames.{named_by, named_below}
-use Rattle.tf_syntax.specs.ExprTree as expr
-use Rattle.tf_syntax.specs.TemplateNames.{Pair}
+use Rattle.tf_expr_operators.specs.Answer.{Answers}
+use Rattle.tf_expr_syntax.specs.declared.fault.EvalFault.{EvalFault}
+use Rattle.tf_provider_protocol.specs.Schema.{SchemaView}
+use Rattle.tf_expr_syntax.specs.ExprNames.{named_by, named_below}
+use Rattle.tf_expr_syntax.specs.ExprTree as expr
+use Rattle.tf_expr_syntax.specs.TemplateNames.{Pair}
 use Rattle.tf_value.specs.Tree.{Tree, Entries}
 use Rattle.tf_value.specs.declared.value.Value.{Value}
-use Rattle.tf_eval.proofs.Locality.{expressions_local}
-use Rattle.tf_eval.specs.Environment.{Environment}
-use Rattle.tf_eval.specs.ExprMeaning.{meaning}
-use Rattle.tf_eval.specs.Locality.{AgreeOn}
-use Rattle.tf_eval.specs.Meaning.{and_then}
+use Rattle.tf_expr_eval.proofs.Locality.{expressions_local}
+use Rattle.tf_expr_eval.specs.Environment.{Environment}
+use Rattle.tf_expr_eval.specs.ExprMeaning.{meaning}
+use Rattle.tf_expr_eval.specs.Locality.{AgreeOn}
+use Rattle.tf_expr_eval.specs.Meaning.{and_then}
 use Rattle.tf_expand.proofs.Seen.{agree_on}
 use Rattle.tf_expand.specs.Instance.{bound, instance_constants}
 use Rattle.tf_expand.specs.InstanceKeys.{InstanceKeysView}

@@ -1,12 +1,12 @@
 -- What is asked for an action, by what names stand for.
 use Rattle.std.proofs.Common.{◌≡◌, ◌∙◌, ◌<◌, ℕ, true, List, Option, Some, None, Result, Err, length, refl, sym, ap}
-use Rattle.tf_address.specs.ObjectId.{InstanceKeyView}
+use Rattle.tf_config_address.specs.ObjectId.{InstanceKeyView}
 use Rattle.tf_config_data.specs.Config.{BlockView}
 use Rattle.tf_config_data.specs.Names.{NameView, Meant, a_local, a_block, meant_at, block_refers}
-use Rattle.tf_operators.specs.declared.fault.EvalFault.TheVariants.{Missing}
-use Rattle.tf_protocol.specs.Schema.{SchemaView}
+use Rattle.tf_expr_syntax.specs.declared.fault.EvalFault.TheVariants.{Missing}
+use Rattle.tf_provider_protocol.specs.Schema.{SchemaView}
 use Rattle.tf_value.specs.Tree.{Tree, Entries}
-use Rattle.tf_eval.proofs.Locality.{expressions_local}
+use Rattle.tf_expr_eval.proofs.Locality.{expressions_local}
 use Rattle.tf_expand.proofs.Places.{all_places}
 use Rattle.tf_expand.proofs.Seen.{agree_on}
 use Rattle.tf_expand.specs.StandingLaws.{ResolvedNamesAreOne, ResolvedNamesExist}

@@ -1,6 +1,6 @@
 -- What stands so far for a plan, by the parts that a request reads.
 use Rattle.std.proofs.Common.{◌≡◌, ℕ, List, sym, subst}
-use Rattle.tf_address.specs.ObjectId.{InstanceKeyView}
+use Rattle.tf_config_address.specs.ObjectId.{InstanceKeyView}
 use Rattle.tf_config_data.specs.Names.{NameView}
 use Rattle.tf_expand.specs.InstanceKeys.{InstanceKeysView}
 use Rattle.tf_expand.specs.Views.{resolved_names_of}

@@ -2,8 +2,8 @@
 use Rattle.std.proofs.Common.{◌≡◌, true, ◌&&◌, Option, Some, None, option_map, refl, ap₂, subst, ◌∙◌}
 use Rattle.std.specs.Prelude.{nat_le, IfSome, IsSome}
 use Rattle.tf_plan_object.specs.Bounded.{each_may_be_planned, has_planned_attributes}
-use Rattle.tf_protocol.specs.declared.request.Op.{Op}
-use Rattle.tf_protocol.specs.declared.request.Op.TheVariants.{Create}
+use Rattle.tf_provider_protocol.specs.declared.request.Op.{Op}
+use Rattle.tf_provider_protocol.specs.declared.request.Op.TheVariants.{Create}
 use Rattle.tf_value.proofs.Conjunction.{and-first, and-second, and-both}
 use Rattle.tf_value.proofs.WithNulls.{nulls-known, nulls-measure, nulls-no_set}
 use Rattle.tf_value.specs.Measure.{max_weight, max_depth}

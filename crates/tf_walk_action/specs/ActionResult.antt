@@ -1,9 +1,9 @@
 -- What may come of an action.
 use Rattle.std.specs.Prelude.{Bool, true, false, Option, Some, None}
 use Rattle.tf_plan_object.specs.Instance.{InstanceFaultView}
-use Rattle.tf_protocol.specs.Meaning.{Asked, Answer}
-use Rattle.tf_protocol.specs.Verdict.{is_good_verdict}
-use Rattle.tf_protocol.specs.declared.verdict.Verdict.{Verdict}
+use Rattle.tf_provider_protocol.specs.Meaning.{Asked, Answer}
+use Rattle.tf_provider_protocol.specs.Verdict.{is_good_verdict}
+use Rattle.tf_provider_protocol.specs.declared.verdict.Verdict.{Verdict}
 use Rattle.tf_walk_action.specs.Excuse.{Moment}
 
 -- What came of an action: it was skipped, since one before it isn't good; it was excused, since memory was refused or the

@@ -1,16 +1,16 @@
 -- What the actions of a plan ask of their providers.
 use Rattle.std.specs.Prelude.{ℕ, List, [], Option, Some, None, Result, Ok, Err}
 use Rattle.tf_plan_data.specs.Action.{ActionView, StepView, create, update, replacement, replaced, destroyed, deposed_destroyed}
-use Rattle.tf_address.specs.ObjectId.{InstanceKeyView}
+use Rattle.tf_config_address.specs.ObjectId.{InstanceKeyView}
 use Rattle.tf_plan_object.specs.Instance.{InstanceFaultView}
 use Rattle.tf_config_data.specs.Names.{NameView, Meant, a_block, meant_at}
 use Rattle.tf_plan_object.specs.Kept.{kept_object}
 use Rattle.tf_plan_data.specs.Address.{address_text}
 pub use Rattle.tf_plan_data.specs.Fits.{op_of}
 use Rattle.tf_plan_data.specs.Plan.{PlanView, plan_names}
-use Rattle.tf_protocol.specs.Meaning.{Asked}
-use Rattle.tf_protocol.specs.Schema.{SchemaView}
-use Rattle.tf_protocol.specs.declared.request.Op.TheVariants.{Create, Update, Destroy}
+use Rattle.tf_provider_protocol.specs.Meaning.{Asked}
+use Rattle.tf_provider_protocol.specs.Schema.{SchemaView}
+use Rattle.tf_provider_protocol.specs.declared.request.Op.TheVariants.{Create, Update, Destroy}
 use Rattle.tf_walk_action.specs.Requests.{IsRequest}
 use Rattle.tf_value.specs.Tree.{Tree}
 
@@ -36,15 +36,15 @@ ignored_by _ = []
 
 -- to make an object at an action's address
 abbrev pub create_of : ActionView → Tree → Asked
-create_of a t = record { op = Create; address = address_text a.label a.key; type_name = a.label.type_name; deposed = None; prior = None; object = Some t }
+create_of a t = record { op = Create; address = address_text a.addr a.key; type_name = a.addr.type_name; deposed = None; prior = None; object = Some t }
 
 -- to make of the object that is there another
 abbrev pub update_of : ActionView → Tree → Tree → Asked
-update_of a prior t = record { op = Update; address = address_text a.label a.key; type_name = a.label.type_name; deposed = None; prior = Some prior; object = Some t }
+update_of a prior t = record { op = Update; address = address_text a.addr a.key; type_name = a.addr.type_name; deposed = None; prior = Some prior; object = Some t }
 
 -- to take an object away, the current one or the deposed one of a key
 abbrev pub destroy_of : ActionView → Option (List ℕ) → Tree → Asked
-destroy_of a deposed prior = record { op = Destroy; address = address_text a.label a.key; type_name = a.label.type_name; deposed = deposed; prior = Some prior; object = None }
+destroy_of a deposed prior = record { op = Destroy; address = address_text a.addr a.key; type_name = a.addr.type_name; deposed = deposed; prior = Some prior; object = None }
 
 -- a request for an object, or what is wrong with that
 abbrev pub unless_faulty : (Tree → Asked) → Result Tree InstanceFaultView → Result Asked InstanceFaultView

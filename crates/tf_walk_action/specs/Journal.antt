@@ -7,9 +7,9 @@ use Rattle.tf_graph.specs.Order.{IsInOrder}
 use Rattle.tf_provider.specs.declared.journal.Entry.{Entry}
 use Rattle.tf_provider.specs.Entries.{actions_of}
 use Rattle.tf_plan_data.specs.Plan.{PlanView}
-use Rattle.tf_protocol.specs.declared.request.Op.{Op}
-use Rattle.tf_protocol.specs.declared.verdict.Verdict.{Verdict}
-use Rattle.tf_protocol.specs.declared.verdict.Verdict.TheVariants as verdict
+use Rattle.tf_provider_protocol.specs.declared.request.Op.{Op}
+use Rattle.tf_provider_protocol.specs.declared.verdict.Verdict.{Verdict}
+use Rattle.tf_provider_protocol.specs.declared.verdict.Verdict.TheVariants as verdict
 use Rattle.tf_walk_action.specs.Asked.{op_of}
 use Rattle.tf_walk_action.specs.ActionResult.{ActionResultView, excused, called}
 use Rattle.tf_walk_action.specs.Excuse.{during_call}

@@ -1,11 +1,11 @@
 -- What holds of what is asked in an apply.
 use Rattle.std.specs.Prelude.{◌≡◌, ℕ, true}
 use Rattle.tf_plan_data.specs.Action.{ActionView}
-use Rattle.tf_address.specs.ObjectId.{InstanceKeyView}
+use Rattle.tf_config_address.specs.ObjectId.{InstanceKeyView}
 use Rattle.tf_config_data.specs.Names.{meant_at, directly_before}
 use Rattle.tf_graph.specs.Solutions.{Ranked}
 use Rattle.tf_plan_data.specs.Plan.{PlanView, plan_names}
-use Rattle.tf_protocol.specs.Schema.{SchemaView}
+use Rattle.tf_provider_protocol.specs.Schema.{SchemaView}
 use Rattle.tf_walk_action.specs.Requests.{is_resource}
 use Rattle.tf_value.specs.Tree.{Tree}
 use Rattle.tf_walk_action.specs.Asked.{Requests, AreRequests}

@@ -1,7 +1,7 @@
 -- What is told of a request that can't be made, and of an output that can't be evaluated.
 use Rattle.std.specs.Prelude.{ℕ, List, ◌++◌, codes}
-use Rattle.tf_operators.specs.EvalFault.{eval_fault_name}
-use Rattle.tf_operators.specs.declared.fault.EvalFault.{EvalFault}
+use Rattle.tf_expr_syntax.specs.EvalFault.{eval_fault_name}
+use Rattle.tf_expr_syntax.specs.declared.fault.EvalFault.{EvalFault}
 use Rattle.tf_plan_object.specs.Instance.{InstanceFaultView, for_each_fault, argument_fault}
 use Rattle.tf_plan_object.specs.declared.argument.ArgumentFault.{ArgumentFault}
 use Rattle.tf_plan_object.specs.declared.argument.ArgumentFault.TheVariants.{Evaluation, BadArgument}

@@ -2,12 +2,12 @@
 use Rattle.std.specs.Prelude.{ℕ, ◌==◌, ◌&&◌, Bool, false, if◌then◌else◌, List, [], ◌∷◌, Option, Some, None, slice_get}
 use Rattle.std.specs.Option.{option_map_or}
 use Rattle.tf_plan_data.specs.Action.{ActionView}
-use Rattle.tf_address.specs.Label.{LabelView}
-use Rattle.tf_address.specs.ObjectId.{InstanceKeyView}
-use Rattle.tf_address.specs.Same.{same_instance_key}
+use Rattle.tf_config_address.specs.ResourceAddr.{ResourceAddrView}
+use Rattle.tf_config_address.specs.ObjectId.{InstanceKeyView}
+use Rattle.tf_config_address.specs.Same.{same_instance_key}
 use Rattle.tf_config_data.specs.Names.{NameView, Meant, a_block, meant_at}
 use Rattle.tf_plan_data.specs.Fits.{is_apply}
-use Rattle.tf_protocol.specs.Meaning.{object}
+use Rattle.tf_provider_protocol.specs.Meaning.{object}
 use Rattle.tf_state_data.specs.State.{StateView, record_in}
 use Rattle.tf_value.specs.Tree.{Tree, null}
 use Rattle.tf_walk_action.specs.ActionResult.{ActionResultView, called}
@@ -23,12 +23,12 @@ is_of (Some a) place key = is_apply a.step && a.resource == place && same_instan
 is_of None place key = false
 
 -- the current object that a state has of an instance of the resource at an address; null where it has none
-abbrev pub current_object : StateView → LabelView → InstanceKeyView → Tree
-current_object prior label key = option_map_or (λ r. r.attributes) (record_in label (record { key = key; deposed = None }) prior) null
+abbrev pub current_object : StateView → ResourceAddrView → InstanceKeyView → Tree
+current_object prior addr key = option_map_or (λ r. r.attributes) (record_in addr (record { key = key; deposed = None }) prior) null
 
 -- the current object of an instance of what stands at a place; null where there is none
 abbrev pub prior_object : StateView → InstanceKeyView → Option Meant → Tree
-prior_object prior key (Some (a_block b)) = current_object prior b.label key
+prior_object prior key (Some (a_block b)) = current_object prior b.addr key
 prior_object prior key _ = null
 
 -- What instances stand for after the actions that are seen. One that is created or updated stands for the object that its

@@ -3,14 +3,14 @@ use Rattle.std.specs.Prelude.{◌≡◌, ℕ, Bool, if◌then◌else◌, List, l
 use Rattle.std.specs.List.{list_all}
 use Rattle.std.specs.Option.{option_map_or}
 use Rattle.tf_plan_data.specs.Action.{ActionView}
-use Rattle.tf_address.specs.ObjectId.{InstanceKeyView}
+use Rattle.tf_config_address.specs.ObjectId.{InstanceKeyView}
 use Rattle.tf_plan_object.specs.Instance.{InstanceFaultView}
 use Rattle.tf_graph.specs.Digraph.{predecessors_of}
 use Rattle.tf_graph.specs.Solutions.{Solves}
 use Rattle.tf_plan_data.specs.Plan.{PlanView, plan_names}
-use Rattle.tf_protocol.specs.Meaning.{Asked, Meaning, first_with, schema_in}
-use Rattle.tf_protocol.specs.Verdict.{verdict_on}
-pub use Rattle.tf_protocol.specs.Verdict.{is_good_verdict}
+use Rattle.tf_provider_protocol.specs.Meaning.{Asked, Meaning, first_with, schema_in}
+use Rattle.tf_provider_protocol.specs.Verdict.{verdict_on}
+pub use Rattle.tf_provider_protocol.specs.Verdict.{is_good_verdict}
 use Rattle.tf_value.specs.Tree.{Tree}
 pub use Rattle.tf_walk_action.specs.Asked.{AreRequests, Requests, op_of}
 use Rattle.tf_walk_action.specs.Asked.{asked_for}
@@ -35,7 +35,7 @@ comes_of ms (Err why) = faulted why
 -- what comes of an action, where instances stand for these objects
 abbrev pub call_with : List Meaning → Requests → PlanView → (ℕ → InstanceKeyView → Tree) → ActionView → ActionResultView
 call_with ms requests plan objects a =
-    option_map_or (λ schema. comes_of ms (asked_for (plan_names plan) schema a (requests objects a schema))) (schema_in a.label.type_name ms) skipped
+    option_map_or (λ schema. comes_of ms (asked_for (plan_names plan) schema a (requests objects a schema))) (schema_in a.addr.type_name ms) skipped
 
 -- what instances stand for after those actions of a plan that are seen
 abbrev pub objects_by : PlanView → List (ℕ × ActionResultView) → ℕ → InstanceKeyView → Tree

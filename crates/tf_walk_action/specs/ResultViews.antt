@@ -2,9 +2,9 @@
 use Rattle.std.specs.Prelude.{ℕ, List, map, Option, Some, None, Contains, ⊤}
 use Rattle.tf_plan_object.specs.Instance.{instance_fault_of}
 use Rattle.tf_graph.specs.Digraph.{Digraph, predecessors_of}
-use Rattle.tf_protocol.specs.Meaning.{Asked, Answer, asked, answered}
-use Rattle.tf_protocol.specs.declared.verdict.Verdict.{Verdict}
-use Rattle.tf_protocol.specs.declared.verdict.Verdict.TheVariants as verdict
+use Rattle.tf_provider_protocol.specs.Meaning.{Asked, Answer, asked, answered}
+use Rattle.tf_provider_protocol.specs.declared.verdict.Verdict.{Verdict}
+use Rattle.tf_provider_protocol.specs.declared.verdict.Verdict.TheVariants as verdict
 use Rattle.tf_walk_action.specs.Excuse.{before_call, during_call, by_stop}
 use Rattle.tf_walk_action.specs.Outcome.{ActionResultView, skipped, excused, faulted, called}
 use Rattle.tf_walk_action.specs.declared.action_result.ActionResult.{ActionResult}

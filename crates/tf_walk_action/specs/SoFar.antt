@@ -1,6 +1,6 @@
 -- What names stand for so far, while an action's request is made.
 use Rattle.std.specs.Prelude.{ℕ, List}
-use Rattle.tf_address.specs.ObjectId.{InstanceKeyView}
+use Rattle.tf_config_address.specs.ObjectId.{InstanceKeyView}
 use Rattle.tf_expand.specs.Views.{resolved_names_of}
 use Rattle.tf_expand.specs.declared.resolved.Resolved.{Resolved}
 use Rattle.tf_plan_data.specs.Plan.{PlanView, plan_names}

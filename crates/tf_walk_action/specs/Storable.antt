@@ -1,8 +1,8 @@
 -- What may be saved of an object, and what a create may ask for.
 use Rattle.std.specs.Prelude.{Bool, true, false, Option, Some}
 use Rattle.tf_plan_object.specs.Bounded.{has_planned_attributes}
-use Rattle.tf_protocol.specs.declared.request.Op.{Op}
-use Rattle.tf_protocol.specs.declared.request.Op.TheVariants.{Create, Update, Destroy}
+use Rattle.tf_provider_protocol.specs.declared.request.Op.{Op}
+use Rattle.tf_provider_protocol.specs.declared.request.Op.TheVariants.{Create, Update, Destroy}
 use Rattle.tf_value.specs.Stored.{each_may_be_stored}
 use Rattle.tf_value.specs.Tree.{Tree, map}
 

@@ -4,8 +4,8 @@ use Rattle.std.specs.List.{AllByRecursion}
 use Rattle.tf_config_data.specs.Config.{RepetitionView, for_each, BlockView}
 use Rattle.tf_config_data.specs.Names.{NameView, Meant, a_local, meant_at, directly_before}
 use Rattle.tf_graph.specs.NodeSet.{has}
-use Rattle.tf_syntax.specs.ExprNames.{named_by, named_below}
-use Rattle.tf_syntax.specs.TemplateNames.{Pair}
+use Rattle.tf_expr_syntax.specs.ExprNames.{named_by, named_below}
+use Rattle.tf_expr_syntax.specs.TemplateNames.{Pair}
 
 -- whether what stands at a place is a local
 abbrev pub is_local : Option Meant → Bool

@@ -1,7 +1,7 @@
 //! What instances stand for while a plan is carried out, as the requests and outputs that name them need it.
 
 ghost use Rattle.std.specs.Prelude.{◌≡◌, IfOk, map, option_map, slice_get};
-ghost use Rattle.tf_plan_data.specs.Words.{action_of, instance_key_of, label_of, meant_at, names_in, null, seen_by, state_of, tree_of};
+ghost use Rattle.tf_plan_data.specs.Words.{action_of, instance_key_of, addr_of, meant_at, names_in, null, seen_by, state_of, tree_of};
 ghost use Rattle.tf_walk_action.specs.ResultViews.{result_or_skipped, action_results_of};
 ghost use Rattle.tf_walk_action.specs.Objects.{current_object, is_of, object_of, objects_seen, prior_object};
 ghost use Rattle.tf_walk_action.specs.Outcome.{done_at};
@@ -9,10 +9,10 @@ ghost use Rattle.tf_walk_action.specs.Outcome.{done_at};
 use crate::action_result::ActionResult;
 use crate::results::Results;
 use std::alloc::{AllocError, Global};
-use tf_address::{InstanceKey, Label, ObjectId};
+use tf_config_address::{InstanceKey, ObjectId, ResourceAddr};
 use tf_config_names::{Declaration, Declarations};
 use tf_plan_data::Action;
-use tf_protocol::Reply;
+use tf_provider_protocol::Reply;
 use tf_state_data::State;
 use tf_value::{Value, copy};
 
@@ -71,7 +71,7 @@ pub fn prior_object(
         return Ok(no_object());
     }
     match names.at(place) {
-        Declaration::Resource(label, _) => current_object(prior, label, key),
+        Declaration::Resource(addr, _) => current_object(prior, addr, key),
         Declaration::Local(_, _) => Ok(Value::Null),
     }
 }
@@ -84,14 +84,18 @@ fn no_object() -> Value
 }
 
 /// The current object of an instance of the resource at an address, copied; null where the state has none.
-fn current_object(prior: &State, label: &Label, key: &InstanceKey) -> Result<Value, AllocError>
-    ensures { IfOk result (λ value. tree_of value ≡ current_object (state_of prior.now) (label_of label.now) (instance_key_of key.now)) }
+fn current_object(
+    prior: &State,
+    addr: &ResourceAddr,
+    key: &InstanceKey,
+) -> Result<Value, AllocError>
+    ensures { IfOk result (λ value. tree_of value ≡ current_object (state_of prior.now) (addr_of addr.now) (instance_key_of key.now)) }
 {
     let id = ObjectId {
         key: key.clone()?,
         deposed: None,
     };
-    match prior.record(label, &id) {
+    match prior.record(addr, &id) {
         Some(kept) => copy(&kept.attributes.value),
         None => Ok(Value::Null),
     }

@@ -2,7 +2,7 @@
 
 ghost use Rattle.std.specs.Prelude.{◌≡◌, true, Some, map, IfOk, IsSomeAnd, IsTrue, option_map, string_bytes};
 ghost use Rattle.tf_walk_action.specs.Words.{action_of, AreRequests, asked, asked_for, asks_fully, call_with, comes_of, config_of, create_of, destroy_of, FitsTogether, has_planned_attributes, ignored_by, IsDeclared, IsOfBlock, IsServedBy, kept_object, meant_at, names_in, names_of, plan_of, prior_of, Requests, schema_in, tree_of, unless_faulty, update_of};
-ghost use Rattle.tf_protocol.specs.declared.request.Op.TheVariants.{Create, Update};
+ghost use Rattle.tf_provider_protocol.specs.declared.request.Op.TheVariants.{Create, Update};
 ghost use Rattle.tf_walk_action.specs.AskedBy.{asked_by, prepared_call_of};
 ghost use Rattle.tf_walk_action.specs.SoFar.{ResolvedSoFar};
 ghost use Rattle.tf_walk_action.specs.Asked.{op_of};
@@ -53,7 +53,7 @@ pub fn ask_provider<R: Results>(
     ensures op { IfOk result (λ made. IfOk made (λ asking. (asked asking.request).op ≡ op_of (action_of action.now).step)) }
     ensures so_far { ResolvedSoFar (plan_of plan.now) (R.objects results.now) kept.new.items }
 {
-    match schema_for(providers, action.label.type_name.as_str()) {
+    match schema_for(providers, action.addr.type_name.as_str()) {
         Some(schema) => {
             let task = Task {
                 alloc,
@@ -80,7 +80,7 @@ impl<R: Results> Task<'_, '_, R> {
             → asked_by made ≡ asked_for (names_of (config_of self.now.plan.now.config)) self.now.schema.now (action_of self.now.action.now)
             (requests (R.objects self.now.results.now) (action_of self.now.action.now) self.now.schema.now)) }
         ensures fully { IfOk result (λ made. IfOk made (λ asking. asks_fully (asked asking.request) self.now.schema.now ≡ true)) }
-        ensures type_name { IfOk result (λ made. IfOk made (λ asking. (asked asking.request).type_name ≡ (action_of self.now.action.now).label.type_name)) }
+        ensures type_name { IfOk result (λ made. IfOk made (λ asking. (asked asking.request).type_name ≡ (action_of self.now.action.now).addr.type_name)) }
         ensures op { IfOk result (λ made. IfOk made (λ asking. (asked asking.request).op ≡ op_of (action_of self.now.action.now).step)) }
         ensures so_far { ResolvedSoFar (plan_of self.now.plan.now) (R.objects self.now.results.now) kept.new.items }
     {
@@ -111,7 +111,7 @@ impl<R: Results> Task<'_, '_, R> {
         ensures asked { IfOk result (λ made. (requests : Requests) → AreRequests (plan_of self.now.plan.now) requests
             → asked_by made ≡ unless_faulty (create_of (action_of self.now.action.now)) (requests (R.objects self.now.results.now) (action_of self.now.action.now) self.now.schema.now)) }
         ensures fully { IfOk result (λ made. IfOk made (λ asking. asks_fully (asked asking.request) self.now.schema.now ≡ true)) }
-        ensures type_name { IfOk result (λ made. IfOk made (λ asking. (asked asking.request).type_name ≡ (action_of self.now.action.now).label.type_name)) }
+        ensures type_name { IfOk result (λ made. IfOk made (λ asking. (asked asking.request).type_name ≡ (action_of self.now.action.now).addr.type_name)) }
         ensures op { IfOk result (λ made. IfOk made (λ asking. (asked asking.request).op ≡ Create)) }
         ensures so_far { ResolvedSoFar (plan_of self.now.plan.now) (R.objects self.now.results.now) kept.new.items }
     {
@@ -136,7 +136,7 @@ impl<R: Results> Task<'_, '_, R> {
             (kept_object self.now.schema.now (ignored_by (meant_at (names_of (config_of self.now.plan.now.config)) (action_of self.now.action.now).resource)) (prior_of prior.now) t))
             (requests (R.objects self.now.results.now) (action_of self.now.action.now) self.now.schema.now)) }
         ensures fully { IfOk result (λ made. IfOk made (λ asking. asks_fully (asked asking.request) self.now.schema.now ≡ true)) }
-        ensures type_name { IfOk result (λ made. IfOk made (λ asking. (asked asking.request).type_name ≡ (action_of self.now.action.now).label.type_name)) }
+        ensures type_name { IfOk result (λ made. IfOk made (λ asking. (asked asking.request).type_name ≡ (action_of self.now.action.now).addr.type_name)) }
         ensures op { IfOk result (λ made. IfOk made (λ asking. (asked asking.request).op ≡ Update)) }
         ensures so_far { ResolvedSoFar (plan_of self.now.plan.now) (R.objects self.now.results.now) kept.new.items }
     {
@@ -203,8 +203,8 @@ fn request_for(
 {
     Ok(Request {
         op,
-        address: address_text(alloc, &action.label, &action.key)?,
-        type_name: action.label.type_name.clone()?,
+        address: address_text(alloc, &action.addr, &action.key)?,
+        type_name: action.addr.type_name.clone()?,
         deposed,
         prior,
         object,

@@ -1,6 +1,6 @@
 //! How actions end, and for which of them memory was refused.
 
-use tf_protocol::Verdict;
+use tf_provider_protocol::Verdict;
 
 /// How an action ended.
 #[derive(Clone, Copy, Debug, PartialEq, Eq)]

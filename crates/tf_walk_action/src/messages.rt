@@ -6,7 +6,7 @@ ghost use Rattle.tf_walk_action.specs.Message.{argument_text, evaluation_text, f
 
 use crate::action_result::Faulted;
 use std::alloc::{AllocError, Global};
-use tf_operators::EvalFault;
+use tf_expr_syntax::EvalFault;
 use tf_plan_object::{ArgumentFault, InstanceFault};
 
 /// An action for which nothing can be asked, with the message that tells why.

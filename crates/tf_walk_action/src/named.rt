@@ -1,7 +1,7 @@
 //! What the object of an instance is worked out from.
 
 ghost use Rattle.std.specs.Prelude.{◌≡◌, IfOk};
-ghost use Rattle.tf_expand.specs.Words.{block_at, LabelView, names_in, places, repetition_of};
+ghost use Rattle.tf_expand.specs.Words.{block_at, ResourceAddrView, names_in, places, repetition_of};
 ghost use Rattle.tf_walk_action.specs.Wanted.{instance_names, named_in_for_each};
 
 use std::alloc::{AllocError, Global};
@@ -15,7 +15,7 @@ pub(crate) fn named_for_instance(
     names: &Declarations<'_>,
     block: &Block,
 ) -> Result<Vec<usize>, AllocError>
-    ensures { IfOk result (λ named. (label : LabelView) → named.items ≡ places (names_in names.now) (instance_names (block_at label block.now))) }
+    ensures { IfOk result (λ named. (addr : ResourceAddrView) → named.items ≡ places (names_in names.now) (instance_names (block_at addr block.now))) }
 {
     let mut named = named_in_for_each(alloc, names, &block.repetition)?;
     for (_, expr) in block.arguments.iter() {

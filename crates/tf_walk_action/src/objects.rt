@@ -11,7 +11,7 @@ use tf_config_names::{Declaration, Declarations};
 use tf_expand::{Module, Resolved};
 use tf_plan_data::{Action, Plan};
 use tf_plan_object::{InstanceFault, kept_object};
-use tf_protocol::Schema;
+use tf_provider_protocol::Schema;
 use tf_value::Value;
 
 /// What an object is asked for by: the action of a plan, the names of its configuration, the schema of the action's type,

@@ -5,7 +5,7 @@ ghost use Rattle.tf_value.specs.Tree.{tree_of};
 ghost use Rattle.tf_walk_action.specs.Storable.{asks_planned};
 ghost use Rattle.tf_walk_action.specs.Room.{message_fits};
 
-use tf_protocol::Request;
+use tf_provider_protocol::Request;
 
 /// What is had before a provider is called, so that what comes of its reply is reported without taking memory.
 #[derive(Drop)]

@@ -1,7 +1,7 @@
 //! What came of a call, once it is recorded.
 
 ghost use Rattle.std.specs.Prelude.{◌≡◌, [], true, option_map, string_bytes, string_capacity};
-ghost use Rattle.tf_protocol.specs.Meaning.{asked, answered};
+ghost use Rattle.tf_provider_protocol.specs.Meaning.{asked, answered};
 ghost use Rattle.tf_value.specs.Tree.{tree_of};
 ghost use Rattle.tf_graph.specs.Digraph.{Digraph};
 ghost use Rattle.tf_walk_action.specs.ResultViews.{HasCause, result_by, action_result_of, ended_action};

@@ -10,11 +10,11 @@ use crate::named::named_for_instance;
 use crate::results::Results;
 use crate::sharing::add_resolved_names;
 use std::alloc::{AllocError, Global};
-use tf_address::InstanceKey;
+use tf_config_address::InstanceKey;
 use tf_config_names::Declaration;
 use tf_expand::{InstanceKeys, Module, NamesScope, Resolved};
 use tf_plan_object::{InstanceFault, plan_instance};
-use tf_protocol::Schema;
+use tf_provider_protocol::Schema;
 use tf_value::Value;
 
 /// What is asked of a provider for the create of an instance of the resource at a place, or what is wrong with it: what

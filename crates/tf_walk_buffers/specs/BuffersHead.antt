@@ -1,7 +1,7 @@
 -- What room is for.
 use Rattle.std.specs.Prelude.{string_bytes}
-use Rattle.tf_address.specs.Label.{label_of}
-use Rattle.tf_address.specs.ObjectId.{object_id_of}
+use Rattle.tf_config_address.specs.ResourceAddr.{addr_of}
+use Rattle.tf_config_address.specs.ObjectId.{object_id_of}
 use Rattle.tf_state_next.specs.Ends.{record_input_of}
 use Rattle.tf_walk_buffers.specs.Head.{Head, Target, an_instance, an_object}
 use Rattle.tf_walk_buffers.specs.declared.buffers.ActionBuffers.{ActionBuffers}
@@ -15,4 +15,4 @@ target_of (rust.Object id) = an_object (object_id_of id)
 
 -- the action that the room is for
 abbrev pub buffers_head : ActionBuffers → Head
-buffers_head r = record { place = string_bytes r.place; op = r.op; label = label_of r.label.now; target = target_of r.target }
+buffers_head r = record { place = string_bytes r.place; op = r.op; addr = addr_of r.addr.now; target = target_of r.target }

@@ -1,13 +1,13 @@
 -- The resources that a resource depends on, as a state keeps them.
 use Rattle.std.specs.Prelude.{ℕ, Bool, List, [], length, filter, fold, Option, Some, None}
 use Rattle.std.specs.List.{filter_map, range_with_len}
-use Rattle.tf_address.specs.Label.{label_text}
+use Rattle.tf_config_address.specs.ResourceAddr.{addr_text}
 use Rattle.tf_config_data.specs.Names.{NameView, Meant, a_local, a_block, meant_at}
 use Rattle.tf_config_names.specs.Texts.{put_text}
 
 -- the address of a resource; a local has none
 abbrev pub address_of : Option Meant → Option (List ℕ)
-address_of (Some (a_block block)) = Some (label_text block.label)
+address_of (Some (a_block block)) = Some (addr_text block.addr)
 address_of (Some (a_local e)) = None
 address_of None = None
 

@@ -2,11 +2,11 @@
 use Rattle.std.specs.Prelude.{◌≡◌, ◌+◌, ◌<◌, ◌^◌, ℕ, Bool, true, false, ◌&&◌, if◌then◌else◌, List, [], ◌∷◌, Option, Some, None, ⊤}
 use Rattle.std.specs.Option.{option_map_or}
 use Rattle.tf_plan_data.specs.Action.{ActionView, StepView, replacement}
-use Rattle.tf_address.specs.Label.{LabelView}
-use Rattle.tf_address.specs.ObjectId.{ObjectIdView}
+use Rattle.tf_config_address.specs.ResourceAddr.{ResourceAddrView}
+use Rattle.tf_config_address.specs.ObjectId.{ObjectIdView}
 use Rattle.tf_plan_data.specs.Fits.{is_apply, deposed_key, op_of}
 use Rattle.tf_plan_data.specs.Plan.{PlanView, plan_names}
-use Rattle.tf_protocol.specs.declared.request.Op.{Op}
+use Rattle.tf_provider_protocol.specs.declared.request.Op.{Op}
 use Rattle.tf_state_next.specs.After.{object_at}
 use Rattle.tf_state_next.specs.DeposedKey.{IsDeposedKey}
 use Rattle.tf_state_next.specs.Ends.{RecordInputView}
@@ -25,7 +25,7 @@ pub data Target : Type 0 where
 pub record Head : Type 0 where
   pub place : List ℕ
   pub op : Op
-  pub label : LabelView
+  pub addr : ResourceAddrView
   pub target : Target
 
 -- What the records of a resource's objects are given, where its instance has a key, a new object follows a version of the
@@ -50,14 +50,14 @@ is_replacement (replacement asked names) = true
 is_replacement _ = false
 
 -- the records that a state has at an address
-abbrev pub records_at : LabelView → StateView → List RecordView
-records_at label s = option_map_or (λ r. r.records) (resource_at label s.resources) []
+abbrev pub records_at : ResourceAddrView → StateView → List RecordView
+records_at addr s = option_map_or (λ r. r.records) (resource_at addr s.resources) []
 
 -- An old object gets a key in a replace that creates first, and there alone: the key by the new serial that no deposed
 -- object of the instance has.
 abbrev pub IsKeyFor : PlanView → ActionView → Option (List ℕ) → Type 0
 IsKeyFor plan a None = (is_replacement a.step && plan.late a.resource) ≡ false
-IsKeyFor plan a (Some key) = ((is_replacement a.step && plan.late a.resource) ≡ true) × IsDeposedKey (plan.prior.serial + 1) a.key (records_at a.label plan.prior) key
+IsKeyFor plan a (Some key) = ((is_replacement a.step && plan.late a.resource) ≡ true) × IsDeposedKey (plan.prior.serial + 1) a.key (records_at a.addr plan.prior) key
 
 -- what a record is given has a version that a text can hold
 abbrev pub HasVersion : Target → Type 0
@@ -78,7 +78,7 @@ pub record IsTargetOf (plan : PlanView) (a : ActionView) (t : Target) : Type 0 w
 pub record IsHeadOf (plan : PlanView) (a : ActionView) (h : Head) : Type 0 where
   pub place : h.place ≡ place_of a
   pub op : h.op ≡ op_of a.step
-  pub label : h.label ≡ a.label
+  pub addr : h.addr ≡ a.addr
   pub target : IsTargetOf plan a h.target
 
 -- the same of each of some actions

@@ -1,9 +1,9 @@
 -- What the records of objects without an action are given anew.
 use Rattle.std.specs.Prelude.{ℕ, ◌==◌, ◌&&◌, Bool, true, false, not, nat_lt, if◌then◌else◌, List, [], map, filter, length, Option, Some, None}
 use Rattle.std.specs.List.{flat_map, list_any}
-use Rattle.tf_address.specs.Label.{LabelView}
-use Rattle.tf_address.specs.ObjectId.{InstanceKeyView}
-use Rattle.tf_address.specs.Same.{same_instance_key}
+use Rattle.tf_config_address.specs.ResourceAddr.{ResourceAddrView}
+use Rattle.tf_config_address.specs.ObjectId.{InstanceKeyView}
+use Rattle.tf_config_address.specs.Same.{same_instance_key}
 use Rattle.tf_plan_data.specs.Action.{ActionView}
 use Rattle.tf_plan_data.specs.Fits.{deposed_key}
 use Rattle.tf_plan_data.specs.Plan.{PlanView, plan_names}
@@ -26,10 +26,10 @@ abbrev pub stays : PlanView → ℕ → RecordView → Bool
 stays plan n r = is_none r.id.deposed && not (list_any (is_about n r.id.key) plan.actions)
 
 -- The record of such an object is given anew what its resource needs by the configuration, and whether that is late.
-abbrev pub metadata_update_of_record : PlanView → LabelView → ℕ → RecordView → MetadataUpdateView
-metadata_update_of_record plan label n r =
+abbrev pub metadata_update_of_record : PlanView → ResourceAddrView → ℕ → RecordView → MetadataUpdateView
+metadata_update_of_record plan addr n r =
     record {
-      label = label;
+      addr = addr;
       given =
           record {
             key = r.id.key;
@@ -43,10 +43,10 @@ metadata_update_of_record plan label n r =
 -- Of a resource whose block stands, each record that stays; its number is below those of resources without a block.
 abbrev pub metadata_updates_at : PlanView → ResourceView → Option ℕ → List MetadataUpdateView
 metadata_updates_at plan r None = []
-metadata_updates_at plan r (Some n) = if nat_lt n (length (plan_names plan)) then map (metadata_update_of_record plan r.label n) (filter (stays plan n) r.records) else []
+metadata_updates_at plan r (Some n) = if nat_lt n (length (plan_names plan)) then map (metadata_update_of_record plan r.addr n) (filter (stays plan n) r.records) else []
 
 abbrev pub metadata_updates_of : PlanView → ResourceView → List MetadataUpdateView
-metadata_updates_of plan r = metadata_updates_at plan r (place_in (numbered (plan_names plan) plan.prior.resources) r.label)
+metadata_updates_of plan r = metadata_updates_at plan r (place_in (numbered (plan_names plan) plan.prior.resources) r.addr)
 
 -- What is given anew: the records of the objects without an action whose blocks stand.
 abbrev pub metadata_updates : PlanView → List MetadataUpdateView

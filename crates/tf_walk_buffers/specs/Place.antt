@@ -11,4 +11,4 @@ with_key address (Some key) = address ++ (codes " (deposed " ++ (key ++ codes ")
 
 -- The address of an action's instance, and behind it of a deposed object ` (deposed KEY)`.
 abbrev pub place_of : ActionView → List ℕ
-place_of a = with_key (address_text a.label a.key) (deposed_key a.step)
+place_of a = with_key (address_text a.addr a.key) (deposed_key a.step)

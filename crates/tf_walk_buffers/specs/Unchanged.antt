@@ -1,7 +1,7 @@
 -- The records about which there is no action, one by one.
 use Rattle.std.specs.Prelude.{◌≡◌, ◌<◌, ℕ, Bool, true, nat_lt, if◌then◌else◌, List, [], map, filter, length, Option, Some, None}
 use Rattle.std.specs.List.{flat_map}
-use Rattle.tf_address.specs.Label.{LabelView, label_of}
+use Rattle.tf_config_address.specs.ResourceAddr.{ResourceAddrView, addr_of}
 use Rattle.tf_graph.specs.NodeSet.{has}
 use Rattle.tf_plan_data.specs.Plan.{PlanView, plan_names}
 use Rattle.tf_plan_order.specs.ResourceIndex.{numbered, place_in}
@@ -13,20 +13,20 @@ use Rattle.tf_walk_buffers.specs.declared.unchanged.UnchangedRecord.{UnchangedRe
 
 -- a record that stays, with the address and the number of its resource
 pub record UnchangedRecordView : Type 0 where
-  pub label : LabelView
+  pub addr : ResourceAddrView
   pub number : ℕ
   pub kept : RecordView
 
-abbrev pub unchanged_record : LabelView → ℕ → RecordView → UnchangedRecordView
-unchanged_record label n r = record { label = label; number = n; kept = r }
+abbrev pub unchanged_record : ResourceAddrView → ℕ → RecordView → UnchangedRecordView
+unchanged_record addr n r = record { addr = addr; number = n; kept = r }
 
 -- Of a resource whose block stands, each record that stays; its number is below those of resources without a block.
 abbrev pub unchanged_records_at : PlanView → ResourceView → Option ℕ → List UnchangedRecordView
 unchanged_records_at plan r None = []
-unchanged_records_at plan r (Some n) = if nat_lt n (length (plan_names plan)) then map (unchanged_record r.label n) (filter (stays plan n) r.records) else []
+unchanged_records_at plan r (Some n) = if nat_lt n (length (plan_names plan)) then map (unchanged_record r.addr n) (filter (stays plan n) r.records) else []
 
 abbrev pub unchanged_records_of : PlanView → ResourceView → List UnchangedRecordView
-unchanged_records_of plan r = unchanged_records_at plan r (place_in (numbered (plan_names plan) plan.prior.resources) r.label)
+unchanged_records_of plan r = unchanged_records_at plan r (place_in (numbered (plan_names plan) plan.prior.resources) r.addr)
 
 -- The records that stay, of all resources of the prior state whose blocks stand.
 abbrev pub unchanged_records : PlanView → List UnchangedRecordView
@@ -34,7 +34,7 @@ unchanged_records plan = flat_map (unchanged_records_of plan) plan.prior.resourc
 
 -- what such a record is given anew
 abbrev pub metadata_update_of_unchanged : PlanView → UnchangedRecordView → MetadataUpdateView
-metadata_update_of_unchanged plan u = metadata_update_of_record plan u.label u.number u.kept
+metadata_update_of_unchanged plan u = metadata_update_of_record plan u.addr u.number u.kept
 
 -- the number of its resource is below a count
 abbrev pub HasNumberBelow : ℕ → UnchangedRecordView → Type 0
@@ -47,4 +47,4 @@ IsResourceAsked asked u = has asked u.number ≡ true
 -- ---- what the code's type stands for
 
 abbrev pub unchanged_record_of : UnchangedRecord → UnchangedRecordView
-unchanged_record_of u = record { label = label_of u.label.now; number = u.number; kept = record_of u.kept.now }
+unchanged_record_of u = record { addr = addr_of u.addr.now; number = u.number; kept = record_of u.kept.now }

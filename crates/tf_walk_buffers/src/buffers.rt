@@ -2,8 +2,8 @@
 
 ghost use Rattle.std.specs.Prelude.{◌≡◌, ◌≤◌, [], string_bytes, string_capacity};
 
-use tf_address::{Label, ObjectId};
-use tf_protocol::Op;
+use tf_config_address::{ObjectId, ResourceAddr};
+use tf_provider_protocol::Op;
 use tf_state_next::RecordInput;
 
 /// What an action is about.
@@ -23,7 +23,7 @@ pub struct ActionBuffers<'p> {
     /// What its provider is asked to do.
     pub op: Op,
     /// Its resource.
-    pub label: &'p Label,
+    pub addr: &'p ResourceAddr,
     /// What it is about.
     pub target: Target,
     /// An empty text, with room for what is told where there was no memory.

@@ -2,16 +2,16 @@
 
 ghost use Rattle.std.specs.Option.{option_to_list};
 ghost use Rattle.std.specs.Prelude.{◌≡◌, ◌<◌, ◌++◌, ◌∷◌, [], ℕ, Bool, Contains, IfOk, OnOk, length, map, string_bytes};
-ghost use Rattle.tf_plan_data.specs.Words.{label_of, label_text, meant_at, names_in};
+ghost use Rattle.tf_plan_data.specs.Words.{addr_of, addr_text, meant_at, names_in};
 ghost use Rattle.tf_graph.specs.Lists.{row};
 ghost use Rattle.tf_walk_buffers.specs.Dependencies.{address_of, addresses, addresses_at, dependencies, put_all};
 
 use std::alloc::{AllocError, Global};
 use std::collections::BTreeSet;
 use std::iter::FromIterator;
-use tf_address::Label;
+use tf_config_address::ResourceAddr;
 use tf_config_names::{Declaration, Declarations};
-use tf_plan_data::label_text;
+use tf_plan_data::addr_text;
 
 /// The addresses `TYPE.NAME` of the resources that the list of a place has, in byte order.
 ///
@@ -70,14 +70,14 @@ fn note(
 {
     match names.at(place) {
         Declaration::Local(_, _) => Ok(()),
-        Declaration::Resource(label, _) => note_label(alloc, found, label),
+        Declaration::Resource(addr, _) => note_addr(alloc, found, addr),
     }
 }
 
 /// Notes an address.
-fn note_label(alloc: Global, found: &mut Vec<String>, label: &Label) -> Result<(), AllocError>
-    ensures { OnOk result (map string_bytes found.new.items ≡ map string_bytes found.old.items ++ label_text (label_of label.now) ∷ []) }
+fn note_addr(alloc: Global, found: &mut Vec<String>, addr: &ResourceAddr) -> Result<(), AllocError>
+    ensures { OnOk result (map string_bytes found.new.items ≡ map string_bytes found.old.items ++ addr_text (addr_of addr.now) ∷ []) }
 {
-    found.push(label_text(alloc, label)?)?;
+    found.push(addr_text(alloc, addr)?)?;
     Ok(())
 }

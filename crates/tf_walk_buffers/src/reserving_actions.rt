@@ -14,7 +14,7 @@ use crate::buffers::{ActionBuffers, Target};
 use crate::dependencies::dependencies_listed;
 use crate::needed::needed_for;
 use std::alloc::{AllocError, Global};
-use tf_address::ObjectId;
+use tf_config_address::ObjectId;
 use tf_config_names::Declarations;
 use tf_plan_data::{Action, Plan, Step, address_text};
 use tf_state_data::Record;
@@ -60,7 +60,7 @@ fn reserve_action<'p>(
     Ok(ActionBuffers {
         place: place_for(alloc, action)?,
         op: action.step.op(),
-        label: &action.label,
+        addr: &action.addr,
         target: target_for(alloc, plan, names, lists, action)?,
         message: String::with_capacity(alloc, 15)?,
     })
@@ -70,7 +70,7 @@ fn reserve_action<'p>(
 fn place_for(alloc: Global, action: &Action) -> Result<String, AllocError>
     ensures { IfOk result (λ place. string_bytes place ≡ place_of (action_of action.now)) }
 {
-    let address = address_text(alloc, &action.label, &action.key)?;
+    let address = address_text(alloc, &action.addr, &action.key)?;
     match &action.step {
         Step::DestroyDeposed(key, _) => with_key(alloc, address.as_str(), key.as_str()),
         _ => Ok(address),
@@ -155,7 +155,7 @@ fn key_for(alloc: Global, plan: &Plan, action: &Action) -> Result<Option<String>
     if !is_late(plan, action.resource) {
         return Ok(None);
     }
-    let key = match plan.prior.resource(&action.label) {
+    let key = match plan.prior.resource(&action.addr) {
         Some(resource) => key_among(alloc, plan, action, resource.records())?,
         None => key_among(alloc, plan, action, &[])?,
     };

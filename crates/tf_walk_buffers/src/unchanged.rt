@@ -2,12 +2,12 @@
 
 ghost use Rattle.std.specs.Prelude.{◌≡◌, ◌++◌, IfOk, OnOk, filter, length, map};
 ghost use Rattle.std.specs.List.{list_any};
-ghost use Rattle.tf_plan_data.specs.Words.{action_of, deposed_key, instance_key_of, label_of, names_in, plan_names, plan_of, record_of, resource_of, step_of};
+ghost use Rattle.tf_plan_data.specs.Words.{action_of, deposed_key, instance_key_of, addr_of, names_in, plan_names, plan_of, record_of, resource_of, step_of};
 ghost use Rattle.tf_walk_buffers.specs.MetadataUpdates.{is_about, is_none, stays};
 ghost use Rattle.tf_walk_buffers.specs.Unchanged.{unchanged_record, unchanged_record_of, unchanged_records, unchanged_records_at};
 
 use std::alloc::{AllocError, Global};
-use tf_address::{InstanceKey, Label};
+use tf_config_address::{InstanceKey, ResourceAddr};
 use tf_config_names::Declarations;
 use tf_plan_data::{Action, Plan, Step};
 use tf_plan_order::ResourceIndex;
@@ -17,7 +17,7 @@ use tf_state_data::{Record, Resource};
 #[derive(Drop)]
 pub(crate) struct UnchangedRecord<'p> {
     /// The address of its resource.
-    pub(crate) label: &'p Label,
+    pub(crate) addr: &'p ResourceAddr,
     /// The number of its resource, which is that of a name.
     pub(crate) number: usize,
     /// What the prior state has of it.
@@ -44,7 +44,7 @@ pub(crate) fn unchanged_records<'p>(
     }
     let resource_index = ResourceIndex::new(alloc, names, &plan.prior)?;
     for resource in plan.prior.resources() {
-        let number = resource_index.place(resource.label());
+        let number = resource_index.place(resource.addr());
         add_resource(&mut found, plan, names.len(), resource, number)?;
     }
     Ok(found)
@@ -64,7 +64,7 @@ fn add_resource<'p>(
 {
     match number {
         Some(number) if number < count => {
-            add_records(found, plan, resource.label(), number, resource.records())
+            add_records(found, plan, resource.addr(), number, resource.records())
         }
         _ => Ok(()),
     }
@@ -74,20 +74,16 @@ fn add_resource<'p>(
 fn add_records<'p>(
     found: &mut Vec<UnchangedRecord<'p>>,
     plan: &Plan,
-    label: &'p Label,
+    addr: &'p ResourceAddr,
     number: usize,
     records: &'p [Record],
 ) -> Result<(), AllocError>
     ensures { OnOk result (map unchanged_record_of found.new.items ≡ map unchanged_record_of found.old.items
-        ++ map (unchanged_record (label_of label.now) number) (filter (stays (plan_of plan.now) number) (map record_of records.now))) }
+        ++ map (unchanged_record (addr_of addr.now) number) (filter (stays (plan_of plan.now) number) (map record_of records.now))) }
 {
     for kept in records {
         if stays(plan, number, kept) {
-            found.push(UnchangedRecord {
-                label,
-                number,
-                kept,
-            })?;
+            found.push(UnchangedRecord { addr, number, kept })?;
         }
     }
     Ok(())

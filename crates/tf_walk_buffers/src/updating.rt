@@ -99,7 +99,7 @@ fn update_of<'p>(
         deposed_key: None,
     };
     Ok(MetadataUpdate {
-        label: unchanged.label,
+        addr: unchanged.addr,
         given,
     })
 }

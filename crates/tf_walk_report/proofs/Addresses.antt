@@ -5,19 +5,19 @@ use Rattle.std.specs.Cmp.Lexicographic.{slice_cmp, nat_list_cmp_total}
 use Rattle.std.specs.List.{AllByRecursion, list_all, list_any, before_first, after_first, position_or_len, range_with_len}
 use Rattle.std.specs.Ordering.{nat_cmp, match_ordering, ordering_reverse}
 use Rattle.std.specs.Prelude.{Option, Some, None, ◌||◌}
-use Rattle.tf_address.specs.Label.{LabelView, label_text}
-use Rattle.tf_address.specs.Name.{is_name, starts_name, continues_name}
-use Rattle.tf_address.specs.ObjectId.{InstanceKeyView, single, number, name}
+use Rattle.tf_config_address.specs.ResourceAddr.{ResourceAddrView, addr_text}
+use Rattle.tf_config_address.specs.Name.{is_name, starts_name, continues_name}
+use Rattle.tf_config_address.specs.ObjectId.{InstanceKeyView, single, number, name}
 use Rattle.tf_config_data.specs.Config.{BlockView}
-use Rattle.tf_config_data.specs.Names.{NameView, Meant, a_local, a_block, meant_at, block_name, label_pair, local_names}
+use Rattle.tf_config_data.specs.Names.{NameView, Meant, a_local, a_block, meant_at, block_name, addr_pair, local_names}
 use Rattle.tf_config_names.specs.Texts.{put_text}
 use Rattle.tf_walk_buffers.specs.Dependencies.{address_of, dependencies, with_address}
 use Rattle.tf_plan_data.specs.Fits.{IsNumbered}
 use Rattle.tf_plan_data.specs.Plan.{PlanView, plan_names}
 use Rattle.tf_state.specs.Valid.{AreAddresses, IsKey}
 use Rattle.tf_state.specs.Words.{is_address}
-use Rattle.tf_syntax.specs.ExprTree.{Entries, no_entries, entry}
-use Rattle.tf_syntax.specs.TemplateNames.{Pair}
+use Rattle.tf_expr_syntax.specs.ExprTree.{Entries, no_entries, entry}
+use Rattle.tf_expr_syntax.specs.TemplateNames.{Pair}
 use Rattle.tf_value.proofs.Conjunction.{and-first, and-second, and-both}
 use Rattle.tf_walk_report.specs.Savable.{HasNames, IsNamed}
 
@@ -72,14 +72,14 @@ module _ (rest : List ℕ) where
   dropped (c ∷ cs) = dropped cs
 
 -- the address of two names is one
-pub named_address : (label : LabelView) → is_name label.type_name ≡ true → is_name label.name ≡ true → is_address (label_text label) ≡ true
-named_address label t n =
-    let goes = goes_on label.type_name t in
-    let at = dot_at label.name label.type_name goes in
-    let first : before_first dot (label_text label) ≡ label.type_name = ap (λ (k : ℕ). take k (label_text label)) at ∙ taken label.name label.type_name in
-    let next : position_or_len dot (label_text label) + 1 ≡ suc (length label.type_name) = omega (arith, at) in
-    let later : after_first dot (label_text label) ≡ label.name = ap (λ (k : ℕ). drop k (label_text label)) next ∙ dropped label.name label.type_name in
-    and-both _ _ (dot_there label.name label.type_name) (and-both _ _ (ap is_name first ∙ t) (ap is_name later ∙ n))
+pub named_address : (addr : ResourceAddrView) → is_name addr.type_name ≡ true → is_name addr.name ≡ true → is_address (addr_text addr) ≡ true
+named_address addr t n =
+    let goes = goes_on addr.type_name t in
+    let at = dot_at addr.name addr.type_name goes in
+    let first : before_first dot (addr_text addr) ≡ addr.type_name = ap (λ (k : ℕ). take k (addr_text addr)) at ∙ taken addr.name addr.type_name in
+    let next : position_or_len dot (addr_text addr) + 1 ≡ suc (length addr.type_name) = omega (arith, at) in
+    let later : after_first dot (addr_text addr) ≡ addr.name = ap (λ (k : ℕ). drop k (addr_text addr)) next ∙ dropped addr.name addr.type_name in
+    and-both _ _ (dot_there addr.name addr.type_name) (and-both _ _ (ap is_name first ∙ t) (ap is_name later ∙ n))
 
 -- ---- addresses in byte order
 
@@ -112,7 +112,7 @@ addresses-put s (t ∷ ts) p h = addresses_at (slice_cmp nat_cmp s t) s t ts ref
 -- what is named so is a local, or a block at an address of names
 abbrev pub MeantFits : Pair → Meant → Type 0
 MeantFits pair (a_local e) = Unit {0}
-MeantFits pair (a_block b) = IsNamed b × (pair ≡ label_pair b.label)
+MeantFits pair (a_block b) = IsNamed b × (pair ≡ addr_pair b.addr)
 
 abbrev pub NameFits : NameView → Type 0
 NameFits n = MeantFits n.name n.meant
@@ -142,7 +142,7 @@ block_named (x ∷ xs) (suc n) b h is = block_named xs n b h.1 is
 addresses-more : (m : Option Meant) (found : List (List ℕ)) → ((b : BlockView) → m ≡ Some (a_block b) → IsNamed b) → AreAddresses found → AreAddresses (with_address (address_of m) found)
 addresses-more None found named h = h
 addresses-more (Some (a_local e)) found named h = h
-addresses-more (Some (a_block b)) found named h = let n = named b refl in addresses-put (label_text b.label) found (named_address b.label n.0 n.1) h
+addresses-more (Some (a_block b)) found named h = let n = named b refl in addresses-put (addr_text b.addr) found (named_address b.addr n.0 n.1) h
 
 addresses-all : (names : List NameView) (places : List ℕ) (found : List (List ℕ)) → AllByRecursion NameFits names → AreAddresses found → AreAddresses (fold (λ found m. with_address (address_of (meant_at names m)) found) found places)
 addresses-all names [] found fit h = h

@@ -1,7 +1,7 @@
 -- What a report tells, by what its parts tell.
 use Rattle.std.proofs.Common.{◌≡◌, ◌∙◌, ℕ, suc, Bool, List, [], ◌∷◌, length, refl, sym, ap, subst}
 use Rattle.std.proofs.lemmas.List.{length-map}
-use Rattle.tf_address.specs.ObjectId.{InstanceKeyView}
+use Rattle.tf_config_address.specs.ObjectId.{InstanceKeyView}
 use Rattle.tf_config_data.specs.Names.{NameView}
 use Rattle.tf_expand.specs.InstanceKeys.{InstanceKeysView}
 use Rattle.tf_walk_action.specs.Outcome.{ActionResultView}
@@ -9,7 +9,7 @@ use Rattle.tf_walk_report.specs.Outputs.{AreOutputsDone, AreOutputsEnded, Output
 use Rattle.tf_walk_report.specs.declared.ends.OutputResult.{OutputResult}
 use Rattle.tf_plan_data.specs.Action.{ActionView}
 use Rattle.tf_state_data.specs.State.{StateView}
-use Rattle.tf_syntax.specs.ExprTree as expr
+use Rattle.tf_expr_syntax.specs.ExprTree as expr
 use Rattle.tf_value.specs.Tree.{Entries, Tree}
 use Rattle.tf_walk_report.specs.OutputsBuffers.{places_in, places_of}
 use Rattle.tf_walk_report.specs.Settling.{AreEnded}

@@ -10,17 +10,17 @@ use Rattle.std.specs.List.Sorted.{IsStrictlySortedBy}
 use Rattle.std.specs.Str.{bytes_eq}
 use Rattle.std.specs.Ordering.{match_ordering}
 use Rattle.std.specs.declared.alloc.Global.{Global}
-use Rattle.tf_address.specs.ObjectId.{InstanceKeyView}
+use Rattle.tf_config_address.specs.ObjectId.{InstanceKeyView}
 use Rattle.tf_config_data.specs.Names.{NameView, places, directly_before}
 use Rattle.tf_expand.specs.InstanceKeys.{InstanceKeysView}
 use Rattle.tf_expand.specs.Stages.{applying}
 use Rattle.tf_expand.specs.Resolved.{ResolvedView, AreResolvedNames, environment, rule}
-use Rattle.tf_eval.specs.ExprMeaning.{meaning}
+use Rattle.tf_expr_eval.specs.ExprMeaning.{meaning}
 use Rattle.tf_graph.proofs.Solving.{solution-exists}
 use Rattle.tf_graph.specs.Solutions.{Ranked, seen_by}
-use Rattle.tf_operators.specs.Answer.{Answer}
-use Rattle.tf_operators.specs.declared.fault.EvalFault.{EvalFault}
-use Rattle.tf_operators.specs.declared.fault.EvalFault.TheVariants.{TooLarge}
+use Rattle.tf_expr_operators.specs.Answer.{Answer}
+use Rattle.tf_expr_syntax.specs.declared.fault.EvalFault.{EvalFault}
+use Rattle.tf_expr_syntax.specs.declared.fault.EvalFault.TheVariants.{TooLarge}
 use Rattle.tf_walk_report.specs.Keeping.{IsKept, IsSameOrExcused, MayBeSaved}
 use Rattle.tf_walk_report.specs.Outputs.{OutputResultView, not_evaluated, excused, valued, faulted, done_with, IsEvaluated, IsMeant, IsOutputDone, AreOutputsDone, AreOutputsEnded, end_of, is_null, with_output, with_outputs, without}
 use Rattle.tf_walk_report.specs.Settled.{all_settled, names_are_settled}
@@ -28,8 +28,8 @@ use Rattle.tf_walk_report.specs.declared.ends.OutputResult.{OutputResult}
 use Rattle.tf_walk_action.specs.Requests.{IsOutput, without_sets}
 use Rattle.tf_state_data.specs.State.{outputs_of}
 use Rattle.tf_state_data.specs.declared.object.Object.{Object}
-use Rattle.tf_syntax.specs.ExprNames.{named_by}
-use Rattle.tf_syntax.specs.ExprTree as expr
+use Rattle.tf_expr_syntax.specs.ExprNames.{named_by}
+use Rattle.tf_expr_syntax.specs.ExprTree as expr
 use Rattle.tf_value.proofs.Tables.{table-put}
 use Rattle.tf_value.proofs.WithLists.{lists-no_set}
 use Rattle.tf_value.specs.Measure.{is_within}

@@ -3,7 +3,7 @@ use Rattle.std.proofs.Common.{◌≡◌, ℕ, List, [], ◌∷◌, ◌++◌, str
 use Rattle.std.specs.List.{AllByRecursion}
 use Rattle.tf_walk_report.specs.Buffers.{outputs_in}
 use Rattle.tf_walk_report.specs.declared.output_buffers.OutputBuffers.{OutputBuffers}
-use Rattle.tf_syntax.specs.ExprTree.{Tree, Entries, no_entries, entry, tree_of}
+use Rattle.tf_expr_syntax.specs.ExprTree.{Tree, Entries, no_entries, entry, tree_of}
 
 -- outputs with others behind them
 abbrev pub behind : Entries → Entries → Entries

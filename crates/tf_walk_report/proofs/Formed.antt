@@ -8,9 +8,9 @@ use Rattle.std.specs.Cmp.Lexicographic.{slice_cmp, nat_list_cmp_total}
 use Rattle.std.specs.Str.{bytes_eq}
 use Rattle.std.proofs.lemmas.Map.Text.{is_eq-slice_cmp}
 use Rattle.std.proofs.lemmas.Slice.Eq.{bytes_eq-Decides}
-use Rattle.tf_protocol.specs.Schema.{AttributeView, SchemaView, IsSchema, ascends, is_below}
+use Rattle.tf_provider_protocol.specs.Schema.{AttributeView, SchemaView, IsSchema, ascends, is_below}
 use Rattle.tf_value.specs.Tree.{keys_of, Tree, map, Entries, no_entries, entry, get}
-use Rattle.tf_protocol.specs.Verdict.{same_names, has_attributes, is_allowed, fits, fits_in, well_formed}
+use Rattle.tf_provider_protocol.specs.Verdict.{same_names, has_attributes, is_allowed, fits, fits_in, well_formed}
 use Rattle.tf_value.proofs.Conjunction.{and-first, and-second, and-both}
 use Rattle.tf_value.specs.Known.{known, known_entries}
 use Rattle.tf_state.specs.Valid.{IsAttributes}

@@ -3,10 +3,10 @@ use Rattle.std.proofs.Common.{◌≡◌, List, Option, Some, None, ap, ◌∙◌
 use Rattle.std.specs.Prelude.{IsSomeAnd, option_and_then}
 use Rattle.std.specs.Option.{option_map_or}
 use Rattle.tf_walk_action.specs.Outcome.{skipped, called, call_of, call_of_provider}
-use Rattle.tf_protocol.specs.Meaning.{Asked, Answer, Meaning, first_with, schema_in}
-use Rattle.tf_protocol.specs.Schema.{SchemaView}
-use Rattle.tf_protocol.specs.Verdict.{verdict_on}
-use Rattle.tf_protocol.specs.declared.verdict.Verdict.{Verdict}
+use Rattle.tf_provider_protocol.specs.Meaning.{Asked, Answer, Meaning, first_with, schema_in}
+use Rattle.tf_provider_protocol.specs.Schema.{SchemaView}
+use Rattle.tf_provider_protocol.specs.Verdict.{verdict_on}
+use Rattle.tf_provider_protocol.specs.declared.verdict.Verdict.{Verdict}
 
 verdict_by_schema : (m : Meaning) (r : Asked) (a : Option Answer) (v : Verdict) (o : Option SchemaView)
     → called r a v ≡ option_map_or (λ s. called r (Some (m.answer r)) (verdict_on r (Some (m.answer r)) s)) o skipped → IsSomeAnd o (λ s. v ≡ verdict_on r a s)

@@ -4,18 +4,18 @@ use Rattle.std.specs.Prelude.{slice_get}
 use Rattle.std.specs.Option.{option_map_or}
 use Rattle.tf_plan_data.specs.Action.{ActionView, StepView, create, update, replacement, replaced, destroyed, deposed_destroyed}
 use Rattle.tf_walk_report.specs.ActionReport.{AreJudged, IsJudged}
-use Rattle.tf_address.specs.ObjectId.{InstanceKeyView}
+use Rattle.tf_config_address.specs.ObjectId.{InstanceKeyView}
 use Rattle.tf_plan_object.specs.Instance.{InstanceFaultView}
 use Rattle.tf_config_data.specs.Names.{meant_at}
 use Rattle.tf_graph.specs.Digraph.{predecessors_of}
 use Rattle.tf_graph.specs.Solutions.{seen_by}
 use Rattle.tf_plan_object.specs.Kept.{kept_object}
 use Rattle.tf_plan_data.specs.Plan.{PlanView, plan_names}
-use Rattle.tf_protocol.specs.Meaning.{Asked, Answer, Meaning, first_with, schema_in}
-use Rattle.tf_protocol.specs.Schema.{SchemaView}
-use Rattle.tf_protocol.specs.Verdict.{verdict_on}
-use Rattle.tf_protocol.specs.declared.request.Op.{Op}
-use Rattle.tf_protocol.specs.declared.verdict.Verdict.{Verdict}
+use Rattle.tf_provider_protocol.specs.Meaning.{Asked, Answer, Meaning, first_with, schema_in}
+use Rattle.tf_provider_protocol.specs.Schema.{SchemaView}
+use Rattle.tf_provider_protocol.specs.Verdict.{verdict_on}
+use Rattle.tf_provider_protocol.specs.declared.request.Op.{Op}
+use Rattle.tf_provider_protocol.specs.declared.verdict.Verdict.{Verdict}
 use Rattle.tf_value.specs.Tree.{Tree}
 use Rattle.tf_walk_action.specs.Asked.{asked_by_step, asked_for, create_of, ignored_by, unless_faulty, update_of}
 use Rattle.tf_walk_action.specs.Journal.{op_at}
@@ -70,7 +70,7 @@ judged_at : (ms : List Meaning) (requests : Requests) (plan : PlanView) (objects
 judged_at ms requests plan objects op None q a v kind e = absurd (cc)
 judged_at ms requests plan objects op (Some b) q a v kind e =
     let same : op_of b.step ≡ op = (cc) in
-    let made = judged_with ms plan b (requests objects b) (schema_in b.label.type_name ms) q a v e in (made.0, made.1 ∙ same)
+    let made = judged_with ms plan b (requests objects b) (schema_in b.addr.type_name ms) q a v e in (made.0, made.1 ∙ same)
 
 -- what comes of an action was judged by that provider's schema, as what it was asked to do
 pub call-judged : (ms : List Meaning) (requests : Requests) (plan : PlanView) (n : ℕ) (seen : List (ℕ × ActionResultView)) (op : Op) (d : ActionResultView) → op_at plan.actions n ≡ Some op → d ≡ call_at ms requests plan n seen → IsJudged ms op d

@@ -14,9 +14,9 @@ use Rattle.std.specs.declared.alloc.Global.{Global}
 use Rattle.tf_walk_report.specs.Outputs.{is_declared, kept_entries}
 use Rattle.tf_state_data.specs.State.{outputs_of}
 use Rattle.tf_state_data.specs.declared.object.Object.{Object}
-use Rattle.tf_syntax.specs.ExprTree as expr
-use Rattle.tf_syntax.specs.ExprTree.{entries_view}
-use Rattle.tf_syntax.specs.declared.expr.Expr.{Expr}
+use Rattle.tf_expr_syntax.specs.ExprTree as expr
+use Rattle.tf_expr_syntax.specs.ExprTree.{entries_view}
+use Rattle.tf_expr_syntax.specs.declared.expr.Expr.{Expr}
 use Rattle.tf_value.proofs.Views.{below_middle}
 use Rattle.tf_value.specs.Stored.{EachMayBeStored, IsTable, MayBeStored}
 use Rattle.tf_value.specs.Tree.{Tree, Entries, no_entries, entry, put, tree_of, keys_of as tree_keys}

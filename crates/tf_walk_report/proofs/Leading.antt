@@ -1,7 +1,7 @@
 -- Names are settled where the resources that they stand for, themselves or through locals, are good.
 use Rattle.std.proofs.Common.{◌≡◌, ◌<◌, ℕ, zero, suc, Bool, true, false, List, [], ◌∷◌, length, Option, Some, None, MatchBool, refl, sym, ap, ◌∙◌, arith}
 use Rattle.std.specs.List.{AllByRecursion}
-use Rattle.tf_address.specs.ObjectId.{InstanceKeyView}
+use Rattle.tf_config_address.specs.ObjectId.{InstanceKeyView}
 use Rattle.tf_config_data.specs.Names.{NameView, Meant, a_local, a_block, meant_at, directly_before, places}
 use Rattle.tf_expand.proofs.Places.{along, all_places, names_stay}
 use Rattle.tf_expand.specs.InstanceKeys.{InstanceKeysView}
@@ -11,8 +11,8 @@ use Rattle.tf_graph.specs.Solutions.{Ranked, seen_by}
 use Rattle.tf_walk_report.specs.OutputLaws.{StandsFor, itself, through, EvaluatedWhereGood, OutputsAreOne}
 use Rattle.tf_walk_report.specs.Outputs.{OutputResultView, not_evaluated, excused, valued, faulted, IsEvaluated}
 use Rattle.tf_walk_report.specs.Settled.{AreSettled, all_settled, settled_as, names_are_settled}
-use Rattle.tf_syntax.specs.ExprNames.{named_by}
-use Rattle.tf_syntax.specs.ExprTree as expr
+use Rattle.tf_expr_syntax.specs.ExprNames.{named_by}
+use Rattle.tf_expr_syntax.specs.ExprTree as expr
 use Rattle.tf_value.proofs.Conjunction.{and-both, and-first, and-second}
 use Rattle.tf_value.specs.Tree.{Tree, Entries}
 

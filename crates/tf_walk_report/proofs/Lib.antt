@@ -14,7 +14,7 @@ pub mod Joined
 pub mod Judged
 pub mod JudgedAsAsked
 pub mod Kept
-pub mod Labels
+pub mod ResourceAddrs
 pub mod Leading
 pub mod Lines
 pub mod Matching

@@ -5,15 +5,15 @@ use Rattle.std.specs.Prelude.{Option, Some, None, if◌then◌else◌}
 use Rattle.tf_plan_data.specs.Action.{ActionView}
 use Rattle.tf_walk_report.specs.Change.{ChangeView, an_apply, a_destroy, MayBeLeft, MayBeStored, applied_of_done, applies_in, change_by, changes_in, destroys_in, left_of_done}
 use Rattle.tf_walk_buffers.specs.Head.{AreHeads, Head, IsKeyFor, Target, an_instance, an_object, given_with, key_in, records_at}
-use Rattle.tf_address.specs.Label.{LabelView}
-use Rattle.tf_address.specs.Name.{is_name}
-use Rattle.tf_address.specs.ObjectId.{ObjectIdView}
+use Rattle.tf_config_address.specs.ResourceAddr.{ResourceAddrView}
+use Rattle.tf_config_address.specs.Name.{is_name}
+use Rattle.tf_config_address.specs.ObjectId.{ObjectIdView}
 use Rattle.tf_state_next.specs.Events.{MetadataUpdateView, as_apply}
 use Rattle.tf_state_next.specs.Sound.{AreSound, IsSoundApply, IsSoundDestroy, IsSoundLeft}
 use Rattle.tf_walk_action.specs.Outcome.{ActionResultView}
 use Rattle.tf_plan_data.specs.Fits.{IsDeclared, is_apply, deposed_key}
 use Rattle.tf_plan_data.specs.Plan.{PlanView, plan_names}
-use Rattle.tf_protocol.specs.Meaning.{Meaning}
+use Rattle.tf_provider_protocol.specs.Meaning.{Meaning}
 use Rattle.tf_state.specs.Valid.{AreAddresses, IsDeposed, IsKey}
 use Rattle.tf_state_next.proofs.Keys.{key_hex}
 use Rattle.tf_state_next.specs.After.{object_at}
@@ -40,39 +40,39 @@ destroys_sound (a_destroy d ∷ changes) h = (left_sound d.left h.0, destroys_so
 -- ---- creates and updates
 
 -- what the record of an object is given may be part of a valid state
-record IsGivenSoundly (label : LabelView) (given : RecordInputView) : Type 0 where
-  type_name : is_name label.type_name ≡ true
-  name : is_name label.name ≡ true
+record IsGivenSoundly (addr : ResourceAddrView) (given : RecordInputView) : Type 0 where
+  type_name : is_name addr.type_name ≡ true
+  name : is_name addr.name ≡ true
   key : IsKey given.key
   dependencies : AreAddresses given.dependencies
   deposed : IsDeposed given.deposed_key
 
-apply_sound : (label : LabelView) (given : RecordInputView) (applied : ApplyResultView) (left : LeftView) → IsGivenSoundly label given → MayBeStored (change_by label (an_instance given) applied left) → IsSoundApply (record { label = label; given = given; applied = applied })
-apply_sound label given (saved s) left g h = record { type_name = g.type_name; name = g.name; key = g.key; version = h.1; dependencies = g.dependencies; deposed_key = g.deposed; attributes = h.0 }
-apply_sound label given nothing left g h = tt
-apply_sound label given unplanned left g h = g.dependencies
-apply_sound label given unwanted left g h = tt
+apply_sound : (addr : ResourceAddrView) (given : RecordInputView) (applied : ApplyResultView) (left : LeftView) → IsGivenSoundly addr given → MayBeStored (change_by addr (an_instance given) applied left) → IsSoundApply (record { addr = addr; given = given; applied = applied })
+apply_sound addr given (saved s) left g h = record { type_name = g.type_name; name = g.name; key = g.key; version = h.1; dependencies = g.dependencies; deposed_key = g.deposed; attributes = h.0 }
+apply_sound addr given nothing left g h = tt
+apply_sound addr given unplanned left g h = g.dependencies
+apply_sound addr given unwanted left g h = tt
 
-one_sound : (label : LabelView) (t : Target) (applied : ApplyResultView) (left : LeftView) (rest : List ChangeView) (b : Bool) (given : RecordInputView) (id : ObjectIdView) → t ≡ (if b then an_instance given else an_object id)
-    → (b ≡ true → IsGivenSoundly label given) → MayBeStored (change_by label t applied left) → AllByRecursion IsSoundApply (applies_in rest) → AllByRecursion IsSoundApply (applies_in (change_by label t applied left ∷ rest))
-one_sound label t applied left rest true given id e g h m =
-    subst (λ x. AllByRecursion IsSoundApply (applies_in (change_by label x applied left ∷ rest))) (sym e)
-    (apply_sound label given applied left (g refl) (subst (λ x. MayBeStored (change_by label x applied left)) e h), m)
-one_sound label t applied left rest false given id e g h m = subst (λ x. AllByRecursion IsSoundApply (applies_in (change_by label x applied left ∷ rest))) (sym e) m
+one_sound : (addr : ResourceAddrView) (t : Target) (applied : ApplyResultView) (left : LeftView) (rest : List ChangeView) (b : Bool) (given : RecordInputView) (id : ObjectIdView) → t ≡ (if b then an_instance given else an_object id)
+    → (b ≡ true → IsGivenSoundly addr given) → MayBeStored (change_by addr t applied left) → AllByRecursion IsSoundApply (applies_in rest) → AllByRecursion IsSoundApply (applies_in (change_by addr t applied left ∷ rest))
+one_sound addr t applied left rest true given id e g h m =
+    subst (λ x. AllByRecursion IsSoundApply (applies_in (change_by addr x applied left ∷ rest))) (sym e)
+    (apply_sound addr given applied left (g refl) (subst (λ x. MayBeStored (change_by addr x applied left)) e h), m)
+one_sound addr t applied left rest false given id e g h m = subst (λ x. AllByRecursion IsSoundApply (applies_in (change_by addr x applied left ∷ rest))) (sym e) m
 
 key_deposed : (plan : PlanView) (a : ActionView) (key : Option (List ℕ)) → IsKeyFor plan a key → IsDeposed key
 key_deposed plan a None h = tt
-key_deposed plan a (Some key) h = key_hex (plan.prior.serial + 1) a.key (records_at a.label plan.prior) key h.1
+key_deposed plan a (Some key) h = key_hex (plan.prior.serial + 1) a.key (records_at a.addr plan.prior) key h.1
 
-given_sound : (plan : PlanView) (a : ActionView) (label : LabelView) (key : Option (List ℕ)) → HasNames plan → IsDeclared (plan_names plan) a → label ≡ a.label → IsKeyFor plan a key → is_apply a.step ≡ true → IsGivenSoundly label (given_with plan a key)
-given_sound plan a label key named declared same is_key applies =
+given_sound : (plan : PlanView) (a : ActionView) (addr : ResourceAddrView) (key : Option (List ℕ)) → HasNames plan → IsDeclared (plan_names plan) a → addr ≡ a.addr → IsKeyFor plan a key → is_apply a.step ≡ true → IsGivenSoundly addr (given_with plan a key)
+given_sound plan a addr key named declared same is_key applies =
     let b = declared applies in
     let fit = names_fit plan named in
     let names : IsNamed b.block = block_named (plan_names plan) a.resource b.block fit b.stands in
-    let own : b.block.label ≡ label = b.own ∙ sym same in
+    let own : b.block.addr ≡ addr = b.own ∙ sym same in
     record {
-      type_name = subst (λ (l : LabelView). is_name l.type_name ≡ true) own names.0;
-      name = subst (λ (l : LabelView). is_name l.name ≡ true) own names.1;
+      type_name = subst (λ (l : ResourceAddrView). is_name l.type_name ≡ true) own names.0;
+      name = subst (λ (l : ResourceAddrView). is_name l.name ≡ true) own names.1;
       key = numbered-key a.key b.numbered;
       dependencies = dependencies-addresses plan.needs (plan_names plan) a.resource fit;
       deposed = key_deposed plan a key is_key;
@@ -85,8 +85,8 @@ applies_sound ms plan [] (k ∷ heads) done named are declared h = absurd are
 applies_sound ms plan (a ∷ actions) [] done named are declared h = absurd are
 applies_sound ms plan (a ∷ actions) (k ∷ heads) [] named are declared h = tt
 applies_sound ms plan (a ∷ actions) (k ∷ heads) (d ∷ done) named are declared h =
-    one_sound k.label k.target (applied_of_done ms k.op d) (left_of_done ms d) (changes_in ms heads done) (is_apply a.step) (given_with plan a (key_in k.target)) (object_at a.key (deposed_key a.step)) are.0.target.same
-    (given_sound plan a k.label (key_in k.target) named declared.0 are.0.label are.0.target.key) h.0 (applies_sound ms plan actions heads done named are.1 declared.1 h.1)
+    one_sound k.addr k.target (applied_of_done ms k.op d) (left_of_done ms d) (changes_in ms heads done) (is_apply a.step) (given_with plan a (key_in k.target)) (object_at a.key (deposed_key a.step)) are.0.target.same
+    (given_sound plan a k.addr (key_in k.target) named declared.0 are.0.addr are.0.target.key) h.0 (applies_sound ms plan actions heads done named are.1 declared.1 h.1)
 
 -- ---- metadata updates
 

@@ -2,13 +2,13 @@
 use Rattle.std.proofs.Common.{◌≡◌, Bool, true, false, not, refl, sym, ap, subst}
 use Rattle.std.specs.Option.{option_map_or}
 use Rattle.std.specs.Prelude.{Option, Some, None, IfSome, IsSome, option_map, option_and_then, if◌then◌else◌}
-use Rattle.tf_protocol.specs.Meaning.{Asked, Answer, object, gone, failed}
-use Rattle.tf_protocol.specs.Schema.{SchemaView}
-use Rattle.tf_protocol.specs.Verdict.{verdict_on, well_formed, contradiction, is_destroy}
-use Rattle.tf_protocol.specs.declared.request.Op.{Op}
-use Rattle.tf_protocol.specs.declared.request.Op.TheVariants.{Create, Update, Destroy}
-use Rattle.tf_protocol.specs.declared.verdict.Verdict.{Verdict}
-use Rattle.tf_protocol.specs.declared.verdict.Verdict.TheVariants as verdict
+use Rattle.tf_provider_protocol.specs.Meaning.{Asked, Answer, object, gone, failed}
+use Rattle.tf_provider_protocol.specs.Schema.{SchemaView}
+use Rattle.tf_provider_protocol.specs.Verdict.{verdict_on, well_formed, contradiction, is_destroy}
+use Rattle.tf_provider_protocol.specs.declared.request.Op.{Op}
+use Rattle.tf_provider_protocol.specs.declared.request.Op.TheVariants.{Create, Update, Destroy}
+use Rattle.tf_provider_protocol.specs.declared.verdict.Verdict.{Verdict}
+use Rattle.tf_provider_protocol.specs.declared.verdict.Verdict.TheVariants as verdict
 use Rattle.tf_state.specs.Valid.{IsAttributes}
 use Rattle.tf_state_next.specs.Ends.{changed, unchanged}
 use Rattle.tf_state_next.specs.Saved.{as_saved, formed_in, left_by_destroy, object_replied, object_there}

@@ -8,7 +8,7 @@ use Rattle.tf_claim.proofs.Counting.{how_many-same}
 use Rattle.tf_provider.specs.Entries.{actions_of}
 use Rattle.tf_provider.specs.declared.journal.Entry.{Entry}
 use Rattle.tf_walk_action.specs.Journal.{verdict_in}
-use Rattle.tf_protocol.specs.declared.verdict.Verdict.{Verdict}
+use Rattle.tf_provider_protocol.specs.declared.verdict.Verdict.{Verdict}
 use Rattle.tf_walk_report.proofs.Matching.{how_many-lt, how_many-stand, stands, nat_eq-same, nat_eq-other}
 
 -- an action has a verdict where it stands among the entries

@@ -2,8 +2,8 @@
 use Rattle.std.specs.Prelude.{◌≡◌, List, [], ◌∷◌, ◌++◌, Option, Some, None, option_map}
 use Rattle.tf_state_next.specs.Events.{apply_of, destroy_of}
 use Rattle.tf_walk_action.specs.Outcome.{ActionResultView, called, call_of}
-use Rattle.tf_protocol.specs.Meaning.{Meaning}
-use Rattle.tf_protocol.specs.declared.request.Op.{Op}
+use Rattle.tf_provider_protocol.specs.Meaning.{Meaning}
+use Rattle.tf_provider_protocol.specs.declared.request.Op.{Op}
 use Rattle.tf_walk_report.specs.Change.{ChangeView, an_apply, a_destroy, MayBeStored, change_at}
 use Rattle.tf_walk_report.specs.Diagnostics.{DiagnosticView, diagnostic_of, diagnostics_at}
 use Rattle.tf_walk_buffers.specs.Head.{Head}

@@ -3,8 +3,8 @@ use Rattle.std.specs.Prelude.{◌≡◌, List, [], ◌∷◌, string_bytes}
 use Rattle.std.specs.List.{AllByRecursion}
 use Rattle.tf_config_data.specs.Names.{NameView, places}
 use Rattle.tf_walk_report.specs.declared.output_buffers.OutputBuffers.{OutputBuffers}
-use Rattle.tf_syntax.specs.ExprNames.{named_by}
-use Rattle.tf_syntax.specs.ExprTree.{Entries, no_entries, entry, tree_of}
+use Rattle.tf_expr_syntax.specs.ExprNames.{named_by}
+use Rattle.tf_expr_syntax.specs.ExprTree.{Entries, no_entries, entry, tree_of}
 
 -- the outputs that buffers are for
 abbrev pub outputs_in : List OutputBuffers → Entries

@@ -2,14 +2,14 @@
 use Rattle.std.specs.Option.{option_map_or}
 use Rattle.std.specs.List.{filter_map}
 use Rattle.std.specs.Prelude.{◌<◌, ◌^◌, List, [], ◌∷◌, Option, Some, None, ⊤}
-use Rattle.tf_address.specs.Label.{LabelView}
+use Rattle.tf_config_address.specs.ResourceAddr.{ResourceAddrView}
 use Rattle.tf_state_next.specs.Events.{ApplyView, DestroyView}
 use Rattle.tf_walk_action.specs.Outcome.{ActionResultView, called}
-use Rattle.tf_protocol.specs.Meaning.{Asked, Answer, Meaning, schema_in}
-use Rattle.tf_protocol.specs.Schema.{SchemaView}
-use Rattle.tf_protocol.specs.declared.request.Op.{Op}
-use Rattle.tf_protocol.specs.declared.request.Op.TheVariants.{Create, Update, Destroy}
-use Rattle.tf_protocol.specs.declared.verdict.Verdict.{Verdict}
+use Rattle.tf_provider_protocol.specs.Meaning.{Asked, Answer, Meaning, schema_in}
+use Rattle.tf_provider_protocol.specs.Schema.{SchemaView}
+use Rattle.tf_provider_protocol.specs.declared.request.Op.{Op}
+use Rattle.tf_provider_protocol.specs.declared.request.Op.TheVariants.{Create, Update, Destroy}
+use Rattle.tf_provider_protocol.specs.declared.verdict.Verdict.{Verdict}
 use Rattle.tf_state.specs.Valid.{IsAttributes}
 use Rattle.tf_state_next.specs.Ends.{SavedView, LeftView, gone, changed, unchanged, ApplyResultView, unwanted, unplanned, nothing, saved}
 use Rattle.tf_state_next.specs.Saved.{saved_by_create, saved_by_update, left_by_destroy}
@@ -42,13 +42,13 @@ pub data ChangeView : Type 0 where
   a_destroy : DestroyView → ChangeView
 
 -- by what an action is about: what came of it as a create or an update, or as a destroy
-abbrev pub change_by : LabelView → Target → ApplyResultView → LeftView → ChangeView
-change_by label (an_instance given) applied left = an_apply (record { label = label; given = given; applied = applied })
-change_by label (an_object id) applied left = a_destroy (record { label = label; id = id; left = left })
+abbrev pub change_by : ResourceAddrView → Target → ApplyResultView → LeftView → ChangeView
+change_by addr (an_instance given) applied left = an_apply (record { addr = addr; given = given; applied = applied })
+change_by addr (an_object id) applied left = a_destroy (record { addr = addr; id = id; left = left })
 
 -- what an action changes, by what came of it
 abbrev pub change_at : List Meaning → Head → ActionResultView → ChangeView
-change_at ms h d = change_by h.label h.target (applied_of_done ms h.op d) (left_of_done ms d)
+change_at ms h d = change_by h.addr h.target (applied_of_done ms h.op d) (left_of_done ms d)
 
 -- what some actions change, in their order
 abbrev pub changes_in : List Meaning → List Head → List ActionResultView → List ChangeView

@@ -4,10 +4,10 @@ use Rattle.tf_plan_data.specs.Action.{ActionView}
 use Rattle.tf_walk_action.specs.Excuse.{Moment, by_stop}
 use Rattle.tf_walk_action.specs.Message.{fault_message}
 use Rattle.tf_walk_action.specs.Outcome.{ActionResultView, skipped, excused, faulted, called, op_of}
-use Rattle.tf_protocol.specs.Meaning.{Asked, Answer, failed}
-use Rattle.tf_protocol.specs.declared.request.Op.{Op}
-use Rattle.tf_protocol.specs.declared.verdict.Verdict.{Verdict}
-use Rattle.tf_protocol.specs.declared.verdict.Verdict.TheVariants as verdict
+use Rattle.tf_provider_protocol.specs.Meaning.{Asked, Answer, failed}
+use Rattle.tf_provider_protocol.specs.declared.request.Op.{Op}
+use Rattle.tf_provider_protocol.specs.declared.verdict.Verdict.{Verdict}
+use Rattle.tf_provider_protocol.specs.declared.verdict.Verdict.TheVariants as verdict
 use Rattle.tf_value.specs.Tree.{keys_of}
 use Rattle.tf_value.specs.Tree as tree
 use Rattle.tf_walk_buffers.specs.Place.{place_of}

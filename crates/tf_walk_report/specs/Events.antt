@@ -1,7 +1,7 @@
 -- What comes of the actions of a plan, and what is given anew.
 use Rattle.std.specs.Prelude.{List}
 use Rattle.tf_plan_data.specs.Plan.{PlanView}
-use Rattle.tf_protocol.specs.Meaning.{Meaning}
+use Rattle.tf_provider_protocol.specs.Meaning.{Meaning}
 use Rattle.tf_state_next.specs.Events.{EventsView}
 use Rattle.tf_walk_action.specs.Outcome.{ActionResultView}
 use Rattle.tf_walk_buffers.specs.Head.{Head}

@@ -1,8 +1,8 @@
 -- Whether an object is well formed, part by part.
 use Rattle.std.specs.Prelude.{Bool, false}
 use Rattle.std.specs.Option.{option_map_or}
-use Rattle.tf_protocol.specs.Schema.{AttributeView}
-use Rattle.tf_protocol.specs.Verdict.{is_allowed}
+use Rattle.tf_provider_protocol.specs.Schema.{AttributeView}
+use Rattle.tf_provider_protocol.specs.Verdict.{is_allowed}
 use Rattle.tf_value.specs.Tree.{Tree, part_at}
 
 -- an object has a value for the attribute, and it is allowed

@@ -7,8 +7,8 @@ use Rattle.tf_walk_action.specs.declared.excuse.Excuse.{Excuse}
 use Rattle.tf_walk_action.specs.declared.excuse.Excuse.TheVariants.{Before, During, Left}
 use Rattle.tf_walk_action.specs.declared.excuse.Outcome.{Outcome}
 use Rattle.tf_walk_action.specs.declared.excuse.Outcome.TheVariants as outcome
-use Rattle.tf_protocol.specs.declared.request.Op.{Op}
-use Rattle.tf_protocol.specs.declared.request.Op.TheVariants.{Create, Update, Destroy}
+use Rattle.tf_provider_protocol.specs.declared.request.Op.{Op}
+use Rattle.tf_provider_protocol.specs.declared.request.Op.TheVariants.{Create, Update, Destroy}
 
 -- how an action ended
 abbrev pub outcome_of : ActionResultView → Outcome

@@ -1,20 +1,20 @@
 -- What becomes of the outputs after an apply.
 use Rattle.std.specs.Prelude.{◌≡◌, ◌||◌, ℕ, Bool, true, false, if◌then◌else◌, List, [], ◌∷◌, map, Ok, Err, MatchBool, ⊤}
 use Rattle.std.specs.Str.{bytes_eq}
-use Rattle.tf_address.specs.ObjectId.{InstanceKeyView}
+use Rattle.tf_config_address.specs.ObjectId.{InstanceKeyView}
 use Rattle.tf_config_data.specs.Names.{NameView}
 use Rattle.tf_expand.specs.InstanceKeys.{InstanceKeysView}
 use Rattle.tf_expand.specs.Stages.{applying}
 use Rattle.tf_expand.specs.Resolved.{ResolvedView, AreResolvedNames, environment}
-use Rattle.tf_eval.specs.ExprMeaning.{meaning}
-use Rattle.tf_operators.specs.Answer.{Answer}
-use Rattle.tf_operators.specs.declared.fault.EvalFault.{EvalFault}
-use Rattle.tf_operators.specs.declared.fault.EvalFault.TheVariants.{TooLarge}
+use Rattle.tf_expr_eval.specs.ExprMeaning.{meaning}
+use Rattle.tf_expr_operators.specs.Answer.{Answer}
+use Rattle.tf_expr_syntax.specs.declared.fault.EvalFault.{EvalFault}
+use Rattle.tf_expr_syntax.specs.declared.fault.EvalFault.TheVariants.{TooLarge}
 use Rattle.tf_walk_report.specs.Settled.{names_are_settled}
 use Rattle.tf_walk_report.specs.declared.ends.OutputResult.{OutputResult}
 use Rattle.tf_walk_report.specs.declared.ends.OutputResult.TheVariants.{NotEvaluated, NoMemory, Faulted, Valued}
 use Rattle.tf_walk_action.specs.Requests.{without_sets}
-use Rattle.tf_syntax.specs.ExprTree as expr
+use Rattle.tf_expr_syntax.specs.ExprTree as expr
 use Rattle.tf_value.specs.Measure.{is_within}
 use Rattle.tf_value.specs.Nulls.{with_nulls}
 use Rattle.tf_value.specs.Tree.{Tree, null, Entries, no_entries, entry, put}

@@ -1,6 +1,6 @@
 -- What an answer says beside an object.
 use Rattle.std.specs.Prelude.{ℕ, List, Option, Some, None}
-use Rattle.tf_protocol.specs.Meaning.{Answer, failed}
+use Rattle.tf_provider_protocol.specs.Meaning.{Answer, failed}
 
 -- the message of a failure
 abbrev pub failure_in : Option Answer → Option (List ℕ)

@@ -3,7 +3,7 @@ use Rattle.std.specs.Prelude.{◌≡◌, ℕ, Bool, false, List, ◌++◌, lengt
 use Rattle.std.specs.List.{range_with_len}
 use Rattle.tf_walk_report.specs.Diagnostics.{action_diagnostics, diagnostic_of}
 use Rattle.tf_walk_buffers.specs.Head.{AreHeads, Head}
-use Rattle.tf_address.specs.ObjectId.{InstanceKeyView}
+use Rattle.tf_config_address.specs.ObjectId.{InstanceKeyView}
 use Rattle.tf_graph.specs.Digraph.{predecessors_of}
 use Rattle.tf_graph.specs.Solutions.{seen_by}
 use Rattle.tf_state_next.specs.Events.{ends_in, given_in}
@@ -14,7 +14,7 @@ use Rattle.tf_walk_action.specs.Outcome.{ActionResultView, Requests, AreOutcomes
 use Rattle.tf_walk_report.specs.Outputs.{OutputResultView, AreOutputsDone, end_of, outputs_after}
 use Rattle.tf_walk_report.specs.Settled.{AreSettled}
 use Rattle.tf_plan_data.specs.Plan.{PlanView, plan_names}
-use Rattle.tf_protocol.specs.Meaning.{Meaning}
+use Rattle.tf_provider_protocol.specs.Meaning.{Meaning}
 use Rattle.tf_state.specs.Valid.{IsValid}
 use Rattle.tf_state_data.specs.State.{StateView, state_of}
 use Rattle.tf_value.specs.Tree.{Entries, Tree}

@@ -4,7 +4,7 @@ use Rattle.std.specs.List.{range_with_len}
 use Rattle.tf_plan_data.specs.Action.{ActionView}
 use Rattle.tf_walk_buffers.specs.Head.{AreHeads}
 use Rattle.tf_walk_buffers.specs.BuffersHead.{buffers_head}
-use Rattle.tf_address.specs.Label.{LabelView}
+use Rattle.tf_config_address.specs.ResourceAddr.{ResourceAddrView}
 use Rattle.tf_state_next.specs.Events.{metadata_update_of}
 use Rattle.tf_state_next.specs.StateDraft.{IsStateDraft}
 use Rattle.tf_walk_report.specs.Outputs.{kept_entries}
@@ -33,13 +33,13 @@ pub record AreEmptyLists (actions outputs : ℕ) (b : ReportLists) : Type 0 wher
   pub excused_room : actions + outputs ≤ vec_capacity b.excused
 
 -- the resources of creates and updates, as often as there are such actions
-abbrev pub applied_labels : List ActionView → List LabelView
-applied_labels actions = map (λ a. a.label) (filter (λ a. is_apply a.step) actions)
+abbrev pub applied_addrs : List ActionView → List ResourceAddrView
+applied_addrs actions = map (λ a. a.addr) (filter (λ a. is_apply a.step) actions)
 
 pub record AreReserved (plan : Plan) (f : ReportBuffers) : Type 0 where
   pub blank : AreEmptyLists (vec_len plan.actions) (vec_len f.output_texts) f.blank
   pub rooms : AreHeads (plan_of plan) (plan_of plan).actions (map buffers_head f.rooms.items)
-  pub draft : IsStateDraft (plan_of plan).prior (applied_labels (plan_of plan).actions) f.draft
+  pub draft : IsStateDraft (plan_of plan).prior (applied_addrs (plan_of plan).actions) f.draft
   pub metadata_updates : map metadata_update_of f.metadata_updates.items ≡ metadata_updates (plan_of plan)
   pub ready : IsReady (plan_names (plan_of plan)) f.settling
   pub seen : f.settling.seen.items ≡ range_with_len 0 (vec_len plan.actions)

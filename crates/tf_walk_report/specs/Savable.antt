@@ -1,13 +1,13 @@
 -- Which plans leave a state that its text gives back.
 use Rattle.std.specs.Prelude.{◌≡◌, true}
 use Rattle.std.specs.List.{AllByRecursion}
-use Rattle.tf_address.specs.Name.{is_name}
+use Rattle.tf_config_address.specs.Name.{is_name}
 use Rattle.tf_config_data.specs.Config.{BlockView}
 use Rattle.tf_plan_data.specs.Plan.{PlanView}
 
 -- a block's address is of names
 abbrev pub IsNamed : BlockView → Type 0
-IsNamed b = (is_name b.label.type_name ≡ true) × (is_name b.label.name ≡ true)
+IsNamed b = (is_name b.addr.type_name ≡ true) × (is_name b.addr.name ≡ true)
 
 -- the address of each block of a plan's configuration is of names
 abbrev pub HasNames : PlanView → Type 0

@@ -3,8 +3,8 @@ use Rattle.std.specs.Prelude.{◌≡◌, ℕ, Bool, false, List, Option, Some, N
 use Rattle.std.specs.List.{list_all}
 use Rattle.tf_config_data.specs.Names.{NameView, Meant, a_local, a_block, meant_at, directly_before, places}
 use Rattle.tf_graph.specs.Solutions.{Solves, seen_by}
-use Rattle.tf_syntax.specs.ExprNames.{named_by}
-use Rattle.tf_syntax.specs.ExprTree.{Tree}
+use Rattle.tf_expr_syntax.specs.ExprNames.{named_by}
+use Rattle.tf_expr_syntax.specs.ExprTree.{Tree}
 
 -- whether all that is seen is settled
 abbrev pub all_settled : List (ℕ × Bool) → Bool

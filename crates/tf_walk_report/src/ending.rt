@@ -8,7 +8,7 @@ ghost use Rattle.tf_walk_report.specs.Outputs.{AreOutputsEnded, IsOutputDone, do
 ghost use Rattle.tf_walk_action.specs.Requests.{AreResolvedSoFar, IsOutput};
 ghost use Rattle.tf_walk_report.specs.Buffers.{HavePlaces, outputs_in};
 ghost use Rattle.tf_state_data.specs.State.{outputs_of};
-ghost use Rattle.tf_syntax.specs.ExprTree.{tree_of as expr_of};
+ghost use Rattle.tf_expr_syntax.specs.ExprTree.{tree_of as expr_of};
 
 use crate::ends::{EvaluatedOutput, OutputResult};
 use crate::keeping::keep;
@@ -16,10 +16,10 @@ use crate::output_buffers::OutputBuffers;
 use crate::settled::all_settled;
 use std::alloc::{AllocError, Global};
 use std::collections::BTreeMap;
-use tf_eval::EvalFault;
 use tf_expand::{InstanceKeys, Module, Resolved};
+use tf_expr_eval::EvalFault;
+use tf_expr_syntax::Expr;
 use tf_state_data::Object;
-use tf_syntax::Expr;
 use tf_value::{Value, is_within_limits, with_nulls};
 use tf_walk_action::{Results, output_value};
 

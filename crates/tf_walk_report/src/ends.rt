@@ -1,6 +1,6 @@
 //! What is told of outputs.
 
-use tf_eval::EvalFault;
+use tf_expr_eval::EvalFault;
 use tf_state_data::Object;
 
 /// What came of one output.

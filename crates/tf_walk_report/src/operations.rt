@@ -5,8 +5,8 @@ ghost use Rattle.std.specs.Prelude.{◌≡◌, ◌↔◌, IsTrue, false, map};
 ghost use Rattle.tf_walk_action.specs.Words.{action_of, IsOfAction, op_at};
 
 use tf_plan_data::Action;
-use tf_protocol::Op;
 use tf_provider::Entry;
+use tf_provider_protocol::Op;
 
 /// Whether each entry says what its action has its provider do.
 pub fn are_of_actions(entries: &[Entry], actions: &[Action]) -> bool

@@ -4,12 +4,12 @@ ghost use Rattle.std.specs.List.{AllByRecursion};
 ghost use Rattle.std.specs.Prelude.{◌≡◌, IfOk, string_bytes};
 ghost use Rattle.tf_expand.specs.Words.{named_by, names_in, places};
 ghost use Rattle.tf_walk_report.specs.Buffers.{HavePlaces, HasPlaces, outputs_in};
-ghost use Rattle.tf_syntax.specs.ExprTree.{entries_view, tree_of};
+ghost use Rattle.tf_expr_syntax.specs.ExprTree.{entries_view, tree_of};
 
 use std::alloc::{AllocError, Global};
 use std::collections::BTreeMap;
 use tf_config_names::Declarations;
-use tf_syntax::Expr;
+use tf_expr_syntax::Expr;
 
 /// Room for what comes of one output: its name for the entry, and what it is worked out from. It has to be had before
 /// the first call of a provider.

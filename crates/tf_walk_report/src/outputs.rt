@@ -2,7 +2,7 @@
 
 ghost use Rattle.std.specs.Prelude.{◌≡◌, ◌+◌, ◌++◌, ◌≤◌, None, IfOk, length, map, option_map, string_bytes, vec_capacity};
 ghost use Rattle.tf_walk_action.specs.Message.{evaluation_text};
-ghost use Rattle.tf_syntax.specs.ExprTree.{entries_view};
+ghost use Rattle.tf_expr_syntax.specs.ExprTree.{entries_view};
 ghost use Rattle.tf_walk_report.specs.ActionReport.{listed};
 ghost use Rattle.tf_walk_report.specs.Diagnostics.{diagnostic_of};
 ghost use Rattle.tf_walk_report.specs.OutputsTold.{diagnostics_of_output, output_excuses, output_excuses_at, output_place};
@@ -14,8 +14,8 @@ use crate::ends::OutputResult;
 use crate::texts::OutputTexts;
 use std::alloc::{AllocError, Global};
 use std::collections::BTreeMap;
-use tf_eval::EvalFault;
-use tf_syntax::Expr;
+use tf_expr_eval::EvalFault;
+use tf_expr_syntax::Expr;
 use tf_walk_action::Excuse;
 
 /// The texts for each output, in byte order of their names.

@@ -3,16 +3,16 @@
 ghost use Rattle.std.specs.Bool.{OnTrue};
 ghost use Rattle.std.specs.List.{list_all};
 ghost use Rattle.std.specs.Prelude.{◌≡◌, map, option_and_then, option_map, string_bytes, IfSome};
-ghost use Rattle.tf_protocol.specs.Schema.{attribute_of};
-ghost use Rattle.tf_protocol.specs.Verdict.{well_formed};
+ghost use Rattle.tf_provider_protocol.specs.Schema.{attribute_of};
+ghost use Rattle.tf_provider_protocol.specs.Verdict.{well_formed};
 ghost use Rattle.tf_walk_action.specs.Words.{answered, has_stored_attributes, tree_of};
 ghost use Rattle.tf_state.specs.Valid.{IsAttributes};
 ghost use Rattle.tf_state_next.specs.Saved.{formed_in, if_formed};
 ghost use Rattle.tf_walk_report.specs.Formed.{allowed_in};
 ghost use Rattle.tf_walk_report.specs.Replied.{failure_in};
 
-use tf_protocol::is_allowed;
 use tf_provider::{Attribute, Reply, Schema, has_attributes};
+use tf_provider_protocol::is_allowed;
 use tf_state_data::Object;
 use tf_value::{Value, each_may_be_stored};
 

@@ -1,9 +1,9 @@
 //! What came of an action becomes a part of the report, without taking memory.
 
 ghost use Rattle.std.specs.Prelude.{◌≡◌, ◌≤◌, true, None, Option, Some, length, map, option_map, string_bytes, IfSome, IsSome};
-ghost use Rattle.tf_walk_action.specs.Words.{Answer, answered, Asked, asked, result_or_skipped, fault_message, has_stored_attributes, instance_fault_of, label_of, SchemaView, tree_of, verdict_on, with_nulls};
-ghost use Rattle.tf_protocol.specs.declared.request.Op.TheVariants.{Create};
-ghost use Rattle.tf_protocol.specs.declared.verdict.Verdict.TheVariants.{Malformed};
+ghost use Rattle.tf_walk_action.specs.Words.{Answer, answered, Asked, asked, result_or_skipped, fault_message, has_stored_attributes, instance_fault_of, addr_of, SchemaView, tree_of, verdict_on, with_nulls};
+ghost use Rattle.tf_provider_protocol.specs.declared.request.Op.TheVariants.{Create};
+ghost use Rattle.tf_provider_protocol.specs.declared.verdict.Verdict.TheVariants.{Malformed};
 ghost use Rattle.tf_state.specs.Valid.{IsAttributes};
 ghost use Rattle.tf_state_next.specs.Ends.{apply_result_of, nothing, saved_of, unchanged};
 ghost use Rattle.tf_state_next.specs.Saved.{formed_in, left_by_destroy};
@@ -17,7 +17,7 @@ use crate::action_reports::{ActionReport, Change};
 use crate::diagnostic::Diagnostic;
 use crate::replied::{Replied, has_stored_attributes, open_reply};
 use crate::telling::telling;
-use tf_address::Label;
+use tf_config_address::ResourceAddr;
 use tf_provider::{Op, Provider, Schema, Verdict, schema_for};
 use tf_state_data::Object;
 use tf_state_next::{
@@ -54,12 +54,12 @@ pub fn report_action<'p>(
 
 /// A skipped action changes nothing, and nothing is told of it.
 fn nothing<'p>(room: ActionBuffers<'p>) -> ActionReport<'p>
-    ensures change { change_of result.change ≡ change_by (buffers_head room.entry).label (buffers_head room.entry).target nothing unchanged }
+    ensures change { change_of result.change ≡ change_by (buffers_head room.entry).addr (buffers_head room.entry).target nothing unchanged }
     ensures diagnostic { result.diagnostic ≡ None }
 {
-    let ActionBuffers { label, target, .. } = room;
+    let ActionBuffers { addr, target, .. } = room;
     ActionReport {
-        change: unchanged(label, target),
+        change: unchanged(addr, target),
         diagnostic: None,
     }
 }
@@ -67,49 +67,49 @@ fn nothing<'p>(room: ActionBuffers<'p>) -> ActionReport<'p>
 /// What is told of an action that wasn't called, and why.
 fn not_called<'p>(room: ActionBuffers<'p>, code: u8, reason: &str) -> ActionReport<'p>
     requires { length reason.now ≤ 15 }
-    ensures change { change_of result.change ≡ change_by (buffers_head room.entry).label (buffers_head room.entry).target nothing unchanged }
+    ensures change { change_of result.change ≡ change_by (buffers_head room.entry).addr (buffers_head room.entry).target nothing unchanged }
     ensures diagnostic { option_map diagnostic_of result.diagnostic
         ≡ Some (record { code = code; place = (buffers_head room.entry).place; verb = Some room.entry.op; message = reason.now }) }
 {
     let ActionBuffers {
         place,
         op,
-        label,
+        addr,
         target,
         mut message,
     } = room;
     message.push_str(reason).unwrap();
     ActionReport {
-        change: unchanged(label, target),
+        change: unchanged(addr, target),
         diagnostic: told(place, op, Some((code, message))),
     }
 }
 
 /// What is told of a request that can't be made.
 fn fault<'p>(room: ActionBuffers<'p>, faulted: Faulted) -> ActionReport<'p>
-    ensures change { change_of result.change ≡ change_by (buffers_head room.entry).label (buffers_head room.entry).target nothing unchanged }
+    ensures change { change_of result.change ≡ change_by (buffers_head room.entry).addr (buffers_head room.entry).target nothing unchanged }
     ensures diagnostic { option_map diagnostic_of result.diagnostic
         ≡ Some (record { code = 24; place = (buffers_head room.entry).place; verb = Some room.entry.op; message = fault_message (instance_fault_of faulted.fault) }) }
 {
     let Faulted { message, .. } = faulted;
     ActionReport {
-        change: unchanged(room.label, room.target),
+        change: unchanged(room.addr, room.target),
         diagnostic: told(room.place, room.op, Some((24, message))),
     }
 }
 
 /// What an action changes that wasn't called: it saved nothing, and what is known of an object stays.
-fn unchanged<'p>(label: &'p Label, target: Target) -> Change<'p>
-    ensures { change_of result ≡ change_by (label_of label.now) (target_of target) nothing unchanged }
+fn unchanged<'p>(addr: &'p ResourceAddr, target: Target) -> Change<'p>
+    ensures { change_of result ≡ change_by (addr_of addr.now) (target_of target) nothing unchanged }
 {
     match target {
         Target::Instance(given) => Change::Applied(Apply {
-            label,
+            addr,
             given,
             applied: ApplyResult::Nothing,
         }),
         Target::Object(id) => Change::Destroyed(Destroy {
-            label,
+            addr,
             id,
             left: Left::Unchanged,
         }),
@@ -137,7 +137,7 @@ fn report_call<'p>(room: ActionBuffers<'p>, served: Served, schema: &Schema) -> 
     requires verdict { served.call.verdict ≡ verdict_on (asked served.call.request) (answered served.call.reply) schema.now }
     requires op { served.call.request.op ≡ room.op }
     ensures changes { change_of result.change
-        ≡ change_by (buffers_head room.entry).label (buffers_head room.entry).target
+        ≡ change_by (buffers_head room.entry).addr (buffers_head room.entry).target
         (as_applied (saved_by room.entry.op schema.now (asked served.call.request) (answered served.call.reply) served.call.verdict))
         (left_by_destroy schema.now (answered served.call.reply) served.call.verdict) }
     ensures stored { MayBeStored (change_of result.change) }
@@ -150,7 +150,7 @@ fn report_call<'p>(room: ActionBuffers<'p>, served: Served, schema: &Schema) -> 
     let ActionBuffers {
         place,
         op,
-        label,
+        addr,
         target,
         ..
     } = room;
@@ -159,7 +159,7 @@ fn report_call<'p>(room: ActionBuffers<'p>, served: Served, schema: &Schema) -> 
     let fallback = fallback_for(op, request.object);
     let _stored = can_be_saved(verdict, &fallback);
     ActionReport {
-        change: change(label, target, op, verdict, formed, fallback),
+        change: change(addr, target, op, verdict, formed, fallback),
         diagnostic: told(place, op, telling),
     }
 }
@@ -167,7 +167,7 @@ fn report_call<'p>(room: ActionBuffers<'p>, served: Served, schema: &Schema) -> 
 /// What a call changes, by the verdict on its reply, the object in the reply where that is well formed, and the object that a
 /// create asked for, with null for what isn't known.
 fn change<'p>(
-    label: &'p Label,
+    addr: &'p ResourceAddr,
     target: Target,
     op: Op,
     verdict: Verdict,
@@ -179,16 +179,16 @@ fn change<'p>(
     ensures changes { (schema : SchemaView) (r : Asked) (answer : Option Answer) → verdict ≡ verdict_on r answer schema
         → option_map (λ o. tree_of o.value) formed ≡ formed_in schema answer
         → (op ≡ Create → option_map with_nulls r.object ≡ option_map (λ o. tree_of o.value) fallback)
-        → change_of result ≡ change_by (label_of label.now) (target_of target) (as_applied (saved_by op schema r answer verdict)) (left_by_destroy schema answer verdict) }
+        → change_of result ≡ change_by (addr_of addr.now) (target_of target) (as_applied (saved_by op schema r answer verdict)) (left_by_destroy schema answer verdict) }
 {
     match target {
         Target::Instance(given) => Change::Applied(Apply {
-            label,
+            addr,
             given,
             applied: applied(op, verdict, formed, fallback),
         }),
         Target::Object(id) => Change::Destroyed(Destroy {
-            label,
+            addr,
             id,
             left: left_by_destroy(verdict, formed),
         }),

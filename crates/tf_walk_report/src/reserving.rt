@@ -2,11 +2,11 @@
 
 ghost use Rattle.std.specs.Prelude.{◌≡◌, ◌+◌, ◌≤◌, ◌++◌, ◌∷◌, [], IfOk, OnOk, if◌then◌else◌, length, map, vec_capacity, vec_len};
 ghost use Rattle.std.specs.List.{range_with_len};
-ghost use Rattle.tf_walk_action.specs.Words.{action_of, FitsTogether, is_apply, IsTable, label_of, names_in, outputs_of, plan_names, plan_of};
+ghost use Rattle.tf_walk_action.specs.Words.{action_of, FitsTogether, is_apply, IsTable, addr_of, names_in, outputs_of, plan_names, plan_of};
 ghost use Rattle.tf_state_next.specs.StateDraft.{IsStateDraft};
 ghost use Rattle.tf_walk_report.specs.Outputs.{kept_entries};
 ghost use Rattle.tf_walk_report.specs.Buffers.{outputs_in};
-ghost use Rattle.tf_walk_report.specs.Reserved.{AreEmptyLists, AreReserved, applied_labels};
+ghost use Rattle.tf_walk_report.specs.Reserved.{AreEmptyLists, AreReserved, applied_addrs};
 ghost use Rattle.tf_walk_report.specs.Settling.{IsReady};
 
 use crate::additions::Changes;
@@ -17,7 +17,7 @@ use crate::outputs::texts_for;
 use crate::settling::Settling;
 use crate::texts::OutputTexts;
 use std::alloc::{AllocError, Global};
-use tf_address::Label;
+use tf_config_address::ResourceAddr;
 use tf_config_names::Declarations;
 use tf_plan_data::{Action, Plan};
 use tf_state_next::{MetadataUpdate, StateDraft, draft_state};
@@ -112,30 +112,30 @@ fn changes_for<'p>(alloc: Global, actions: usize) -> Result<Changes<'p>, AllocEr
 
 /// What the state after the actions of a plan is made of.
 fn draft_of(alloc: Global, plan: &Plan) -> Result<StateDraft<'_>, AllocError>
-    ensures { IfOk result (IsStateDraft (plan_of plan.now).prior (applied_labels (plan_of plan.now).actions)) }
+    ensures { IfOk result (IsStateDraft (plan_of plan.now).prior (applied_addrs (plan_of plan.now).actions)) }
 {
-    let labels = labels_of(alloc, plan.actions.as_slice())?;
-    draft_state(alloc, &plan.prior, &labels)
+    let addrs = addrs_of(alloc, plan.actions.as_slice())?;
+    draft_state(alloc, &plan.prior, &addrs)
 }
 
 /// The resources of creates and updates, as often as there are such actions.
-fn labels_of(alloc: Global, actions: &[Action]) -> Result<Vec<&Label>, AllocError>
-    ensures { IfOk result (λ labels. map (λ l. label_of l.now) labels.items ≡ applied_labels (map action_of actions.now)) }
+fn addrs_of(alloc: Global, actions: &[Action]) -> Result<Vec<&ResourceAddr>, AllocError>
+    ensures { IfOk result (λ addrs. map (λ l. addr_of l.now) addrs.items ≡ applied_addrs (map action_of actions.now)) }
 {
-    let mut labels = Vec::new(alloc);
+    let mut addrs = Vec::new(alloc);
     for action in actions {
-        add_label(&mut labels, action)?;
+        add_addr(&mut addrs, action)?;
     }
-    Ok(labels)
+    Ok(addrs)
 }
 
 /// Adds the resource of an action, where that creates or updates an object.
-fn add_label<'a>(labels: &mut Vec<&'a Label>, action: &'a Action) -> Result<(), AllocError>
-    ensures { OnOk result (map (λ l. label_of l.now) labels.new.items ≡ map (λ l. label_of l.now) labels.old.items
-        ++ (if is_apply (action_of action.now).step then (action_of action.now).label ∷ [] else [])) }
+fn add_addr<'a>(addrs: &mut Vec<&'a ResourceAddr>, action: &'a Action) -> Result<(), AllocError>
+    ensures { OnOk result (map (λ l. addr_of l.now) addrs.new.items ≡ map (λ l. addr_of l.now) addrs.old.items
+        ++ (if is_apply (action_of action.now).step then (action_of action.now).addr ∷ [] else [])) }
 {
     if action.step.is_apply() {
-        labels.push(&action.label)?;
+        addrs.push(&action.addr)?;
     }
     Ok(())
 }

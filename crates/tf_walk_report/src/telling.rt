@@ -2,7 +2,7 @@
 
 ghost use Rattle.std.specs.Prelude.{◌≡◌, ◌++◌, ℕ, [], true, List, Option, Some, codes, option_map, string_bytes, string_capacity};
 ghost use Rattle.tf_walk_action.specs.Words.{Answer, Asked, message_fits, tree_of};
-ghost use Rattle.tf_protocol.specs.declared.request.Op.{Op};
+ghost use Rattle.tf_provider_protocol.specs.declared.request.Op.{Op};
 ghost use Rattle.tf_walk_report.specs.ActionReport.{listed};
 ghost use Rattle.tf_walk_report.specs.Diagnostics.{diagnostics_of_verdict, failure_message, name_at};
 ghost use Rattle.tf_walk_report.specs.Replied.{failure_in};

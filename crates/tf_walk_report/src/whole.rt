@@ -87,7 +87,7 @@ fn state_with<'p>(
     metadata_updates: Vec<MetadataUpdate<'p>>,
     outputs: BTreeMap<String, Object>,
 ) -> State
-    requires draft { IsStateDraft (state_of draft.prior.now) (map (λ a. a.label) (map apply_of changes.applies.items)) draft }
+    requires draft { IsStateDraft (state_of draft.prior.now) (map (λ a. a.addr) (map apply_of changes.applies.items)) draft }
     requires apart { AreEachAboutOne (record { destroys = map destroy_of changes.destroys.items; applies = map apply_of changes.applies.items; metadata_updates = map metadata_update_of metadata_updates.items }) }
     requires serial { (state_of draft.prior.now).serial + 1 < 2 ^ 32 }
     ensures after { (e : EventsView) → map destroy_of changes.entry.destroys.items ≡ e.destroys → map apply_of changes.entry.applies.items ≡ e.applies → map metadata_update_of metadata_updates.entry.items ≡ e.metadata_updates

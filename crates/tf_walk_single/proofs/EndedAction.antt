@@ -6,7 +6,7 @@ use Rattle.tf_plan_data.specs.Action.{ActionView}
 use Rattle.tf_graph.specs.Digraph.{predecessors_of}
 use Rattle.tf_graph.specs.Solutions.{seen_by}
 use Rattle.tf_plan_data.specs.Plan.{PlanView}
-use Rattle.tf_protocol.specs.Meaning.{Meaning}
+use Rattle.tf_provider_protocol.specs.Meaning.{Meaning}
 use Rattle.tf_walk_action.proofs.Calling.{run_at}
 use Rattle.tf_walk_action.specs.Outcome.{ActionResultView, skipped, Requests, is_good, call_at, call_with, objects_by}
 use Rattle.tf_walk_action.specs.Run.{IsRun}

@@ -8,8 +8,8 @@ use Rattle.tf_graph.specs.Digraph.{predecessors_of}
 use Rattle.tf_graph.specs.Solutions.{seen_by}
 use Rattle.tf_provider.specs.declared.journal.Entry.{Entry}
 use Rattle.tf_plan_data.specs.Plan.{PlanView}
-use Rattle.tf_protocol.specs.declared.request.Op.{Op}
-use Rattle.tf_protocol.specs.Meaning.{Meaning}
+use Rattle.tf_provider_protocol.specs.declared.request.Op.{Op}
+use Rattle.tf_provider_protocol.specs.Meaning.{Meaning}
 use Rattle.tf_walk_action.specs.Journal.{IsOfAction, verdict_in, entered_verdict}
 use Rattle.tf_walk_action.specs.Outcome.{ActionResultView, skipped, Requests, AreRequests, all_good, call_at}
 use Rattle.tf_walk_action.specs.Run.{IsRun}

@@ -7,7 +7,7 @@ use Rattle.tf_walk_action.specs.Excuse.{Moment, during_call, excuse_of}
 use Rattle.tf_walk_action.specs.Outcome.{ActionResultView, skipped, excused, faulted, called, Requests, AreRequests, is_good, all_good, call_at, done_at, excuse_in, is_faulted, or_excused, rule}
 use Rattle.tf_walk_action.specs.declared.excuse.Excuse.{Excuse}
 use Rattle.tf_plan_data.specs.Plan.{PlanView}
-use Rattle.tf_protocol.specs.Meaning.{Meaning}
+use Rattle.tf_provider_protocol.specs.Meaning.{Meaning}
 use Rattle.tf_value.proofs.Conjunction.{and-first, and-second}
 use Rattle.tf_walk_workers.proofs.CallsSeen.{rule-calls}
 use Rattle.tf_walk_workers.proofs.TrueEnds.{good-is}

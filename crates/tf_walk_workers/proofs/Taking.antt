@@ -5,7 +5,7 @@ use Rattle.std.proofs.Math.Logic.{dite}
 use Rattle.std.proofs.lemmas.List.{get_or_append_left, get_or_push, get_or-set_same, get_or-set_other, length_push, length-replicate, length-set}
 use Rattle.std.specs.Prelude.{slice_set}
 use Rattle.tf_plan_data.specs.Plan.{PlanView}
-use Rattle.tf_protocol.specs.Meaning.{Meaning}
+use Rattle.tf_provider_protocol.specs.Meaning.{Meaning}
 use Rattle.tf_walk_action.specs.ResultViews.{action_result_of, result_or_skipped, action_results_of}
 use Rattle.tf_walk_action.specs.Outcome.{done_at}
 use Rattle.tf_walk_action.specs.declared.action_result.ActionResult.{ActionResult}

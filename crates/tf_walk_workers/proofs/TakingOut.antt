@@ -1,7 +1,7 @@
 -- Ends that are taken out of their cells, from the last cell on.
 use Rattle.std.specs.Prelude.{◌≡◌, ◌≤◌, ◌<◌, ℕ, List, length, Option, None, slice_index_or}
 use Rattle.tf_plan_data.specs.Plan.{PlanView}
-use Rattle.tf_protocol.specs.Meaning.{Meaning}
+use Rattle.tf_provider_protocol.specs.Meaning.{Meaning}
 use Rattle.tf_walk_action.specs.ResultViews.{action_results_of}
 use Rattle.tf_walk_action.specs.Outcome.{done_at}
 use Rattle.tf_walk_action.specs.declared.action_result.ActionResult.{ActionResult}

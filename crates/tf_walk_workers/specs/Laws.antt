@@ -3,7 +3,7 @@ use Rattle.std.specs.Prelude.{◌≡◌, ◌<◌, ℕ, Bool, true, false, not, L
 use Rattle.tf_graph.specs.Digraph.{predecessors_of}
 use Rattle.tf_graph.specs.Solutions.{Ranked, seen_by}
 use Rattle.tf_plan_data.specs.Plan.{PlanView}
-use Rattle.tf_protocol.specs.Meaning.{Meaning}
+use Rattle.tf_provider_protocol.specs.Meaning.{Meaning}
 use Rattle.tf_walk_action.specs.Excuse.{during_call, excuse_of}
 use Rattle.tf_walk_action.specs.Outcome.{ActionResultView, skipped, excused, Requests, AreOutcomes, AreRequests, all_good, call_at, done_at, excuse_in, is_faulted}
 use Rattle.tf_walk_action.specs.declared.excuse.Excuse.{Excuse}

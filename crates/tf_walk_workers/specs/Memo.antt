@@ -8,7 +8,7 @@ use Rattle.tf_config_names.specs.Table.{names_in}
 use Rattle.tf_walk_action.specs.Objects.{objects_seen}
 use Rattle.tf_plan_data.specs.Plan.{PlanView, plan_of}
 use Rattle.tf_plan_data.specs.declared.plan.Plan.{Plan}
-use Rattle.tf_protocol.specs.Meaning.{Meaning}
+use Rattle.tf_provider_protocol.specs.Meaning.{Meaning}
 use Rattle.tf_state_data.specs.State.{state_of}
 use Rattle.tf_walk_workers.specs.Seen.{AreSeen}
 use Rattle.tf_walk_workers.specs.declared.memo.Memo.{Memo}

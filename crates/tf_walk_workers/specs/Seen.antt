@@ -7,7 +7,7 @@ use Rattle.tf_graph.specs.Digraph.{predecessors_of}
 use Rattle.tf_config_names.specs.Table.{names_in}
 use Rattle.tf_plan_data.specs.Plan.{PlanView}
 use Rattle.tf_plan_data.specs.declared.plan.Plan.{Plan}
-use Rattle.tf_protocol.specs.Meaning.{Meaning}
+use Rattle.tf_provider_protocol.specs.Meaning.{Meaning}
 
 -- All actions directly before one are good, and what came of them is seen for these names and for the prior state and the
 -- actions of this plan.

@@ -7,7 +7,7 @@ use Rattle.tf_plan_data.specs.Fits.{FitsTogether}
 use Rattle.tf_plan_data.specs.Plan.{PlanView, plan_of}
 use Rattle.tf_plan_data.specs.Served.{AreServed}
 use Rattle.tf_plan_data.specs.declared.plan.Plan.{Plan}
-use Rattle.tf_protocol.specs.Meaning.{Meaning}
+use Rattle.tf_provider_protocol.specs.Meaning.{Meaning}
 
 -- All that a worker reads is of the walk that its plan and its providers' meanings name: the plan's parts fit together, the
 -- names are those of its configuration, the providers have the types of its actions, and there is a cell for each of these.

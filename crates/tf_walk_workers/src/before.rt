@@ -9,7 +9,7 @@ use crate::cells::Cells;
 use crate::reading::Reading;
 use crate::walk_brand::WalkBrand;
 use std::alloc::{AllocError, Global};
-use tf_address::InstanceKey;
+use tf_config_address::InstanceKey;
 use tf_config_names::Declarations;
 use tf_plan_data::Action;
 use tf_state_data::State;

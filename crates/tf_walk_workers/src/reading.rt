@@ -9,7 +9,7 @@ use crate::kept::CellResult;
 use crate::walk_brand::WalkBrand;
 use counted_slot::Claim;
 use std::alloc::{AllocError, Global};
-use tf_protocol::Reply;
+use tf_provider_protocol::Reply;
 use tf_value::{Value, copy};
 use tf_walk_action::{ActionResult, NotGood};
 

@@ -2,7 +2,7 @@
 
 ghost use Rattle.std.specs.Prelude.{List, []};
 ghost use Rattle.tf_plan_data.specs.Plan.{PlanView};
-ghost use Rattle.tf_protocol.specs.Meaning.{Meaning};
+ghost use Rattle.tf_provider_protocol.specs.Meaning.{Meaning};
 ghost use Rattle.tf_walk_workers.specs.NoPlan.{no_plan};
 
 use std::marker::Brand;

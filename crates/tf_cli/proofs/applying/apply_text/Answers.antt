@@ -11,7 +11,7 @@ use Rattle.tf_walk_report.specs.Savable.{IsNamed}
 use Rattle.tf_state_data.specs.State.{state_of}
 use Rattle.tf_cli_inputs.specs.Texts.{the_texts}
 use Rattle.tf_plan.specs.Refused.{Tells}
-use Rattle.tf_refusal.specs.Refusal.{refusal_of}
+use Rattle.tf_config_refusal.specs.Refusal.{refusal_of}
 use Rattle.tf_cli.specs.Refusals.{AreRefusals}
 use Rattle.tf_cli.proofs.Carried.{is_carried_out}
 use Rattle.tf_cli.proofs.Numbered.{refused-first, refused-walk}

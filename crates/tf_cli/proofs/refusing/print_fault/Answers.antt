@@ -1,6 +1,6 @@
 use Rattle.std.proofs.Common.{codes}
-use Rattle.tf_refusal.specs.Refusal.{detail_of}
-use Rattle.tf_refusal.specs.Text.{detail_text}
+use Rattle.tf_config_refusal.specs.Refusal.{detail_of}
+use Rattle.tf_config_refusal.specs.Text.{detail_text}
 use Rattle.tf_cli.specs.Shown.{fault_opening}
 use Rattle.tf_cli.proofs.Writes.{first_part, second_part, third_part}
 use Rattle.tf_cli.proofs.refusing.print_fault.Goals as goal

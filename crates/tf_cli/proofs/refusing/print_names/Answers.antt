@@ -1,6 +1,6 @@
 use Rattle.std.proofs.Common.{◌++◌, codes, map, string_bytes}
 use Rattle.std.specs.List.{flat_map}
-use Rattle.tf_refusal.specs.Text.{names_text}
+use Rattle.tf_config_refusal.specs.Text.{names_text}
 use Rattle.tf_cli.proofs.RefusalLines.{names_told, part_as, whole_as}
 use Rattle.tf_cli.proofs.refusing.print_names.Goals as goal
 

@@ -1,6 +1,6 @@
 use Rattle.std.proofs.Common.{◌++◌, codes, string_bytes}
-use Rattle.tf_refusal.specs.Refusal.{detail_of, fault}
-use Rattle.tf_refusal.specs.Text.{detail_text}
+use Rattle.tf_config_refusal.specs.Refusal.{detail_of, fault}
+use Rattle.tf_config_refusal.specs.Text.{detail_text}
 use Rattle.tf_cli.specs.Shown.{fault_opening, refusal_line}
 use Rattle.tf_cli.proofs.RefusalLines.{fault_line, part_as, whole_as}
 use Rattle.tf_cli.proofs.refusing.print_refusal.Goals as goal

@@ -2,7 +2,7 @@ use Rattle.std.proofs.Common.{take, arith}
 use Rattle.std.proofs.lemmas.List.{take_all}
 use Rattle.std.specs.List.{flat_map}
 use Rattle.tf_cli.specs.Shown.{refusal_line}
-use Rattle.tf_refusal.specs.Refusal.{refusal_of}
+use Rattle.tf_config_refusal.specs.Refusal.{refusal_of}
 use Rattle.tf_cli.proofs.RefusalLines.{start_whole}
 use Rattle.tf_cli.proofs.Writes.{start_at}
 use Rattle.tf_cli.proofs.refusing.print_refusals.Goals as goal

@@ -2,7 +2,7 @@
 use Rattle.std.proofs.Common.{take}
 use Rattle.std.specs.List.{flat_map}
 use Rattle.std.specs.Io.KnownBytes.{Appends}
-use Rattle.tf_refusal.specs.Refusal.{refusal_of}
+use Rattle.tf_config_refusal.specs.Refusal.{refusal_of}
 use Rattle.tf_cli.specs.Shown.{refusal_line}
 use Rattle.tf_cli.proofs.refusing.print_refusals.Given as goal
 

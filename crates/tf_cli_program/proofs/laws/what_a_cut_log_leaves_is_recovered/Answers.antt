@@ -1,4 +1,4 @@
-use Rattle.tf_log.proofs.Beginnings.{beginnings_read}
+use Rattle.tf_provider_log.proofs.Beginnings.{beginnings_read}
 use Rattle.tf_cli_program.proofs.Cut.{as_far}
 use Rattle.tf_cli_program.proofs.laws.what_a_cut_log_leaves_is_recovered.Goals as goal
 

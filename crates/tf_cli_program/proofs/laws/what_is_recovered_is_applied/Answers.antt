@@ -1,7 +1,7 @@
 use Rattle.std.proofs.Common.{subst}
 use Rattle.std.specs.Prelude.{List}
-use Rattle.tf_log.proofs.Replays.{replayed_are_themselves}
-use Rattle.tf_protocol.specs.Meaning.{Meaning}
+use Rattle.tf_provider_log.proofs.Replays.{replayed_are_themselves}
+use Rattle.tf_provider_protocol.specs.Meaning.{Meaning}
 use Rattle.tf_cli_program.specs.Recovered.{IsRecovered}
 use Rattle.tf_cli_program.proofs.laws.what_is_recovered_is_applied.Goals as goal
 

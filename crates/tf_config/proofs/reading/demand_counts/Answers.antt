@@ -4,8 +4,8 @@ use Rattle.tf_config.proofs.Counts.{names_in-length, mapped-length}
 use Rattle.tf_config.specs.Config.{names_in}
 use Rattle.tf_config.specs.Reading.{max_declared}
 use Rattle.tf_config_data.specs.Config.{variable_of, variables_of, block_of, blocks_of}
-use Rattle.tf_syntax.specs.ExprTree.{entries_view}
-use Rattle.tf_syntax.specs.declared.expr.Expr.{Expr}
+use Rattle.tf_expr_syntax.specs.ExprTree.{entries_view}
+use Rattle.tf_expr_syntax.specs.declared.expr.Expr.{Expr}
 use Rattle.tf_config.proofs.reading.demand_counts.Goals as goal
 
 counted : (entries : List (String Global × Expr)) (n : ℕ) → n ≡ length entries → length (names_in (entries_view entries)) ≡ n

@@ -3,7 +3,7 @@ use Rattle.std.proofs.lemmas.Result.{err_from_is_err_and}
 use Rattle.tf_config_names.proofs.NameWalks.{left_more, left_refused}
 use Rattle.tf_config_names.specs.KnownNames.{declared_of, output_checks, name_checks}
 use Rattle.tf_config_names.specs.declared.known_names.Context.TheVariants.{Plain}
-use Rattle.tf_syntax.specs.ExprTree.{entries_view, tree_of}
+use Rattle.tf_expr_syntax.specs.ExprTree.{entries_view, tree_of}
 use Rattle.tf_config_names.proofs.known_names.demand_outputs.Goals as goal
 
 pub loop-name-preserved : goal.loop-name-preserved

@@ -1,7 +1,7 @@
 use Rattle.std.proofs.Common.{◌≡◌, ◌++◌, map}
 use Rattle.tf_config_names.specs.KnownNames.{arguments_in}
 use Rattle.tf_config_names.specs.Properties.{property_view}
-use Rattle.tf_syntax.specs.ExprTree.{entries_view}
+use Rattle.tf_expr_syntax.specs.ExprTree.{entries_view}
 use Rattle.tf_config_names.proofs.properties.arguments_of.Given as goal
 
 abbrev pub invariant-loop-name : goal.invariant-loop-name

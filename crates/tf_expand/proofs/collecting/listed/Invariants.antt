@@ -1,5 +1,5 @@
 use Rattle.std.proofs.Common.{◌≡◌, ◌++◌, map, drop, option_map}
-use Rattle.tf_address.specs.ObjectId.{instance_key_of}
+use Rattle.tf_config_address.specs.ObjectId.{instance_key_of}
 use Rattle.tf_value.specs.Tree.{tree_of}
 use Rattle.tf_expand.specs.InstanceKeys.{objects_at}
 use Rattle.tf_expand.proofs.collecting.listed.Given as goal

@@ -1,6 +1,6 @@
 use Rattle.std.proofs.Common.{◌≡◌, Some, option_map, map as each, string_bytes, sym, ap, ◌∙◌, arith}
 use Rattle.std.proofs.lemmas.List.{drop_all}
-use Rattle.tf_address.specs.ObjectId as keys
+use Rattle.tf_config_address.specs.ObjectId as keys
 use Rattle.tf_value.specs.Tree.{entries_view, tree_of, no_entries}
 use Rattle.tf_value.proofs.Views.{tree_of-Map}
 use Rattle.tf_expand.proofs.Laying.{put_rest, put_more, put_all}

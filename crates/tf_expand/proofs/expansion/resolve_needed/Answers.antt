@@ -1,6 +1,6 @@
 use Rattle.tf_config_names.specs.Table.{names_in}
 use Rattle.tf_value.specs.Tree.{entries_view}
-use Rattle.tf_eval.proofs.Locality.{expressions_local}
+use Rattle.tf_expr_eval.proofs.Locality.{expressions_local}
 use Rattle.tf_expand.specs.Views.{resolved_names_of}
 use Rattle.tf_expand.proofs.Locals.{expansion_local}
 use Rattle.tf_expand.proofs.Needing.{needed_closed, needed_kept}

@@ -1,7 +1,7 @@
 use Rattle.std.proofs.Common.{refl, arith}
 use Rattle.std.proofs.lemmas.List.{map_push}
 use Rattle.std.proofs.lemmas.List.FromFn.{map-range_with_len_more}
-use Rattle.tf_address.specs.ObjectId.{number}
+use Rattle.tf_config_address.specs.ObjectId.{number}
 use Rattle.tf_expand.proofs.shape.numbers.Goals as goal
 
 pub loop-number-preserved : goal.loop-number-preserved

@@ -1,6 +1,6 @@
 use Rattle.std.proofs.Common.{◌≡◌, map}
 use Rattle.std.specs.List.{range_with_len}
-use Rattle.tf_address.specs.ObjectId.{instance_key_of, number}
+use Rattle.tf_config_address.specs.ObjectId.{instance_key_of, number}
 use Rattle.tf_expand.proofs.shape.numbers.Given as goal
 
 -- the keys so far

@@ -5,14 +5,14 @@ use Rattle.std.specs.Map.{keys_of}
 use Rattle.serde_json.proofs.Views.{Entry}
 use Rattle.serde_json.specs.View.{view}
 use Rattle.tf_expr.proofs.Refusals.{Refuses-left, Refuses-right}
-use Rattle.tf_syntax.proofs.ExprViews.{entries_view-insert_entry}
+use Rattle.tf_expr_syntax.proofs.ExprViews.{entries_view-insert_entry}
 use Rattle.tf_expr.proofs.Walked.{items_more, items_refused, members_more, members_refused}
 use Rattle.tf_expr.specs.Demand.{a_plain_name}
 use Rattle.tf_expr.specs.Reading.{expr_checks}
-use Rattle.tf_syntax.specs.ExprTree.{tree_of, entries_view}
-use Rattle.tf_json_path.proofs.Places.{place_of-Member, place_of-Item}
-use Rattle.tf_json_path.specs.Check.{demanded}
-use Rattle.tf_json_path.specs.Place.{place_of}
+use Rattle.tf_expr_syntax.specs.ExprTree.{tree_of, entries_view}
+use Rattle.tf_expr_path.proofs.Places.{place_of-Member, place_of-Item}
+use Rattle.tf_expr_path.specs.Check.{demanded}
+use Rattle.tf_expr_path.specs.Place.{place_of}
 use Rattle.tf_expr.proofs.reading.+read.Goals as goal
 
 pub read_items-returns-in_err-expr-clause-fault : goal.read_items-returns-in_err-expr-clause-fault

@@ -2,7 +2,7 @@ use Rattle.std.proofs.Common.{◌≡◌, List, ◌++◌, take}
 use Rattle.serde_json.proofs.Views.{Entry}
 use Rattle.serde_json.specs.View.{items_view, members_view}
 use Rattle.tf_expr.specs.Reading.{AreExprs, HoldExprs}
-use Rattle.tf_syntax.specs.ExprTree.{trees_view, entries_view}
+use Rattle.tf_expr_syntax.specs.ExprTree.{trees_view, entries_view}
 use Rattle.tf_expr.proofs.reading.+read.Given as goal
 
 -- the elements so far are read

@@ -3,7 +3,7 @@ use Rattle.tf_plan_data.specs.Action.{action_of}
 use Rattle.tf_plan.proofs.Refusing.{tells-weaker}
 use Rattle.tf_plan.specs.Ordered.{action_pairs, max_pairs, ties_by}
 use Rattle.tf_plan.specs.Refused.{AreManyPairsBy}
-use Rattle.tf_refusal.specs.Refusal.{RefusalView, refusal_of}
+use Rattle.tf_config_refusal.specs.Refusal.{RefusalView, refusal_of}
 use Rattle.tf_plan.proofs.ordering.order_by.Goals as goal
 
 pub returns-clause-refused : goal.returns-clause-refused

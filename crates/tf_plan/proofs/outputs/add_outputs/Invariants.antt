@@ -2,8 +2,8 @@
 use Rattle.std.proofs.Common.{◌≡◌, ◌++◌, map}
 use Rattle.tf_expand.specs.Views.{resolved_names_of}
 use Rattle.tf_config_names.specs.Table.{names_in}
-use Rattle.tf_refusal.specs.Refusal.{refusal_of}
-use Rattle.tf_syntax.specs.ExprTree.{entries_view as expressions_view}
+use Rattle.tf_config_refusal.specs.Refusal.{refusal_of}
+use Rattle.tf_expr_syntax.specs.ExprTree.{entries_view as expressions_view}
 use Rattle.tf_value.specs.Tree.{entries_view}
 use Rattle.tf_plan.specs.Outputs.{output_refusals}
 use Rattle.tf_plan.proofs.outputs.add_outputs.Given as goal

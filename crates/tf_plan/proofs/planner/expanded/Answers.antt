@@ -1,6 +1,6 @@
 use Rattle.std.proofs.Common.{◌≡◌, ◌∷◌, [], List}
 use Rattle.tf_config_names.specs.Table.{names_in}
-use Rattle.tf_refusal.specs.Refusal.{RefusalView, refusal_of}
+use Rattle.tf_config_refusal.specs.Refusal.{RefusalView, refusal_of}
 use Rattle.tf_value.specs.Tree.{entries_view}
 use Rattle.tf_expand.specs.Views.{shapes_of}
 use Rattle.tf_plan.proofs.Refusing.{fault-placed, fault-told, instances-are, tells-weaker}

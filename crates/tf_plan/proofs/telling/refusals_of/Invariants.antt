@@ -2,7 +2,7 @@
 use Rattle.std.proofs.Common.{◌≡◌, ◌++◌, map}
 use Rattle.std.specs.Vec.Iter.{into_iter_items}
 use Rattle.tf_plan_decision.specs.Deciding.{refused_of}
-use Rattle.tf_refusal.specs.Refusal.{refusal_of}
+use Rattle.tf_config_refusal.specs.Refusal.{refusal_of}
 use Rattle.tf_plan.specs.Told.{instance_told}
 use Rattle.tf_plan.proofs.telling.refusals_of.Given as goal
 

@@ -7,8 +7,8 @@ use Rattle.tf_graph.specs.NodeSet.{has}
 use Rattle.tf_config_names.specs.Table.{names_in}
 use Rattle.tf_expand.proofs.Marking.{empty_marks, written_back}
 use Rattle.tf_plan.proofs.Wanting.{only_new}
-use Rattle.tf_syntax.specs.ExprNames.{named_below}
-use Rattle.tf_syntax.specs.ExprTree.{entries_view}
+use Rattle.tf_expr_syntax.specs.ExprNames.{named_below}
+use Rattle.tf_expr_syntax.specs.ExprTree.{entries_view}
 use Rattle.tf_plan.proofs.wanted.named_by_outputs.Goals as goal
 
 pub mark-requires : goal.mark-requires

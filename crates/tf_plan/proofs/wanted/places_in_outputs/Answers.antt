@@ -2,8 +2,8 @@ use Rattle.std.proofs.Common.{◌≡◌, ◌++◌, [], sym, ap, ◌∙◌}
 use Rattle.tf_config_data.specs.Names.{places}
 use Rattle.tf_config_names.proofs.Tables.{Adds, adds_more, adds_all}
 use Rattle.tf_config_names.specs.Table.{names_in}
-use Rattle.tf_syntax.specs.ExprNames.{named_below, named_by}
-use Rattle.tf_syntax.specs.ExprTree.{entries_view, tree_of}
+use Rattle.tf_expr_syntax.specs.ExprNames.{named_below, named_by}
+use Rattle.tf_expr_syntax.specs.ExprTree.{entries_view, tree_of}
 use Rattle.tf_plan.proofs.wanted.places_in_outputs.Goals as goal
 
 pub loop-expr-preserved : goal.loop-expr-preserved

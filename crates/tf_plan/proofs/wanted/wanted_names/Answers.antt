@@ -6,7 +6,7 @@ use Rattle.tf_expand.specs.Needed.{IsNeededBy}
 use Rattle.tf_graph.specs.NodeSet.{has}
 use Rattle.tf_config_names.specs.Table.{names_in}
 use Rattle.tf_plan.proofs.Wanting.{wanted_by_either}
-use Rattle.tf_syntax.specs.ExprTree.{entries_view}
+use Rattle.tf_expr_syntax.specs.ExprTree.{entries_view}
 use Rattle.tf_plan.proofs.wanted.wanted_names.Goals as goal
 
 pub loop-place-preserved : goal.loop-place-preserved

@@ -1,7 +1,7 @@
 use Rattle.std.proofs.Common.{◌≡◌, ◌++◌, map}
 use Rattle.std.specs.Vec.Iter.{into_iter_items}
 use Rattle.tf_plan_data.specs.Action.{action_of, step_of}
-use Rattle.tf_address.specs.ObjectId.{instance_key_of}
+use Rattle.tf_config_address.specs.ObjectId.{instance_key_of}
 use Rattle.tf_plan_decision.proofs.collecting.add_steps.Given as goal
 use Rattle.tf_plan_decision.specs.Deciding.{action, of_view}
 

@@ -1,4 +1,4 @@
-use Rattle.tf_address.specs.ObjectId.{object_id_cmp}
+use Rattle.tf_config_address.specs.ObjectId.{object_id_cmp}
 use Rattle.tf_plan_decision.proofs.objects.records_at.Goals as goal
 use Rattle.tf_state_data.proofs.Sorted.{none_sorted}
 

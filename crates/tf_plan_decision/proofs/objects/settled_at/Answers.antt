@@ -1,6 +1,6 @@
 use Rattle.std.proofs.Common.{rules, sym}
 use Rattle.std.proofs.lemmas.Fn.{always_returns_same}
-use Rattle.tf_address.specs.ObjectId.{instance_key_cmp, instance_key_of}
+use Rattle.tf_config_address.specs.ObjectId.{instance_key_cmp, instance_key_of}
 use Rattle.tf_plan_decision.proofs.Finding.{by_instance}
 use Rattle.tf_plan_decision.proofs.objects.settled_at.Goals as goal
 use Rattle.tf_plan_decision.specs.Settling.{settled_key, settled_of}

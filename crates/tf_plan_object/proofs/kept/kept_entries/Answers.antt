@@ -1,5 +1,5 @@
 use Rattle.std.proofs.Common.{◌≡◌, ℕ, List, [], ◌∷◌, map, refl, ap, ◌∙◌, string_bytes}
-use Rattle.tf_protocol.specs.Schema.{SchemaView}
+use Rattle.tf_provider_protocol.specs.Schema.{SchemaView}
 use Rattle.tf_value.specs.Tree.{Tree, entry, tree_of, entries_view}
 use Rattle.tf_value.proofs.Views.{Entry, shown}
 use Rattle.tf_plan_object.specs.Kept.{kept_entries, kept_value}

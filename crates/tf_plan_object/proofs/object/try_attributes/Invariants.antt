@@ -1,7 +1,7 @@
 -- the values and faults so far, with those of the attributes that are left
 use Rattle.std.proofs.Common.{◌≡◌, true, map, drop, option_map}
-use Rattle.tf_syntax.specs.ExprTree.{entries_view as arguments_view}
-use Rattle.tf_protocol.specs.Schema.{attribute_of}
+use Rattle.tf_expr_syntax.specs.ExprTree.{entries_view as arguments_view}
+use Rattle.tf_provider_protocol.specs.Schema.{attribute_of}
 use Rattle.tf_value.specs.Tree.{entries_view}
 use Rattle.tf_plan_object.specs.Bounded.{each_may_be_planned}
 use Rattle.tf_plan_object.specs.Object.{named_fault_of}

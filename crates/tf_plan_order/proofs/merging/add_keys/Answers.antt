@@ -1,6 +1,6 @@
 use Rattle.std.proofs.Common.{◌∙◌, ◌+◌, ◌∷◌, map, drop, sym, ap}
 use Rattle.std.proofs.lemmas.List.{at_drop_more}
-use Rattle.tf_address.specs.ObjectId.{instance_key_of}
+use Rattle.tf_config_address.specs.ObjectId.{instance_key_of}
 use Rattle.tf_plan_order.proofs.Known.{put_more}
 use Rattle.tf_plan_order.proofs.InstanceOrder.{key_copied}
 use Rattle.tf_plan_order.specs.Members.{with_keys}

@@ -1,5 +1,5 @@
 use Rattle.std.proofs.Common.{◌≡◌, map, drop}
-use Rattle.tf_address.specs.ObjectId.{instance_key_of}
+use Rattle.tf_config_address.specs.ObjectId.{instance_key_of}
 use Rattle.tf_plan_order.specs.Members.{with_keys}
 use Rattle.tf_plan_order.specs.MemberViews.{keys_in}
 use Rattle.tf_plan_order.proofs.merging.add_keys.Given as goal

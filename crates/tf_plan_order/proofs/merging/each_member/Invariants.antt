@@ -1,5 +1,5 @@
 use Rattle.std.proofs.Common.{◌≡◌, ◌++◌, map}
-use Rattle.tf_address.specs.ObjectId.{instance_key_of}
+use Rattle.tf_config_address.specs.ObjectId.{instance_key_of}
 use Rattle.tf_plan_order.specs.Members.{member}
 use Rattle.tf_plan_order.specs.MemberViews.{keys_in, member_of}
 use Rattle.tf_plan_order.proofs.merging.each_member.Given as goal

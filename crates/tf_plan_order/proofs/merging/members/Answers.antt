@@ -1,5 +1,5 @@
 use Rattle.std.proofs.Common.{◌≡◌, ◌∙◌, [], map, ap}
-use Rattle.tf_address.specs.ObjectId.{instance_key_of}
+use Rattle.tf_config_address.specs.ObjectId.{instance_key_of}
 use Rattle.tf_plan_order.proofs.Listing.{made_members, only_member}
 use Rattle.tf_plan_order.proofs.InstanceOrder.{key_copied}
 use Rattle.tf_plan_order.specs.Members.{all_keys, recorded_keys, with_keys}

@@ -1,8 +1,8 @@
 use Rattle.std.proofs.Common.{◌≡◌, ◌∙◌, ltb, leb, rules}
 use Rattle.std.proofs.lemmas.List.Sorted.{IsPartitionPoint-from_clause, IsPartitionedBy-leb, IsPartitionedBy-ltb}
 use Rattle.std.specs.Ordering.{is_lt, is_le}
-use Rattle.tf_address.specs.ObjectId.{instance_key_of}
-use Rattle.tf_address.specs.contracts.object_id.InstanceKeyOrd.TheImpl as keys
+use Rattle.tf_config_address.specs.ObjectId.{instance_key_of}
+use Rattle.tf_config_address.specs.contracts.object_id.InstanceKeyOrd.TheImpl as keys
 use Rattle.tf_plan_order.proofs.Parting.{below_is, not_above_is, own_part, part_rises, rank, ranks_rise, take_rest}
 use Rattle.tf_plan_order.proofs.own.records_of.Goals as goal
 

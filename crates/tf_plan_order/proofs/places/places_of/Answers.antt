@@ -1,5 +1,5 @@
 use Rattle.std.proofs.Common.{◌∙◌, ◌+◌, length, map, option_map, sym, ap, arith}
-use Rattle.tf_config_data.specs.Names.{label_pair}
+use Rattle.tf_config_data.specs.Names.{addr_pair}
 use Rattle.tf_config_names.proofs.Tables.{drop_all}
 use Rattle.tf_plan_order.specs.ResourceRef.{resource_ref_of}
 use Rattle.tf_plan_order.specs.ResourceIndex.{place_in}
@@ -8,4 +8,4 @@ use Rattle.tf_plan_order.proofs.places.places_of.Goals as goal
 pub loop-place-init : goal.loop-place-init
 loop-place-init c =
     let all = c.args.numbered.now in
-    λ label. c.empty-places.ensures (label_pair label) ∙ sym (ap (λ ns. option_map (λ k. k + length all) (place_in (map resource_ref_of ns) label)) (drop_all all (length all) (omega arith)))
+    λ addr. c.empty-places.ensures (addr_pair addr) ∙ sym (ap (λ ns. option_map (λ k. k + length all) (place_in (map resource_ref_of ns) addr)) (drop_all all (length all) (omega arith)))

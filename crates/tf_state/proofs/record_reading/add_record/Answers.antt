@@ -1,9 +1,9 @@
 use Rattle.tf_state.specs.Arrangement.{record_cmp}
 use Rattle.tf_state.specs.Made.{record_made}
-use Rattle.tf_address.specs.contracts.object_id.ObjectIdOrd.TheImpl as objects
-use Rattle.tf_address.specs.contracts.object_id.ObjectIdOrd.TheImpl.Laws.{total-law}
+use Rattle.tf_config_address.specs.contracts.object_id.ObjectIdOrd.TheImpl as objects
+use Rattle.tf_config_address.specs.contracts.object_id.ObjectIdOrd.TheImpl.Laws.{total-law}
 use Rattle.tf_state.proofs.Ordered.{new_put, taken_put}
-use Rattle.tf_address.proofs.Orders.{object_ids_ordered}
+use Rattle.tf_config_address.proofs.Orders.{object_ids_ordered}
 use Rattle.tf_state.proofs.record_reading.add_record.Goals as goal
 
 pub returns-clause-ok : goal.returns-clause-ok

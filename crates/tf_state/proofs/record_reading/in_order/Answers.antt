@@ -1,9 +1,9 @@
 use Rattle.std.proofs.Common.{◌≡◌, ◌++◌, map, sym, ap, ◌∙◌, subst, append-nil}
-use Rattle.tf_address.proofs.Orders.{object_ids_ordered}
-use Rattle.tf_address.specs.ObjectId.{object_id_cmp}
+use Rattle.tf_config_address.proofs.Orders.{object_ids_ordered}
+use Rattle.tf_config_address.specs.ObjectId.{object_id_cmp}
 use Rattle.tf_state_data.specs.Ids.{AreById}
 use Rattle.tf_state_data.specs.Record.{RecordView, record_of}
-use Rattle.tf_address.specs.contracts.object_id.ObjectIdOrd.TheImpl as objects
+use Rattle.tf_config_address.specs.contracts.object_id.ObjectIdOrd.TheImpl as objects
 use Rattle.tf_state.specs.Made.{record_made, records_made}
 use Rattle.tf_state.proofs.Ordered.{shown-ordered}
 use Rattle.tf_state.proofs.record_reading.in_order.Goals as goal

@@ -1,6 +1,6 @@
 use Rattle.std.proofs.Common.{◌≡◌, true, rules}
 use Rattle.serde_json.specs.View.{view}
-use Rattle.tf_address.specs.ObjectId.{object_id_of}
+use Rattle.tf_config_address.specs.ObjectId.{object_id_of}
 use Rattle.tf_state.specs.Reading.{is_record}
 use Rattle.tf_state.proofs.Refusals.{refused_behind}
 use Rattle.tf_state.proofs.record_reading.read_record.Goals as goal

@@ -5,5 +5,5 @@ use Rattle.tf_state.specs.Arrangement.{with_records}
 use Rattle.tf_state_data.specs.Resource.{resource_of}
 use Rattle.tf_state.proofs.resource_reading.in_order.Given as goal
 
-abbrev pub invariant-loop-label : goal.invariant-loop-label
-invariant-loop-label l = map resource_of l.ordered.items ++ with_records (resources_made l.label-iterator) ≡ with_records (resources_made l.fn.resources.entries)
+abbrev pub invariant-loop-addr : goal.invariant-loop-addr
+invariant-loop-addr l = map resource_of l.ordered.items ++ with_records (resources_made l.addr-iterator) ≡ with_records (resources_made l.fn.resources.entries)

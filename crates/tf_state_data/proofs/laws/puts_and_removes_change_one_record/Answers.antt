@@ -1,7 +1,7 @@
-use Rattle.tf_address.specs.ObjectId.{object_id_cmp}
+use Rattle.tf_config_address.specs.ObjectId.{object_id_cmp}
 use Rattle.tf_state_data.specs.Record.{RecordView}
 use Rattle.tf_state_data.proofs.OneChanged.{put_changes_one, remove_changes_one}
-use Rattle.tf_address.proofs.Totals.{object_id_total}
+use Rattle.tf_config_address.proofs.Totals.{object_id_total}
 use Rattle.tf_state_data.proofs.laws.puts_and_removes_change_one_record.Goals as goal
 
 pub returns-clause-put : goal.returns-clause-put

@@ -1,6 +1,6 @@
 use Rattle.std.proofs.Common.{◌≤◌, ◌^◌, map, arith}
 use Rattle.std.proofs.lemmas.List.{length-map}
-use Rattle.tf_address.specs.ObjectId.{instance_key_of}
+use Rattle.tf_config_address.specs.ObjectId.{instance_key_of}
 use Rattle.tf_state_next.proofs.Crowded.{keys_crowded}
 use Rattle.tf_state_data.specs.Record.{record_of}
 use Rattle.tf_state_next.proofs.key.deposed_key.Goals as goal

@@ -1,5 +1,5 @@
 use Rattle.std.proofs.Common.{◌≡◌, ◌<◌, ℕ, true, map}
-use Rattle.tf_address.specs.ObjectId.{instance_key_of}
+use Rattle.tf_config_address.specs.ObjectId.{instance_key_of}
 use Rattle.tf_state_next.specs.DeposedKey.{is_used, key_text, serial_after}
 use Rattle.tf_state_data.specs.Record.{record_of}
 use Rattle.tf_state_next.proofs.key.deposed_key.Given as goal

@@ -1,5 +1,5 @@
 use Rattle.std.proofs.Common.{◌≡◌, map, drop}
-use Rattle.tf_address.specs.ObjectId.{instance_key_of}
+use Rattle.tf_config_address.specs.ObjectId.{instance_key_of}
 use Rattle.tf_state_next.specs.DeposedKey.{is_used}
 use Rattle.tf_state_data.specs.Record.{record_of}
 use Rattle.tf_state_next.proofs.key.is_used.Given as goal

@@ -1,5 +1,5 @@
 use Rattle.std.proofs.Common.{ap, ◌∙◌, option_and_then}
-use Rattle.tf_address.specs.ObjectId.{object_id_of}
+use Rattle.tf_config_address.specs.ObjectId.{object_id_of}
 use Rattle.tf_state_next.proofs.Afterwards.{destroyed_set}
 use Rattle.tf_state_next.proofs.Rooms.{put_back}
 use Rattle.tf_state_next.specs.After.{left_of_record}

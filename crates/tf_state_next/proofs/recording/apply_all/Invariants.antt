@@ -13,8 +13,8 @@ invariant-loop-event l =
       recorded : (after : List ResourceView) → AreApplied (map apply_of l.applies.items) (map resource_of l.resources) after → AreApplied (map apply_of l.fn.applies.items) (map resource_of l.fn.resources) after;
       ordered : AreByAddress (map resource_of l.resources);
       apart : AreApart instance_of (map apply_of l.applies.items);
-      there : AreThere (map (λ a. a.label) (map apply_of l.applies.items)) (map resource_of l.resources);
-      room : HaveRoom (count_of (map (λ a. a.label) (map apply_of l.applies.items))) l.resources;
+      there : AreThere (map (λ a. a.addr) (map apply_of l.applies.items)) (map resource_of l.resources);
+      room : HaveRoom (count_of (map (λ a. a.addr) (map apply_of l.applies.items))) l.resources;
     }
 
 abbrev pub decreases-loop-event : goal.decreases-loop-event

@@ -20,7 +20,7 @@ returns-in-Ok-clause-recorded c =
     let new = c.record_destroy.new.resource in
     let is = changed_from d _ old new c.index-resources-index.is (c.record_destroy.ensures.after (nothing_given d.id.key) (λ i. d.id.key)) in
     one_destroyed d (map resource_of c.args.resources.now) (map resource_of _) (resource_of old) (resource_of new)
-    (changed_in d.label c.args.resources.now c.in-Ok.index old new c.in-Ok.ensures.found c.index-resources-index.is is.label is.provider) is
+    (changed_in d.addr c.args.resources.now c.in-Ok.index old new c.in-Ok.ensures.found c.index-resources-index.is is.addr is.provider) is
 
 pub returns-in-Ok-clause-room : goal.returns-in-Ok-clause-room
 returns-in-Ok-clause-room c count room =
@@ -29,4 +29,4 @@ returns-in-Ok-clause-room c count room =
     let new = c.record_destroy.new.resource in
     let is = changed_from d _ old new c.index-resources-index.is (c.record_destroy.ensures.after (nothing_given d.id.key) (λ i. d.id.key)) in
     let keeps = subst (λ (r : Resource). (n : ℕ) → HasRoomForRecords n r → HasRoomForRecords n new) (sym c.index-resources-index.is) c.record_destroy.ensures.room in
-    room_kept count c.args.resources.now c.in-Ok.index old new (read_at d.label c.args.resources.now c.in-Ok.index old c.in-Ok.ensures.found c.index-resources-index.is) is.label keeps room
+    room_kept count c.args.resources.now c.in-Ok.index old new (read_at d.addr c.args.resources.now c.in-Ok.index old c.in-Ok.ensures.found c.index-resources-index.is) is.addr keeps room

@@ -16,7 +16,7 @@ returns-in-Ok-clause-recorded c =
     let is =
     subst (λ (r : Resource). IsAfter a.given (record { applied = unplanned; destroyed = None; deposed = [] }) (resource_of r) (resource_of new)) (sym c.index-resources-index.is) c.record_apply.ensures.after in
     one_applied a (map resource_of c.args.resources.now) (map resource_of _) (resource_of old) (resource_of new)
-    (changed_in a.label c.args.resources.now c.in-Ok.index old new c.in-Ok.ensures.found c.index-resources-index.is is.label is.provider) is
+    (changed_in a.addr c.args.resources.now c.in-Ok.index old new c.in-Ok.ensures.found c.index-resources-index.is is.addr is.provider) is
 
 pub returns-in-Ok-clause-room : goal.returns-in-Ok-clause-room
 returns-in-Ok-clause-room c count room =
@@ -27,4 +27,4 @@ returns-in-Ok-clause-room c count room =
     subst (λ (r : Resource). IsAfter a.given (record { applied = unplanned; destroyed = None; deposed = [] }) (resource_of r) (resource_of new)) (sym c.index-resources-index.is) c.record_apply.ensures.after in
     let takes = subst (λ (r : Resource). (n : ℕ) → HasRoomForRecords (n + 0) r → HasRoomForRecords n new) (sym c.index-resources-index.is) c.record_apply.ensures.room in
     let keeps = λ (n : ℕ) (h : HasRoomForRecords n old). takes n (subst (λ (m : ℕ). HasRoomForRecords m old) (omega arith) h) in
-    room_kept count c.args.resources.now c.in-Ok.index old new (read_at a.label c.args.resources.now c.in-Ok.index old c.in-Ok.ensures.found c.index-resources-index.is) is.label keeps room
+    room_kept count c.args.resources.now c.in-Ok.index old new (read_at a.addr c.args.resources.now c.in-Ok.index old c.in-Ok.ensures.found c.index-resources-index.is) is.addr keeps room

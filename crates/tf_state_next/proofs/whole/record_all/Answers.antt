@@ -13,8 +13,8 @@ use Rattle.tf_state_next.proofs.whole.record_all.Goals as goal
 turned : (applies now : List Apply) → now ≡ reverse applies → map apply_of now ≡ reverse (map apply_of applies)
 turned applies now is = ap (map apply_of) is ∙ reversed_map apply_of applies
 
-labels_turned : (applies now : List Apply) → now ≡ reverse applies → map (λ (a : ApplyView). a.label) (map apply_of now) ≡ reverse (map (λ (a : ApplyView). a.label) (map apply_of applies))
-labels_turned applies now is = ap (map (λ (a : ApplyView). a.label)) (turned applies now is) ∙ reversed_map (λ (a : ApplyView). a.label) (map apply_of applies)
+addrs_turned : (applies now : List Apply) → now ≡ reverse applies → map (λ (a : ApplyView). a.addr) (map apply_of now) ≡ reverse (map (λ (a : ApplyView). a.addr) (map apply_of applies))
+addrs_turned applies now is = ap (map (λ (a : ApplyView). a.addr)) (turned applies now is) ∙ reversed_map (λ (a : ApplyView). a.addr) (map apply_of applies)
 
 pub renew_all-requires-clause-ordered : goal.renew_all-requires-clause-ordered
 renew_all-requires-clause-ordered c =
@@ -35,16 +35,16 @@ apply_all-requires-clause-ordered c =
 
 pub apply_all-requires-clause-there : goal.apply_all-requires-clause-there
 apply_all-requires-clause-there c =
-    let labels = map (λ a. a.label) (events_of c.args.events).applies in
-    subst (λ ls. AreThere ls (map resource_of c.renew_all.new.resources)) (sym (labels_turned c.args.events.applies.items c.reverse.new.self.items c.reverse.ensures.items))
-    (there_reversed labels (map resource_of c.renew_all.new.resources)
-    (all_there labels (map resource_of c.args.resources.now) (map resource_of c.renew_all.new.resources) (c.renew_all.ensures.recorded.heads ∙ c.destroy_all.ensures.recorded.heads) c.requires.there))
+    let addrs = map (λ a. a.addr) (events_of c.args.events).applies in
+    subst (λ ls. AreThere ls (map resource_of c.renew_all.new.resources)) (sym (addrs_turned c.args.events.applies.items c.reverse.new.self.items c.reverse.ensures.items))
+    (there_reversed addrs (map resource_of c.renew_all.new.resources)
+    (all_there addrs (map resource_of c.args.resources.now) (map resource_of c.renew_all.new.resources) (c.renew_all.ensures.recorded.heads ∙ c.destroy_all.ensures.recorded.heads) c.requires.there))
 
 pub apply_all-requires-clause-room : goal.apply_all-requires-clause-room
 apply_all-requires-clause-room c =
-    let labels = map (λ a. a.label) (events_of c.args.events).applies in
-    let room = c.renew_all.ensures.room (count_of labels) (c.destroy_all.ensures.room (count_of labels) c.requires.room) in
-    subst (λ ls. HaveRoom (count_of ls) c.renew_all.new.resources) (sym (labels_turned c.args.events.applies.items c.reverse.new.self.items c.reverse.ensures.items)) (room_reversed labels c.renew_all.new.resources room)
+    let addrs = map (λ a. a.addr) (events_of c.args.events).applies in
+    let room = c.renew_all.ensures.room (count_of addrs) (c.destroy_all.ensures.room (count_of addrs) c.requires.room) in
+    subst (λ ls. HaveRoom (count_of ls) c.renew_all.new.resources) (sym (addrs_turned c.args.events.applies.items c.reverse.new.self.items c.reverse.ensures.items)) (room_reversed addrs c.renew_all.new.resources room)
 
 pub returns : goal.returns
 returns c =

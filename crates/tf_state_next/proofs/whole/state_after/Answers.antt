@@ -10,7 +10,7 @@ use Rattle.tf_state_next.proofs.whole.state_after.Goals as goal
 
 pub recorded-requires-clause-there : goal.recorded-requires-clause-there
 recorded-requires-clause-there c =
-    homes_there (state_of c.args.draft.prior.now).resources (map (λ a. a.label) (events_of c.args.events).applies) (map resource_of c.args.draft.resources.items) c.requires.draft.resources
+    homes_there (state_of c.args.draft.prior.now).resources (map (λ a. a.addr) (events_of c.args.events).applies) (map resource_of c.args.draft.resources.items) c.requires.draft.resources
 
 pub new-state-requires : goal.new-state-requires
 new-state-requires c =
@@ -20,7 +20,7 @@ new-state-requires c =
 pub returns-clause-after : goal.returns-clause-after
 returns-clause-after c =
     let h = c.requires.draft in
-    whole_is (state_of c.args.draft.prior.now) (events_of c.args.events) (outputs_of c.args.outputs.entries) (map (λ a. a.label) (events_of c.args.events).applies) (map resource_of c.args.draft.resources.items)
+    whole_is (state_of c.args.draft.prior.now) (events_of c.args.events) (outputs_of c.args.outputs.entries) (map (λ a. a.addr) (events_of c.args.events).applies) (map resource_of c.args.draft.resources.items)
     (map resource_of c.recorded.result.items) c.serial.result (string_bytes c.args.draft.lineage) (string_bytes c.args.draft.terraform_version) (map resource_of c.present-resources.result.items) (state_of c.new-state.result)
     (state_of c.raised.result) h.ordered h.resources c.requires.apart c.recorded.ensures c.serial.ensures h.lineage h.version c.present-resources.ensures c.new-state.ensures c.raised.ensures
 
@@ -28,7 +28,7 @@ pub returns-clause-valid : goal.returns-clause-valid
 returns-clause-valid c valid sound table =
     let h = c.requires.draft in
     let after =
-    whole_is (state_of c.args.draft.prior.now) (events_of c.args.events) (outputs_of c.args.outputs.entries) (map (λ a. a.label) (events_of c.args.events).applies) (map resource_of c.args.draft.resources.items)
+    whole_is (state_of c.args.draft.prior.now) (events_of c.args.events) (outputs_of c.args.outputs.entries) (map (λ a. a.addr) (events_of c.args.events).applies) (map resource_of c.args.draft.resources.items)
     (map resource_of c.recorded.result.items) c.serial.result (string_bytes c.args.draft.lineage) (string_bytes c.args.draft.terraform_version) (map resource_of c.present-resources.result.items) (state_of c.new-state.result)
     (state_of c.raised.result) h.ordered h.resources c.requires.apart c.recorded.ensures c.serial.ensures h.lineage h.version c.present-resources.ensures c.new-state.ensures c.raised.ensures in
     state_after_valid (state_of c.args.draft.prior.now) (events_of c.args.events) (outputs_of c.args.outputs.entries) (state_of c.raised.result) valid c.requires.serial sound table

@@ -1,6 +1,6 @@
 use Rattle.std.proofs.Common.{◌≡◌, true, sym, subst}
 use Rattle.std.specs.Prelude.{string_capacity}
-use Rattle.tf_protocol.specs.Meaning.{Asked}
+use Rattle.tf_provider_protocol.specs.Meaning.{Asked}
 use Rattle.tf_walk_action.specs.Storable.{asks_planned}
 use Rattle.tf_walk_action.specs.Room.{message_fits}
 use Rattle.tf_walk_action.proofs.asks.creating.Goals as goal

@@ -3,8 +3,8 @@ use Rattle.tf_config_data.specs.Config.{repetition_of}
 use Rattle.tf_config_data.specs.Names.{places}
 use Rattle.tf_config_names.proofs.Tables.{Adds, adds_more, adds_all, places-append}
 use Rattle.tf_config_names.specs.Table.{names_in}
-use Rattle.tf_syntax.specs.ExprNames.{named_below, named_by}
-use Rattle.tf_syntax.specs.ExprTree.{entries_view, tree_of}
+use Rattle.tf_expr_syntax.specs.ExprNames.{named_below, named_by}
+use Rattle.tf_expr_syntax.specs.ExprTree.{entries_view, tree_of}
 use Rattle.tf_walk_action.specs.Wanted.{named_in_for_each}
 use Rattle.tf_walk_action.proofs.named.named_for_instance.Goals as goal
 
@@ -17,7 +17,7 @@ loop-expr-preserved c =
     (named_by (tree_of c.in-Some.expr.now)) (named_below (entries_view c.next.new.self)) left (c.in_ok-extend_from_slice.ensures.items ∙ ap (λ xs. c.loop-expr.named.items ++ xs) more)
 
 pub returns : goal.returns
-returns c = λ label.
+returns c = λ addr.
     let names = names_in c.args.names.now in
     let each = named_in_for_each (repetition_of c.args.block.now.repetition) in
     let all = named_below (entries_view c.args.block.now.arguments.entries) in

@@ -2,8 +2,8 @@ use Rattle.tf_config_data.specs.Config.{repetition_of}
 use Rattle.tf_config_data.specs.Names.{places}
 use Rattle.tf_config_names.proofs.Tables.{Adds}
 use Rattle.tf_config_names.specs.Table.{names_in}
-use Rattle.tf_syntax.specs.ExprNames.{named_below}
-use Rattle.tf_syntax.specs.ExprTree.{entries_view}
+use Rattle.tf_expr_syntax.specs.ExprNames.{named_below}
+use Rattle.tf_expr_syntax.specs.ExprTree.{entries_view}
 use Rattle.tf_walk_action.specs.Wanted.{named_in_for_each}
 use Rattle.tf_walk_action.proofs.named.named_for_instance.Given as goal
 

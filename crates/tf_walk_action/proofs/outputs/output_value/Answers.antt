@@ -4,8 +4,8 @@ use Rattle.tf_config_data.specs.Names.{places}
 use Rattle.tf_expand.proofs.Places.{all_places}
 use Rattle.tf_expand.specs.Views.{shapes_of, resolved_names_of}
 use Rattle.tf_config_names.specs.Table.{names_in}
-use Rattle.tf_syntax.specs.ExprNames.{named_by}
-use Rattle.tf_syntax.specs.ExprTree.{tree_of}
+use Rattle.tf_expr_syntax.specs.ExprNames.{named_by}
+use Rattle.tf_expr_syntax.specs.ExprTree.{tree_of}
 use Rattle.tf_value.specs.Tree.{entries_view}
 use Rattle.tf_walk_action.proofs.Requesting.{answered, standing_same}
 use Rattle.tf_walk_action.proofs.Shared.{answered_each}

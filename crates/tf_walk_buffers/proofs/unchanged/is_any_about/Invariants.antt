@@ -2,7 +2,7 @@
 use Rattle.std.proofs.Common.{◌≡◌, map, drop}
 use Rattle.std.specs.List.{list_any}
 use Rattle.tf_plan_data.specs.Action.{action_of}
-use Rattle.tf_address.specs.ObjectId.{instance_key_of}
+use Rattle.tf_config_address.specs.ObjectId.{instance_key_of}
 use Rattle.tf_walk_buffers.specs.MetadataUpdates.{is_about}
 use Rattle.tf_walk_buffers.proofs.unchanged.is_any_about.Given as goal
 

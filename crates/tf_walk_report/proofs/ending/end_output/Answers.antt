@@ -3,7 +3,7 @@ use Rattle.tf_graph.specs.NodeSet.{has}
 use Rattle.tf_config_names.specs.Table.{names_in}
 use Rattle.tf_walk_report.proofs.Done.{output_no_set, done_faulted, done_valued}
 use Rattle.tf_walk_report.specs.Keeping.{done_of}
-use Rattle.tf_syntax.specs.ExprTree.{tree_of}
+use Rattle.tf_expr_syntax.specs.ExprTree.{tree_of}
 use Rattle.tf_value.specs.Tree.{entries_view}
 use Rattle.tf_walk_report.proofs.ending.end_output.Goals as goal
 

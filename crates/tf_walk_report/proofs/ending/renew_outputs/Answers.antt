@@ -9,7 +9,7 @@ use Rattle.tf_walk_report.specs.Buffers.{HavePlaces, outputs_in}
 use Rattle.tf_walk_report.specs.declared.output_buffers.OutputBuffers.{OutputBuffers}
 use Rattle.tf_walk_action.proofs.Shared.{none_answered}
 use Rattle.tf_state_data.specs.State.{outputs_of}
-use Rattle.tf_syntax.specs.ExprTree.{tree_of}
+use Rattle.tf_expr_syntax.specs.ExprTree.{tree_of}
 use Rattle.tf_value.specs.Tree.{entries_view}
 use Rattle.tf_walk_report.proofs.ending.renew_outputs.Goals as goal
 

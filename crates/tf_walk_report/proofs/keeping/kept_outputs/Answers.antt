@@ -2,7 +2,7 @@ use Rattle.std.proofs.Common.{◌≡◌, sym, subst}
 use Rattle.tf_walk_report.proofs.Kept.{kept_all, kept_next, kept_table}
 use Rattle.tf_walk_report.specs.Outputs.{kept_entries}
 use Rattle.tf_state_data.specs.State.{outputs_of}
-use Rattle.tf_syntax.specs.ExprTree.{entries_view}
+use Rattle.tf_expr_syntax.specs.ExprTree.{entries_view}
 use Rattle.tf_value.specs.Stored.{IsTable}
 use Rattle.tf_walk_report.proofs.keeping.kept_outputs.Goals as goal
 

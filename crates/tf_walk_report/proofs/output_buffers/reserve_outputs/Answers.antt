@@ -2,7 +2,7 @@ use Rattle.std.proofs.Common.{◌∙◌, sym, ap, string_bytes}
 use Rattle.tf_config_names.specs.Table.{names_in}
 use Rattle.tf_walk_report.proofs.Filled.{behind, none_behind, room_behind, all_last}
 use Rattle.tf_walk_report.specs.Buffers.{HasPlaces, outputs_in}
-use Rattle.tf_syntax.specs.ExprTree.{entries_view, tree_of}
+use Rattle.tf_expr_syntax.specs.ExprTree.{entries_view, tree_of}
 use Rattle.tf_walk_report.proofs.output_buffers.reserve_outputs.Goals as goal
 
 pub loop-name-preserved : goal.loop-name-preserved

@@ -3,7 +3,7 @@ use Rattle.std.proofs.Common.{◌≡◌}
 use Rattle.tf_config_names.specs.Table.{names_in}
 use Rattle.tf_walk_report.proofs.Filled.{behind}
 use Rattle.tf_walk_report.specs.Buffers.{HavePlaces, outputs_in}
-use Rattle.tf_syntax.specs.ExprTree.{entries_view}
+use Rattle.tf_expr_syntax.specs.ExprTree.{entries_view}
 use Rattle.tf_walk_report.proofs.output_buffers.reserve_outputs.Given as goal
 
 abbrev pub invariant-loop-name : goal.invariant-loop-name

@@ -1,5 +1,5 @@
 use Rattle.std.proofs.Common.{◌∙◌, ◌++◌, sym, ap, string_bytes}
-use Rattle.tf_syntax.specs.ExprTree.{entries_view}
+use Rattle.tf_expr_syntax.specs.ExprTree.{entries_view}
 use Rattle.tf_walk_report.specs.OutputsBuffers.{places_in, places_of}
 use Rattle.tf_walk_report.specs.OutputsTold.{output_place}
 use Rattle.tf_walk_report.proofs.Told.{places-more, places-none}

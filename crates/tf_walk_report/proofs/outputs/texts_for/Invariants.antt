@@ -1,6 +1,6 @@
 -- the places of the outputs so far, with those that are left
 use Rattle.std.proofs.Common.{◌≡◌, ◌++◌}
-use Rattle.tf_syntax.specs.ExprTree.{entries_view}
+use Rattle.tf_expr_syntax.specs.ExprTree.{entries_view}
 use Rattle.tf_walk_report.specs.OutputsBuffers.{places_in, places_of}
 use Rattle.tf_walk_report.proofs.outputs.texts_for.Given as goal
 

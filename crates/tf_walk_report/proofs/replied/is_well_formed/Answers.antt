@@ -1,6 +1,6 @@
 use Rattle.std.proofs.Common.{◌≡◌, true, ◌&&◌, sym, ap, ◌∙◌}
 use Rattle.std.specs.List.{list_all}
-use Rattle.tf_protocol.specs.Verdict.{has_attributes}
+use Rattle.tf_provider_protocol.specs.Verdict.{has_attributes}
 use Rattle.tf_value.specs.Tree.{tree_of}
 use Rattle.tf_walk_action.specs.Storable.{has_stored_attributes}
 use Rattle.tf_walk_report.specs.Formed.{allowed_in}

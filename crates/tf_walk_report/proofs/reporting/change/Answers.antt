@@ -1,5 +1,5 @@
 use Rattle.std.proofs.Common.{◌∙◌, sym, ap}
-use Rattle.tf_address.specs.Label.{label_of}
+use Rattle.tf_config_address.specs.ResourceAddr.{addr_of}
 use Rattle.tf_state_next.specs.Ends.{ApplyResultView, record_input_of}
 use Rattle.tf_state_next.specs.Saved.{left_by_destroy}
 use Rattle.tf_walk_report.specs.Change.{an_apply, as_applied, change_by, saved_by}
@@ -8,6 +8,6 @@ use Rattle.tf_walk_report.proofs.reporting.change.Goals as goal
 
 pub returns-in-Instance-clause-changes : goal.returns-in-Instance-clause-changes
 returns-in-Instance-clause-changes c schema r answer v f n =
-    let label = label_of c.args.label.now in
-    ap (λ (a : ApplyResultView). an_apply (record { label = label; given = record_input_of c.in-Instance.given; applied = a })) (c.applied.ensures schema r answer v f n)
-    ∙ ap (λ t. change_by label (target_of t) (as_applied (saved_by c.args.op schema r answer c.args.verdict)) (left_by_destroy schema answer c.args.verdict)) (sym c.in-Instance.is)
+    let addr = addr_of c.args.addr.now in
+    ap (λ (a : ApplyResultView). an_apply (record { addr = addr; given = record_input_of c.in-Instance.given; applied = a })) (c.applied.ensures schema r answer v f n)
+    ∙ ap (λ t. change_by addr (target_of t) (as_applied (saved_by c.args.op schema r answer c.args.verdict)) (left_by_destroy schema answer c.args.verdict)) (sym c.in-Instance.is)

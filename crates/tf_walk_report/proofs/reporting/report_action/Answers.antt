@@ -1,6 +1,6 @@
 use Rattle.std.proofs.Common.{◌≡◌, ◌∙◌, sym, ap, map, Some, string_bytes, option_map, subst}
-use Rattle.tf_protocol.specs.Meaning.{asked, answered, schema_in}
-use Rattle.tf_protocol.specs.declared.request.Request.{Request}
+use Rattle.tf_provider_protocol.specs.Meaning.{asked, answered, schema_in}
+use Rattle.tf_provider_protocol.specs.declared.request.Request.{Request}
 use Rattle.tf_walk_report.specs.ActionReport.{IsJudged}
 use Rattle.tf_walk_action.specs.ResultViews.{result_or_skipped}
 use Rattle.tf_walk_action.specs.declared.action_result.ActionResult.TheVariants as ended

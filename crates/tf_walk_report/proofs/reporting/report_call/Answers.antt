@@ -1,11 +1,11 @@
 use Rattle.std.proofs.Common.{◌≡◌, ◌∙◌, true, sym, ap, subst, Option, option_map}
 use Rattle.std.specs.Prelude.{IfSome}
-use Rattle.tf_address.specs.Label.{label_of}
-use Rattle.tf_protocol.specs.Meaning.{asked, answered}
-use Rattle.tf_protocol.specs.declared.request.Op.TheVariants.{Create}
-use Rattle.tf_protocol.specs.declared.request.Reply.{Reply}
-use Rattle.tf_protocol.specs.declared.request.Request.{Request}
-use Rattle.tf_protocol.specs.declared.verdict.Verdict.{Verdict}
+use Rattle.tf_config_address.specs.ResourceAddr.{addr_of}
+use Rattle.tf_provider_protocol.specs.Meaning.{asked, answered}
+use Rattle.tf_provider_protocol.specs.declared.request.Op.TheVariants.{Create}
+use Rattle.tf_provider_protocol.specs.declared.request.Reply.{Reply}
+use Rattle.tf_provider_protocol.specs.declared.request.Request.{Request}
+use Rattle.tf_provider_protocol.specs.declared.verdict.Verdict.{Verdict}
 use Rattle.tf_state.specs.Valid.{IsAttributes}
 use Rattle.tf_state_next.specs.Saved.{formed_in, left_by_destroy}
 use Rattle.tf_value.specs.Nulls.{with_nulls}
@@ -32,7 +32,7 @@ returns-clause-changes c =
     let answer = answered c.args.served.call.reply in
     let schema = c.args.schema.now in
     let formed = c.open_reply-formed.ensures.formed ∙ ap (λ (r : Reply). formed_in schema (answered r)) c.into_report-request.ensures.reply in
-    subst (λ (v : Verdict). change_of c.change.result ≡ change_by (label_of c.args.room.label.now) (target_of c.args.room.target)
+    subst (λ (v : Verdict). change_of c.change.result ≡ change_by (addr_of c.args.room.addr.now) (target_of c.args.room.target)
     (as_applied (saved_by c.args.room.op schema (asked q) answer v)) (left_by_destroy schema answer v)) c.verdict-verdict.ensures
     (c.change.ensures.changes schema (asked q) answer (c.verdict-verdict.ensures ∙ c.requires.verdict) formed
     (λ create. sym (c.fallback_for-fallback.ensures create ∙ ap (λ (x : Request). option_map with_nulls (option_map tree_of x.object)) c.into_report-request.ensures.request)))
@@ -51,12 +51,12 @@ returns-clause-stored c =
     let formed = stored_of c.open_reply-formed.result.formed _ formed_is c.open_reply-formed.ensures.stored in
     let stands : c.args.room.op ≡ Create → option_map (λ o. tree_of o.value) fallback ≡ option_map with_nulls wanted =
     λ create. c.fallback_for-fallback.ensures create ∙ ap (λ (x : Request). option_map with_nulls (option_map tree_of x.object)) c.into_report-request.ensures.request in
-    let changes : change_of c.change.result ≡ change_by (label_of c.args.room.label.now) (target_of c.args.room.target) (as_applied (saved_by c.args.room.op schema r answer v)) (left_by_destroy schema answer v) =
-    subst (λ (w : Verdict). change_of c.change.result ≡ change_by (label_of c.args.room.label.now) (target_of c.args.room.target)
+    let changes : change_of c.change.result ≡ change_by (addr_of c.args.room.addr.now) (target_of c.args.room.target) (as_applied (saved_by c.args.room.op schema r answer v)) (left_by_destroy schema answer v) =
+    subst (λ (w : Verdict). change_of c.change.result ≡ change_by (addr_of c.args.room.addr.now) (target_of c.args.room.target)
     (as_applied (saved_by c.args.room.op schema r answer w)) (left_by_destroy schema answer w)) c.verdict-verdict.ensures
     (c.change.ensures.changes schema r answer (c.verdict-verdict.ensures ∙ c.requires.verdict) formed_is (λ create. sym (stands create))) in
     subst MayBeStored (sym changes)
-    (change-stored (label_of c.args.room.label.now) (target_of c.args.room.target) (as_applied (saved_by c.args.room.op schema r answer v)) (left_by_destroy schema answer v)
+    (change-stored (addr_of c.args.room.addr.now) (target_of c.args.room.target) (as_applied (saved_by c.args.room.op schema r answer v)) (left_by_destroy schema answer v)
     (saved-stored c.args.room.op schema r answer v c.requires.verdict formed
     (λ create malformed. subst (λ (x : Option Tree). IfSome x IsAttributes) (stands create)
     (tested_stored fallback (c.can_be_saved-stored.ensures (c.verdict-verdict.ensures ∙ malformed))

@@ -6,7 +6,7 @@ use Rattle.tf_plan_data.specs.declared.action.Action.{Action}
 use Rattle.tf_walk_report.specs.ActionReport.{AreJudged, told_in}
 use Rattle.tf_walk_report.specs.Diagnostics.{action_diagnostics, diagnostic_of}
 use Rattle.tf_walk_buffers.specs.BuffersHead.{buffers_head}
-use Rattle.tf_address.specs.Label.{LabelView}
+use Rattle.tf_config_address.specs.ResourceAddr.{ResourceAddrView}
 use Rattle.tf_graph.specs.Solutions.{seen_by}
 use Rattle.tf_state_next.specs.Events.{AreEachAboutOne, ApplyView, EventsView, apply_of, ends_in, given_in}
 use Rattle.tf_state_next.specs.StateDraft.{IsStateDraft}
@@ -16,13 +16,13 @@ use Rattle.tf_walk_action.specs.Outcome.{done_at, objects_seen}
 use Rattle.tf_walk_report.specs.Outputs.{AreOutputsDone, end_of, outputs_after, with_outputs}
 use Rattle.tf_walk_report.specs.Buffers.{outputs_in}
 use Rattle.tf_plan_data.specs.Plan.{plan_names, plan_of}
-use Rattle.tf_protocol.specs.declared.request.Op.{Op}
+use Rattle.tf_provider_protocol.specs.declared.request.Op.{Op}
 use Rattle.tf_state.specs.Valid.{IsValid}
 use Rattle.tf_state_data.specs.State.{StateView, outputs_of, state_of}
-use Rattle.tf_syntax.specs.ExprTree as expr
+use Rattle.tf_expr_syntax.specs.ExprTree as expr
 use Rattle.tf_value.specs.Tree.{Entries}
 use Rattle.tf_walk_report.specs.Events.{events}
-use Rattle.tf_walk_report.specs.Reserved.{applied_labels}
+use Rattle.tf_walk_report.specs.Reserved.{applied_addrs}
 use Rattle.tf_walk_report.specs.Outcomes.{excuses_from, good_totals, outcome_of}
 use Rattle.tf_walk_report.specs.OutputsBuffers.{places_of, told_of_texts}
 use Rattle.tf_walk_report.specs.OutputsTold.{output_diagnostics, output_excuses}
@@ -32,7 +32,7 @@ use Rattle.tf_walk_report.proofs.Apart.{each-about_one}
 use Rattle.tf_walk_report.proofs.Assembled.{ended-as, ends-sized}
 use Rattle.tf_walk_report.proofs.Complete.{heads-sized, ops-actions, told_in-actions}
 use Rattle.tf_walk_report.proofs.Joined.{each_ordered, events_as}
-use Rattle.tf_walk_report.proofs.Labels.{labels-applied}
+use Rattle.tf_walk_report.proofs.ResourceAddrs.{addrs-applied}
 use Rattle.tf_walk_report.proofs.Sound.{events-sound}
 use Rattle.tf_walk_report.proofs.Told.{told-places}
 use Rattle.tf_walk_report.proofs.whole.report_of.Goals as goal
@@ -76,10 +76,10 @@ state_with-requires-clause-draft g c =
     let done = action_results_of c.args.results.items in
     let f = c.args.buffers in
     let sized : length plan.actions ≡ length done = length-map c.args.plan.now.actions.items action_of ∙ sym c.requires.sized ∙ sym (length-map c.args.results.items _) in
-    let labels : map (λ (a : ApplyView). a.label) (map apply_of c.report_actions.new.changes.applies.items) ≡ applied_labels plan.actions =
-    ap (map (λ (a : ApplyView). a.label)) c.report_actions.ensures.applies ∙ labels-applied ms plan plan.actions heads done c.requires.buffers.rooms sized in
-    subst (λ (ls : List LabelView). IsStateDraft (state_of f.draft.prior.now) ls f.draft) (sym labels)
-    (subst (λ (s : StateView). IsStateDraft s (applied_labels plan.actions) f.draft) (sym c.requires.buffers.draft.of_prior) c.requires.buffers.draft)
+    let addrs : map (λ (a : ApplyView). a.addr) (map apply_of c.report_actions.new.changes.applies.items) ≡ applied_addrs plan.actions =
+    ap (map (λ (a : ApplyView). a.addr)) c.report_actions.ensures.applies ∙ addrs-applied ms plan plan.actions heads done c.requires.buffers.rooms sized in
+    subst (λ (ls : List ResourceAddrView). IsStateDraft (state_of f.draft.prior.now) ls f.draft) (sym addrs)
+    (subst (λ (s : StateView). IsStateDraft s (applied_addrs plan.actions) f.draft) (sym c.requires.buffers.draft.of_prior) c.requires.buffers.draft)
 
 pub state_with-requires-clause-apart : goal.state_with-requires-clause-apart
 state_with-requires-clause-apart g c =

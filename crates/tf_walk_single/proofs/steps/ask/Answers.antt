@@ -1,5 +1,5 @@
 use Rattle.std.proofs.Common.{◌∙◌, ℕ, Some, map, option_map, sym, ap}
-use Rattle.tf_address.specs.ObjectId.{InstanceKeyView}
+use Rattle.tf_config_address.specs.ObjectId.{InstanceKeyView}
 use Rattle.tf_config_data.specs.Config.{config_of}
 use Rattle.tf_config_data.specs.Names.{names_of}
 use Rattle.tf_plan_data.specs.Action.{ActionView, action_of}

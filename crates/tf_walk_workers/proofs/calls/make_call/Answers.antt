@@ -1,7 +1,7 @@
 use Rattle.std.proofs.Common.{◌≡◌, ◌∙◌, sym, ap, subst}
 use Rattle.tf_provider.specs.Call.{Call}
-use Rattle.tf_protocol.specs.Meaning.{asked, answered}
-use Rattle.tf_protocol.specs.declared.request.Request.{Request}
+use Rattle.tf_provider_protocol.specs.Meaning.{asked, answered}
+use Rattle.tf_provider_protocol.specs.declared.request.Request.{Request}
 use Rattle.tf_walk_action.proofs.Judging.{call-runs}
 use Rattle.tf_walk_action.specs.ResultViews.{result_by, action_result_of}
 use Rattle.tf_walk_action.specs.Outcome.{ActionResultView, call_of_provider}

@@ -1,6 +1,6 @@
 use Rattle.std.proofs.Common.{sym, ap, ◌∙◌}
-use Rattle.tf_syntax.proofs.ExprViews.{entries_view-insert_entry}
-use Rattle.tf_syntax.specs.ExprTree.{tree_of, entries_view}
+use Rattle.tf_expr_syntax.proofs.ExprViews.{entries_view-insert_entry}
+use Rattle.tf_expr_syntax.specs.ExprTree.{tree_of, entries_view}
 use Rattle.tf_config.proofs.kinds.OutputsSectionMembers.add.Goals as goal
 
 pub returns : goal.returns

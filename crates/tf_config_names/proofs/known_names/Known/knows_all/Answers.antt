@@ -2,7 +2,7 @@ use Rattle.std.proofs.Common.{sym, ◌∙◌, arith}
 use Rattle.tf_config_names.proofs.Tables.{drop_next}
 use Rattle.tf_config_names.proofs.Tests.{rests_more, rests_fail, rests_none}
 use Rattle.tf_config_names.specs.KnownNames.{declared_of, knows}
-use Rattle.tf_syntax.specs.TemplateNames.{reference_of}
+use Rattle.tf_expr_syntax.specs.TemplateNames.{reference_of}
 use Rattle.tf_config_names.proofs.known_names.Known.knows_all.Goals as goal
 
 pub loop-reference-preserved : goal.loop-reference-preserved

@@ -1,7 +1,7 @@
 use Rattle.std.proofs.Common.{◌∙◌, ap}
 use Rattle.tf_config_names.proofs.Lookups.{maps-seen}
 use Rattle.tf_config_names.specs.Places.{found_in}
-use Rattle.tf_syntax.specs.TemplateNames.{Pair}
+use Rattle.tf_expr_syntax.specs.TemplateNames.{Pair}
 use Rattle.tf_config_names.proofs.places.Places.find.Goals as goal
 
 pub returns : goal.returns

@@ -1,7 +1,7 @@
 use Rattle.std.proofs.Common.{◌≡◌}
 use Rattle.tf_config_names.proofs.Tables.{place_from}
 use Rattle.tf_config_names.specs.Places.{found_in}
-use Rattle.tf_syntax.specs.TemplateNames.{Pair}
+use Rattle.tf_expr_syntax.specs.TemplateNames.{Pair}
 use Rattle.tf_config_names.proofs.places.Places.of.Given as goal
 
 abbrev pub invariant-loop-place : goal.invariant-loop-place

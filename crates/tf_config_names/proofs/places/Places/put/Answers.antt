@@ -3,7 +3,7 @@ use Rattle.std.proofs.lemmas.Result.{on_ok_weaker}
 use Rattle.tf_config_data.specs.Names.{same_pair}
 use Rattle.tf_config_names.proofs.Lookups.{maps-seen}
 use Rattle.tf_config_names.specs.Places.{found_in, found_in_maps, places_view}
-use Rattle.tf_syntax.specs.TemplateNames.{Pair}
+use Rattle.tf_expr_syntax.specs.TemplateNames.{Pair}
 use Rattle.tf_config_names.proofs.places.Places.put.Goals as goal
 
 pub returns : goal.returns

@@ -1,7 +1,7 @@
 use Rattle.std.proofs.Common.{drop, map}
 use Rattle.tf_config_names.proofs.Tables.{Adds}
 use Rattle.tf_config_names.specs.Table.{names_in}
-use Rattle.tf_syntax.specs.TemplateNames.{reference_of}
+use Rattle.tf_expr_syntax.specs.TemplateNames.{reference_of}
 use Rattle.tf_config_names.proofs.table.Declarations.add_named.Given as goal
 
 abbrev pub invariant-loop-reference : goal.invariant-loop-reference

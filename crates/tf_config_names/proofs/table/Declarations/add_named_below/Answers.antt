@@ -1,7 +1,7 @@
 use Rattle.tf_config_names.proofs.Tables.{adds_more}
 use Rattle.tf_config_names.specs.Table.{names_in}
-use Rattle.tf_syntax.specs.ExprNames.{named_below, named_by}
-use Rattle.tf_syntax.specs.ExprTree.{entries_view, tree_of}
+use Rattle.tf_expr_syntax.specs.ExprNames.{named_below, named_by}
+use Rattle.tf_expr_syntax.specs.ExprTree.{entries_view, tree_of}
 use Rattle.tf_config_names.proofs.table.Declarations.add_named_below.Goals as goal
 
 pub loop-expr-preserved : goal.loop-expr-preserved

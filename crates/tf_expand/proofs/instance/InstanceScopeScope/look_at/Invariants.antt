@@ -1,5 +1,5 @@
 use Rattle.std.proofs.Common.{◌≡◌, map, drop, string_bytes}
-use Rattle.tf_eval.specs.Constants.{constant_of}
+use Rattle.tf_expr_eval.specs.Constants.{constant_of}
 use Rattle.tf_expand.specs.Instance.{bound}
 use Rattle.tf_expand.proofs.instance.InstanceScopeScope.look_at.Given as goal
 

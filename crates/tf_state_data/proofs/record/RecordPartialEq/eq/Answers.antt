@@ -2,10 +2,10 @@ use Rattle.std.proofs.Common.{◌≡◌, Bool, ◌&&◌, refl, ◌∙◌}
 use Rattle.std.proofs.lemmas.Bool.Decides.{Decides-at}
 use Rattle.std.specs.Cmp.Lexicographic.{pointwise}
 use Rattle.std.specs.Prelude.{◌==◌, bytes_eq}
-use Rattle.tf_address.specs.Same.{same_object_id}
+use Rattle.tf_config_address.specs.Same.{same_object_id}
 use Rattle.tf_state_data.specs.Equality.{record_Decides}
 use Rattle.tf_state_data.specs.Record.{RecordView, record_of}
-use Rattle.tf_address.proofs.EqualIds.{object_ids_equal}
+use Rattle.tf_config_address.proofs.EqualIds.{object_ids_equal}
 use Rattle.tf_state_data.proofs.Equal.{passed, failed, dependencies_equal}
 use Rattle.tf_state_data.proofs.record.RecordPartialEq.eq.Goals as goal
 use Rattle.tf_state_data.proofs.record.RecordPartialEq.eq.Goals.{then-eq, else-eq, then-eq-2, else-eq-2, then-self-other, else-self-other, then-self-other-2, else-self-other-2, Joined-self-other-2}

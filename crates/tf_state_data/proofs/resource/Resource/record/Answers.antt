@@ -1,4 +1,4 @@
-use Rattle.tf_address.specs.ObjectId.{object_id_of}
+use Rattle.tf_config_address.specs.ObjectId.{object_id_of}
 use Rattle.tf_state_data.proofs.Edits.{by_id, element_found}
 use Rattle.tf_state_data.proofs.resource.Resource.record.Goals as goal
 

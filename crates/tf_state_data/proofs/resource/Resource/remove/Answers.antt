@@ -1,5 +1,5 @@
 use Rattle.std.proofs.Common.{List, ap}
-use Rattle.tf_address.specs.ObjectId.{object_id_of}
+use Rattle.tf_config_address.specs.ObjectId.{object_id_of}
 use Rattle.tf_state_data.specs.Record.{RecordView}
 use Rattle.tf_state_data.specs.Resource.{resource_of}
 use Rattle.tf_state_data.proofs.Edits.{by_id, element_found, taken_out, taken_out_ordered}

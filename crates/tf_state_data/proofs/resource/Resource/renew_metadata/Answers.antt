@@ -1,6 +1,6 @@
 use Rattle.std.proofs.Common.{◌≡◌, List, Option, Some, refl, sym, ap, ◌∙◌, map, string_bytes}
 use Rattle.std.specs.Option.{option_map_or}
-use Rattle.tf_address.specs.ObjectId.{object_id_of}
+use Rattle.tf_config_address.specs.ObjectId.{object_id_of}
 use Rattle.tf_state_data.specs.Record.{RecordView, record_of}
 use Rattle.tf_state_data.specs.Resource.{record_at, resource_of, with_record}
 use Rattle.tf_state_data.specs.declared.record.Record.{Record}

@@ -1,6 +1,6 @@
 use Rattle.std.proofs.Common.{rules}
 use Rattle.std.proofs.lemmas.Fn.{always_returns_same}
-use Rattle.tf_address.specs.ObjectId.{object_id_cmp, object_id_of}
+use Rattle.tf_config_address.specs.ObjectId.{object_id_cmp, object_id_of}
 use Rattle.tf_state_data.proofs.Edits.{by_id, search_answers}
 use Rattle.tf_state_data.proofs.resource.Resource.search.Goals as goal
 

@@ -2,8 +2,8 @@ use Rattle.std.proofs.Common.{◌≡◌, ◌&&◌, sym, ◌∙◌}
 use Rattle.std.proofs.lemmas.Bool.Decides.{Decides-at}
 use Rattle.std.specs.Prelude.{bytes_eq}
 use Rattle.std.specs.Cmp.Derive.Mapped.{pointwise-map}
-use Rattle.tf_address.specs.Label.{label_of}
-use Rattle.tf_address.specs.Same.{same_label}
+use Rattle.tf_config_address.specs.ResourceAddr.{addr_of}
+use Rattle.tf_config_address.specs.Same.{same_addr}
 use Rattle.tf_state_data.specs.Equality.{same_record, resource_Decides}
 use Rattle.tf_state_data.specs.Record.{record_of}
 use Rattle.tf_state_data.specs.Resource.{resource_of}
@@ -16,7 +16,7 @@ pub returns-then-eq-2-clause-value : goal.returns-then-eq-2-clause-value
 returns-then-eq-2-clause-value c =
     let r = c.args.self.now in
     let s = c.args.other.now in
-    let provided : c.if-eq.value ≡ (same_label (label_of r.label) (label_of s.label) && bytes_eq (resource_of r).provider (resource_of s).provider) =
+    let provided : c.if-eq.value ≡ (same_addr (addr_of r.addr) (addr_of s.addr) && bytes_eq (resource_of r).provider (resource_of s).provider) =
     elim c.if-eq.branch [ then-eq w ↦ passed c.eq.ensures w.if-eq.true (w.value-is ∙ w.eq-then-eq.ensures) | else-eq w ↦ failed _ c.eq.ensures w.if-eq.false w.value-is ] in
     passed provided c.if-eq-2.true (c.eq-then-eq-2.ensures ∙ sym (pointwise-map record_of same_record r.records.items s.records.items))
 

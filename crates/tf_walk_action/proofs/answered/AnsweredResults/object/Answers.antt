@@ -1,6 +1,6 @@
 use Rattle.std.proofs.Common.{◌≡◌, ◌∙◌, IfOk, map, sym, subst}
 use Rattle.tf_plan_data.specs.Action.{action_of}
-use Rattle.tf_address.specs.ObjectId.{instance_key_of}
+use Rattle.tf_config_address.specs.ObjectId.{instance_key_of}
 use Rattle.tf_config_names.specs.Table.{names_in}
 use Rattle.tf_state_data.specs.State.{state_of}
 use Rattle.tf_value.specs.Tree.{Tree, tree_of}

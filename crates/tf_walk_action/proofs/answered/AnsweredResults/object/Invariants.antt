@@ -1,7 +1,7 @@
 -- none of the actions passed is of the instance
 use Rattle.std.proofs.Common.{◌≡◌, map, drop}
 use Rattle.tf_plan_data.specs.Action.{action_of}
-use Rattle.tf_address.specs.ObjectId.{instance_key_of}
+use Rattle.tf_config_address.specs.ObjectId.{instance_key_of}
 use Rattle.tf_graph.specs.Solutions.{seen_by}
 use Rattle.tf_config_names.specs.Table.{names_in}
 use Rattle.tf_state_data.specs.State.{state_of}

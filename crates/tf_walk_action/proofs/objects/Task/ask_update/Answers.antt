@@ -5,8 +5,8 @@ use Rattle.tf_config_data.specs.Config.{config_of}
 use Rattle.tf_config_data.specs.Names.{NameView, meant_at, names_of}
 use Rattle.tf_plan_object.proofs.Keeping.{updates_named}
 use Rattle.tf_config_names.specs.Table.{names_in}
-use Rattle.tf_protocol.specs.Meaning.{Asked}
-use Rattle.tf_protocol.specs.Verdict.{asks_fully, has_attributes}
+use Rattle.tf_provider_protocol.specs.Meaning.{Asked}
+use Rattle.tf_provider_protocol.specs.Verdict.{asks_fully, has_attributes}
 use Rattle.tf_walk_action.proofs.Requesting.{resource_below}
 use Rattle.tf_walk_action.specs.Requests.{is_resource}
 use Rattle.tf_value.specs.Tree.{tree_of}

@@ -1,4 +1,0 @@
-pub mod Label
-pub mod Name
-pub mod ObjectId
-pub mod Same

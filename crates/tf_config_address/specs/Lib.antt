@@ -1,0 +1,4 @@
+pub mod ResourceAddr
+pub mod Name
+pub mod ObjectId
+pub mod Same

@@ -1,0 +1,47 @@
+ghost use Rattle.std.specs.List.{list_all};
+ghost use Rattle.std.specs.Prelude.{◌≡◌};
+ghost use Rattle.tf_config_address.specs.Name.{is_name, starts_name, continues_name};
+
+/// Whether a text is a name: an ASCII letter or `_`, and then ASCII letters, digits, `_` and `-`.
+/// So `web-1` is one name, and the empty text is none.
+pub fn is_name(text: &str) -> bool
+    ensures { result ≡ is_name text.now }
+{
+    match text.as_bytes() {
+        [] => false,
+        [first, others @ ..] => starts_name(*first) && all_continue(others),
+    }
+}
+
+fn starts_name(byte: u8) -> bool
+    ensures { result ≡ starts_name byte }
+{
+    byte == b'_' || byte.is_ascii_alphabetic()
+}
+
+fn continues_name(byte: u8) -> bool
+    ensures { result ≡ continues_name byte }
+{
+    starts_name(byte) || byte.is_ascii_digit() || byte == b'-'
+}
+
+fn all_continue(bytes: &[u8]) -> bool
+    ensures { result ≡ list_all continues_name bytes.now }
+{
+    bytes.iter().all(|byte| continues_name(*byte))
+}
+
+#[cfg(test)]
+mod tests {
+    use super::*;
+
+    #[test]
+    fn tells_names(rt: HostRuntime) {
+        for name in ["a", "_", "web-1", "A9_", "x--", "sim_net"] {
+            assert!(rt; is_name(name), "{name}");
+        }
+        for text in ["", "1a", "-a", "a b", "a.b", "ä", "a/", "//"] {
+            assert!(rt; !is_name(text), "{text}");
+        }
+    }
+}

@@ -1,0 +1,148 @@
+ghost use Rattle.tf_config_refusal.specs.declared.refusal.Refusal.TheVariants.{OutOfMemory};
+ghost use Rattle.std.specs.Prelude.{◌≡◌, Some};
+ghost use Rattle.tf_config_refusal.specs.Refusal.{detail_of};
+ghost use Rattle.tf_config_refusal.specs.Text.{refusal_name};
+
+use crate::names::NameList;
+use std::alloc::{AllocError, AllocFailed};
+use std::fmt;
+use tf_expr_syntax::EvalFault;
+
+/// Why nothing was called: what was wrong with what the user gave, or with the machine.
+#[derive(Debug, Drop)]
+pub enum Refusal {
+    /// A growth was refused: code 15.
+    OutOfMemory,
+    /// The number of workers isn't 1 to 64: code 14.
+    Workers,
+    /// Anything else that is refused.
+    Fault {
+        /// The refusal's code, 1 to 14.
+        code: u8,
+        /// Where the fault is: a whole file's name, a path of property names and array positions joined
+        /// by dots, or an address.
+        place: String,
+        /// What stands behind the refusal's name in its text.
+        detail: Detail,
+    },
+}
+
+/// What stands behind a refusal's name.
+#[derive(Debug, Drop)]
+pub enum Detail {
+    /// Nothing.
+    Bare,
+    /// The byte offset at which a text is no template.
+    At(usize),
+    /// The names of locals and resources in a cycle, in byte order.
+    Names(Vec<String>),
+    /// How an evaluation failed.
+    Kind(EvalFault),
+}
+
+impl From<AllocError> for Refusal {
+    ghost from_gives = { λ _ refusal. refusal ≡ OutOfMemory };
+
+    fn from(_error: AllocError) -> Refusal {
+        Refusal::OutOfMemory
+    }
+}
+
+impl<T: Drop> From<AllocFailed<T>> for Refusal {
+    ghost from_gives = { λ _ refusal. refusal ≡ OutOfMemory };
+
+    fn from(_error: AllocFailed<T>) -> Refusal {
+        Refusal::OutOfMemory
+    }
+}
+
+/// `error CODE at PLACE: NAME`, with no newline.
+impl fmt::Display for Refusal {
+    ghost use Rattle.tf_config_refusal.specs.Refusal.{refusal_of};
+    ghost use Rattle.tf_config_refusal.specs.Text.{refusal_text};
+
+    ghost output = { λ refusal. Some (refusal_text (refusal_of refusal)) };
+
+    fn fmt<W: fmt::Write>(&self, f: &mut fmt::Formatter<W>) -> fmt::Result {
+        match self {
+            Refusal::OutOfMemory => write!(f, "error 15 at memory: OutOfMemory"),
+            Refusal::Workers => write!(f, "error 14 at workers: Limit"),
+            Refusal::Fault {
+                code,
+                place,
+                detail,
+            } => {
+                let cause = Cause {
+                    code: *code,
+                    detail,
+                };
+                write!(f, "error {code} at {place}: {cause}")
+            }
+        }
+    }
+}
+
+/// The name of a fault with what stands behind it.
+#[derive(Clone, Copy)]
+struct Cause<'a> {
+    code: u8,
+    detail: &'a Detail,
+}
+
+impl fmt::Display for Cause<'_> {
+    ghost use Rattle.tf_config_refusal.specs.Refusal.{detail_of};
+    ghost use Rattle.tf_config_refusal.specs.Text.{cause_text};
+
+    ghost output = { λ cause. Some (cause_text cause.code (detail_of cause.detail.now)) };
+
+    fn fmt<W: fmt::Write>(&self, f: &mut fmt::Formatter<W>) -> fmt::Result {
+        let name = name_of(self.code);
+        let detail = self.detail;
+        write!(f, "{name}{detail}")
+    }
+}
+
+/// What stands behind a refusal's name: nothing, or the detail in parentheses.
+impl fmt::Display for Detail {
+    ghost use Rattle.tf_config_refusal.specs.Text.{detail_text};
+
+    ghost output = { λ detail. Some (detail_text (detail_of detail)) };
+
+    fn fmt<W: fmt::Write>(&self, f: &mut fmt::Formatter<W>) -> fmt::Result {
+        match self {
+            Detail::Bare => Ok(()),
+            Detail::At(offset) => write!(f, "({offset})"),
+            Detail::Names(names) => {
+                let list = NameList {
+                    names: names.as_slice(),
+                };
+                write!(f, "({list})")
+            }
+            Detail::Kind(fault) => write!(f, "({fault})"),
+        }
+    }
+}
+
+/// The name of the refusals with a code.
+fn name_of(code: u8) -> &'static str
+    ensures { result.now ≡ refusal_name code }
+{
+    match code {
+        1 => "NotJson",
+        2 => "BadShape",
+        3 => "BadTemplate",
+        4 => "UnknownName",
+        5 => "Cycle",
+        6 => "BadCount",
+        7 => "BadForEach",
+        8 => "UnknownInstances",
+        9 => "Evaluate",
+        10 => "BadArgument",
+        11 => "NoProvider",
+        12 => "PreventDestroy",
+        13 => "BadState",
+        14 => "Limit",
+        15 => "OutOfMemory",
+        _ => "Unknown",
+    }
+}

@@ -1,0 +1,17 @@
+-- What templates and expressions mean is within the limits.
+use Rattle.std.specs.Prelude.{◌≡◌, Ok}
+use Rattle.tf_expr_syntax.specs.ExprTree as exprs
+use Rattle.tf_expr_syntax.specs.TemplateTree as syntax
+use Rattle.tf_value.specs.Measure.{IsWithinLimits}
+use Rattle.tf_value.specs.Tree.{Tree}
+use Rattle.tf_expr_eval.specs.Environment.{Environment}
+use Rattle.tf_expr_eval.specs.ExprMeaning.{meaning as expr_meaning}
+use Rattle.tf_expr_eval.specs.Meaning.{template_meaning}
+
+-- Whatever the names stand for, a template's value is within the limits of weight and depth.
+abbrev pub TemplatesAreWithinLimits : Type 0
+TemplatesAreWithinLimits = (env : Environment) (template : syntax.Woven) (v : Tree) → template_meaning env template ≡ Ok v → IsWithinLimits v
+
+-- And so is an expression's.
+abbrev pub ExpressionsAreWithinLimits : Type 0
+ExpressionsAreWithinLimits = (env : Environment) (expr : exprs.Tree) (v : Tree) → expr_meaning env expr ≡ Ok v → IsWithinLimits v

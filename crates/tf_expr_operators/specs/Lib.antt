@@ -1,0 +1,9 @@
+pub mod Answer
+pub mod Bounded
+pub mod Found
+pub mod Operators
+pub mod Parts
+pub mod Joining
+pub mod Joiner
+pub mod Functions
+pub mod Laws

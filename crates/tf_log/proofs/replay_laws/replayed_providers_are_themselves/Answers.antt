@@ -1,5 +1,0 @@
-use Rattle.tf_log.proofs.Replays.{replayed_are_themselves}
-use Rattle.tf_log.proofs.replay_laws.replayed_providers_are_themselves.Goals as goal
-
-pub returns : goal.returns
-returns c = replayed_are_themselves

@@ -1,8 +1,0 @@
-use Rattle.std.proofs.Common.{◌≡◌, map}
-use Rattle.tf_value.specs.Tree.{tree_of}
-use Rattle.tf_operators.specs.Found.{found_tree}
-use Rattle.tf_operators.proofs.found.all_owned.Given as goal
-
--- what was gone through is owned
-abbrev pub invariant-loop-one : goal.invariant-loop-one
-invariant-loop-one l = map tree_of l.values.items ≡ map found_tree l.yielded

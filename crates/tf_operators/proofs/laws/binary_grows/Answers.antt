@@ -1,5 +1,0 @@
-use Rattle.tf_operators.proofs.Growth.{binary_value-grows}
-use Rattle.tf_operators.proofs.laws.binary_grows.Goals as goal
-
-pub returns : goal.returns
-returns c = binary_value-grows

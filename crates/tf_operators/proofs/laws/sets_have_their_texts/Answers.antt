@@ -1,5 +1,0 @@
-use Rattle.tf_operators.proofs.Sets.{toset-has_texts}
-use Rattle.tf_operators.proofs.laws.sets_have_their_texts.Goals as goal
-
-pub returns : goal.returns
-returns c = toset-has_texts

@@ -1,5 +1,0 @@
-use Rattle.tf_operators.proofs.Growth.{unary_value-grows}
-use Rattle.tf_operators.proofs.laws.unary_grows.Goals as goal
-
-pub returns : goal.returns
-returns c = unary_value-grows

@@ -1,0 +1,18 @@
+use Rattle.std.proofs.Common.{◌∙◌}
+use Rattle.serde_json.specs.View.{view}
+use Rattle.tf_value.specs.Json.{tree_from}
+use Rattle.tf_value.proofs.Views.{shown_more, shown_all}
+use Rattle.tf_value.proofs.JsonForms.{read_members-is, read_all_items}
+use Rattle.tf_provider_log.proofs.values.+read.Goals as goal
+
+pub entries_from-loop-key-preserved : goal.entries_from-loop-key-preserved
+entries_from-loop-key-preserved t c =
+    shown_more (λ j. tree_from (view j)) c.args.members.now.entries _ c.next.new.self (c.in-Some.key.now, c.in-Some.member.now) _ _ _ _ c.iter-key-items.ensures.ordered c.in-Some.ensures.steps c.in_ok-insert.ensures.entries c.in_ok-name.ensures.cases c.in_ok-tree_from.ensures c.loop-key.invariant
+
+pub entries_from-returns : goal.entries_from-returns
+entries_from-returns t c =
+    shown_all (λ j. tree_from (view j)) c.args.members.now.entries _ _ c.in-None.ensures.steps.0 c.loop-key.invariant ∙ read_members-is c.args.members.now.entries
+
+pub items_from-returns : goal.items_from-returns
+items_from-returns t c =
+    read_all_items c.args.items.now.items c.loop-item.item-index _ (rw (← c.deref-item-items.ensures.value) c.loop-item-test.false) (rw (← c.deref-item-items.ensures.value) c.loop-item.invariant)

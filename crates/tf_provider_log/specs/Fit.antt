@@ -1,0 +1,33 @@
+-- Which requests and answers have a form.
+use Rattle.std.specs.Prelude.{◌≡◌, Option, Some, None, Bool, true, false, ◌&&◌, nat_le}
+use Rattle.tf_provider_protocol.specs.Meaning.{Asked, Answer, object, gone, failed}
+use Rattle.tf_value.specs.Measure.{depth}
+use Rattle.tf_value.specs.Sets.{has_no_set}
+use Rattle.tf_value.specs.Tree.{Tree}
+use Rattle.tf_provider_log.specs.declared.fault.Unwritten.{Unwritten}
+use Rattle.tf_provider_log.specs.declared.fault.Unwritten.TheVariants.{Unfit, OutOfMemory}
+
+-- a value fits a line where there is no set in it, and it is at most 100 deep
+abbrev pub fits : Tree → Bool
+fits t = has_no_set t && nat_le (depth t) 100
+
+-- the same of a value, where there is one
+abbrev pub option_fits : Option Tree → Bool
+option_fits None = true
+option_fits (Some t) = fits t
+
+-- a request fits a line where its values do
+abbrev pub request_fits : Asked → Bool
+request_fits r = option_fits r.prior && option_fits r.object
+
+-- an answer fits a line where its value does
+abbrev pub answer_fits : Option Answer → Bool
+answer_fits None = true
+answer_fits (Some (object t)) = fits t
+answer_fits (Some gone) = true
+answer_fits (Some (failed message t)) = option_fits t
+
+-- Why an entry isn't written: it doesn't fit a line; or it does, and there was no memory.
+abbrev pub IsUnwritten : Bool → Unwritten → Type 0
+IsUnwritten fit Unfit = fit ≡ false
+IsUnwritten fit OutOfMemory = fit ≡ true

@@ -1,0 +1,14 @@
+pub mod Header
+pub mod LogEntry
+pub mod Form
+pub mod Fit
+pub mod Fault
+pub mod From
+pub mod Line
+pub mod Log
+pub mod Text
+pub mod Laws
+pub mod ReplayLaws
+pub mod Replayed
+pub mod Same
+pub mod True

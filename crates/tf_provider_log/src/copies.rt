@@ -1,0 +1,73 @@
+//! Copies of requests and replies.
+
+ghost use Rattle.std.specs.Prelude.{◌≡◌, IfOk, option_map, string_bytes};
+ghost use Rattle.tf_provider_protocol.specs.Meaning.{asked, answered};
+ghost use Rattle.tf_value.specs.Tree.{tree_of};
+
+use std::alloc::{AllocError, Global};
+use tf_provider_protocol::{Reply, Request};
+use tf_value::{Value, copy};
+
+/// A copy of a request.
+pub(crate) fn copy_request(alloc: Global, request: &Request) -> Result<Request, AllocError>
+    ensures { IfOk result (λ r. asked r ≡ asked request.now) }
+{
+    let address = String::from_str(alloc, request.address.as_str())?;
+    let type_name = String::from_str(alloc, request.type_name.as_str())?;
+    let deposed = copy_text(alloc, &request.deposed)?;
+    let prior = copy_value(&request.prior)?;
+    let object = copy_value(&request.object)?;
+    Ok(Request {
+        op: request.op,
+        address,
+        type_name,
+        deposed,
+        prior,
+        object,
+    })
+}
+
+/// A copy of a reply.
+pub(crate) fn copy_reply(alloc: Global, reply: &Reply) -> Result<Reply, AllocError>
+    ensures { IfOk result (λ r. answered r ≡ answered reply.now) }
+{
+    match reply {
+        Reply::Object(object) => {
+            let object = copy(object)?;
+            Ok(Reply::Object(object))
+        }
+        Reply::Gone => Ok(Reply::Gone),
+        Reply::Failed { message, object } => {
+            let message = String::from_str(alloc, message.as_str())?;
+            let object = copy_value(object)?;
+            Ok(Reply::Failed { message, object })
+        }
+        Reply::NoMemory => Ok(Reply::NoMemory),
+    }
+}
+
+/// A copy of a text, where there is one.
+fn copy_text(alloc: Global, text: &Option<String>) -> Result<Option<String>, AllocError>
+    ensures { IfOk result (λ t. option_map string_bytes t ≡ option_map string_bytes text.now) }
+{
+    match text {
+        Some(text) => {
+            let text = String::from_str(alloc, text.as_str())?;
+            Ok(Some(text))
+        }
+        None => Ok(None),
+    }
+}
+
+/// A copy of a value, where there is one.
+fn copy_value(value: &Option<Value>) -> Result<Option<Value>, AllocError>
+    ensures { IfOk result (λ v. option_map tree_of v ≡ option_map tree_of value.now) }
+{
+    match value {
+        Some(value) => {
+            let value = copy(value)?;
+            Ok(Some(value))
+        }
+        None => Ok(None),
+    }
+}

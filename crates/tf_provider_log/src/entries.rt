@@ -1,0 +1,147 @@
+//! What the entries of a log tell.
+
+ghost use Rattle.std.specs.List.{list_any};
+ghost use Rattle.std.specs.Prelude.{◌≡◌, IfOk, filter, not, map, option_map};
+ghost use Rattle.tf_provider_log.specs.LogEntry.{log_entry_of};
+ghost use Rattle.tf_provider_log.specs.Replayed.{answer_count, ends, has_answer, has_its_type, in_flight, open_of, own_entries, type_in};
+ghost use Rattle.tf_provider_protocol.specs.Meaning.{asked};
+
+use crate::copies::copy_request;
+use crate::entry::LogEntry;
+use crate::same::is_same;
+use std::alloc::{AllocError, Global};
+use tf_provider_protocol::{Provider, Reply, Request};
+
+/// The entries of each provider, in their order: those of the types whose first provider it is. Entries of a type that no
+/// provider has are let go.
+pub fn split(
+    alloc: Global,
+    entries: Vec<LogEntry>,
+    providers: &[Box<dyn Provider + Sync>],
+) -> Result<Vec<Vec<LogEntry>>, AllocError>
+    ensures { IfOk result (λ lists. map (λ own. map log_entry_of own.items) lists.items
+        ≡ own_entries (map meaning providers.now) (map log_entry_of entries.items)) }
+{
+    let mut left = entries;
+    let mut lists = Vec::with_capacity(alloc, providers.len())?;
+    for provider in providers {
+        let (own, others) = part(alloc, left, provider)?;
+        lists.push(own)?;
+        left = others;
+    }
+    Ok(lists)
+}
+
+/// The entries whose type a provider has, and the others.
+fn part(
+    alloc: Global,
+    entries: Vec<LogEntry>,
+    provider: &Box<dyn Provider + Sync>,
+) -> Result<(Vec<LogEntry>, Vec<LogEntry>), AllocError>
+    ensures own { IfOk result (λ parts. map log_entry_of parts.0.items ≡ filter (has_its_type (meaning provider.now)) (map log_entry_of entries.items)) }
+    ensures others { IfOk result (λ parts. map log_entry_of parts.1.items ≡ filter (λ e. not (has_its_type (meaning provider.now) e)) (map log_entry_of entries.items)) }
+{
+    let mut own = Vec::new(alloc);
+    let mut others = Vec::new(alloc);
+    for entry in entries {
+        if has_its_type(provider, &entry) {
+            own.push(entry)?;
+        } else {
+            others.push(entry)?;
+        }
+    }
+    Ok((own, others))
+}
+
+/// Whether a provider has the type of an entry.
+fn has_its_type(provider: &Box<dyn Provider + Sync>, entry: &LogEntry) -> bool
+    ensures { result ≡ has_its_type (meaning provider.now) (log_entry_of entry.now) }
+{
+    provider.schema(type_in(entry)).is_some()
+}
+
+/// The type of the object that an entry is about.
+fn type_in(entry: &LogEntry) -> &str
+    ensures { result.now ≡ type_in (log_entry_of entry.now) }
+{
+    match entry {
+        LogEntry::Begun(request) => request.type_name.as_str(),
+        LogEntry::Answered(request, _) => request.type_name.as_str(),
+    }
+}
+
+/// Copies of the requests that are begun and of which no entry tells that they have ended, in their order. What they ask for
+/// may have been done.
+pub fn in_flight(alloc: Global, entries: &[LogEntry]) -> Result<Vec<Request>, AllocError>
+    ensures { IfOk result (λ requests. map asked requests.items ≡ in_flight (map log_entry_of entries.now)) }
+{
+    let mut requests = Vec::new(alloc);
+    for entry in entries {
+        if let Some(request) = open_of(entries, entry) {
+            let request = copy_request(alloc, request)?;
+            requests.push(request)?;
+        }
+    }
+    Ok(requests)
+}
+
+/// The request that an entry tells to be begun, where no entry of a log tells that it has ended.
+fn open_of<'a>(entries: &[LogEntry], entry: &'a LogEntry) -> Option<&'a Request>
+    ensures { option_map (λ request. asked request.now) result ≡ open_of (map log_entry_of entries.now) (log_entry_of entry.now) }
+{
+    match entry {
+        LogEntry::Begun(request) => {
+            if has_ended(entries, request) {
+                None
+            } else {
+                Some(request)
+            }
+        }
+        LogEntry::Answered(_, _) => None,
+    }
+}
+
+/// Whether an entry tells that such a request has ended.
+fn has_ended(entries: &[LogEntry], request: &Request) -> bool
+    ensures { result ≡ list_any (ends (asked request.now)) (map log_entry_of entries.now) }
+{
+    for entry in entries {
+        if ends(request, entry) {
+            return true;
+        }
+    }
+    false
+}
+
+/// Whether this entry tells that such a request has ended.
+fn ends(request: &Request, entry: &LogEntry) -> bool
+    ensures { result ≡ ends (asked request.now) (log_entry_of entry.now) }
+{
+    match entry {
+        LogEntry::Begun(_) => false,
+        LogEntry::Answered(asked, _) => is_same(asked, request),
+    }
+}
+
+/// How many entries tell an answer.
+pub fn answer_count(entries: &[LogEntry]) -> usize
+    ensures { result ≡ answer_count (map log_entry_of entries.now) }
+{
+    let mut count = 0;
+    for entry in entries {
+        if has_answer(entry) {
+            count += 1;
+        }
+    }
+    count
+}
+
+/// Whether an entry tells an answer.
+fn has_answer(entry: &LogEntry) -> bool
+    ensures { result ≡ has_answer (log_entry_of entry.now) }
+{
+    match entry {
+        LogEntry::Begun(_) | LogEntry::Answered(_, Reply::NoMemory) => false,
+        LogEntry::Answered(_, _) => true,
+    }
+}

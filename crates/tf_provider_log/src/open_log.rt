@@ -1,0 +1,127 @@
+//! A log that lines are added to.
+
+ghost use Rattle.std.specs.Prelude.{◌≡◌, IfOk};
+ghost use Rattle.tf_provider_log.specs.LogEntry.{replied};
+ghost use Rattle.tf_provider_log.specs.True.{IsTrueOf};
+ghost use Rattle.tf_provider_protocol.specs.Meaning.{asked, answered};
+
+use crate::calling::{Begun, LoggedCall};
+use crate::entry::Header;
+use crate::lines::{Lines, Telling};
+use crate::sink::Sink;
+use crate::writing::{answered_line, begun_line, header_line};
+use std::alloc::Global;
+use std::error::Error;
+use std::fmt;
+use std::sync::atomic::{AtomicBool, Ordering};
+use tf_provider_protocol::{Provider, Reply, Request};
+
+/// Why a log isn't started.
+#[derive(Clone, Copy, Debug, PartialEq, Eq)]
+pub enum NotStarted {
+    /// Memory ran out. Nothing was written.
+    OutOfMemory,
+    /// The first line couldn't be written, or was written before.
+    NotWritten,
+}
+
+impl fmt::Display for NotStarted {
+    fn fmt<W: fmt::Write>(&self, f: &mut fmt::Formatter<W>) -> fmt::Result {
+        match self {
+            NotStarted::OutOfMemory => write!(f, "out of memory"),
+            NotStarted::NotWritten => write!(f, "the log can't be written"),
+        }
+    }
+}
+
+impl Error for NotStarted {}
+
+/// A request isn't in the log as begun, so no provider may be asked it.
+#[derive(Clone, Copy, Debug, PartialEq, Eq)]
+pub(crate) struct NotBegun;
+
+/// It may be told what was given.
+impl Telling for Header {
+    ghost use Rattle.tf_provider_log.specs.Line.{IsHeaderLine};
+
+    ghost may_tell = { λ header text. IsHeaderLine header text };
+}
+
+/// A log that lines are added to, by the calls of providers that share it. Once a line couldn't be written it is lost: no line
+/// is added any more, and no request is begun.
+#[derive(Drop)]
+pub struct OpenLog<S: Sink> {
+    lines: Lines<S>,
+    is_open: AtomicBool,
+}
+
+impl<S: Sink> OpenLog<S> {
+    /// A log that isn't started. No request is begun in it.
+    pub fn new(sink: S) -> OpenLog<S> {
+        OpenLog {
+            lines: Lines::new(sink),
+            is_open: AtomicBool::new(false),
+        }
+    }
+
+    /// Starts the log, with the line that tells what the apply was given. Requests can be begun from here on. A log is started
+    /// once.
+    pub fn start(&self, alloc: Global, header: &Header) -> Result<(), NotStarted> {
+        if self.is_open.load(Ordering::SeqCst) {
+            return Err(NotStarted::NotWritten);
+        }
+        let Ok(line) = header_line(alloc, header) else {
+            return Err(NotStarted::OutOfMemory);
+        };
+        match self.lines.add(header, line.as_str()) {
+            Ok(_) => {
+                self.is_open.store(true, Ordering::SeqCst);
+                Ok(())
+            }
+            Err(_) => Err(NotStarted::NotWritten),
+        }
+    }
+
+    /// Whether a line couldn't be written. Then the log doesn't tell all that was done.
+    pub fn is_lost(&self) -> bool {
+        self.lines.is_lost()
+    }
+
+    /// Tells that a request is begun: the right to ask a provider it. Refused where the log isn't started or is lost, where the
+    /// request has no line, and where the line can't be written, by which the log is lost.
+    pub(crate) fn begin<'a>(
+        &self,
+        alloc: Global,
+        request: &'a Request,
+    ) -> Result<Begun<'a>, NotBegun>
+        ensures { IfOk result (λ begun. begun.request.now ≡ request.now) }
+    {
+        if !self.is_open.load(Ordering::SeqCst) {
+            return Err(NotBegun);
+        }
+        let Ok(line) = begun_line(alloc, request) else {
+            return Err(NotBegun);
+        };
+        match self.lines.add(request, line.as_str()) {
+            Ok(added) => Ok(Begun::by(request, added)),
+            Err(_) => Err(NotBegun),
+        }
+    }
+
+    /// Tells what a provider replied, and gives the reply out. Where that can't be written the log is lost.
+    pub(crate) fn end<P: Provider>(&self, alloc: Global, called: LoggedCall<'_, P>) -> Reply
+        requires { IsTrueOf (P.meaning called.provider.now) (replied (asked called.request.now) (answered called.reply)) }
+        ensures { result ≡ called.entry.reply }
+    {
+        match answered_line(alloc, called.request(), called.reply()) {
+            Ok(line) => {
+                let told = self.lines.add(&called, line.as_str());
+                called.into_reply(told)
+            }
+            Err(_) => {
+                let lost = self.lines.lose();
+                called.into_reply(Err(lost))
+            }
+        }
+    }
+}

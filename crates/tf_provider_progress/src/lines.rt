@@ -1,0 +1,179 @@
+//! What is told of a call.
+
+ghost use Rattle.std.specs.List.{list_all};
+ghost use Rattle.std.specs.Prelude.{◌≡◌, ◌++◌, IfOk, OnOk, option_map, string_bytes};
+ghost use Rattle.tf_provider_protocol.specs.Meaning.{answered, asked};
+ghost use Rattle.tf_value.specs.Tree.{tree_of};
+ghost use Rattle.tf_provider_progress.specs.Lines.{after, begin_word, begun_line, duration, end_word, ended_line, ended_well, id_of, id_suffix, in_brackets, is_plain, is_printable, name, object_after};
+
+use std::alloc::{AllocError, Global};
+use tf_provider_protocol::{Op, Reply, Request};
+use tf_value::Value;
+
+/// The longest id that is shown, in bytes.
+const LONGEST: usize = 80;
+
+/// The line of a call that begins: `sim_net.a: Creating...`, and of an object that is there its id, as in
+/// `sim_net.a: Destroying... [id=net-x]`.
+pub(crate) fn begun_line(alloc: Global, request: &Request) -> Result<String, AllocError>
+    ensures { IfOk result (λ line. string_bytes line ≡ begun_line (asked request.now)) }
+{
+    let mut line = String::new(alloc);
+    push_name(&mut line, request)?;
+    line.push_str(begin_word(request.op))?;
+    push_id(&mut line, &request.prior)?;
+    line.push('\n')?;
+    Ok(line)
+}
+
+/// The line of a call that ended: `sim_net.a: Creation complete after 0s [id=net-x]`, with the id of the object that is there
+/// then, and the seconds where the clock could be read; and `sim_net.a: Creation errored after 0s` where the reply isn't what
+/// was asked for.
+pub(crate) fn ended_line(
+    alloc: Global,
+    request: &Request,
+    reply: &Reply,
+    seconds: Option<u64>,
+) -> Result<String, AllocError>
+    ensures { IfOk result (λ line. string_bytes line ≡ ended_line (asked request.now) (answered reply.now) seconds) }
+{
+    let mut line = String::new(alloc);
+    push_name(&mut line, request)?;
+    line.push_str(end_word(request.op))?;
+    let is_well = ended_well(request.op, reply);
+    line.push_str(if is_well { " complete" } else { " errored" })?;
+    push_after(&mut line, seconds)?;
+    push_object_id(&mut line, is_well, reply)?;
+    line.push('\n')?;
+    Ok(line)
+}
+
+/// Adds the address, and the key of a deposed object.
+fn push_name(line: &mut String, request: &Request) -> Result<(), AllocError>
+    ensures { OnOk result (string_bytes line.new ≡ string_bytes line.old ++ name (asked request.now)) }
+{
+    line.push_str(request.address.as_str())?;
+    match &request.deposed {
+        Some(key) => write!(line, " (deposed {key})"),
+        None => Ok(()),
+    }
+}
+
+fn begin_word(op: Op) -> &'static str
+    ensures { result.now ≡ begin_word op }
+{
+    match op {
+        Op::Create => ": Creating...",
+        Op::Update => ": Modifying...",
+        Op::Destroy => ": Destroying...",
+    }
+}
+
+fn end_word(op: Op) -> &'static str
+    ensures { result.now ≡ end_word op }
+{
+    match op {
+        Op::Create => ": Creation",
+        Op::Update => ": Modifications",
+        Op::Destroy => ": Destruction",
+    }
+}
+
+/// Whether a reply is what was asked for: an object where one was to be made or changed, and none where it was to be destroyed.
+fn ended_well(op: Op, reply: &Reply) -> bool
+    ensures { result ≡ ended_well op (answered reply.now) }
+{
+    match (reply, op) {
+        (Reply::Object(_), Op::Create | Op::Update) | (Reply::Gone, Op::Destroy) => true,
+        _ => false,
+    }
+}
+
+/// Adds how long a call took, where that is known.
+fn push_after(line: &mut String, seconds: Option<u64>) -> Result<(), AllocError>
+    ensures { OnOk result (string_bytes line.new ≡ string_bytes line.old ++ after seconds) }
+{
+    match seconds {
+        Some(seconds) => push_duration(line, seconds),
+        None => Ok(()),
+    }
+}
+
+fn push_duration(line: &mut String, seconds: u64) -> Result<(), AllocError>
+    ensures { OnOk result (string_bytes line.new ≡ string_bytes line.old ++ duration seconds) }
+{
+    let hours = seconds / 3600;
+    let minutes = seconds / 60 % 60;
+    let rest = seconds % 60;
+    if seconds < 60 {
+        write!(line, " after {rest}s")
+    } else if seconds < 3600 {
+        write!(line, " after {minutes}m{rest}s")
+    } else {
+        write!(line, " after {hours}h{minutes}m{rest}s")
+    }
+}
+
+/// Adds the id of the object that is there after a call that ended well.
+fn push_object_id(line: &mut String, is_well: bool, reply: &Reply) -> Result<(), AllocError>
+    ensures { OnOk result (string_bytes line.new ≡ string_bytes line.old ++ id_suffix (object_after is_well (answered reply.now))) }
+{
+    match reply {
+        Reply::Object(object) if is_well => push_id_of(line, object),
+        _ => Ok(()),
+    }
+}
+
+/// Adds the id of an object, where there is one.
+fn push_id(line: &mut String, object: &Option<Value>) -> Result<(), AllocError>
+    ensures { OnOk result (string_bytes line.new ≡ string_bytes line.old ++ id_suffix (option_map tree_of object.now)) }
+{
+    match object {
+        Some(object) => push_id_of(line, object),
+        None => Ok(()),
+    }
+}
+
+fn push_id_of(line: &mut String, object: &Value) -> Result<(), AllocError>
+    ensures { OnOk result (string_bytes line.new ≡ string_bytes line.old ++ id_of (tree_of object.now)) }
+{
+    match object.get("id") {
+        Some(Value::Text(id)) => push_plain(line, id.as_str()),
+        _ => Ok(()),
+    }
+}
+
+/// Adds a text in brackets, where it is one that a terminal shows as it is.
+fn push_plain(line: &mut String, id: &str) -> Result<(), AllocError>
+    ensures { OnOk result (string_bytes line.new ≡ string_bytes line.old ++ in_brackets id.now) }
+{
+    if is_plain(id) {
+        write!(line, " [id={id}]")
+    } else {
+        Ok(())
+    }
+}
+
+/// Whether a text is short, and of printable characters of ASCII alone.
+fn is_plain(text: &str) -> bool
+    ensures { result ≡ is_plain text.now }
+{
+    text.len() <= LONGEST && are_printable(text.as_bytes())
+}
+
+fn are_printable(bytes: &[u8]) -> bool
+    ensures { result ≡ list_all is_printable bytes.now }
+{
+    for byte in bytes {
+        if !is_printable(*byte) {
+            return false;
+        }
+    }
+    true
+}
+
+fn is_printable(byte: u8) -> bool
+    ensures { result ≡ is_printable byte }
+{
+    byte >= 32 && byte < 127
+}

@@ -1,5 +1,0 @@
-use Rattle.tf_template.proofs.Alone as alone
-use Rattle.tf_template.proofs.laws.one_template.Goals as goal
-
-pub returns : goal.returns
-returns c = alone.one_template
