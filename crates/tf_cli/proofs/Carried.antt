@@ -15,7 +15,7 @@ use Rattle.tf_state_data.specs.State.{StateView, state_of}
 use Rattle.tf_state.specs.Text.{state_text}
 use Rattle.tf_state.specs.Valid.{IsValid}
 use Rattle.tf_cli.specs.Applies.{IsCarriedOut}
-use Rattle.tf_cli.specs.declared.applied.Applied.{Applied}
+use Rattle.tf_cli_text.specs.declared.applied.Applied.{Applied}
 
 same-serial : (n m : ℕ) → not (n == m) ≡ false → n ≡ m
 same-serial n m e = grind (arith, e)

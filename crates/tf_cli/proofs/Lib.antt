@@ -1,5 +1,3 @@
 mod Carried
 mod Planned
-mod Writes
 mod Numbered
-mod RefusalLines

@@ -1,10 +1,8 @@
 -- What an apply answers where nothing is refused.
-use Rattle.std.specs.Prelude.{◌≡◌, ◌↔◌, ℕ, false, if◌then◌else◌, List, Option, None, Result, Ok, Err, IfOk, option_map, string_bytes}
-use Rattle.std.specs.Result.{result_ok}
-use Rattle.tf_cli.specs.declared.applied.Applied.{Applied}
+use Rattle.std.specs.Prelude.{◌≡◌, ◌↔◌, ℕ, false, List, IfOk, string_bytes}
+use Rattle.tf_cli_text.specs.declared.applied.Applied.{Applied}
 use Rattle.tf_config_data.specs.Config.{ConfigView}
 use Rattle.tf_cli_inputs.specs.Texts.{Texts, ReadAs}
-use Rattle.tf_plan.specs.declared.refused.Refused.{Refused}
 use Rattle.tf_plan.specs.Plan.{IsPlan}
 use Rattle.tf_plan_data.specs.Plan.{PlanView}
 use Rattle.tf_plan_text.specs.Text.{plan_text}
@@ -50,9 +48,3 @@ pub record IsApplied (ms : List Meaning) (texts : Texts) (lineage : List ℕ) (a
   pub plan : PlanView
   pub planned : IsPlanOf ms texts lineage plan
   pub carried_out : IsCarriedOut ms plan a
-
--- What a program writes in the place of the prior state: the text of the state after, where that isn't the prior one and there
--- was memory for its text; nothing where the apply was refused.
-abbrev pub to_write : Result Applied Refused → Option (List ℕ)
-to_write (Ok a) = if a.changed then option_map string_bytes (result_ok a.state) else None
-to_write (Err refused) = None

@@ -1,4 +1,2 @@
 pub mod Refusals
 pub mod Applies
-pub mod Shown
-pub mod Saved

@@ -10,11 +10,11 @@ ghost use Rattle.tf_walk.specs.Run.{are_workers, is_whole};
 ghost use Rattle.tf_state_data.specs.State.{state_of};
 ghost use Rattle.tf_state.specs.Text.{state_text};
 
-use crate::applied::Applied;
 use crate::planning::{InputTexts, one_refusal, plan_of_texts};
 use std::alloc::Global;
 use std::sync::Wait;
 use std::thread::Threads;
+use tf_cli_text::Applied;
 use tf_config::blocks_have_names;
 use tf_plan::Refused;
 use tf_plan_text::plan_text;

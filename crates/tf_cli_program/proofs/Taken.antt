@@ -2,7 +2,7 @@
 use Rattle.std.proofs.Common.{◌≡◌, ℕ, List, Option, Result, Ok, Err, refl, subst, option_map, string_bytes}
 use Rattle.std.specs.Prelude.{IfOk, IfErr}
 use Rattle.tf_cli.specs.Applies.{IsApplied}
-use Rattle.tf_cli.specs.declared.applied.Applied.{Applied}
+use Rattle.tf_cli_text.specs.declared.applied.Applied.{Applied}
 use Rattle.tf_cli_inputs.specs.Texts.{Texts, the_texts}
 use Rattle.tf_provider_log.specs.Header.{HeaderView}
 use Rattle.tf_provider_protocol.specs.Meaning.{Meaning}

@@ -3,8 +3,8 @@ use Rattle.std.proofs.Common.{inl, inr}
 use Rattle.std.specs.Prelude.{◌≡◌, ◌⊎◌, ℕ, List, Option, Some, None}
 use Rattle.std.specs.Borrow.{MutBor}
 use Rattle.std.specs.Io.KnownBytes.{Appends}
-use Rattle.tf_cli.specs.Saved.{AppendsStart}
-use Rattle.tf_cli.specs.Shown.{unwritten_line}
+use Rattle.tf_cli_text.specs.Saved.{AppendsStart}
+use Rattle.tf_cli_text.specs.Shown.{unwritten_line}
 
 -- The file that was opened got a first part of the text and nothing else. (The second is what is left of an `Option<&mut W>`.)
 abbrev pub TakesStart : {W : Type 0} → (W → Option (List ℕ)) → Option (MutBor W) → Unit {0} ⊎ ((MutBor W × Unit {0}) ⊎ ⊥) → List ℕ → Type 0

@@ -2,8 +2,8 @@
 use Rattle.std.specs.Prelude.{◌≡◌, ◌≤◌, ℕ, List, [], ◌∷◌, ◌++◌, codes, Option, Some, None, Result, Ok, Err, IfOk, MatchResult}
 use Rattle.std.specs.Process.{exit_status}
 use Rattle.std.specs.declared.process.ExitCode.{ExitCode}
-use Rattle.tf_cli.specs.Saved.{AppendsStart}
-use Rattle.tf_cli.specs.Shown.{refusal_line}
+use Rattle.tf_cli_text.specs.Saved.{AppendsStart}
+use Rattle.tf_cli_text.specs.Shown.{refusal_line}
 use Rattle.tf_config_refusal.specs.Refusal.{no_memory}
 
 -- the status of a program that didn't do its work

@@ -1,7 +1,8 @@
 -- What is recovered from a log.
 use Rattle.std.specs.Prelude.{◌≡◌, ℕ, Bool, true, false, List, Option, Ok, IsSome, count_by}
-use Rattle.tf_cli.specs.Applies.{IsApplied, to_write}
-use Rattle.tf_cli.specs.declared.applied.Applied.{Applied}
+use Rattle.tf_cli.specs.Applies.{IsApplied}
+use Rattle.tf_cli_text.specs.Shown.{to_write}
+use Rattle.tf_cli_text.specs.declared.applied.Applied.{Applied}
 use Rattle.tf_cli_inputs.specs.Texts.{Texts, the_texts}
 use Rattle.tf_provider_log.specs.Header.{HeaderView}
 use Rattle.tf_walk_action.specs.declared.excuse.Outcome.{Outcome}

@@ -2,7 +2,7 @@
 use Rattle.std.specs.Prelude.{◌≡◌, ◌≢◌, ℕ, true, List, IsErr}
 use Rattle.tf_cli.specs.Applies.{IsApplied}
 use Rattle.tf_cli.specs.Refusals.{AreApplyRefusals}
-use Rattle.tf_cli.specs.declared.applied.Applied.{Applied}
+use Rattle.tf_cli_text.specs.declared.applied.Applied.{Applied}
 use Rattle.tf_provider_log.specs.Header.{HeaderView}
 use Rattle.tf_plan.specs.Refused.{Tells}
 use Rattle.tf_provider_protocol.specs.Meaning.{Meaning}

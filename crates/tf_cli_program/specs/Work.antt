@@ -10,14 +10,15 @@ use Rattle.tf_plan.specs.Refused.{Tells}
 use Rattle.tf_plan.specs.declared.refused.Refused.{Refused}
 use Rattle.tf_provider_protocol.specs.Meaning.{Meaning}
 use Rattle.tf_walk.specs.Run.{are_workers}
-use Rattle.tf_cli.specs.Applies.{IsApplied, IsPlanOf, IsPlanText, to_write}
+use Rattle.tf_cli.specs.Applies.{IsApplied, IsPlanOf, IsPlanText}
+use Rattle.tf_cli_text.specs.Shown.{to_write}
 use Rattle.tf_plan_text.specs.Dot.{IsDrawn}
 use Rattle.tf_plan_data.specs.Plan.{PlanView}
 use Rattle.tf_cli_program.specs.Kept.{EndsKept}
 use Rattle.tf_cli.specs.Refusals.{AreApplyRefusals, AreRefusals}
-use Rattle.tf_cli.specs.Saved.{AppendsStart}
-use Rattle.tf_cli.specs.Shown.{errors_of, output_of, refused_errors, status_of}
-use Rattle.tf_cli.specs.declared.applied.Applied.{Applied}
+use Rattle.tf_cli_text.specs.Saved.{AppendsStart}
+use Rattle.tf_cli_text.specs.Shown.{errors_of, output_of, refused_errors, status_of}
+use Rattle.tf_cli_text.specs.declared.applied.Applied.{Applied}
 use Rattle.tf_cli_program.specs.declared.given.ProgramInput.{ProgramInput}
 
 -- the texts that a program was given

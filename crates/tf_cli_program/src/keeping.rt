@@ -3,8 +3,8 @@
 ghost use Rattle.std.specs.Io.KnownBytes.{Appends};
 ghost use Rattle.std.specs.Prelude.{◌≡◌, OnOk};
 ghost use Rattle.tf_cli_program.specs.Kept.{EndsKept, TakesStart, TakesWhole};
-ghost use Rattle.tf_cli.specs.Saved.{AppendsStart};
-ghost use Rattle.tf_cli.specs.Shown.{unwritten_line};
+ghost use Rattle.tf_cli_text.specs.Saved.{AppendsStart};
+ghost use Rattle.tf_cli_text.specs.Shown.{unwritten_line};
 
 use std::io::Write;
 use tf_cli::{SaveFault, save};

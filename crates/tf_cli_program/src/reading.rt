@@ -3,7 +3,7 @@
 ghost use Rattle.std.specs.Fn.{FnReturnsAt};
 ghost use Rattle.std.specs.IoError.{error_kind};
 ghost use Rattle.std.specs.Prelude.{◌≡◌, IfErr, IfOk, None, Ok, option_map, string_bytes};
-ghost use Rattle.tf_cli.specs.Saved.{AppendsStart};
+ghost use Rattle.tf_cli_text.specs.Saved.{AppendsStart};
 ghost use Rattle.tf_cli_program.specs.Program.{AreReads, GoesOn, IsFailure, ReadsNamed, ReadsOptional, TellsUnread, unread_line};
 
 use crate::given::ProgramInput;

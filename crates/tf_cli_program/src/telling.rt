@@ -1,7 +1,7 @@
 //! What the programs tell on standard error of logs and locks.
 
 ghost use Rattle.std.specs.Prelude.{◌≡◌, ◌∷◌, ◌++◌, codes, string_bytes};
-ghost use Rattle.tf_cli.specs.Saved.{AppendsStart};
+ghost use Rattle.tf_cli_text.specs.Saved.{AppendsStart};
 ghost use Rattle.tf_cli_program.specs.Program.{IsFailure};
 
 use crate::past::Past;

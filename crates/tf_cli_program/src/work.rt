@@ -2,7 +2,7 @@
 
 ghost use Rattle.std.specs.Io.KnownBytes.{Appends};
 ghost use Rattle.std.specs.Prelude.{◌≡◌, ◌⊎◌, map};
-ghost use Rattle.tf_cli.specs.Saved.{AppendsStart};
+ghost use Rattle.tf_cli_text.specs.Saved.{AppendsStart};
 ghost use Rattle.tf_cli_program.specs.Work.{EndsApply, EndsPlan, IsAnswer, IsGraphAnswer, IsPlanAnswer, answer_of};
 
 use crate::drawing::graph_text;

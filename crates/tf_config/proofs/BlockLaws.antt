@@ -9,7 +9,7 @@ use Rattle.tf_config_address.specs.Name.{is_name}
 use Rattle.std.specs.List.Sorted.{IsStrictlySortedBy}
 use Rattle.std.specs.Ordering.{match_ordering, ordering_reverse}
 use Rattle.serde_json.specs.Data.{Data, null, boolean, number, string, array, object}
-use Rattle.tf_expr_path.proofs.Walks.{Builds-keeps}
+use Rattle.tf_config_refusal.proofs.Walks.{Builds-keeps}
 use Rattle.tf_config_address.specs.ResourceAddr.{ResourceAddrView}
 use Rattle.tf_config.specs.Config.{BlockBody, Blocks, address_cmp, block_with, put_block, plain_config}
 use Rattle.tf_config_data.specs.Config.{BlockView, ConfigView}

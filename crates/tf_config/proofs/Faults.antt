@@ -3,8 +3,8 @@ use Rattle.std.proofs.Common.{◌≡◌, ℕ, Bool, false, Option, List, inl}
 use Rattle.serde_json.specs.Data.{Data}
 use Rattle.tf_config.specs.Demand.{Refuses, TellsAt}
 use Rattle.tf_config_data.specs.Config.{VariableView}
-use Rattle.tf_expr_path.specs.Check.{demanded}
-use Rattle.tf_expr_path.specs.Place.{dotted}
+use Rattle.tf_config_refusal.specs.Check.{demanded}
+use Rattle.tf_config_refusal.specs.Place.{dotted}
 use Rattle.tf_config_refusal.specs.Code.{bad_argument}
 use Rattle.tf_config_refusal.specs.Refusal.{RefusalView, no_memory, workers, fault, bare}
 use Rattle.tf_config.specs.VariablesRead.{TellsFaulty}

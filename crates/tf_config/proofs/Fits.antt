@@ -2,9 +2,9 @@
 -- at most.
 use Rattle.std.proofs.Common.{◌≡◌, ℕ, ◌+◌, List, [], ◌∷◌, refl, sym, ap, ◌∙◌}
 use Rattle.serde_json.specs.Data.{Data, null, boolean, number, string, array, object, Items, no_items, item}
-use Rattle.tf_expr_path.proofs.Checks.{AllMet-append, AllMet-left, AllMet-right}
-use Rattle.tf_expr_path.proofs.Walks.{Builds-met, Builds-from_met, Builds-same}
-use Rattle.tf_expr_path.specs.Walk.{each_item}
+use Rattle.tf_config_refusal.proofs.Checks.{AllMet-append, AllMet-left, AllMet-right}
+use Rattle.tf_config_refusal.proofs.Walks.{Builds-met, Builds-from_met, Builds-same}
+use Rattle.tf_config_refusal.specs.Walk.{each_item}
 use Rattle.tf_config.specs.Configuration.{PropertyChecks, below, object_checks, BuildsFrom, Adds, named_checks, AddsNamed}
 use Rattle.tf_config.specs.Demand.{AreMet, IsMet}
 use Rattle.tf_config.specs.Parts.{PartChecks, IsPartSound, wrong, element_checks, array_checks, EachSays, SaysList}

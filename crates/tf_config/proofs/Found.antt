@@ -7,8 +7,8 @@ use Rattle.std.specs.Ordering.{match_ordering}
 use Rattle.std.specs.Str.{bytes_eq}
 use Rattle.serde_json.specs.Data.{Data, null, boolean, number, string, array, object, Members, no_members, member}
 use Rattle.serde_json.specs.Find.{get_member}
-use Rattle.tf_expr_path.proofs.Walks.{Builds-keeps}
-use Rattle.tf_expr_path.specs.Walk.{Builds}
+use Rattle.tf_config_refusal.proofs.Walks.{Builds-keeps}
+use Rattle.tf_config_refusal.specs.Walk.{Builds}
 use Rattle.tf_expr_syntax.specs.ExprTree.{Tree}
 use Rattle.tf_config.specs.Configuration.{AddsInOutput, AddsOutputProperty, IsOutputBody, BuildsFrom, has}
 use Rattle.tf_config.specs.Words.{output_property_of}

@@ -5,8 +5,8 @@ use Rattle.tf_config.proofs.PartFits.{numbers_known, known_value}
 use Rattle.tf_config.proofs.Refusals.{Refuses-right}
 use Rattle.tf_config.specs.Demand.{AreMet, Refuses, TellsAt, bad_shape, holds}
 use Rattle.tf_config.specs.Parts.{number_checks, literal_checks}
-use Rattle.tf_expr_path.specs.Check.{demanded}
-use Rattle.tf_expr_path.specs.Place.{dotted}
+use Rattle.tf_config_refusal.specs.Check.{demanded}
+use Rattle.tf_config_refusal.specs.Place.{dotted}
 use Rattle.tf_config_refusal.specs.Refusal.{RefusalView, no_memory, workers, fault}
 use Rattle.tf_value.proofs.Storing.{within-limits}
 use Rattle.tf_value.specs.Json.{tree_from, IsUnread}

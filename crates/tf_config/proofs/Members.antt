@@ -5,8 +5,8 @@ use Rattle.serde_json.proofs.Views.{Entry}
 use Rattle.serde_json.specs.Data.{Data}
 use Rattle.serde_json.specs.View.{view, items_view, members_view}
 use Rattle.serde_json.specs.declared.value.Value.{Value}
-use Rattle.tf_expr_path.proofs.Walks.{Builds-met, builds_more}
-use Rattle.tf_expr_path.specs.Walk.{each, each_item, Builds}
+use Rattle.tf_config_refusal.proofs.Walks.{Builds-met, builds_more}
+use Rattle.tf_config_refusal.specs.Walk.{each, each_item, Builds}
 use Rattle.tf_config.proofs.Fits.{items_met}
 use Rattle.tf_config.proofs.Refusals.{Refuses-at, Refuses-at_item}
 use Rattle.tf_config.specs.Configuration.{PropertyChecks, below, IsSound}

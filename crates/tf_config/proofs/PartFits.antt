@@ -7,7 +7,7 @@ use Rattle.tf_config_data.specs.declared.variable.VariableType.{VariableType}
 use Rattle.tf_expr.proofs.Faultless.{expr_met, expr_from_met, expr_one}
 use Rattle.tf_expr.proofs.Within.{AllMet-demanded_as, AllMet-from_demanded_as}
 use Rattle.tf_expr.specs.Reading.{expr_checks, IsExpr}
-use Rattle.tf_expr_path.proofs.Checks.{AllMet-append, AllMet-left, AllMet-right}
+use Rattle.tf_config_refusal.proofs.Checks.{AllMet-append, AllMet-left, AllMet-right}
 use Rattle.tf_expr_syntax.specs.ExprTree.{Tree}
 use Rattle.tf_value.proofs.Conjunction.{and-first, and-second, and-both}
 use Rattle.tf_value.proofs.Storing.{within-true, within-limits}

@@ -10,8 +10,8 @@ use Rattle.tf_config_data.specs.Config.{ConfigView}
 use Rattle.tf_expr.specs.Demand as expr
 use Rattle.tf_expr.specs.declared.fault.ExprCause.{ExprCause}
 use Rattle.tf_expr.specs.declared.fault.ExprCause.TheVariants.{BadShape, At, TooDeep}
-use Rattle.tf_expr_path.proofs.Checks.{IsFirst-unmet}
-use Rattle.tf_expr_path.specs.Check.{IsFirst}
+use Rattle.tf_config_refusal.proofs.Checks.{IsFirst-unmet}
+use Rattle.tf_config_refusal.specs.Check.{IsFirst}
 use Rattle.tf_expr.specs.Refusing.{way_of}
 use Rattle.tf_config_refusal.specs.Refusal.{DetailView, RefusalView, fault, Way}
 

@@ -8,9 +8,9 @@ use Rattle.tf_expr.proofs.Within.{IsFirst-demanded_as}
 use Rattle.tf_expr.specs.Demand as expr
 use Rattle.tf_expr.specs.Fault as faults
 use Rattle.tf_expr.specs.Within.{demanded_as}
-use Rattle.tf_expr_path.proofs.Checks.{IsFirst-left, IsFirst-right}
-use Rattle.tf_expr_path.proofs.Walks.{fails_at, fails_at_item}
-use Rattle.tf_expr_path.specs.Walk.{each, each_item}
+use Rattle.tf_config_refusal.proofs.Checks.{IsFirst-left, IsFirst-right}
+use Rattle.tf_config_refusal.proofs.Walks.{fails_at, fails_at_item}
+use Rattle.tf_config_refusal.specs.Walk.{each, each_item}
 use Rattle.tf_config.specs.Demand.{Checks, AreMet, IsMet, Fails, Refuses, of_expression}
 use Rattle.tf_expr.specs.Refusing.{refused_expression, way_of}
 use Rattle.tf_config_refusal.specs.Refusal.{RefusalView, no_memory, workers, fault}

@@ -1,7 +1,7 @@
 -- Checking one thing after another: those so far are met, and the others are left.
 use Rattle.std.proofs.Common.{◌≡◌, ◌∙◌, ◌+◌, ◌<◌, ℕ, suc, List, [], ◌∷◌, ◌++◌, length, get_or, drop, drop-cons, refl, sym, ap, subst, append_assoc, add-one}
-use Rattle.tf_expr_path.proofs.Checks.{AllMet-append, IsFirst-left, IsFirst-right}
-use Rattle.tf_expr_path.specs.Check.{Check, AllMet}
+use Rattle.tf_config_refusal.proofs.Checks.{AllMet-append, IsFirst-left, IsFirst-right}
+use Rattle.tf_config_refusal.specs.Check.{Check, AllMet}
 use Rattle.tf_config.specs.Demand.{RefusesBy}
 use Rattle.tf_config_refusal.specs.Refusal.{RefusalView, no_memory, workers, fault, Way}
 

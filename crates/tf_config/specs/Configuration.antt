@@ -5,8 +5,8 @@ use Rattle.serde_json.specs.Find.{get}
 use Rattle.tf_config_address.specs.Name.{is_name}
 use Rattle.tf_config_data.specs.Config.{VariableView, count, for_each, LifecycleView, ConfigView}
 use Rattle.tf_expr.specs.Reading.{IsExpr}
-use Rattle.tf_expr_path.specs.Check.{demanded}
-use Rattle.tf_expr_path.specs.Walk.{each, Builds}
+use Rattle.tf_config_refusal.specs.Check.{demanded}
+use Rattle.tf_config_refusal.specs.Walk.{each, Builds}
 use Rattle.tf_expr_syntax.specs.ExprTree.{Tree, Entries, put}
 use Rattle.tf_config.specs.Config.{VariableBody, plain_variable, variable_with, put_variable, Blocks, plain_lifecycle, BlockBody, plain_block, block_with, put_block, plain_config}
 use Rattle.tf_config.specs.Demand.{Checks, AreMet, holds, a_name, a_type_name}

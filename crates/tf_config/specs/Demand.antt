@@ -3,7 +3,7 @@ use Rattle.std.specs.Prelude.{◌≡◌, ℕ, Bool, List, IsTrue, MatchResult, R
 use Rattle.tf_config_address.specs.Name.{is_name}
 use Rattle.tf_expr.specs.Demand as expr
 use Rattle.tf_expr.specs.declared.fault.ExprCause.{ExprCause}
-use Rattle.tf_expr_path.specs.Check.{Check, AllMet, IsFirst}
+use Rattle.tf_config_refusal.specs.Check.{Check, AllMet, IsFirst}
 use Rattle.tf_config_refusal.specs.Code as code
 use Rattle.tf_expr.specs.Refusing.{way_of}
 use Rattle.tf_config_refusal.specs.Refusal.{bare, RefusalView, no_memory, workers, fault, refusal_of, Way}

@@ -6,7 +6,7 @@ use Rattle.serde_json.specs.Data.{Data}
 use Rattle.tf_expr.specs.Demand as expr
 use Rattle.tf_expr.specs.Spelling.{SpellsTemplate}
 use Rattle.tf_expr_syntax.specs.TemplateTree.{Woven}
-use Rattle.tf_expr_path.specs.Check.{IsFirst}
+use Rattle.tf_config_refusal.specs.Check.{IsFirst}
 use Rattle.tf_config_address.specs.Name.{is_name}
 use Rattle.tf_config.specs.Config.{address_cmp}
 use Rattle.tf_config_data.specs.Config.{BlockView, ConfigView}

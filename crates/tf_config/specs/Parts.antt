@@ -8,8 +8,8 @@ use Rattle.tf_config_data.specs.declared.variable.VariableType.{VariableType}
 use Rattle.tf_expr.specs.Demand.{a_whole_number}
 use Rattle.tf_expr.specs.Reading.{expr_checks}
 use Rattle.tf_expr.specs.Within.{demanded_as}
-use Rattle.tf_expr_path.specs.Check.{demanded}
-use Rattle.tf_expr_path.specs.Walk.{each_item}
+use Rattle.tf_config_refusal.specs.Check.{demanded}
+use Rattle.tf_config_refusal.specs.Walk.{each_item}
 use Rattle.tf_value.specs.Json.{tree_from, value_from}
 use Rattle.tf_value.specs.Measure.{is_within, IsWithinLimits}
 use Rattle.tf_value.specs.Tree as values

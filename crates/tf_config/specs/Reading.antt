@@ -3,7 +3,7 @@ use Rattle.std.specs.Prelude.{◌≡◌, ◌⊎◌, ℕ, ◌<◌, ◌≤◌, Lis
 use Rattle.serde_json.specs.Data.{Data}
 use Rattle.serde_json.specs.Read.{read}
 use Rattle.tf_config_data.specs.Config.{ConfigView}
-use Rattle.tf_expr_path.specs.Place.{dotted}
+use Rattle.tf_config_refusal.specs.Place.{dotted}
 use Rattle.tf_config.specs.Config.{names_in}
 use Rattle.tf_config.specs.Configuration.{configuration_checks, whole_file, IsConfiguration}
 use Rattle.tf_config.specs.Demand.{Refuses}

@@ -5,7 +5,7 @@ use Rattle.serde_json.specs.Find.{get}
 use Rattle.tf_config.specs.Demand.{Checks, RefusesBy}
 use Rattle.tf_config.specs.Parts.{literal_checks}
 use Rattle.tf_config_data.specs.Config.{VariableView}
-use Rattle.tf_expr_path.specs.Check.{Check, demanded}
+use Rattle.tf_config_refusal.specs.Check.{Check, demanded}
 use Rattle.tf_config_refusal.specs.Code.{bad_argument}
 use Rattle.tf_config_refusal.specs.Refusal.{RefusalView, bare, Way}
 use Rattle.tf_value.specs.Json.{value_from}

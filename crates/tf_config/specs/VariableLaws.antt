@@ -2,7 +2,7 @@
 use Rattle.std.specs.Prelude.{◌≡◌, Option, List, IsTrue}
 use Rattle.serde_json.specs.Data.{Data}
 use Rattle.tf_config_data.specs.Config.{VariableView}
-use Rattle.tf_expr_path.specs.Check.{AllMet}
+use Rattle.tf_config_refusal.specs.Check.{AllMet}
 use Rattle.tf_value.specs.Tree.{Entries}
 use Rattle.tf_config.specs.Values.{AreValues, value_checks}
 

@@ -5,7 +5,7 @@ use Rattle.serde_json.specs.Find.{as_object}
 use Rattle.tf_config.specs.Demand.{AreMet, Refuses}
 use Rattle.tf_config.specs.Reading.{IsTree, IsNotJsonAt}
 use Rattle.tf_config_data.specs.Config.{VariableView}
-use Rattle.tf_expr_path.specs.Place.{dotted}
+use Rattle.tf_config_refusal.specs.Place.{dotted}
 use Rattle.tf_config_refusal.specs.Code.{bad_shape, limit}
 use Rattle.tf_config_refusal.specs.Refusal.{RefusalView, no_memory, workers, fault, bare}
 use Rattle.tf_config.specs.Values.{file_checks, value_checks, RefusesValues}

@@ -7,8 +7,8 @@ ghost use Rattle.tf_config_address.specs.ResourceAddr.{addr_of, ResourceAddrView
 ghost use Rattle.tf_config.specs.Demand.{Refuses};
 ghost use Rattle.tf_config.specs.Parts.{address_checks, array_checks, element_checks, name_checks, EachSays, IsAddressText, IsNameText, IsPartSound, PartChecks, SaysList};
 ghost use Rattle.tf_config.specs.Words.{addr_in, addr_of_names};
-ghost use Rattle.tf_expr_path.specs.Place.{place_of};
-ghost use Rattle.tf_expr_path.specs.Walk.{each_item};
+ghost use Rattle.tf_config_refusal.specs.Place.{place_of};
+ghost use Rattle.tf_config_refusal.specs.Walk.{each_item};
 ghost use Rattle.tf_config_refusal.specs.Refusal.{refusal_of};
 
 use crate::demand::{bad_shape, demand_name};
@@ -17,8 +17,7 @@ use crate::words::is_type_name;
 use serde_json::Value;
 use std::alloc::{AllocError, Global};
 use tf_config_address::{ResourceAddr, is_name};
-use tf_config_refusal::Refusal;
-use tf_expr_path::Path;
+use tf_config_refusal::{Path, Refusal};
 
 /// What one kind of array holds.
 pub(crate) trait Listed: Drop + Sized {

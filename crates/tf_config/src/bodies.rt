@@ -8,7 +8,7 @@ ghost use Rattle.tf_config.specs.Demand.{FineOrRefuses};
 ghost use Rattle.tf_config.specs.Parts.{expression_checks, Reads};
 ghost use Rattle.tf_config_data.specs.Config.{lifecycle_of};
 ghost use Rattle.tf_expr.specs.Reading.{IsExpr};
-ghost use Rattle.tf_expr_path.specs.Place.{place_of};
+ghost use Rattle.tf_config_refusal.specs.Place.{place_of};
 ghost use Rattle.tf_expr_syntax.specs.ExprTree.{entries_view, put, tree_of};
 
 use crate::demand::{bad_shape, demand_name, demand_one_repetition, demand_value};

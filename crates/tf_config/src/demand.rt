@@ -1,8 +1,8 @@
 ghost use Rattle.tf_config.specs.Demand.{Judges, TellsAt, bad_shape, a_name, a_type_name};
 ghost use Rattle.tf_config.specs.Configuration.{whole_file};
 ghost use Rattle.tf_config_refusal.specs.Refusal.{bare, refusal_of, detail_of};
-ghost use Rattle.tf_expr_path.specs.Check.{demanded};
-ghost use Rattle.tf_expr_path.specs.Place.{dotted, place_of};
+ghost use Rattle.tf_config_refusal.specs.Check.{demanded};
+ghost use Rattle.tf_config_refusal.specs.Place.{dotted, place_of};
 ghost use Rattle.serde_json.specs.View.{number_view, view};
 ghost use Rattle.std.specs.Prelude.{◌∷◌, [], codes};
 ghost use Rattle.tf_config.specs.Configuration.{has, repeats_once};
@@ -14,8 +14,7 @@ use serde_json::{Number, Value};
 use std::alloc::Global;
 use tf_config_address::is_name;
 use tf_config_refusal::code::BAD_SHAPE;
-use tf_config_refusal::{Detail, Refusal};
-use tf_expr_path::Path;
+use tf_config_refusal::{Detail, Path, Refusal};
 
 /// What a configuration is called as a file.
 pub(crate) const CONFIGURATION: &str = "configuration";

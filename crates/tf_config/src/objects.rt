@@ -5,14 +5,13 @@ ghost use Rattle.serde_json.specs.View.{members_view, view};
 ghost use Rattle.std.specs.Prelude.{List, ℕ};
 ghost use Rattle.tf_config.specs.Configuration.{below, object_checks, BuildsFrom, IsSound, PropertyChecks};
 ghost use Rattle.tf_config.specs.Demand.{FineOrRefuses};
-ghost use Rattle.tf_expr_path.specs.Place.{place_of};
-ghost use Rattle.tf_expr_path.specs.Walk.{each, Builds};
+ghost use Rattle.tf_config_refusal.specs.Place.{place_of};
+ghost use Rattle.tf_config_refusal.specs.Walk.{each, Builds};
 
 use crate::demand::bad_shape;
 use serde_json::{Map, Value};
 use std::alloc::Global;
-use tf_config_refusal::Refusal;
-use tf_expr_path::Path;
+use tf_config_refusal::{Path, Refusal};
 
 /// What stands at a place of the tree, with the memory for what it says.
 #[derive(Clone, Copy)]

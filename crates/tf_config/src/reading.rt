@@ -6,8 +6,8 @@ ghost use Rattle.tf_config.specs.Configuration.{below, configuration_checks, sec
 ghost use Rattle.tf_config.specs.Demand.{Refuses, TellsAt};
 ghost use Rattle.tf_config.specs.Reading.{max_bytes, max_declared, IsRefused, IsTree, IsWithinCounts, TellsNotJson};
 ghost use Rattle.tf_config_data.specs.Config.{config_of};
-ghost use Rattle.tf_expr_path.specs.Place.{dotted, place_of};
-ghost use Rattle.tf_expr_path.specs.Walk.{each, Builds};
+ghost use Rattle.tf_config_refusal.specs.Place.{dotted, place_of};
+ghost use Rattle.tf_config_refusal.specs.Walk.{each, Builds};
 ghost use Rattle.tf_config_refusal.specs.Refusal.{bare, refusal_of};
 ghost use Rattle.tf_config_refusal.specs.Code.{limit};
 
@@ -18,9 +18,8 @@ use serde_json::{Map, Value};
 use std::alloc::Global;
 use std::collections::BTreeMap;
 use tf_config_data::Config;
-use tf_config_refusal::Refusal;
 use tf_config_refusal::code::{BAD_SHAPE, LIMIT, NOT_JSON};
-use tf_expr_path::Path;
+use tf_config_refusal::{Path, Refusal};
 
 /// The longest configuration that is read, in bytes.
 const MAX_BYTES: usize = 4_194_304;

@@ -5,7 +5,7 @@ ghost use Rattle.std.specs.Prelude.{◌≡◌, ◌∷◌, [], Err, IfErr, IfOk, 
 ghost use Rattle.tf_config.specs.Demand.{AreMet, Refuses};
 ghost use Rattle.tf_config.specs.Parts.{literal_checks};
 ghost use Rattle.tf_config_data.specs.Words.{put, Tree, value_from, variables_of};
-ghost use Rattle.tf_expr_path.specs.Check.{demanded};
+ghost use Rattle.tf_config_refusal.specs.Check.{demanded};
 ghost use Rattle.tf_config_refusal.specs.Refusal.{no_memory, refusal_of};
 ghost use Rattle.tf_value.specs.Tree.{entries_view, tree_of};
 ghost use Rattle.tf_config.specs.VariablesRead.{TellsFaulty};
@@ -20,8 +20,7 @@ use std::alloc::Global;
 use std::collections::BTreeMap;
 use tf_config_data::{Variable, VariableType};
 use tf_config_refusal::code::BAD_ARGUMENT;
-use tf_config_refusal::{Detail, Refusal};
-use tf_expr_path::Path;
+use tf_config_refusal::{Detail, Path, Refusal};
 use tf_value::Value;
 
 /// The value of each variable; the first fault in the file, or else the first variable without a value.

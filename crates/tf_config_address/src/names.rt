@@ -30,18 +30,3 @@ fn all_continue(bytes: &[u8]) -> bool
 {
     bytes.iter().all(|byte| continues_name(*byte))
 }
-
-#[cfg(test)]
-mod tests {
-    use super::*;
-
-    #[test]
-    fn tells_names(rt: HostRuntime) {
-        for name in ["a", "_", "web-1", "A9_", "x--", "sim_net"] {
-            assert!(rt; is_name(name), "{name}");
-        }
-        for text in ["", "1a", "-a", "a b", "a.b", "ä", "a/", "//"] {
-            assert!(rt; !is_name(text), "{text}");
-        }
-    }
-}

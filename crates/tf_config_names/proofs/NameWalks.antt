@@ -1,6 +1,6 @@
 -- Checking names one after another: those so far are known, and the others are left.
 use Rattle.std.proofs.Common.{◌≡◌, ◌∙◌, [], ◌++◌, refl, sym, subst, append_assoc}
-use Rattle.tf_expr_path.proofs.Checks.{AllMet-append, IsFirst-left, IsFirst-right}
+use Rattle.tf_config_refusal.proofs.Checks.{AllMet-append, IsFirst-left, IsFirst-right}
 use Rattle.tf_config_names.specs.KnownNames.{Declared, NameChecks, IsKnown, IsUnknown, AreKnown, RefusesNames}
 use Rattle.tf_config_refusal.specs.Refusal.{RefusalView, no_memory, workers, fault}
 

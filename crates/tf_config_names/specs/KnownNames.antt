@@ -8,7 +8,7 @@ use Rattle.std.specs.Str.{bytes_eq}
 use Rattle.tf_config_address.specs.ResourceAddr.{ResourceAddrView}
 use Rattle.tf_config_data.specs.Config.{VariableView, RepetitionView, single, count, for_each, BlockView, ConfigView, variables_of}
 use Rattle.tf_config_data.specs.Names.{NameView, names_of, place_of, same_pair, addr_pair}
-use Rattle.tf_expr_path.specs.Check.{Check, AllMet, IsFirst, demanded}
+use Rattle.tf_config_refusal.specs.Check.{Check, AllMet, IsFirst, demanded}
 use Rattle.tf_expr_syntax.specs.Function.{function_named}
 use Rattle.tf_config_refusal.specs.Code as code
 use Rattle.tf_config_refusal.specs.Refusal.{bare, RefusalView, no_memory, workers, fault, refusal_of, Way}

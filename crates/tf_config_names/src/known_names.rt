@@ -3,8 +3,8 @@
 ghost use Rattle.std.specs.List.{list_all};
 ghost use Rattle.std.specs.Prelude.{◌≡◌, ◌∷◌, [], IfOk, codes, map, string_bytes};
 ghost use Rattle.tf_config_data.specs.Words.{block_at, blocks_of, config_of, entries_view, addr_of, ResourceAddrView, names_of, reference_of, template_view, tree_of, trees_view, variables_of};
-ghost use Rattle.tf_expr_path.specs.Check.{demanded};
-ghost use Rattle.tf_expr_path.specs.Place.{dotted, place_of as place_at};
+ghost use Rattle.tf_config_refusal.specs.Check.{demanded};
+ghost use Rattle.tf_config_refusal.specs.Place.{dotted, place_of as place_at};
 ghost use Rattle.tf_config_names.specs.KnownNames.{a_resource, binds, block_checks, block_place, body_checks, body_of, config_checks, declared_in, declared_of, entry_name_checks, has_variable, is_function, is_variable, item_name_checks, knows, knows_names, addr_checks, name_checks, only_known_names, output_checks, property_checks, unknown_name, JudgesNames};
 ghost use Rattle.tf_config_names.specs.Properties.{property_view, value_view};
 ghost use Rattle.tf_config_names.specs.Table.{names_in};
@@ -19,8 +19,7 @@ use std::collections::BTreeMap;
 use tf_config_address::ResourceAddr;
 use tf_config_data::{Block, Config, Variable};
 use tf_config_refusal::code::UNKNOWN_NAME;
-use tf_config_refusal::{Detail, Refusal};
-use tf_expr_path::Path;
+use tf_config_refusal::{Detail, Path, Refusal};
 use tf_expr_syntax::{Expr, Function, Reference, Template, names_of};
 
 /// What an expression may name beside what is declared, by where it stands.

@@ -1,3 +1,6 @@
 pub mod Code
 pub mod Refusal
 pub mod Text
+pub mod Check
+pub mod Place
+pub mod Walk

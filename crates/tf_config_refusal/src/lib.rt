@@ -1,9 +1,15 @@
 //! Refusals: why nothing was called, with a code, a place and a name, and the text that the user reads.
+//!
+//! A reader of a JSON text refuses it at the first place, in walk order, that the format doesn't allow. The definitions in `specs/` say
+//! so for any format: a list of checks, each a place with what is demanded there, and what is read as steps that members add one
+//! after another. `Path` is the place in code: a list of borrowed steps that is written out only where there is a fault.
 #![tactic(auto)]
 
 pub mod code;
 mod names;
+pub mod path;
 pub mod refusal;
 
+pub use path::Path;
 pub use refusal::{Detail, Refusal};
 pub use tf_expr_syntax::EvalFault;

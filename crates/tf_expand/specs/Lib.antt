@@ -3,6 +3,7 @@ pub mod ExpansionLaws
 pub mod Instance
 pub mod InstanceKeys
 pub mod Kept
+pub mod Module
 pub mod Needed
 pub mod Repetition
 pub mod Resolved

@@ -1,7 +1,7 @@
 //! The expansion of a configuration.
 
 ghost use Rattle.std.specs.Prelude.{◌≡◌, ◌<◌, ℕ, IfOk, Some, length, min};
-ghost use Rattle.tf_expand.specs.Words.{AreResolvedNames, directly_before, entries_view, expansion, IsAcyclic, IsDependence, meant_at, declaration_of, names_in, shape_of, shapes_of, resolved_names_of, ResolvedView, worked_out};
+ghost use Rattle.tf_expand.specs.Words.{AreResolvedNames, directly_before, entries_view, expansion, meant_at, declaration_of, names_in, shape_of, shapes_of, resolved_names_of, ResolvedView, worked_out};
 ghost use Rattle.tf_expand.specs.Expanding.{expanded, instance_count, instances_before};
 ghost use Rattle.tf_expand.specs.Told.{AreNeededNamesResolved, Shapes, Tells};
 ghost use Rattle.tf_expand.specs.declared.expansion.ExpansionFault.TheVariants.{OutOfMemory};
@@ -53,15 +53,14 @@ impl<T: Drop> From<AllocFailed<T>> for ExpansionFault {
 /// The first resource by address whose `count` or `for_each` is refused, among those that need none that is refused;
 /// `TooMany` where there are more instances than `MAX_INSTANCES`; and `OutOfMemory`.
 pub fn expand(alloc: Global, declared: &Module) -> Result<Vec<InstanceKeys>, ExpansionFault>
-    requires dependence { IsDependence (names_in declared.now.names.now) declared.now.dependence.now }
-    requires acyclic { IsAcyclic declared.now.dependence.now }
     ensures { (resolved_names : ℕ → ResolvedView)
         → AreResolvedNames expansion (entries_view declared.now.variables.now.entries) (names_in declared.now.names.now) resolved_names
         → Tells (λ shapes. shapes.items) (entries_view declared.now.variables.now.entries) (names_in declared.now.names.now) resolved_names result }
 {
+    let _ = &declared.parts;
     let kept = resolve_needed(alloc, declared)?;
     let shapes = shapes_by(alloc, declared, kept.as_slice())?;
-    if count(declared.names, shapes.as_slice()) > MAX_INSTANCES {
+    if count(declared.parts.names, shapes.as_slice()) > MAX_INSTANCES {
         return Err(ExpansionFault::TooMany);
     }
     Ok(shapes)
@@ -70,10 +69,9 @@ pub fn expand(alloc: Global, declared: &Module) -> Result<Vec<InstanceKeys>, Exp
 /// What the names that resources need stand for in the expansion. At any other place nothing stands: no local is evaluated
 /// that no resource needs, and no value is made of the objects of a resource to which no name refers.
 fn resolve_needed(alloc: Global, declared: &Module) -> Result<Vec<Resolved>, AllocError>
-    requires dependence { IsDependence (names_in declared.now.names.now) declared.now.dependence.now }
-    requires acyclic { IsAcyclic declared.now.dependence.now }
     ensures { IfOk result (λ kept. AreNeededNamesResolved (entries_view declared.now.variables.now.entries) (names_in declared.now.names.now) declared.now.dependence.now (resolved_names_of kept.items)) }
 {
+    let _ = &declared.parts;
     let wanted = needed_by_resources(alloc, declared)?;
     let kept = resolved_names(alloc, &Expansion, declared, wanted.as_slice())?;
     Ok(kept)
@@ -85,11 +83,10 @@ fn shapes_by(
     declared: &Module,
     kept: &[Resolved],
 ) -> Result<Vec<InstanceKeys>, ExpansionFault>
-    requires { IsDependence (names_in declared.now.names.now) declared.now.dependence.now }
     ensures { Shapes (λ shapes. shapes.items) (entries_view declared.now.variables.now.entries) (names_in declared.now.names.now) (resolved_names_of kept.now) result }
 {
-    let mut shapes = Vec::with_capacity(alloc, declared.names.len())?;
-    for place in 0..declared.names.len() {
+    let mut shapes = Vec::with_capacity(alloc, declared.parts.names.len())?;
+    for place in 0..declared.parts.names.len() {
         match shape_at(alloc, declared, kept, place)? {
             Ok(shape) => shapes.push(shape)?,
             Err(why) => return Err(ExpansionFault::Resource(place, why)),
@@ -105,20 +102,19 @@ fn shape_at(
     kept: &[Resolved],
     place: usize,
 ) -> Result<Result<InstanceKeys, RepetitionFault>, AllocError>
-    requires dependence { IsDependence (names_in declared.now.names.now) declared.now.dependence.now }
     requires place { place < length (names_in declared.now.names.now) }
     ensures { IfOk result (λ shape. worked_out shape
         ≡ expanded (entries_view declared.now.variables.now.entries) (names_in declared.now.names.now) (resolved_names_of kept.now) place) }
 {
-    if !all_stand(kept, declared.dependence.before(place)) {
+    if !all_stand(kept, declared.parts.dependence.before(place)) {
         return Ok(Ok(InstanceKeys::One));
     }
-    match declared.names.at(place) {
+    match declared.parts.names.at(place) {
         Declaration::Local(_, _) => Ok(Ok(InstanceKeys::One)),
         Declaration::Resource(_, block) => {
             let scope = NamesScope {
-                variables: declared.variables,
-                names: declared.names,
+                variables: declared.parts.variables,
+                names: declared.parts.names,
                 resolved_names: kept,
             };
             instances(alloc, &block.repetition, &scope)

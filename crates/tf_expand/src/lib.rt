@@ -32,4 +32,4 @@ pub use resolved::{Resolved, evaluated};
 pub use scope::NamesScope;
 pub use shape::InstanceKeys;
 pub use stage::{ExpandedValues, Objects, ResourceInScope, ResourceValues};
-pub use table::{Module, all_stand, resolved_at, resolved_names, unresolved_names};
+pub use table::{Module, ModuleParts, all_stand, resolved_at, resolved_names, unresolved_names};

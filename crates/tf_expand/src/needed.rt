@@ -1,7 +1,7 @@
 //! Which names are needed.
 
 ghost use Rattle.std.specs.Prelude.{◌≡◌, ◌<◌, ◌↔◌, ℕ, IfOk, Some, true, length};
-ghost use Rattle.tf_expand.specs.Words.{has, IsDependence, meant_at, declaration_of, names_in};
+ghost use Rattle.tf_expand.specs.Words.{has, meant_at, declaration_of, names_in};
 ghost use Rattle.tf_expand.specs.Needed.{is_resource, IsNeeded, IsNeededBy};
 
 use crate::table::Module;
@@ -14,12 +14,11 @@ use tf_config_names::{Declaration, Declarations, Dependence};
 ///
 /// Only where memory runs out.
 pub fn needed_by_resources(alloc: Global, declared: &Module) -> Result<Vec<bool>, AllocError>
-    requires { IsDependence (names_in declared.now.names.now) declared.now.dependence.now }
     ensures { IfOk result (λ needed. (n : ℕ) → n < length (names_in declared.now.names.now)
         → (has needed.items n ≡ true) ↔ IsNeeded (names_in declared.now.names.now) declared.now.dependence.now n) }
 {
-    let asking = resources(alloc, declared.names)?;
-    needed_by(alloc, declared.dependence, asking.as_slice())
+    let asking = resources(alloc, declared.parts.names)?;
+    needed_by(alloc, declared.parts.dependence, asking.as_slice())
 }
 
 /// For each place, whether one of the names that are marked needs the name there.

@@ -4,7 +4,7 @@ ghost use Rattle.std.specs.Prelude.{◌≡◌, ◌<◌, ℕ, IfOk, None, if◌th
 ghost use Rattle.tf_config_data.specs.Names.{directly_before, meant_at};
 ghost use Rattle.tf_graph.specs.Order.{IsInOrder};
 ghost use Rattle.tf_graph.specs.Solutions.{seen_by};
-ghost use Rattle.tf_config_names.specs.Needs.{IsDependence, order_in};
+ghost use Rattle.tf_config_names.specs.Needs.{order_in};
 ghost use Rattle.tf_config_names.specs.Table.{names_in};
 ghost use Rattle.tf_value.specs.Tree.{entries_view};
 ghost use Rattle.tf_expand.specs.Kept.{AreClosed, AreResolved, OnlyWanted};
@@ -18,18 +18,43 @@ use crate::scope::NamesScope;
 use crate::stage::{ResourceInScope, ResourceValues};
 use std::alloc::{AllocError, Global};
 use std::collections::BTreeMap;
+use std::marker::Model;
 use tf_config_names::{Declaration, Declarations, Dependence};
 use tf_value::Value;
 
-/// What a configuration declares, and the values of its variables.
+/// The parts of a module.
 #[derive(Drop)]
-pub struct Module<'a, 'n> {
+pub struct ModuleParts<'a, 'n> {
     /// The variables' values by name.
     pub variables: &'a BTreeMap<String, Value>,
     /// The names of locals and resources.
     pub names: &'a Declarations<'n>,
     /// Which of them needs which.
     pub dependence: &'a Dependence,
+}
+
+/// What a configuration declares, and the values of its variables: which of its names needs which is said of these very
+/// names, and none needs itself, which is this type's invariant (`IsModule`). So whoever is given one needn't ask for that.
+/// Contracts see the parts.
+#[derive(Drop)]
+pub struct Module<'a, 'n> {
+    /// The parts.
+    pub parts: ModuleParts<'a, 'n>,
+}
+
+impl<'a, 'n> Model for Module<'a, 'n> {
+    ghost use Rattle.tf_expand.specs.Module.{IsModule};
+    ghost use Rattle.tf_expand.specs.contracts.table.ModuleParts as held;
+    ghost use Rattle.tf_expand.specs.declared.table.ModuleParts.{ModuleParts};
+    ghost use denote.Signature.{static_lft};
+
+    ghost Value = { ModuleParts };
+
+    ghost coded = { (held.the_row static_lft static_lft).coded };
+
+    ghost view = { λ m. m.parts };
+
+    ghost invariant = { λ m. IsModule m.parts };
 }
 
 /// What each wanted name stands for at a stage, by place, where none needs itself; nothing stands at any other place.
@@ -46,13 +71,18 @@ pub fn resolved_names<T: ResourceValues>(
     wanted: &[bool],
 ) -> Result<Vec<Resolved>, AllocError>
     requires local { IsLocal (T.stage stage.now) }
-    requires dependence { IsDependence (names_in declared.now.names.now) declared.now.dependence.now }
     requires closed { AreClosed (names_in declared.now.names.now) wanted.now }
     ensures resolved_names { IfOk result (λ kept. AreResolved (T.stage stage.now) (entries_view declared.now.variables.now.entries)
         (names_in declared.now.names.now) (order_in declared.now.dependence.now) wanted.now (resolved_names_of kept.items)) }
     ensures only { IfOk result (λ kept. OnlyWanted wanted.now (resolved_names_of kept.items)) }
 {
-    resolved_in_order(alloc, stage, declared, declared.dependence.order(), wanted)
+    resolved_in_order(
+        alloc,
+        stage,
+        declared,
+        declared.parts.dependence.order(),
+        wanted,
+    )
 }
 
 /// The same, of the names in a list in which each stands after all that it needs.
@@ -64,7 +94,6 @@ fn resolved_in_order<T: ResourceValues>(
     wanted: &[bool],
 ) -> Result<Vec<Resolved>, AllocError>
     requires local { IsLocal (T.stage stage.now) }
-    requires dependence { IsDependence (names_in declared.now.names.now) declared.now.dependence.now }
     requires order { IsInOrder (directly_before (names_in declared.now.names.now)) order.now }
     requires within { (n : ℕ) → Contains order.now n → n < length (names_in declared.now.names.now) }
     requires closed { AreClosed (names_in declared.now.names.now) wanted.now }
@@ -72,7 +101,7 @@ fn resolved_in_order<T: ResourceValues>(
         (names_in declared.now.names.now) order.now wanted.now (resolved_names_of kept.items)) }
     ensures only { IfOk result (λ kept. OnlyWanted wanted.now (resolved_names_of kept.items)) }
 {
-    let mut kept = unresolved_names(alloc, declared.names.len())?;
+    let mut kept = unresolved_names(alloc, declared.parts.names.len())?;
     for place in order {
         let is_wanted = is_marked(wanted, *place);
         let resolved = resolve_at(alloc, stage, declared, kept.as_slice(), *place, is_wanted)?;
@@ -107,14 +136,13 @@ fn resolve_at<T: ResourceValues>(
     is_wanted: bool,
 ) -> Result<Resolved, AllocError>
     requires place { place < length (names_in declared.now.names.now) }
-    requires dependence { IsDependence (names_in declared.now.names.now) declared.now.dependence.now }
     ensures { IfOk result (λ resolved. resolved_of resolved ≡ (if is_wanted
         then where_all (all_that_stand (seen_by (resolved_names_of kept.now) (directly_before (names_in declared.now.names.now) place)))
         (stands_at (T.stage stage.now) place (meant_at (names_in declared.now.names.now) place)
         (environment (entries_view declared.now.variables.now.entries) (names_in declared.now.names.now) (resolved_names_of kept.now)))
         else None)) }
 {
-    if !is_wanted || !all_stand(kept, declared.dependence.before(place)) {
+    if !is_wanted || !all_stand(kept, declared.parts.dependence.before(place)) {
         return Ok(Resolved::Nothing);
     }
     resolved_at(alloc, stage, declared, kept, place)
@@ -137,11 +165,11 @@ pub fn resolved_at<T: ResourceValues>(
         (environment (entries_view declared.now.variables.now.entries) (names_in declared.now.names.now) (resolved_names_of kept.now))) }
 {
     let scope = NamesScope {
-        variables: declared.variables,
-        names: declared.names,
+        variables: declared.parts.variables,
+        names: declared.parts.names,
         resolved_names: kept,
     };
-    match declared.names.at(place) {
+    match declared.parts.names.at(place) {
         Declaration::Local(_, expr) => evaluated(alloc, expr, &scope),
         Declaration::Resource(addr, block) => {
             let resource = ResourceInScope {

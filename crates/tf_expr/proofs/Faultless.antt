@@ -3,8 +3,8 @@ use Rattle.std.proofs.Common.{◌≡◌, ◌^◌, ℕ, ℤ, pos, negsuc, ◌+◌
 use Rattle.std.specs.Fmt.{decimal}
 use Rattle.serde_json.specs.Data as json
 use Rattle.tf_expr_template.proofs.Alone.{one_template}
-use Rattle.tf_expr_path.proofs.Checks.{AllMet-append, AllMet-left, AllMet-right, IsFirst-unmet}
-use Rattle.tf_expr_path.specs.Check.{Check, IsFirst}
+use Rattle.tf_config_refusal.proofs.Checks.{AllMet-append, AllMet-left, AllMet-right, IsFirst-unmet}
+use Rattle.tf_config_refusal.specs.Check.{Check, IsFirst}
 use Rattle.tf_value.specs.Json.{whole_from}
 use Rattle.tf_value.specs.Known.{known}
 use Rattle.tf_value.specs.Tree as values

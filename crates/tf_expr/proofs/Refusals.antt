@@ -4,9 +4,9 @@ use Rattle.serde_json.proofs.Views.{Entry}
 use Rattle.serde_json.specs.Data.{Data}
 use Rattle.serde_json.specs.View.{view, items_view, members_view}
 use Rattle.serde_json.specs.declared.value.Value.{Value}
-use Rattle.tf_expr_path.proofs.Checks.{IsFirst-left, IsFirst-right}
-use Rattle.tf_expr_path.proofs.Walks.{fails_at, fails_at_item}
-use Rattle.tf_expr_path.specs.Walk.{each, each_item}
+use Rattle.tf_config_refusal.proofs.Checks.{IsFirst-left, IsFirst-right}
+use Rattle.tf_config_refusal.proofs.Walks.{fails_at, fails_at_item}
+use Rattle.tf_config_refusal.specs.Walk.{each, each_item}
 use Rattle.tf_expr.specs.Demand.{Checks, AreMet, IsMet, Fails, Refuses}
 use Rattle.tf_expr.specs.Fault.{Told, no_memory, wrong}
 

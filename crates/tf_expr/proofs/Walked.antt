@@ -7,8 +7,8 @@ use Rattle.serde_json.proofs.Views.{Entry}
 use Rattle.serde_json.specs.Data.{Data, Items, no_items, item, Members, no_members, member}
 use Rattle.serde_json.specs.View.{view, items_view, members_view}
 use Rattle.serde_json.specs.declared.value.Value.{Value}
-use Rattle.tf_expr_path.specs.Check.{demanded}
-use Rattle.tf_expr_path.specs.Walk.{each, each_item}
+use Rattle.tf_config_refusal.specs.Check.{demanded}
+use Rattle.tf_config_refusal.specs.Walk.{each, each_item}
 use Rattle.tf_expr.proofs.Faultless.{items_met, members_met}
 use Rattle.tf_expr.proofs.Refusals.{Refuses-at, Refuses-at_item}
 use Rattle.tf_expr_syntax.proofs.ExprViews.{is_above}

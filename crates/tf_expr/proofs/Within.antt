@@ -1,6 +1,6 @@
 -- The checks of an expression, among those of a larger format.
 use Rattle.std.proofs.Common.{ℕ, List, [], ◌∷◌, inl, inr}
-use Rattle.tf_expr_path.specs.Check.{Check, AllMet, IsFirst}
+use Rattle.tf_config_refusal.specs.Check.{Check, AllMet, IsFirst}
 use Rattle.tf_expr.specs.Demand.{Demand, IsMet, Fails}
 use Rattle.tf_expr.specs.Within.{demanded_as}
 use Rattle.tf_expr.specs.declared.fault.ExprCause.{ExprCause}

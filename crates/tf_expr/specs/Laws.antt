@@ -1,7 +1,7 @@
 -- What holds of expressions and their checks, whatever they are.
 use Rattle.std.specs.Prelude.{◌≡◌, ℕ, List}
 use Rattle.serde_json.specs.Data.{Data}
-use Rattle.tf_expr_path.specs.Check.{IsFirst}
+use Rattle.tf_config_refusal.specs.Check.{IsFirst}
 use Rattle.tf_expr.specs.Demand.{AreMet, IsMet, Fails}
 use Rattle.tf_expr.specs.Reading.{expr_checks, IsExpr}
 use Rattle.tf_expr_syntax.specs.ExprTree.{Tree}

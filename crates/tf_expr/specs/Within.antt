@@ -1,6 +1,6 @@
 -- An expression within a larger format, which has the demands of expressions among its own.
 use Rattle.std.specs.Prelude.{List, [], ◌∷◌}
-use Rattle.tf_expr_path.specs.Check.{Check}
+use Rattle.tf_config_refusal.specs.Check.{Check}
 
 -- the same checks at the same places, each demand as one of the larger format
 abbrev pub demanded_as : {D E : Type 0} → (D → E) → List (Check D) → List (Check E)

@@ -6,15 +6,15 @@ ghost use Rattle.tf_expr.specs.Demand.{Refuses, TellsAt, a_plain_name, a_templat
 ghost use Rattle.tf_expr.specs.Fault.{told};
 ghost use Rattle.tf_expr.specs.Opening.{opens, IsPlain};
 ghost use Rattle.tf_expr_syntax.specs.TemplateTree.{template_view};
-ghost use Rattle.tf_expr_path.specs.Check.{demanded};
-ghost use Rattle.tf_expr_path.specs.Place.{dotted, place_of};
+ghost use Rattle.tf_config_refusal.specs.Check.{demanded};
+ghost use Rattle.tf_config_refusal.specs.Place.{dotted, place_of};
 ghost use Rattle.tf_value.specs.Json.{whole_from};
 ghost use Rattle.tf_value.specs.Tree.{whole};
 
 use crate::fault::{ExprCause, ExprFault};
 use serde_json::Number;
 use std::alloc::Global;
-use tf_expr_path::Path;
+use tf_config_refusal::Path;
 use tf_expr_syntax::Template;
 use tf_expr_template::{ReadFault, read_template};
 

@@ -6,14 +6,14 @@ ghost use Rattle.tf_expr.specs.Demand.{Refuses};
 ghost use Rattle.tf_expr.specs.Fault.{told};
 ghost use Rattle.tf_expr.specs.Reading.{expr_checks, item_checks, member_checks, IsExpr, AreExprs, HoldExprs};
 ghost use Rattle.tf_expr_syntax.specs.ExprTree.{tree_of, trees_view, entries_view};
-ghost use Rattle.tf_expr_path.specs.Place.{place_of};
+ghost use Rattle.tf_config_refusal.specs.Place.{place_of};
 
 use crate::demand::{demand_plain_name, demand_template, demand_whole};
 use crate::fault::ExprFault;
 use serde_json::{Map, Value};
 use std::alloc::Global;
 use std::collections::BTreeMap;
-use tf_expr_path::Path;
+use tf_config_refusal::Path;
 use tf_expr_syntax::Expr;
 
 /// Reads the expression that a JSON tree is: texts are templates no deeper than `MAX_DEPTH`, property names

@@ -1,5 +1,5 @@
 -- What functions answer.
-use Rattle.std.specs.Prelude.{ℕ, ◌+◌, pos, ◌&&◌, List, [], length, is_some, Option, Some, None, Ok, Err}
+use Rattle.std.specs.Prelude.{ℕ, ◌+◌, pos, ◌&&◌, if◌then◌else◌, List, [], length, is_some, Option, Some, None, Ok, Err}
 use Rattle.std.specs.BTreeSet.{insert_key}
 use Rattle.std.specs.Cmp.Lexicographic.{slice_cmp}
 use Rattle.std.specs.Option.{option_map}

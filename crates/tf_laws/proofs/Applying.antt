@@ -4,7 +4,7 @@ use Rattle.tf_laws.proofs.TextsAgain.{saved_text}
 use Rattle.tf_laws.proofs.PlannedOverTexts.{plan_acyclic, reported}
 use Rattle.tf_laws.proofs.Reading.{prior_valid, read_in_order}
 use Rattle.tf_cli.specs.Applies.{IsApplied, state_in}
-use Rattle.tf_cli.specs.declared.applied.Applied.{Applied}
+use Rattle.tf_cli_text.specs.declared.applied.Applied.{Applied}
 use Rattle.tf_config_data.specs.Config.{ConfigView}
 use Rattle.tf_laws.specs.Plans.{AreOne, AreOrderly, PlanTextsAreOne, PlansAreOne}
 use Rattle.tf_laws.specs.Founded.{IsFounded}

@@ -8,7 +8,7 @@ use Rattle.tf_walk_report.specs.declared.diagnostic.Diagnostic.{Diagnostic}
 use Rattle.tf_config_address.specs.ObjectId.{InstanceKeyView}
 use Rattle.tf_laws.proofs.TextsAgain.{good_outcomes, success}
 use Rattle.tf_laws.proofs.PlannedOverTexts.{plan_ranked}
-use Rattle.tf_cli.specs.Shown.{all_good, cant_write, is_empty, is_good_outcome, is_torn}
+use Rattle.tf_cli_text.specs.Shown.{all_good, cant_write, is_empty, is_good_outcome, is_torn}
 use Rattle.tf_config_data.specs.Names.{Meant, NameView, a_block, a_local, directly_before, meant_at, places}
 use Rattle.tf_laws.specs.Reapply.{IsValued}
 use Rattle.tf_expand.proofs.Places.{all_places, along, names_stay}

@@ -12,7 +12,7 @@ use Rattle.tf_config.specs.Reading.{IsTree}
 use Rattle.tf_expr.specs.Demand as expr
 use Rattle.tf_expr.specs.Opening.{IsPlain, OpensAt, opens}
 use Rattle.tf_expr.specs.declared.fault.ExprCause.TheVariants.{BadShape, TooDeep}
-use Rattle.tf_expr_path.specs.Check.{AllMet, Check, IsFirst}
+use Rattle.tf_config_refusal.specs.Check.{AllMet, Check, IsFirst}
 use Rattle.tf_expr.specs.Refusing.{way_of}
 use Rattle.tf_config_refusal.specs.Refusal.{DetailView, fault, no_memory, Way}
 use Rattle.tf_expr_syntax.specs.TemplateTree.{Woven, template_depth}

@@ -9,8 +9,8 @@ use Rattle.tf_config_data.specs.Config.{ConfigView, VariableView}
 use Rattle.tf_config_data.specs.Names.{NameView, names_of}
 use Rattle.tf_graph.proofs.Edges.{contains_head}
 use Rattle.tf_cli_inputs.specs.Texts.{AreNamesGood, AreTheValues, IsRead}
-use Rattle.tf_expr_path.proofs.Checks.{IsFirst-unmet}
-use Rattle.tf_expr_path.specs.Check.{AllMet}
+use Rattle.tf_config_refusal.proofs.Checks.{IsFirst-unmet}
+use Rattle.tf_config_refusal.specs.Check.{AllMet}
 use Rattle.tf_config_names.specs.Cyclic.{RefusesCycle}
 use Rattle.tf_config_names.specs.Judging.{RefusesItsNames}
 use Rattle.tf_config_names.specs.KnownNames.{AreKnown, IsKnown, IsUnknown, RefusesNames, config_checks, declared_in}

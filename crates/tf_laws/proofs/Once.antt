@@ -17,8 +17,8 @@ use Rattle.tf_config_data.specs.Names.{NameView, names_of}
 use Rattle.tf_expr.specs.Demand as expr
 use Rattle.tf_cli_inputs.specs.Refusals.{fault_told}
 use Rattle.tf_cli_inputs.specs.Texts.{Texts}
-use Rattle.tf_expr_path.proofs.Checks.{AllMet-append, IsFirst-same, IsFirst-unmet}
-use Rattle.tf_expr_path.specs.Check.{AllMet, IsFirst}
+use Rattle.tf_config_refusal.proofs.Checks.{AllMet-append, IsFirst-same, IsFirst-unmet}
+use Rattle.tf_config_refusal.specs.Check.{AllMet, IsFirst}
 use Rattle.tf_config_names.specs.Cyclic.{RefusesCycle}
 use Rattle.tf_config_names.specs.Judging.{RefusesItsNames}
 use Rattle.tf_config_names.specs.KnownNames.{Declared, IsKnown, IsUnknown, NameChecks, RefusesNames, config_checks, declared_in}

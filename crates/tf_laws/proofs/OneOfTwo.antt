@@ -3,7 +3,7 @@ use Rattle.std.proofs.Common.{◌≡◌, ◌⊎◌, ℕ, Bool, true, false, List
 use Rattle.tf_config.specs.Demand.{Checks}
 use Rattle.tf_config.specs.Laws.{NamesAreFew}
 use Rattle.tf_cli_inputs.specs.Texts.{Texts}
-use Rattle.tf_expr_path.specs.Check.{AllMet}
+use Rattle.tf_config_refusal.specs.Check.{AllMet}
 use Rattle.tf_laws.specs.Plans.{PlannedOrRefused}
 use Rattle.tf_provider_protocol.specs.Meaning.{Meaning}
 use Rattle.tf_config_refusal.specs.Refusal.{workers}

@@ -2,7 +2,7 @@
 use Rattle.std.proofs.Common.{◌≡◌, ℕ, List, [], ◌∷◌, Ok, String, Global, inl, inr, subst, string_bytes}
 use Rattle.tf_cli.specs.Applies.{IsApplied, state_in}
 use Rattle.tf_cli.specs.Refusals.{IsPlanRefused, IsRefusedAlone}
-use Rattle.tf_cli.specs.declared.applied.Applied.{Applied}
+use Rattle.tf_cli_text.specs.declared.applied.Applied.{Applied}
 use Rattle.tf_config.specs.Laws.{RefusedIsNotRead}
 use Rattle.tf_config_data.specs.Config.{ConfigView}
 use Rattle.tf_config_data.specs.Names.{names_of}

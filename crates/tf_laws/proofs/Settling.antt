@@ -6,8 +6,8 @@ use Rattle.tf_laws.proofs.Reading.{one_config, one_values, prior_valid}
 use Rattle.tf_laws.proofs.Schemas.{schemas_in}
 use Rattle.tf_laws.specs.ReapplyTexts.{HaveSchemas, over}
 use Rattle.tf_cli.specs.Applies.{IsApplied, state_in}
-use Rattle.tf_cli.specs.Shown.{applied_status}
-use Rattle.tf_cli.specs.declared.applied.Applied.{Applied}
+use Rattle.tf_cli_text.specs.Shown.{applied_status}
+use Rattle.tf_cli_text.specs.declared.applied.Applied.{Applied}
 use Rattle.tf_config_data.specs.Config.{ConfigView}
 use Rattle.tf_laws.proofs.Whole.{carried_out}
 use Rattle.tf_laws.specs.Reapply.{IsCarriedOut, IsSound}

@@ -6,8 +6,8 @@ use Rattle.std.specs.Prelude.{IfOk, is_err}
 use Rattle.std.specs.Str.{IsUtf8}
 use Rattle.std.specs.declared.alloc.AllocError.{AllocError}
 use Rattle.tf_cli.specs.Applies.{IsApplied, IsPlanOf, IsPlanText, state_in}
-use Rattle.tf_cli.specs.Shown.{all_good, cant_write, is_empty, is_good_outcome, is_torn}
-use Rattle.tf_cli.specs.declared.applied.Applied.{Applied}
+use Rattle.tf_cli_text.specs.Shown.{all_good, cant_write, is_empty, is_good_outcome, is_torn}
+use Rattle.tf_cli_text.specs.declared.applied.Applied.{Applied}
 use Rattle.tf_laws.specs.Quiet.{IsRenewed, QuietAppliesKeepObjects}
 use Rattle.tf_cli_inputs.specs.Texts.{Texts}
 use Rattle.tf_walk_action.specs.Outcome.{ActionResultView}

@@ -13,8 +13,8 @@ use Rattle.tf_config_data.specs.Config.{ConfigView, VariableView}
 use Rattle.tf_config_data.specs.Names.{names_of}
 use Rattle.tf_cli_inputs.specs.Refusals.{HasFault, IsToldOf, IsToldOfState, at_state}
 use Rattle.tf_cli_inputs.specs.Texts.{AreNamesGood, AreTheValues, IsPrior, IsRead, Texts}
-use Rattle.tf_expr_path.specs.Check.{AllMet}
-use Rattle.tf_expr_path.specs.Place.{dotted}
+use Rattle.tf_config_refusal.specs.Check.{AllMet}
+use Rattle.tf_config_refusal.specs.Place.{dotted}
 use Rattle.tf_config_names.specs.Judging.{AllAreKnown, RefusesItsNames}
 use Rattle.tf_config_names.specs.KnownNames.{Declared, IsKnown, IsUnknown, NameDemand, config_checks, declared_in, holds, unknown_name}
 use Rattle.tf_config_names.specs.Needs.{AreCyclic}

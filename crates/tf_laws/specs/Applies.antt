@@ -2,7 +2,7 @@
 use Rattle.std.specs.Prelude.{◌≡◌, List, ℕ, Ok, String, string_bytes}
 use Rattle.std.specs.declared.alloc.Global.{Global}
 use Rattle.tf_cli.specs.Applies.{IsApplied}
-use Rattle.tf_cli.specs.declared.applied.Applied.{Applied}
+use Rattle.tf_cli_text.specs.declared.applied.Applied.{Applied}
 use Rattle.tf_cli_inputs.specs.Texts.{Texts}
 use Rattle.tf_laws.specs.One.{TellTheSame}
 use Rattle.tf_provider_protocol.specs.Meaning.{Meaning}

@@ -7,8 +7,8 @@ use Rattle.tf_config_address.specs.ResourceAddr.{ResourceAddrView}
 use Rattle.tf_config_address.specs.ObjectId.{ObjectIdView}
 use Rattle.tf_cli.specs.Applies.{IsApplied, IsPlanText, state_in}
 use Rattle.tf_cli.specs.Refusals.{AreRefusals}
-use Rattle.tf_cli.specs.Shown.{applied_status, is_torn}
-use Rattle.tf_cli.specs.declared.applied.Applied.{Applied}
+use Rattle.tf_cli_text.specs.Shown.{applied_status, is_torn}
+use Rattle.tf_cli_text.specs.declared.applied.Applied.{Applied}
 use Rattle.tf_config_data.specs.Config.{ConfigView}
 use Rattle.tf_config_data.specs.Names.{names_of}
 use Rattle.tf_laws.specs.Quiet.{IsRenewed}

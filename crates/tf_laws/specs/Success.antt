@@ -4,8 +4,8 @@ use Rattle.std.specs.List.{AllByRecursion}
 use Rattle.std.specs.declared.alloc.Global.{Global}
 use Rattle.tf_laws.specs.ReapplyTexts.{HaveSchemas, WentWell, over}
 use Rattle.tf_cli.specs.Applies.{IsApplied, state_in}
-use Rattle.tf_cli.specs.Shown.{applied_status, is_torn}
-use Rattle.tf_cli.specs.declared.applied.Applied.{Applied}
+use Rattle.tf_cli_text.specs.Shown.{applied_status, is_torn}
+use Rattle.tf_cli_text.specs.declared.applied.Applied.{Applied}
 use Rattle.tf_laws.specs.Reapply.{IsValued}
 use Rattle.tf_laws.specs.Twice.{HasToldSerial, without_flags}
 use Rattle.tf_cli_inputs.specs.Texts.{Texts}

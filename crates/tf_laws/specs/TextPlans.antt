@@ -2,7 +2,7 @@
 use Rattle.std.specs.Prelude.{◌≡◌, ℕ, List, string_bytes}
 use Rattle.tf_cli.specs.Applies.{IsApplied, IsPlanOf, IsPlanText}
 use Rattle.tf_cli.specs.Refusals.{IsPlanRefused}
-use Rattle.tf_cli.specs.declared.applied.Applied.{Applied}
+use Rattle.tf_cli_text.specs.declared.applied.Applied.{Applied}
 use Rattle.tf_cli_inputs.specs.Texts.{Texts}
 use Rattle.tf_laws.specs.Plans.{AreOne}
 use Rattle.tf_laws.specs.Readings.{without_lineage}

@@ -1,7 +1,6 @@
 -- What is planned, without where it lies in memory.
 use Rattle.std.specs.Prelude.{◌≡◌, List}
 use Rattle.tf_config_data.specs.Names.{NameView}
-use Rattle.tf_config_names.specs.Needs.{IsAcyclic, IsDependence}
 use Rattle.tf_config_names.specs.Table.{names_in}
 use Rattle.tf_plan.specs.declared.deciding.PlanInput.{PlanInput}
 use Rattle.tf_plan_order.specs.ResourceIndex.{numbered}
@@ -27,10 +26,7 @@ outputs_given g = expr.entries_view g.outputs.now.entries
 abbrev pub resources_given : PlanInput → List ResourceView
 resources_given g = (state_of g.prior.now).resources
 
--- The parts belong together: it is told which name needs which, none needs itself, and the names and the resources of the
--- prior state are numbered together.
+-- The parts belong together: the names and the resources of the prior state are numbered together.
 pub record IsGiven (g : PlanInput) : Type 0 where
-  pub dependence : IsDependence (names_given g) g.declared.now.dependence.now
-  pub acyclic : IsAcyclic g.declared.now.dependence.now
   pub numbered : numbered_in g.resource_index.now ≡ numbered (names_given g) (resources_given g)
   pub resources : resources_in g.resource_index.now ≡ resources_given g

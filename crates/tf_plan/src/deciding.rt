@@ -57,6 +57,8 @@ pub(crate) fn plan_instances(
     ensures { IfOk result (λ planned. IsPlanned (map meaning providers.now) (resources_given given.now) (variables_given given.now) (names_given given.now) (outputs_given given.now)
         (shapes_of shapes.now) (planned_of planned)) }
 {
+    let declared = given.declared;
+    let _ = &declared.parts;
     let looked = look_at_names(alloc, given, shapes, providers)?;
     let places = address_order(alloc, given.resource_index)?;
     plan_places(alloc, given, providers, looked, places.as_slice())
@@ -77,6 +79,8 @@ fn look_at_names(
     ensures rows { IfOk result (λ looked. AreDecided (map meaning providers.now) (resources_given given.now) (variables_given given.now) (names_given given.now) (shapes_of shapes.now)
         (order_in given.now.declared.now.dependence.now) (rows_of looked.rows.items)) }
 {
+    let declared = given.declared;
+    let _ = &declared.parts;
     let stage = PlannedValues {
         shapes,
         state: given.prior,

@@ -2,7 +2,7 @@
 
 ghost use Rattle.std.specs.List.{list_all, list_any};
 ghost use Rattle.std.specs.Prelude.{◌≡◌, ◌≤◌, IfOk, IfErr, false, length, map, slice_index_or};
-ghost use Rattle.tf_plan_data.specs.Words.{action_of, AreSound, IsAcyclic, IsDependence, names_in, needs_in, numbered, numbered_in, ordered, resources_in};
+ghost use Rattle.tf_plan_data.specs.Words.{action_of, AreSound, names_in, needs_in, numbered, numbered_in, ordered, resources_in};
 ghost use Rattle.tf_plan.specs.Ordered.{IsOrdered, action_pairs, by_needs, is_applied, max_pairs, ties_by};
 ghost use Rattle.tf_plan.specs.Refused.{AreManyPairsBy, HasManyPairs, Tells};
 
@@ -31,8 +31,6 @@ pub(crate) fn order_actions(
     resource_index: &ResourceIndex<'_>,
     actions: &[Action],
 ) -> Result<Ordered, Refused>
-    requires dependence { IsDependence (names_in declared.now.names.now) declared.now.dependence.now }
-    requires acyclic { IsAcyclic declared.now.dependence.now }
     requires numbered { numbered_in resource_index.now ≡ numbered (names_in declared.now.names.now) (resources_in resource_index.now) }
     requires few_numbers { length (numbered_in resource_index.now) ≤ MAX_NODES }
     requires few { length actions.now ≤ MAX_NODES }
@@ -42,14 +40,14 @@ pub(crate) fn order_actions(
 {
     let marked = resource_index.marked(alloc)?;
     if are_applied(actions) && !is_any_marked(marked.as_slice()) {
-        return order_applied(alloc, declared.dependence, marked, actions);
+        return order_applied(alloc, declared.parts.dependence, marked, actions);
     }
     let stored = resource_index.stored(alloc)?;
-    let needs = declared.dependence.graph();
+    let needs = declared.parts.dependence.graph();
     let late = lateness(alloc, needs, stored.graph(), marked.as_slice())?;
     let order = order_by(
         alloc,
-        declared.dependence,
+        declared.parts.dependence,
         &stored,
         late.as_slice(),
         actions,

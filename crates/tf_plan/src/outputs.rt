@@ -43,13 +43,13 @@ fn add_output(
     ensures { OnOk result (map refusal_of refusals.new.items ≡ map refusal_of refusals.old.items
         ++ output_refusal (entries_view declared.now.variables.now.entries) (names_in declared.now.names.now) (resolved_names_of kept.now) name.now (tree_of expr.now)) }
 {
-    let named = declared.names.named_in(alloc, expr)?;
+    let named = declared.parts.names.named_in(alloc, expr)?;
     if !all_stand(kept, named.as_slice()) {
         return Ok(());
     }
     let scope = NamesScope {
-        variables: declared.variables,
-        names: declared.names,
+        variables: declared.parts.variables,
+        names: declared.parts.names,
         resolved_names: kept,
     };
     match find_expr(alloc, expr, &scope) {

@@ -15,7 +15,7 @@ use std::alloc::Global;
 use std::collections::BTreeMap;
 use tf_config_data::Config;
 use tf_config_names::{Declarations, Dependence};
-use tf_expand::{InstanceKeys, Module, expand};
+use tf_expand::{InstanceKeys, Module, ModuleParts, expand};
 use tf_graph::MAX_NODES;
 use tf_plan_data::{Action, Plan, Planned};
 use tf_plan_order::{Order, ResourceIndex};
@@ -112,9 +112,11 @@ fn plan_parts<'a>(
     let names = Declarations::new(alloc, config, dependence)?;
     let resource_index = ResourceIndex::new(alloc, &names, prior)?;
     let declared = Module {
-        variables,
-        names: &names,
-        dependence,
+        parts: ModuleParts {
+            variables,
+            names: &names,
+            dependence,
+        },
     };
     let given = PlanInput {
         declared: &declared,
@@ -156,15 +158,14 @@ fn plan_given(
 
 /// How the instances of each resource stand together, or the refusal of that.
 fn expanded(alloc: Global, declared: &Module) -> Result<Vec<InstanceKeys>, Refused>
-    requires dependence { IsDependence (names_in declared.now.names.now) declared.now.dependence.now }
-    requires acyclic { IsAcyclic declared.now.dependence.now }
     ensures instances { IfOk result (λ shapes. AreInstances (entries_view declared.now.variables.now.entries) (names_in declared.now.names.now) (shapes_of shapes.items)) }
     ensures refused { IfErr result (Tells (AreUnexpanded (entries_view declared.now.variables.now.entries) (names_in declared.now.names.now))) }
 {
+    let _ = &declared.parts;
     match expand(alloc, declared) {
         Ok(shapes) => Ok(shapes),
         Err(fault) => {
-            let refusal = expansion_refusal(alloc, declared.names, fault)?;
+            let refusal = expansion_refusal(alloc, declared.parts.names, fault)?;
             Err(alone(alloc, refusal)?)
         }
     }

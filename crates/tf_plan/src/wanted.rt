@@ -3,7 +3,7 @@
 ghost use Rattle.std.specs.List.{AllByRecursion};
 ghost use Rattle.std.specs.Prelude.{◌≡◌, ◌<◌, ◌↔◌, ◌||◌, ◌⊎◌, ℕ, IfOk, true, false, length, replicate, Contains};
 ghost use Rattle.tf_config_data.specs.Names.{places};
-ghost use Rattle.tf_plan_data.specs.Words.{IsDependence, names_in};
+ghost use Rattle.tf_plan_data.specs.Words.{names_in};
 ghost use Rattle.tf_graph.specs.NodeSet.{has};
 ghost use Rattle.tf_plan.specs.Wanted.{IsNamed, IsWanted};
 ghost use Rattle.tf_expr_syntax.specs.ExprNames.{named_below};
@@ -21,15 +21,14 @@ pub(crate) fn wanted_names(
     declared: &Module,
     outputs: &BTreeMap<String, Expr>,
 ) -> Result<Vec<bool>, AllocError>
-    requires { IsDependence (names_in declared.now.names.now) declared.now.dependence.now }
     ensures { IfOk result (λ wanted. (n : ℕ) → n < length (names_in declared.now.names.now)
         → (has wanted.items n ≡ true) ↔ IsWanted (names_in declared.now.names.now) declared.now.dependence.now (entries_view outputs.now.entries) n) }
 {
     let by_resources = needed_by_resources(alloc, declared)?;
-    let named = named_by_outputs(alloc, declared.names, outputs)?;
-    let by_named = needed_by(alloc, declared.dependence, named.as_slice())?;
-    let mut wanted = Vec::with_capacity(alloc, declared.names.len())?;
-    for place in 0..declared.names.len() {
+    let named = named_by_outputs(alloc, declared.parts.names, outputs)?;
+    let by_named = needed_by(alloc, declared.parts.dependence, named.as_slice())?;
+    let mut wanted = Vec::with_capacity(alloc, declared.parts.names.len())?;
+    for place in 0..declared.parts.names.len() {
         wanted.push(is_either(
             by_resources.as_slice(),
             named.as_slice(),

@@ -1,22 +1,27 @@
 -- What is looked at at one place.
-use Rattle.std.proofs.Common.{◌≡◌, ℕ, Bool, true, false, if◌then◌else◌, List, Option, Some, None, option_map, refl, sym, ap, ◌∙◌, arith}
+use Rattle.std.proofs.Common.{◌≡◌, ℕ, Bool, true, false, if◌then◌else◌, List, Option, Some, None, Result, IfOk, option_map, refl, sym, ap, ◌∙◌, arith}
 use Rattle.std.proofs.Math.ListN.{get_or-map}
 use Rattle.std.specs.Borrow.{Bor}
 use Rattle.std.specs.Option.{unwrap_or}
 use Rattle.std.specs.Slice.{IsItemAt}
-use Rattle.tf_config_data.specs.Names.{NameView, Meant, a_local, a_block, directly_before}
+use Rattle.std.specs.declared.alloc.AllocError.{AllocError}
+use Rattle.tf_config_data.specs.Names.{NameView, Meant, a_local, a_block, directly_before, meant_at}
+use Rattle.tf_config_names.specs.Table.{names_in}
 use Rattle.tf_expand.specs.InstanceKeys.{InstanceKeysView}
-use Rattle.tf_expand.specs.Resolved.{ResolvedView, all_stand, environment}
-use Rattle.tf_expand.specs.Views.{shape_of, shapes_of}
+use Rattle.tf_expand.specs.Resolved.{ResolvedView, all_stand, environment, stands_at, where_all}
+use Rattle.tf_expand.specs.Views.{resolved_of, shape_of, shapes_of}
 use Rattle.tf_expand.specs.Words.{seen_by}
 use Rattle.tf_expand.specs.declared.shape.InstanceKeys.{InstanceKeys}
 use Rattle.tf_expand.specs.declared.shape.InstanceKeys.TheVariants.{One}
-use Rattle.tf_plan_decision.specs.Deciding.{with_block}
+use Rattle.tf_expand.specs.declared.table.ModuleParts.{ModuleParts}
+use Rattle.tf_plan_decision.specs.Deciding.{decided_of, with_block}
 use Rattle.tf_plan_decision.specs.Rows.{row}
+use Rattle.tf_plan_decision.specs.Stage.{deciding}
 use Rattle.tf_plan_decision.specs.Whole.{nothing_decided}
+use Rattle.tf_plan_decision.specs.declared.planned_values.Looked.{Looked}
 use Rattle.tf_provider_protocol.specs.Meaning.{Meaning}
 use Rattle.tf_state_data.specs.Resource.{ResourceView}
-use Rattle.tf_value.specs.Tree.{Entries}
+use Rattle.tf_value.specs.Tree.{Entries, entries_view}
 
 -- how the instances of a resource stand together, by what is found at its place
 pub shape_found : (shapes : List InstanceKeys) (p : ℕ) (found is : Option (Bor InstanceKeys)) → IsItemAt shapes p found → found ≡ is → shapes_of shapes p ≡ shape_of (unwrap_or (option_map (λ (b : Bor InstanceKeys). b.now) is) One)
@@ -35,3 +40,11 @@ nothing_in_row ms resources variables names shapes kept p None refused = refl
 nothing_in_row ms resources variables names shapes kept p (Some (a_local e)) refused = refl
 nothing_in_row ms resources variables names shapes kept p (Some (a_block block)) refused =
     ap (λ (all : Bool). if all then with_block ms resources p block (environment variables names kept) (shapes p) nothing_decided else nothing_decided) (sym refused)
+
+-- what is found of the name at a place of a module
+pub record IsLooked (ms : List Meaning) (resources : List ResourceView) (shapes : ℕ → InstanceKeysView) (kept : ℕ → ResolvedView) (p : ℕ) (is_wanted : Bool) (result : Result Looked AllocError) (m : ModuleParts) : Type 0 where
+  pub resolved : IfOk result (λ looked. resolved_of looked.resolved ≡ (if is_wanted
+      then where_all (all_stand (seen_by kept (directly_before (names_in m.names.now) p)))
+      (stands_at (deciding ms resources shapes) p (meant_at (names_in m.names.now) p) (environment (entries_view m.variables.now.entries) (names_in m.names.now) kept))
+      else None))
+  pub decided : IfOk result (λ looked. decided_of looked.decided ≡ row ms resources (entries_view m.variables.now.entries) (names_in m.names.now) shapes kept p (meant_at (names_in m.names.now) p))

@@ -7,7 +7,7 @@ ghost use Rattle.tf_plan_decision.specs.Rows.{AreDecided, AreOnce, gathered, Nee
 ghost use Rattle.tf_plan_decision.specs.Stage.{deciding};
 ghost use Rattle.tf_expand.specs.Kept.{AreClosed};
 ghost use Rattle.tf_expand.specs.Resolved.{all_stand as all_that_stand, stands_at, where_all};
-ghost use Rattle.tf_expand.specs.Words.{entries_view, environment, has, AreResolved, IsDependence, IsInOrder, names_in, order_in, seen_by, shapes_of, resolved_of, resolved_names_of};
+ghost use Rattle.tf_expand.specs.Words.{entries_view, environment, has, AreResolved, IsInOrder, names_in, order_in, seen_by, shapes_of, resolved_of, resolved_names_of};
 ghost use Rattle.tf_expr_eval.specs.ExprMeaning.{meaning as meaning_of};
 ghost use Rattle.tf_expr_syntax.specs.ExprTree.{tree_of};
 ghost use Rattle.tf_plan_decision.specs.Whole.{nothing_decided};
@@ -50,7 +50,6 @@ pub fn decide_in_order(
     declared: &Module,
     wanted: &[bool],
 ) -> Result<InOrder, AllocError>
-    requires dependence { IsDependence (names_in declared.now.names.now) declared.now.dependence.now }
     requires closed { AreClosed (names_in declared.now.names.now) wanted.now }
     requires needed { NeedsAreWanted (names_in declared.now.names.now) wanted.now }
     ensures resolved_names { IfOk result (λ r. AreResolved (deciding (map meaning stage.now.providers.now) (state_of stage.now.state.now).resources (shapes_of stage.now.shapes.now))
@@ -58,7 +57,13 @@ pub fn decide_in_order(
     ensures rows { IfOk result (λ r. AreDecided (map meaning stage.now.providers.now) (state_of stage.now.state.now).resources (entries_view declared.now.variables.now.entries)
         (names_in declared.now.names.now) (shapes_of stage.now.shapes.now) (order_in declared.now.dependence.now) (rows_of r.rows.items)) }
 {
-    decide_along(alloc, stage, declared, declared.dependence.order(), wanted)
+    decide_along(
+        alloc,
+        stage,
+        declared,
+        declared.parts.dependence.order(),
+        wanted,
+    )
 }
 
 /// The same, of the names in a list in which each stands after all that it needs.
@@ -69,7 +74,6 @@ fn decide_along(
     order: &[usize],
     wanted: &[bool],
 ) -> Result<InOrder, AllocError>
-    requires dependence { IsDependence (names_in declared.now.names.now) declared.now.dependence.now }
     requires order { IsInOrder (directly_before (names_in declared.now.names.now)) order.now }
     requires within { (n : ℕ) → Contains order.now n → n < length (names_in declared.now.names.now) }
     requires closed { AreClosed (names_in declared.now.names.now) wanted.now }
@@ -79,8 +83,8 @@ fn decide_along(
     ensures rows { IfOk result (λ r. AreDecided (map meaning stage.now.providers.now) (state_of stage.now.state.now).resources (entries_view declared.now.variables.now.entries)
         (names_in declared.now.names.now) (shapes_of stage.now.shapes.now) order.now (rows_of r.rows.items)) }
 {
-    let mut kept = unresolved_names(alloc, declared.names.len())?;
-    let mut rows = no_rows(alloc, declared.names.len())?;
+    let mut kept = unresolved_names(alloc, declared.parts.names.len())?;
+    let mut rows = no_rows(alloc, declared.parts.names.len())?;
     for place in order {
         let is_wanted = is_marked(wanted, *place);
         let looked = look_at(alloc, stage, declared, kept.as_slice(), *place, is_wanted)?;
@@ -116,7 +120,6 @@ fn look_at(
     is_wanted: bool,
 ) -> Result<Looked, AllocError>
     requires place { place < length (names_in declared.now.names.now) }
-    requires dependence { IsDependence (names_in declared.now.names.now) declared.now.dependence.now }
     ensures resolved { IfOk result (λ looked. resolved_of looked.resolved ≡ (if is_wanted
         then where_all (all_that_stand (seen_by (resolved_names_of kept.now) (directly_before (names_in declared.now.names.now) place)))
         (stands_at (deciding (map meaning stage.now.providers.now) (state_of stage.now.state.now).resources (shapes_of stage.now.shapes.now)) place (meant_at (names_in declared.now.names.now) place)
@@ -126,15 +129,15 @@ fn look_at(
         ≡ row (map meaning stage.now.providers.now) (state_of stage.now.state.now).resources (entries_view declared.now.variables.now.entries) (names_in declared.now.names.now)
         (shapes_of stage.now.shapes.now) (resolved_names_of kept.now) place (meant_at (names_in declared.now.names.now) place)) }
 {
-    if !all_stand(kept, declared.dependence.before(place)) {
+    if !all_stand(kept, declared.parts.dependence.before(place)) {
         return Ok(nothing_looked_at(alloc));
     }
     let scope = NamesScope {
-        variables: declared.variables,
-        names: declared.names,
+        variables: declared.parts.variables,
+        names: declared.parts.names,
         resolved_names: kept,
     };
-    match declared.names.at(place) {
+    match declared.parts.names.at(place) {
         Declaration::Local(_, expr) => look_at_local(alloc, expr, &scope, is_wanted),
         Declaration::Resource(addr, block) => {
             let resource = ResourceInScope {

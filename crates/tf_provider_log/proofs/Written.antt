@@ -7,7 +7,7 @@ use Rattle.serde_json.specs.declared.value.Value.{Value as Json}
 use Rattle.tf_value.specs.Tree.{tree_of, items_view, entries_view}
 use Rattle.tf_value.specs.declared.value.Value.{Value}
 use Rattle.tf_value.proofs.JsonForms.{listed}
-use Rattle.tf_value.proofs.Views.{LogEntry}
+use Rattle.tf_value.proofs.Views.{Entry}
 use Rattle.tf_provider_log.specs.Form.{value_form, items_form, members_form}
 
 written_items-is : (vs : List Value) → json_items_of (each (λ v. value_form (tree_of v)) vs) ≡ items_form (items_view vs)
@@ -19,9 +19,9 @@ pub written_all_items : (vs : List Value) (n : ℕ) (js : List Json) → length 
 written_all_items vs n js all is = ap json_items_of is ∙ rw (take_all n vs all) (written_items-is vs)
 
 -- the members that the entries of a `BTreeMap<String, Value>` are written as
-abbrev pub written_members : List LogEntry → json.Members
+abbrev pub written_members : List Entry → json.Members
 written_members = listed (λ v. value_form (tree_of v))
 
-pub written_members-is : (es : List LogEntry) → written_members es ≡ members_form (entries_view es)
+pub written_members-is : (es : List Entry) → written_members es ≡ members_form (entries_view es)
 written_members-is [] = refl
 written_members-is (e ∷ es) = rw (written_members-is es)

@@ -10,7 +10,7 @@ use crate::fitting::demand_fit;
 use std::alloc::Global;
 use std::sync::Wait;
 use tf_config_names::Declarations;
-use tf_expand::Module;
+use tf_expand::{Module, ModuleParts};
 use tf_plan_data::Plan;
 use tf_provider::{Journal, Provider};
 use tf_walk_action::ActionResult;
@@ -44,9 +44,11 @@ pub(crate) fn report_walk<N: WalkBrand, R: Wait>(
     cells.take_out(&mut results);
     demand_fit(rt, plan.order.graph(), &results);
     let declared = Module {
-        variables: &plan.variables,
-        names,
-        dependence: &plan.dependence,
+        parts: ModuleParts {
+            variables: &plan.variables,
+            names,
+            dependence: &plan.dependence,
+        },
     };
     let report = report_of(alloc, plan, &declared, providers, buffers, results, journal);
     settle(plan, report)

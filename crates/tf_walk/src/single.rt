@@ -9,7 +9,7 @@ ghost use Rattle.tf_walk.specs.Prepared.{IsPrepared};
 use crate::prepared::{Prepared, prepare};
 use std::alloc::{AllocError, Global};
 use tf_config_refusal::Refusal;
-use tf_expand::Module;
+use tf_expand::{Module, ModuleParts};
 use tf_plan_data::{Plan, Planned};
 use tf_provider::Provider;
 use tf_walk_action::Stop;
@@ -75,9 +75,11 @@ fn carry_out(
     );
     let _entries = journal.entries();
     let declared = Module {
-        variables: &plan.variables,
-        names: &names,
-        dependence: &plan.dependence,
+        parts: ModuleParts {
+            variables: &plan.variables,
+            names: &names,
+            dependence: &plan.dependence,
+        },
     };
     report_of(alloc, plan, &declared, providers, buffers, results, journal)
 }

@@ -8,7 +8,7 @@ use crate::requests::request;
 use crate::results::Results;
 use std::alloc::{AllocError, Global};
 use tf_config_names::{Declaration, Declarations};
-use tf_expand::{Module, Resolved};
+use tf_expand::{Module, ModuleParts, Resolved};
 use tf_plan_data::{Action, Plan};
 use tf_plan_object::{InstanceFault, kept_object};
 use tf_provider_protocol::Schema;
@@ -44,9 +44,11 @@ impl<R: Results> Task<'_, '_, R> {
     {
         let action = self.action;
         let declared = Module {
-            variables: &self.plan.variables,
-            names: self.names,
-            dependence: &self.plan.dependence,
+            parts: ModuleParts {
+                variables: &self.plan.variables,
+                names: self.names,
+                dependence: &self.plan.dependence,
+            },
         };
         let shapes = self.plan.shapes.as_slice();
         request(

@@ -1,7 +1,7 @@
 //! What outputs are after an apply.
 
 ghost use Rattle.std.specs.Prelude.{IfOk};
-ghost use Rattle.tf_expand.specs.Words.{Answers, entries_view, IsAcyclic, IsDependence, meaning, names_in, shapes_of, resolved_names_of};
+ghost use Rattle.tf_expand.specs.Words.{Answers, entries_view, meaning, names_in, shapes_of, resolved_names_of};
 ghost use Rattle.tf_expr_syntax.specs.ExprTree.{tree_of};
 ghost use Rattle.tf_walk_action.specs.Requests.{AreResolvedSoFar, IsOutput, without_sets};
 
@@ -32,8 +32,6 @@ pub fn output_value<R: Results>(
     results: &R,
     kept: &mut Vec<Resolved>,
 ) -> Result<Result<Value, EvalFault>, AllocError>
-    requires dependence { IsDependence (names_in declared.now.names.now) declared.now.dependence.now }
-    requires acyclic { IsAcyclic declared.now.dependence.now }
     requires answered { AreResolvedSoFar (entries_view declared.now.variables.now.entries) (names_in declared.now.names.now)
         (shapes_of shapes.now) (R.objects results.now) (resolved_names_of kept.old.items) }
     ensures output { IfOk result (λ output. IsOutput (entries_view declared.now.variables.now.entries) (names_in declared.now.names.now)
@@ -41,11 +39,11 @@ pub fn output_value<R: Results>(
     ensures answered { AreResolvedSoFar (entries_view declared.now.variables.now.entries) (names_in declared.now.names.now)
         (shapes_of shapes.now) (R.objects results.now) (resolved_names_of kept.new.items) }
 {
-    let named = declared.names.named_in(alloc, expr)?;
+    let named = declared.parts.names.named_in(alloc, expr)?;
     add_resolved_names(alloc, declared, shapes, named.as_slice(), results, kept)?;
     let scope = NamesScope {
-        variables: declared.variables,
-        names: declared.names,
+        variables: declared.parts.variables,
+        names: declared.parts.names,
         resolved_names: kept.as_slice(),
     };
     listed_value(alloc, expr, &scope)

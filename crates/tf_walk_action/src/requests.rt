@@ -1,7 +1,7 @@
 //! What is asked of a provider for an instance.
 
 ghost use Rattle.std.specs.Prelude.{◌≡◌, true, IfOk};
-ghost use Rattle.tf_expand.specs.Words.{entries_view, instance_key_of, IsAcyclic, IsDependence, meant_at, names_in, shapes_of, resolved_names_of, tree_of};
+ghost use Rattle.tf_expand.specs.Words.{entries_view, instance_key_of, meant_at, names_in, shapes_of, resolved_names_of, tree_of};
 ghost use Rattle.tf_plan_object.specs.Bounded.{has_planned_attributes};
 ghost use Rattle.tf_plan_object.specs.Instance.{instance_of};
 ghost use Rattle.tf_walk_action.specs.Requests.{AreResolvedSoFar, IsRequest, is_resource};
@@ -38,8 +38,6 @@ pub(crate) fn request<R: Results>(
     results: &R,
     kept: &mut Vec<Resolved>,
 ) -> Result<Result<Value, InstanceFault>, AllocError>
-    requires dependence { IsDependence (names_in declared.now.names.now) declared.now.dependence.now }
-    requires acyclic { IsAcyclic declared.now.dependence.now }
     requires resource { is_resource (meant_at (names_in declared.now.names.now) place) ≡ true }
     requires answered { AreResolvedSoFar (entries_view declared.now.variables.now.entries) (names_in declared.now.names.now)
         (shapes_of shapes.now) (R.objects results.now) (resolved_names_of kept.old.items) }
@@ -49,14 +47,14 @@ pub(crate) fn request<R: Results>(
     ensures answered { AreResolvedSoFar (entries_view declared.now.variables.now.entries) (names_in declared.now.names.now)
         (shapes_of shapes.now) (R.objects results.now) (resolved_names_of kept.new.items) }
 {
-    let Declaration::Resource(_, block) = declared.names.at(place) else {
+    let Declaration::Resource(_, block) = declared.parts.names.at(place) else {
         unreachable!()
     };
-    let named = named_for_instance(alloc, declared.names, block)?;
+    let named = named_for_instance(alloc, declared.parts.names, block)?;
     add_resolved_names(alloc, declared, shapes, named.as_slice(), results, kept)?;
     let scope = NamesScope {
-        variables: declared.variables,
-        names: declared.names,
+        variables: declared.parts.variables,
+        names: declared.parts.names,
         resolved_names: kept.as_slice(),
     };
     plan_instance(alloc, schema, block, key, &scope)

@@ -2,7 +2,7 @@
 
 ghost use Rattle.std.specs.List.{AllByRecursion, list_all};
 ghost use Rattle.std.specs.Prelude.{◌≡◌, ◌<◌, ◌≤◌, ℕ, IfOk, MatchBool, OnErr, OnOk, true, is_some, length, set, Contains};
-ghost use Rattle.tf_expand.specs.Words.{applying, entries_view, environment, has, IsAcyclic, IsDependence, meant_at, names_in, order_in, shapes_of, resolved_of, resolved_names_of, stands_at};
+ghost use Rattle.tf_expand.specs.Words.{applying, entries_view, environment, has, meant_at, names_in, order_in, shapes_of, resolved_of, resolved_names_of, stands_at};
 ghost use Rattle.tf_expand.specs.declared.resolved.Resolved.{Resolved as Stood};
 ghost use Rattle.tf_walk_action.specs.Requests.{AreResolvedSoFar, is_resource};
 ghost use Rattle.tf_walk_action.specs.Wanted.{AreClosedForLocals};
@@ -29,8 +29,6 @@ impl<R: Results> RequestObjects<'_, '_, R> {
         kept: &mut Vec<Resolved>,
         resources: &[usize],
     ) -> Result<(), AllocError>
-        requires dependence { IsDependence (names_in self.now.declared.now.names.now) self.now.declared.now.dependence.now }
-        requires acyclic { IsAcyclic self.now.declared.now.dependence.now }
         requires within { AllByRecursion (λ n. n < length (names_in self.now.declared.now.names.now)) resources.now }
         requires resources { list_all (λ n. is_resource (meant_at (names_in self.now.declared.now.names.now) n)) resources.now ≡ true }
         requires room { AllByRecursion (λ n. n < length kept.old.items) resources.now }
@@ -40,6 +38,8 @@ impl<R: Results> RequestObjects<'_, '_, R> {
             (shapes_of self.now.shapes.now) (R.objects self.now.results.now) (resolved_names_of kept.new.items) }
         ensures there { OnOk result (AllByRecursion (λ n. is_some (resolved_names_of kept.new.items n) ≡ true) resources.now) }
     {
+        let declared = self.declared;
+        let _ = &declared.parts;
         for place in resources {
             let is_missing = !stands(kept.as_slice(), *place);
             self.add_resolved(kept, *place, is_missing)?;
@@ -70,8 +70,6 @@ impl<R: Results> RequestObjects<'_, '_, R> {
         kept: &mut Vec<Resolved>,
         wanted: &[bool],
     ) -> Result<(), AllocError>
-        requires dependence { IsDependence (names_in self.now.declared.now.names.now) self.now.declared.now.dependence.now }
-        requires acyclic { IsAcyclic self.now.declared.now.dependence.now }
         requires closed { AreClosedForLocals (names_in self.now.declared.now.names.now) wanted.now }
         requires room { length (names_in self.now.declared.now.names.now) ≤ length kept.old.items }
         requires answered { AreResolvedSoFar (entries_view self.now.declared.now.variables.now.entries) (names_in self.now.declared.now.names.now)
@@ -81,7 +79,8 @@ impl<R: Results> RequestObjects<'_, '_, R> {
         ensures there { OnOk result ((n : ℕ) → Contains (order_in self.now.declared.now.dependence.now) n → has wanted.now n ≡ true
             → is_some (resolved_names_of kept.new.items n) ≡ true) }
     {
-        for place in self.declared.dependence.order() {
+        let declared = self.declared;
+        for place in declared.parts.dependence.order() {
             let is_missing = is_missing(kept.as_slice(), wanted, *place);
             self.add_resolved(kept, *place, is_missing)?;
         }

@@ -15,7 +15,7 @@ pub(crate) fn are_resources(declared: &Module, places: &[usize]) -> bool
     ensures { result ≡ list_all (λ n. is_resource (meant_at (names_in declared.now.names.now) n)) places.now }
 {
     for place in places {
-        if !is_resource(declared.names.at(*place)) {
+        if !is_resource(declared.parts.names.at(*place)) {
             return false;
         }
     }

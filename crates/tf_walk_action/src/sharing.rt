@@ -2,7 +2,7 @@
 
 ghost use Rattle.std.specs.List.{AllByRecursion};
 ghost use Rattle.std.specs.Prelude.{◌≡◌, ◌<◌, ◌≤◌, ◌&&◌, ℕ, OnOk, true, is_some, length, not};
-ghost use Rattle.tf_expand.specs.Words.{entries_view, has, IsAcyclic, IsDependence, names_in, shapes_of, resolved_names_of};
+ghost use Rattle.tf_expand.specs.Words.{entries_view, has, names_in, shapes_of, resolved_names_of};
 ghost use Rattle.tf_walk_action.specs.Requests.{AreResolvedSoFar};
 
 use crate::resolved::RequestObjects;
@@ -22,8 +22,6 @@ pub(crate) fn add_resolved_names<R: Results>(
     results: &R,
     kept: &mut Vec<Resolved>,
 ) -> Result<(), AllocError>
-    requires dependence { IsDependence (names_in declared.now.names.now) declared.now.dependence.now }
-    requires acyclic { IsAcyclic declared.now.dependence.now }
     requires within { AllByRecursion (λ n. n < length (names_in declared.now.names.now)) others.now }
     requires answered { AreResolvedSoFar (entries_view declared.now.variables.now.entries) (names_in declared.now.names.now)
         (shapes_of shapes.now) (R.objects results.now) (resolved_names_of kept.old.items) }
@@ -41,11 +39,11 @@ pub(crate) fn add_resolved_names<R: Results>(
         results,
     };
     if are_resources(declared, others) {
-        fill(kept, past_last(others, declared.names.len()))?;
+        fill(kept, past_last(others, declared.parts.names.len()))?;
         return applied.add_resources(kept, others);
     }
     let wanted = wanted_by(alloc, declared, others)?;
-    fill(kept, declared.names.len())?;
+    fill(kept, declared.parts.names.len())?;
     applied.add_wanted(kept, wanted.as_slice())
 }
 

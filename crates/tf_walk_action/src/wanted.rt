@@ -2,7 +2,7 @@
 
 ghost use Rattle.std.specs.List.{AllByRecursion};
 ghost use Rattle.std.specs.Prelude.{◌≡◌, ◌<◌, ◌↔◌, ◌⊎◌, ℕ, IfOk, true, false, length, replicate, Contains};
-ghost use Rattle.tf_expand.specs.Words.{directly_before, has, IsAcyclic, IsDependence, meant_at, names_in};
+ghost use Rattle.tf_expand.specs.Words.{directly_before, has, meant_at, names_in};
 ghost use Rattle.tf_walk_action.specs.Wanted.{IsWanted, is_local};
 
 use std::alloc::{AllocError, Global};
@@ -16,14 +16,12 @@ pub(crate) fn wanted_by(
     declared: &Module,
     others: &[usize],
 ) -> Result<Vec<bool>, AllocError>
-    requires dependence { IsDependence (names_in declared.now.names.now) declared.now.dependence.now }
-    requires acyclic { IsAcyclic declared.now.dependence.now }
     requires within { AllByRecursion (λ n. n < length (names_in declared.now.names.now)) others.now }
     ensures length { IfOk result (λ wanted. length wanted.items ≡ length (names_in declared.now.names.now)) }
     ensures wanted { IfOk result (λ wanted. (n : ℕ) → (has wanted.items n ≡ true) ↔ IsWanted (names_in declared.now.names.now) others.now n) }
 {
-    let order = declared.dependence.order();
-    let mut wanted = none_marked(alloc, declared.names.len())?;
+    let order = declared.parts.dependence.order();
+    let mut wanted = none_marked(alloc, declared.parts.names.len())?;
     mark(wanted.as_mut_slice(), others);
     for index in (0..order.len()).rev() {
         mark_named(declared, wanted.as_mut_slice(), order[index]);
@@ -33,7 +31,6 @@ pub(crate) fn wanted_by(
 
 /// Marks what the expression at a place names, where a marked local stands there.
 fn mark_named(declared: &Module, wanted: &mut [bool], place: usize)
-    requires dependence { IsDependence (names_in declared.now.names.now) declared.now.dependence.now }
     requires length { length wanted.old ≡ length (names_in declared.now.names.now) }
     requires place { place < length (names_in declared.now.names.now) }
     ensures length { length wanted.new ≡ length wanted.old }
@@ -43,8 +40,8 @@ fn mark_named(declared: &Module, wanted: &mut [bool], place: usize)
     if !wanted[place] {
         return;
     }
-    match declared.names.at(place) {
-        Declaration::Local(_, _) => mark(wanted, declared.dependence.before(place)),
+    match declared.parts.names.at(place) {
+        Declaration::Local(_, _) => mark(wanted, declared.parts.dependence.before(place)),
         Declaration::Resource(_, _) => {}
     }
 }

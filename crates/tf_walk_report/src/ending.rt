@@ -1,7 +1,7 @@
 //! Outputs are worked out after an apply.
 
 ghost use Rattle.std.specs.Prelude.{◌≡◌, ◌≤◌, [], IfOk, Ok, length, true, vec_capacity};
-ghost use Rattle.tf_expand.specs.Words.{entries_view, has, has_no_set, IsAcyclic, IsDependence, IsTable, named_by, names_in, shapes_of, resolved_names_of, tree_of};
+ghost use Rattle.tf_expand.specs.Words.{entries_view, has, has_no_set, IsTable, named_by, names_in, shapes_of, resolved_names_of, tree_of};
 ghost use Rattle.tf_config_data.specs.Names.{places as places_of};
 ghost use Rattle.tf_walk_report.specs.Keeping.{IsSameOrExcused, MayBeSaved, done_of};
 ghost use Rattle.tf_walk_report.specs.Outputs.{AreOutputsEnded, IsOutputDone, done_with};
@@ -38,8 +38,6 @@ pub(crate) fn renew_outputs<R: Results>(
     kept: BTreeMap<String, Object>,
     ends: &mut Vec<OutputResult>,
 ) -> BTreeMap<String, Object>
-    requires dependence { IsDependence (names_in declared.now.names.now) declared.now.dependence.now }
-    requires acyclic { IsAcyclic declared.now.dependence.now }
     requires places { HavePlaces (names_in declared.now.names.now) rooms.items }
     requires none { ends.old.items ≡ [] }
     requires room { length rooms.items ≤ vec_capacity ends.old }
@@ -70,8 +68,6 @@ fn end_output<R: Results>(
     results: &R,
     stood: &mut Vec<Resolved>,
 ) -> EvaluatedOutput
-    requires dependence { IsDependence (names_in declared.now.names.now) declared.now.dependence.now }
-    requires acyclic { IsAcyclic declared.now.dependence.now }
     requires places { places.now ≡ places_of (names_in declared.now.names.now) (named_by (expr_of expr.now)) }
     requires answered { AreResolvedSoFar (entries_view declared.now.variables.now.entries) (names_in declared.now.names.now)
         (shapes_of shapes.now) (R.objects results.now) (resolved_names_of stood.old.items) }
@@ -81,6 +77,7 @@ fn end_output<R: Results>(
         (shapes_of shapes.now) (R.objects results.now) (has settled.now) (expr_of expr.now) (done_of result) }
     ensures stored { MayBeSaved (done_of result) }
 {
+    let _ = &declared.parts;
     if !all_settled(settled, places) {
         return EvaluatedOutput::NotEvaluated;
     }
@@ -101,8 +98,6 @@ fn shared_value<R: Results>(
     results: &R,
     stood: &mut Vec<Resolved>,
 ) -> Result<Result<Value, EvalFault>, AllocError>
-    requires dependence { IsDependence (names_in declared.now.names.now) declared.now.dependence.now }
-    requires acyclic { IsAcyclic declared.now.dependence.now }
     requires answered { AreResolvedSoFar (entries_view declared.now.variables.now.entries) (names_in declared.now.names.now)
         (shapes_of shapes.now) (R.objects results.now) (resolved_names_of stood.old.items) }
     ensures answered { AreResolvedSoFar (entries_view declared.now.variables.now.entries) (names_in declared.now.names.now)

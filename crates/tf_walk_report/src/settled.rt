@@ -1,7 +1,7 @@
 //! Which names are settled.
 
 ghost use Rattle.std.specs.Prelude.{◌≡◌, ◌<◌, ℕ, length, Contains};
-ghost use Rattle.tf_expand.specs.Words.{directly_before, has, IsAcyclic, IsDependence, IsInOrder, names_in, seen_by};
+ghost use Rattle.tf_expand.specs.Words.{directly_before, has, IsInOrder, names_in, seen_by};
 ghost use Rattle.tf_walk_report.specs.Settled.{AreSettled, AreSettledAmong, all_settled as all_that_are, settled_rule};
 
 use tf_config_names::Declaration;
@@ -11,18 +11,15 @@ use tf_expand::Module;
 /// it refers to directly is. `good` says of the place of each resource whether all its creates and updates are good; one without
 /// actions is. Takes no memory.
 pub(crate) fn settle_names(declared: &Module, good: &[bool], settled: &mut [bool])
-    requires dependence { IsDependence (names_in declared.now.names.now) declared.now.dependence.now }
-    requires acyclic { IsAcyclic declared.now.dependence.now }
     requires good { length good.now ≡ length (names_in declared.now.names.now) }
     requires settled { length settled.old ≡ length (names_in declared.now.names.now) }
     ensures { AreSettled (names_in declared.now.names.now) (has good.now) (has settled.new) }
 {
-    settle_in(declared, declared.dependence.order(), good, settled);
+    settle_in(declared, declared.parts.dependence.order(), good, settled);
 }
 
 /// The same, of the names in a list in which each stands after all that it refers to.
 fn settle_in(declared: &Module, order: &[usize], good: &[bool], settled: &mut [bool])
-    requires dependence { IsDependence (names_in declared.now.names.now) declared.now.dependence.now }
     requires order { IsInOrder (directly_before (names_in declared.now.names.now)) order.now }
     requires within { (n : ℕ) → Contains order.now n → n < length (names_in declared.now.names.now) }
     requires good { length good.now ≡ length (names_in declared.now.names.now) }
@@ -38,13 +35,12 @@ fn settle_in(declared: &Module, order: &[usize], good: &[bool], settled: &mut [b
 /// Whether the name at a place is settled, by which names are so far.
 fn is_settled(declared: &Module, good: &[bool], settled: &[bool], place: usize) -> bool
     requires place { place < length (names_in declared.now.names.now) }
-    requires dependence { IsDependence (names_in declared.now.names.now) declared.now.dependence.now }
     requires good { length good.now ≡ length (names_in declared.now.names.now) }
     ensures { result ≡ settled_rule (names_in declared.now.names.now) (has good.now) place
         (seen_by (has settled.now) (directly_before (names_in declared.now.names.now) place)) }
 {
-    match declared.names.at(place) {
-        Declaration::Local(_, _) => all_settled(settled, declared.dependence.before(place)),
+    match declared.parts.names.at(place) {
+        Declaration::Local(_, _) => all_settled(settled, declared.parts.dependence.before(place)),
         Declaration::Resource(_, _) => good[place],
     }
 }

@@ -1,7 +1,7 @@
 //! What comes of outputs, once all actions have ended.
 
 ghost use Rattle.std.specs.Prelude.{◌≡◌, ◌<◌, ◌≤◌, ℕ, [], List, length, map, vec_capacity};
-ghost use Rattle.tf_walk_action.specs.Words.{action_of, done_at, action_results_of, entries_view, has, IsAcyclic, IsDependence, IsTable, names_in, outputs_of, plan_of, seen_by};
+ghost use Rattle.tf_walk_action.specs.Words.{action_of, done_at, action_results_of, entries_view, has, IsTable, names_in, outputs_of, plan_of, seen_by};
 ghost use Rattle.tf_walk_action.specs.Outcome.{objects_seen};
 ghost use Rattle.tf_walk_report.specs.Outputs.{AreOutputsEnded};
 ghost use Rattle.tf_walk_report.specs.Buffers.{HavePlaces, outputs_in};
@@ -54,8 +54,6 @@ pub fn outputs_after(
     settling: Settling<'_>,
     results: &[Option<ActionResult>],
 ) -> OutputValues
-    requires dependence { IsDependence (names_in declared.now.names.now) declared.now.dependence.now }
-    requires acyclic { IsAcyclic declared.now.dependence.now }
     requires ready { IsReady (names_in declared.now.names.now) settling }
     requires sized { length results.now ≡ length plan.now.actions.items }
     ensures { AreEnded (entries_view declared.now.variables.now.entries) (names_in declared.now.names.now) (plan_of plan.now).shapes (plan_of plan.now).prior
@@ -72,7 +70,7 @@ pub fn outputs_after(
     let good = noted(good, plan.actions.as_slice(), results);
     let settled = settled_by(declared, &good, settled);
     let answered = Answered {
-        names: declared.names,
+        names: declared.parts.names,
         prior: &plan.prior,
         actions: plan.actions.as_slice(),
         seen: &seen,
@@ -103,8 +101,6 @@ fn noted(mut good: Vec<bool>, actions: &[Action], results: &[Option<ActionResult
 
 /// Which names are settled, by their places.
 fn settled_by(declared: &Module, good: &[bool], mut settled: Vec<bool>) -> Vec<bool>
-    requires dependence { IsDependence (names_in declared.now.names.now) declared.now.dependence.now }
-    requires acyclic { IsAcyclic declared.now.dependence.now }
     requires good { length good.now ≡ length (names_in declared.now.names.now) }
     requires settled { length settled.items ≡ length (names_in declared.now.names.now) }
     ensures { AreSettled (names_in declared.now.names.now) (has good.now) (has result.items) }

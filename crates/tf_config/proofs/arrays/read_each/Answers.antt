@@ -2,8 +2,8 @@ use Rattle.std.proofs.Common.{map}
 use Rattle.std.proofs.lemmas.List.{map-append}
 use Rattle.std.proofs.lemmas.Result.{err_from_is_err_and}
 use Rattle.tf_config.proofs.Members.{element_more, element_refused}
-use Rattle.tf_expr_path.proofs.Places.{place_of-Item}
-use Rattle.tf_expr_path.specs.Place.{place_of}
+use Rattle.tf_config_refusal.proofs.Places.{place_of-Item}
+use Rattle.tf_config_refusal.specs.Place.{place_of}
 use Rattle.tf_config.proofs.arrays.read_each.Goals as goal
 
 pub returns-in_err-said-clause-fault : goal.returns-in_err-said-clause-fault

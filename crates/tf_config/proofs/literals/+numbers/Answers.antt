@@ -6,8 +6,8 @@ use Rattle.serde_json.specs.View.{view, items_view, members_view}
 use Rattle.tf_config.proofs.Walks.{drop_next, left_more, left_refused}
 use Rattle.tf_config.specs.Demand.{IsMet, Fails}
 use Rattle.tf_config.specs.Parts.{number_checks, item_number_checks, member_number_checks}
-use Rattle.tf_expr_path.proofs.Places.{place_of-Member, place_of-Item}
-use Rattle.tf_expr_path.specs.Place.{place_of}
+use Rattle.tf_config_refusal.proofs.Places.{place_of-Member, place_of-Item}
+use Rattle.tf_config_refusal.specs.Place.{place_of}
 use Rattle.tf_config.proofs.literals.+numbers.Goals as goal
 
 pub demand_each_number-loop-position-preserved : goal.demand_each_number-loop-position-preserved

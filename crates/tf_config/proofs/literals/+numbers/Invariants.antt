@@ -3,7 +3,7 @@ use Rattle.serde_json.specs.View.{items_view, members_view}
 use Rattle.tf_config.proofs.Walks.{IsLeft}
 use Rattle.tf_config.specs.Demand.{IsMet}
 use Rattle.tf_config.specs.Parts.{item_number_checks, member_number_checks}
-use Rattle.tf_expr_path.specs.Place.{place_of}
+use Rattle.tf_config_refusal.specs.Place.{place_of}
 use Rattle.tf_config.proofs.literals.+numbers.Given as goal
 
 -- the checks of the elements from the position on are left

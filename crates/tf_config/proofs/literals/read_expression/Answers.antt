@@ -2,7 +2,7 @@ use Rattle.std.proofs.lemmas.Result.{err_from_is_err_and}
 use Rattle.serde_json.specs.View.{view}
 use Rattle.tf_config.proofs.Refusals.{Refuses-expression}
 use Rattle.tf_expr.specs.Reading.{expr_checks}
-use Rattle.tf_expr_path.specs.Place.{place_of}
+use Rattle.tf_config_refusal.specs.Place.{place_of}
 use Rattle.tf_config.proofs.literals.read_expression.Goals as goal
 
 pub returns-in_err-expr : goal.returns-in_err-expr

@@ -4,8 +4,8 @@ use Rattle.tf_config.proofs.LiteralFaults.{too_large, not_whole}
 use Rattle.tf_config.proofs.Refusals.{Refuses-left}
 use Rattle.tf_config.specs.Demand.{holds}
 use Rattle.tf_config.specs.Parts.{number_checks}
-use Rattle.tf_expr_path.specs.Check.{demanded}
-use Rattle.tf_expr_path.specs.Place.{place_of}
+use Rattle.tf_config_refusal.specs.Check.{demanded}
+use Rattle.tf_config_refusal.specs.Place.{place_of}
 use Rattle.tf_value.specs.Json.{tree_from}
 use Rattle.tf_value.specs.Measure.{is_within}
 use Rattle.tf_config.proofs.literals.read_literal.Goals as goal

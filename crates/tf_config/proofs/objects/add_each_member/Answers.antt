@@ -1,7 +1,7 @@
 use Rattle.std.proofs.lemmas.Result.{err_from_is_err_and}
 use Rattle.tf_config.proofs.Members.{refused_next, read_next}
-use Rattle.tf_expr_path.proofs.Places.{place_of-Member}
-use Rattle.tf_expr_path.specs.Place.{place_of}
+use Rattle.tf_config_refusal.proofs.Places.{place_of-Member}
+use Rattle.tf_config_refusal.specs.Place.{place_of}
 use Rattle.tf_config.proofs.objects.add_each_member.Goals as goal
 
 pub returns-in_err-add : goal.returns-in_err-add

@@ -2,7 +2,7 @@ use Rattle.std.proofs.Common.{[], ◌∷◌}
 use Rattle.std.proofs.lemmas.Result.{err_from_is_err_and}
 use Rattle.serde_json.specs.View.{view}
 use Rattle.tf_config.proofs.PartFits.{literal_fits}
-use Rattle.tf_expr_path.proofs.Places.{place_of-Root, place_of-Member}
+use Rattle.tf_config_refusal.proofs.Places.{place_of-Root, place_of-Member}
 use Rattle.tf_config.proofs.values.read_given.Goals as goal
 
 pub returns-in_err-value-clause-fault : goal.returns-in_err-value-clause-fault

@@ -1,5 +1,5 @@
 use Rattle.std.proofs.Common.{is_some, string_bytes, sym, ap, ◌∙◌}
-use Rattle.tf_expr_path.proofs.Places.{place_of-Root, place_of-Member}
+use Rattle.tf_config_refusal.proofs.Places.{place_of-Root, place_of-Member}
 use Rattle.tf_value.proofs.Views.{entries_view-insert_entry}
 use Rattle.tf_value.specs.Tree.{tree_of, entries_view}
 use Rattle.tf_config.proofs.Faults.{refuses_none}

@@ -2,9 +2,9 @@ use Rattle.std.proofs.Common.{◌+◌, ◌∷◌, drop, map}
 use Rattle.std.proofs.lemmas.Result.{err_from_is_err_and}
 use Rattle.std.specs.Fmt.{decimal}
 use Rattle.tf_config_address.specs.ResourceAddr.{addr_of}
-use Rattle.tf_expr_path.proofs.Places.{place_of-Item}
-use Rattle.tf_expr_path.specs.Check.{demanded}
-use Rattle.tf_expr_path.specs.Place.{place_of}
+use Rattle.tf_config_refusal.proofs.Places.{place_of-Item}
+use Rattle.tf_config_refusal.specs.Check.{demanded}
+use Rattle.tf_config_refusal.specs.Place.{place_of}
 use Rattle.tf_config_names.proofs.NameWalks.{left_more, left_refused}
 use Rattle.tf_config_names.proofs.Tables.{drop_next}
 use Rattle.tf_config_names.specs.KnownNames.{declared_of, addr_checks, a_resource}

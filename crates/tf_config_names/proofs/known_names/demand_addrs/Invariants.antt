@@ -1,6 +1,6 @@
 use Rattle.std.proofs.Common.{drop, map}
 use Rattle.tf_config_address.specs.ResourceAddr.{addr_of}
-use Rattle.tf_expr_path.specs.Place.{place_of}
+use Rattle.tf_config_refusal.specs.Place.{place_of}
 use Rattle.tf_config_names.proofs.NameWalks.{IsLeft}
 use Rattle.tf_config_names.specs.KnownNames.{declared_of, addr_checks}
 use Rattle.tf_config_names.proofs.known_names.demand_addrs.Given as goal

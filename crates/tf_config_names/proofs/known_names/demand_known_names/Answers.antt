@@ -1,7 +1,7 @@
 use Rattle.std.proofs.Common.{[], ◌∷◌, codes}
 use Rattle.std.proofs.lemmas.Result.{err_from_is_err_and}
 use Rattle.tf_config_data.specs.Config.{config_of}
-use Rattle.tf_expr_path.proofs.Places.{place_of-Root, place_of-Member}
+use Rattle.tf_config_refusal.proofs.Places.{place_of-Root, place_of-Member}
 use Rattle.tf_config_names.proofs.NameWalks.{first_refused, second_refused, third_refused, three_known}
 use Rattle.tf_config_names.specs.KnownNames.{declared_in, entry_name_checks, output_checks, block_checks}
 use Rattle.tf_config_names.specs.declared.known_names.Context.TheVariants.{Plain}

@@ -1,4 +1,4 @@
-use Rattle.tf_expr_path.proofs.Places.{place_of-Root, place_of-Member}
+use Rattle.tf_config_refusal.proofs.Places.{place_of-Root, place_of-Member}
 use Rattle.tf_config_names.proofs.known_names.demand_output.Goals as goal
 
 pub returns : goal.returns

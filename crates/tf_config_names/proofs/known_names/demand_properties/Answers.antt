@@ -1,7 +1,7 @@
 use Rattle.std.proofs.Common.{◌+◌, ◌∷◌, drop, map}
 use Rattle.std.proofs.lemmas.Result.{err_from_is_err_and}
-use Rattle.tf_expr_path.proofs.Places.{place_of-Member}
-use Rattle.tf_expr_path.specs.Place.{place_of}
+use Rattle.tf_config_refusal.proofs.Places.{place_of-Member}
+use Rattle.tf_config_refusal.specs.Place.{place_of}
 use Rattle.tf_config_names.proofs.NameWalks.{left_more, left_refused}
 use Rattle.tf_config_names.proofs.Tables.{drop_next}
 use Rattle.tf_config_names.specs.KnownNames.{declared_of, body_checks, property_checks}

@@ -1,5 +1,5 @@
 use Rattle.std.proofs.Common.{drop, map}
-use Rattle.tf_expr_path.specs.Place.{place_of}
+use Rattle.tf_config_refusal.specs.Place.{place_of}
 use Rattle.tf_config_names.proofs.NameWalks.{IsLeft}
 use Rattle.tf_config_names.specs.KnownNames.{declared_of, body_checks}
 use Rattle.tf_config_names.specs.Properties.{property_view}

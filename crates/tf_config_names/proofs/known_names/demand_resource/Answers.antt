@@ -1,5 +1,5 @@
 use Rattle.tf_config_address.specs.ResourceAddr.{addr_of}
-use Rattle.tf_expr_path.proofs.Places.{place_of-Root, place_of-Member}
+use Rattle.tf_config_refusal.proofs.Places.{place_of-Root, place_of-Member}
 use Rattle.tf_config_names.proofs.known_names.demand_resource.Goals as goal
 
 pub returns : goal.returns

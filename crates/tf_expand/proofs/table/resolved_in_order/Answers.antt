@@ -1,13 +1,14 @@
-use Rattle.std.proofs.Common.{rules, ◌≡◌, length, refl, ◌∙◌, arith}
+use Rattle.std.proofs.Common.{rules, ◌≡◌, length, refl, ap, ◌∙◌, arith}
 use Rattle.std.proofs.lemmas.List.Elements.{Contains-get_or}
 use Rattle.tf_config_names.specs.Table.{names_in}
 use Rattle.tf_value.specs.Tree.{entries_view}
 use Rattle.tf_expand.specs.Views.{resolved_of}
+use Rattle.tf_expand.specs.declared.table.ModuleParts.{ModuleParts}
 use Rattle.tf_expand.proofs.Keeping.{kept_start, kept_more, kept_all, stood_is}
 use Rattle.tf_expand.proofs.table.resolved_in_order.Goals as goal
 
 pub loop-place-init : goal.loop-place-init
-loop-place-init g c = kept_start _ _ _ _ _ _ (c.in_ok-kept.ensures.length ∙ c.len.ensures) c.in_ok-kept.ensures.none
+loop-place-init g c = kept_start _ _ _ _ _ _ (c.in_ok-kept.ensures.length ∙ c.len.ensures ∙ ap (λ (m : ModuleParts). length (names_in m.names.now)) c.declared.view_is) c.in_ok-kept.ensures.none
 
 pub loop-place-preserved : goal.loop-place-preserved
 loop-place-preserved g c =
@@ -21,8 +22,8 @@ loop-place-preserved g c =
 pub returns-clause-resolved_names : goal.returns-clause-resolved_names
 returns-clause-resolved_names g c = kept_all _ _ _ _ _ _ _ (omega (arith, c.loop-place-test.false)) c.loop-place.invariant
 
-pub resolve_at-requires-clause-place : goal.resolve_at-requires-clause-place
-resolve_at-requires-clause-place g c = c.requires.within _ (Contains-get_or c.args.order.now c.loop-place.place-index 0 c.loop-place-test.true)
+pub resolve_at-requires : goal.resolve_at-requires
+resolve_at-requires g c = record { place = c.requires.within _ (Contains-get_or c.args.order.now c.loop-place.place-index 0 c.loop-place-test.true) }
 
 pub index_mut-requires : goal.index_mut-requires
 index_mut-requires g c =

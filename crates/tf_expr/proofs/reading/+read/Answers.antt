@@ -10,9 +10,9 @@ use Rattle.tf_expr.proofs.Walked.{items_more, items_refused, members_more, membe
 use Rattle.tf_expr.specs.Demand.{a_plain_name}
 use Rattle.tf_expr.specs.Reading.{expr_checks}
 use Rattle.tf_expr_syntax.specs.ExprTree.{tree_of, entries_view}
-use Rattle.tf_expr_path.proofs.Places.{place_of-Member, place_of-Item}
-use Rattle.tf_expr_path.specs.Check.{demanded}
-use Rattle.tf_expr_path.specs.Place.{place_of}
+use Rattle.tf_config_refusal.proofs.Places.{place_of-Member, place_of-Item}
+use Rattle.tf_config_refusal.specs.Check.{demanded}
+use Rattle.tf_config_refusal.specs.Place.{place_of}
 use Rattle.tf_expr.proofs.reading.+read.Goals as goal
 
 pub read_items-returns-in_err-expr-clause-fault : goal.read_items-returns-in_err-expr-clause-fault

@@ -1,8 +1,9 @@
-use Rattle.std.proofs.Common.{rules, ◌<◌, ℕ, length, map, slice_index_or, refl, ◌∙◌, arith}
+use Rattle.std.proofs.Common.{rules, ◌<◌, ℕ, length, map, slice_index_or, refl, ap, ◌∙◌, arith}
 use Rattle.tf_plan_decision.proofs.Along.{looked_start, looked_more, place_within, rows_all}
 use Rattle.tf_plan_decision.specs.Stage.{deciding}
 use Rattle.tf_expand.proofs.Keeping.{kept_all}
 use Rattle.tf_expand.specs.Views.{shapes_of}
+use Rattle.tf_expand.specs.declared.table.ModuleParts.{ModuleParts}
 use Rattle.tf_config_names.specs.Table.{names_in}
 use Rattle.tf_state_data.specs.State.{state_of}
 use Rattle.tf_value.specs.Tree.{entries_view}
@@ -11,8 +12,9 @@ use Rattle.tf_plan_decision.proofs.whole.decide_along.Goals as goal
 pub loop-place-init : goal.loop-place-init
 loop-place-init g c =
     let ms = map (λ b. (goal.Provider-dyn g (b.vtable, b.value)).meaning b.value) c.args.stage.now.providers.now in
+    let count = ap (λ (m : ModuleParts). length (names_in m.names.now)) c.declared.view_is in
     looked_start ms (state_of c.args.stage.now.state.now).resources (entries_view c.args.declared.now.variables.now.entries) (names_in c.args.declared.now.names.now) (shapes_of c.args.stage.now.shapes.now)
-    c.args.order.now c.args.wanted.now c.in_ok-kept.kept.items c.in_ok-rows.rows.items (c.in_ok-kept.ensures.length ∙ c.len.ensures) c.in_ok-kept.ensures.none (c.in_ok-rows.ensures ∙ c.len-2.ensures)
+    c.args.order.now c.args.wanted.now c.in_ok-kept.kept.items c.in_ok-rows.rows.items (c.in_ok-kept.ensures.length ∙ c.len.ensures ∙ count) c.in_ok-kept.ensures.none (c.in_ok-rows.ensures ∙ c.len-2.ensures ∙ count)
 
 pub loop-place-preserved : goal.loop-place-preserved
 loop-place-preserved g c =
@@ -39,10 +41,10 @@ returns-clause-rows g c =
     rows_all ms (state_of c.args.stage.now.state.now).resources (entries_view c.args.declared.now.variables.now.entries) (names_in c.args.declared.now.names.now) (shapes_of c.args.stage.now.shapes.now)
     c.args.order.now c.loop-place.place-index c.loop-place.rows.items (omega (arith, c.loop-place-test.false)) c.loop-place.invariant.each
 
-pub look_at-requires-clause-place : goal.look_at-requires-clause-place
-look_at-requires-clause-place g c =
+pub look_at-requires : goal.look_at-requires
+look_at-requires g c =
     let count = length (names_in c.args.declared.now.names.now) in
-    place_within c.args.order.now count c.requires.within c.loop-place.place-index c.loop-place-test.true count refl
+    record { place = place_within c.args.order.now count c.requires.within c.loop-place.place-index c.loop-place-test.true count refl }
 
 pub index_mut-requires : goal.index_mut-requires
 index_mut-requires g c =

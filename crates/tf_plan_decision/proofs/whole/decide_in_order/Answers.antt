@@ -1,15 +1,20 @@
-use Rattle.std.proofs.Common.{IfOk, Contains, map, subst}
+use Rattle.std.proofs.Common.{IfOk, Contains, map, ap, subst, ◌∙◌}
 use Rattle.tf_plan_decision.specs.Rows.{AreDecided, rows_of}
 use Rattle.tf_plan_decision.specs.Stage.{deciding}
 use Rattle.tf_expand.specs.Kept.{AreResolved}
+use Rattle.tf_expand.specs.Module.{IsModule}
 use Rattle.tf_expand.specs.Views.{shapes_of, resolved_names_of}
+use Rattle.tf_expand.specs.declared.table.ModuleParts.{ModuleParts}
+use Rattle.tf_config_names.specs.Needs.{order_in}
 use Rattle.tf_config_names.specs.Table.{names_in}
 use Rattle.tf_state_data.specs.State.{state_of}
 use Rattle.tf_value.specs.Tree.{entries_view}
 use Rattle.tf_plan_decision.proofs.whole.decide_in_order.Goals as goal
 
 pub decide_along-requires-clause-within : goal.decide_along-requires-clause-within
-decide_along-requires-clause-within g c = λ n h. c.requires.dependence.within n (subst (λ xs. Contains xs n) c.order.ensures h)
+decide_along-requires-clause-within g c =
+    let fits = subst IsModule c.declared.view_is c.declared.invariant in
+    λ n h. fits.dependence.within n (subst (λ xs. Contains xs n) (c.order.ensures ∙ ap (λ (m : ModuleParts). order_in m.dependence.now) c.declared.view_is) h)
 
 pub returns-clause-resolved_names : goal.returns-clause-resolved_names
 returns-clause-resolved_names g c =
@@ -17,7 +22,7 @@ returns-clause-resolved_names g c =
     subst
     (λ xs. IfOk c.decide_along.result (λ r. AreResolved (deciding ms (state_of c.args.stage.now.state.now).resources (shapes_of c.args.stage.now.shapes.now)) (entries_view c.args.declared.now.variables.now.entries)
     (names_in c.args.declared.now.names.now) xs c.args.wanted.now (resolved_names_of r.resolved_names.items)))
-    c.order.ensures c.decide_along.ensures.resolved_names
+    (c.order.ensures ∙ ap (λ (m : ModuleParts). order_in m.dependence.now) c.declared.view_is) c.decide_along.ensures.resolved_names
 
 pub returns-clause-rows : goal.returns-clause-rows
 returns-clause-rows g c =
@@ -25,4 +30,4 @@ returns-clause-rows g c =
     subst
     (λ xs. IfOk c.decide_along.result (λ r. AreDecided ms (state_of c.args.stage.now.state.now).resources (entries_view c.args.declared.now.variables.now.entries)
     (names_in c.args.declared.now.names.now) (shapes_of c.args.stage.now.shapes.now) xs (rows_of r.rows.items)))
-    c.order.ensures c.decide_along.ensures.rows
+    (c.order.ensures ∙ ap (λ (m : ModuleParts). order_in m.dependence.now) c.declared.view_is) c.decide_along.ensures.rows

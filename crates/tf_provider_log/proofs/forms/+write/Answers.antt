@@ -6,7 +6,7 @@ use Rattle.std.specs.String.{string_cmp}
 use Rattle.serde_json.specs.View.{members_view}
 use Rattle.serde_json.proofs.Views.{members_view-insert_entry}
 use Rattle.tf_value.specs.Tree.{AreHeldEntries, tree_of, entries_view}
-use Rattle.tf_value.proofs.Views.{LogEntry}
+use Rattle.tf_value.proofs.Views.{Entry}
 use Rattle.tf_value.proofs.JsonForms.{put_last}
 use Rattle.tf_provider_log.specs.Form.{value_form}
 use Rattle.tf_provider_log.proofs.Written.{written_members, written_members-is, written_all_items}
@@ -17,12 +17,12 @@ members_form-loop-key-preserved t c =
     let l = c.loop-key in
     let inv = l.invariant.done in
     let done = inv.0 in
-    let e : LogEntry = (c.in-Some.key.now, c.in-Some.value.now) in
+    let e : Entry = (c.in-Some.key.now, c.in-Some.value.now) in
     let left = c.next.new.self in
     let all : c.args.entries.now.entries ≡ done ++ e ∷ left = inv.1 ∙ ap (λ es. done ++ es) c.in-Some.ensures.steps in
     let last = put_last (λ v. value_form (tree_of v)) done e left (subst (λ es. IsStrictlySortedBy string_cmp (keys_of es)) all c.iter-key-items.ensures.ordered) in
     let named : string_bytes c.in_ok-name.name ≡ string_bytes e.0 = c.in_ok-name.ensures.cases in
-    let next : (now : List LogEntry) × (c.args.entries.now.entries ≡ now ++ left) × (members_view c.insert.new.self.entries ≡ written_members now) = (
+    let next : (now : List Entry) × (c.args.entries.now.entries ≡ now ++ left) × (members_view c.insert.new.self.entries ≡ written_members now) = (
       done ++ e ∷ [],
       all ∙ sym (append_assoc done (e ∷ []) left),
       ap members_view c.in_ok-insert.ensures.entries ∙ members_view-insert_entry l.object.entries c.in_ok-name.name c.in_ok-value_form.field-0 ∙ rw (named, c.in_ok-value_form.ensures.value, inv.2) last,

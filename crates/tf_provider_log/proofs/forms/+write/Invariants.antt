@@ -2,7 +2,7 @@ use Rattle.std.proofs.Common.{◌≡◌, List, ◌++◌, take, drop, map}
 use Rattle.serde_json.specs.View.{view, members_view}
 use Rattle.tf_provider_log.specs.Form.{value_form}
 use Rattle.tf_value.specs.Tree.{AreHeld, AreHeldEntries, tree_of, items_view, entries_view}
-use Rattle.tf_value.proofs.Views.{LogEntry}
+use Rattle.tf_value.proofs.Views.{Entry}
 use Rattle.tf_provider_log.proofs.Written.{written_members}
 use Rattle.tf_provider_log.proofs.forms.+write.Given as goal
 
@@ -15,5 +15,5 @@ invariant-items_form-loop-item l = record {
 abbrev pub invariant-members_form-loop-key : goal.invariant-members_form-loop-key
 invariant-members_form-loop-key l = record {
   held : AreHeldEntries (entries_view l.key-iterator) → AreHeldEntries (entries_view l.entries.entries);
-  done : (done : List LogEntry) × (l.entries.entries ≡ done ++ l.key-iterator) × (members_view l.object.entries ≡ written_members done);
+  done : (done : List Entry) × (l.entries.entries ≡ done ++ l.key-iterator) × (members_view l.object.entries ≡ written_members done);
 }

@@ -1,5 +1,6 @@
 use Rattle.std.proofs.Common.{◌≡◌, ◌<◌, ℕ, Bool, true, List, length, sym, subst, ◌∙◌, arith}
 use Rattle.std.specs.Prelude.{◌↔◌}
+use Rattle.tf_expand.specs.Module.{IsModule}
 use Rattle.tf_expand.specs.Views.{shapes_of, resolved_names_of}
 use Rattle.tf_graph.proofs.Solving.{all_by_weaker}
 use Rattle.tf_graph.specs.NodeSet.{has}
@@ -34,11 +35,12 @@ returns-in_err-fill-2-clause-answered g c =
 
 pub returns-clause-there : goal.returns-clause-there
 returns-clause-there g c =
+    let fits = subst IsModule c.declared.view_is c.declared.invariant in
     let names = names_in c.args.declared.now.names.now in
     let each : (n : ℕ) → (has c.as_slice-2.result.now n ≡ true) ↔ IsWanted names c.args.others.now n =
     subst (λ (xs : List Bool). (n : ℕ) → (has xs n ≡ true) ↔ IsWanted names c.args.others.now n) (sym c.as_slice-2.ensures.value) c.in_ok-wanted.ensures.wanted in
     others_there names (order_in c.args.declared.now.dependence.now) c.args.others.now c.as_slice-2.result.now (resolved_names_of c.add_wanted.new.kept.items) c.add_wanted.result
-    (c.requires.dependence.whole c.requires.acyclic) c.requires.within (λ n wants. (each n).1 wants) c.add_wanted.ensures.there
+    (fits.dependence.whole fits.acyclic) c.requires.within (λ n wants. (each n).1 wants) c.add_wanted.ensures.there
 
 pub add_resources-requires-clause-room : goal.add_resources-requires-clause-room
 add_resources-requires-clause-room g c =

@@ -3,6 +3,7 @@ use Rattle.tf_plan_data.specs.Action.{action_of}
 use Rattle.tf_plan_data.specs.declared.action.Action.{Action}
 use Rattle.tf_expand.specs.Views.{shapes_of}
 use Rattle.tf_expand.specs.declared.shape.InstanceKeys.{InstanceKeys}
+use Rattle.tf_expand.specs.declared.table.ModuleParts.{ModuleParts}
 use Rattle.tf_graph.specs.NodeSet.{has}
 use Rattle.tf_graph.specs.Solutions.{seen_by}
 use Rattle.tf_config_names.specs.Table.{names_in}
@@ -41,6 +42,7 @@ returns c =
           (subst (λ (xs : List Action). AreOutputsEnded variables names (shapes_of c.as_slice-3.result.now) (objects_seen names plan.prior (map action_of xs) (seen_by (done_at done) c.args.settling.seen.items)) settled kept outputs ends values) c.as_slice-2.ensures.value
           (subst (λ (xs : List ℕ). AreOutputsEnded variables names (shapes_of c.as_slice-3.result.now) (objects_seen names plan.prior (map action_of c.as_slice-2.result.now) (seen_by (done_at done) xs)) settled kept outputs ends values) c.deref-2.ensures.value
           (subst (λ (xs : List Bool). AreOutputsEnded variables names (shapes_of c.as_slice-3.result.now) (objects_seen names plan.prior (map action_of c.as_slice-2.result.now) (seen_by (done_at done) c.deref-2.result.now)) (has xs) kept outputs ends values) c.deref-3.ensures.value
-          c.renew_outputs-values.ensures.ended)));
+          (subst (λ (m : ModuleParts). AreOutputsEnded variables names (shapes_of c.as_slice-3.result.now) (objects_seen (names_in m.names.now) plan.prior (map action_of c.as_slice-2.result.now) (seen_by (done_at done) c.deref-2.result.now)) (has c.deref-3.result.now) kept outputs ends values) c.declared.view_is
+          c.renew_outputs-values.ensures.ended))));
       stored = c.renew_outputs-values.ensures.stored;
     }

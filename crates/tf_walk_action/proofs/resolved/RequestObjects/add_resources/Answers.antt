@@ -1,4 +1,5 @@
-use Rattle.std.proofs.Common.{◌<◌, ℕ, length, not, is_some, slice_index_or, refl, ap, ◌∙◌}
+use Rattle.std.proofs.Common.{◌<◌, ℕ, length, not, is_some, slice_index_or, refl, ap, subst, ◌∙◌}
+use Rattle.tf_expand.specs.Module.{IsModule}
 use Rattle.tf_expand.specs.Views.{shapes_of, resolved_names_of}
 use Rattle.tf_graph.proofs.Solving.{all_by_at}
 use Rattle.tf_config_names.specs.Table.{names_in}
@@ -24,9 +25,10 @@ add_resolved-requires-clause-room g c =
 
 pub loop-place-preserved : goal.loop-place-preserved
 loop-place-preserved g c =
+    let fits = subst IsModule c.declared.view_is c.declared.invariant in
     let p : ℕ = slice_index_or c.args.resources.now c.loop-place.place-index 0 in
     added_more (entries_view c.args.self.now.declared.now.variables.now.entries) (names_in c.args.self.now.declared.now.names.now) (shapes_of c.args.self.now.shapes.now) (g.R.Results.objects c.args.self.now.results.now)
-    c.args.resources.now c.loop-place.place-index p _ c.loop-place.kept.items _ (c.requires.dependence.ranked c.requires.acyclic) c.requires.within c.requires.resources c.loop-place-test.true refl
+    c.args.resources.now c.loop-place.place-index p _ c.loop-place.kept.items _ (fits.dependence.ranked fits.acyclic) c.requires.within c.requires.resources c.loop-place-test.true refl
     (ap not (c.stands-is_missing.ensures ∙ ap (λ xs. is_some (resolved_names_of xs p)) c.as_slice.ensures.value)) c.in_ok-add_resolved.ensures.added c.loop-place.invariant
 
 pub returns-in_err-add_resolved-clause-answered : goal.returns-in_err-add_resolved-clause-answered

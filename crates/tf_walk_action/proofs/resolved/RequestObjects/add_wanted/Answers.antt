@@ -1,5 +1,7 @@
-use Rattle.std.proofs.Common.{◌≡◌, length, slice_index_or, sym, ap, arith}
+use Rattle.std.proofs.Common.{◌≡◌, length, slice_index_or, sym, ap, subst, ◌∙◌, arith}
+use Rattle.tf_expand.specs.Module.{IsModule}
 use Rattle.tf_expand.specs.Views.{shapes_of, resolved_names_of}
+use Rattle.tf_expand.specs.declared.table.ModuleParts.{ModuleParts}
 use Rattle.tf_config_names.specs.Needs.{order_in}
 use Rattle.tf_config_names.specs.Table.{names_in}
 use Rattle.tf_value.specs.Tree.{entries_view}
@@ -14,22 +16,25 @@ loop-place-init g c =
 
 pub add_resolved-requires-clause-place : goal.add_resolved-requires-clause-place
 add_resolved-requires-clause-place g c =
-    let place = place_of_order (order_in c.args.self.now.declared.now.dependence.now) c.order-place-items.result.now c.loop-place.place-index c.order-place-items.ensures c.loop-place-test.true in
-    c.requires.dependence.within _ place.2
+    let fits = subst IsModule c.declared.view_is c.declared.invariant in
+    let place = place_of_order (order_in c.args.self.now.declared.now.dependence.now) c.order-place-items.result.now c.loop-place.place-index (c.order-place-items.ensures ∙ ap (λ (m : ModuleParts). order_in m.dependence.now) c.declared.view_is) c.loop-place-test.true in
+    fits.dependence.within _ place.2
 
 pub add_resolved-requires-clause-room : goal.add_resolved-requires-clause-room
 add_resolved-requires-clause-room g c =
-    let place = place_of_order (order_in c.args.self.now.declared.now.dependence.now) c.order-place-items.result.now c.loop-place.place-index c.order-place-items.ensures c.loop-place-test.true in
-    let inside = c.requires.dependence.within _ place.2 in
+    let fits = subst IsModule c.declared.view_is c.declared.invariant in
+    let place = place_of_order (order_in c.args.self.now.declared.now.dependence.now) c.order-place-items.result.now c.loop-place.place-index (c.order-place-items.ensures ∙ ap (λ (m : ModuleParts). order_in m.dependence.now) c.declared.view_is) c.loop-place-test.true in
+    let inside = fits.dependence.within _ place.2 in
     omega (arith, inside, c.loop-place.invariant.room)
 
 pub loop-place-preserved : goal.loop-place-preserved
 loop-place-preserved g c =
+    let fits = subst IsModule c.declared.view_is c.declared.invariant in
     let order = order_in c.args.self.now.declared.now.dependence.now in
-    let place = place_of_order order c.order-place-items.result.now c.loop-place.place-index c.order-place-items.ensures c.loop-place-test.true in
+    let place = place_of_order order c.order-place-items.result.now c.loop-place.place-index (c.order-place-items.ensures ∙ ap (λ (m : ModuleParts). order_in m.dependence.now) c.declared.view_is) c.loop-place-test.true in
     adding_more (entries_view c.args.self.now.declared.now.variables.now.entries) (names_in c.args.self.now.declared.now.names.now) (shapes_of c.args.self.now.shapes.now) (g.R.Results.objects c.args.self.now.results.now)
     order c.args.wanted.now c.loop-place.place-index (slice_index_or c.order-place-items.result.now c.loop-place.place-index 0) c.is_missing-is_missing.result c.loop-place.kept.items _
-    (c.requires.dependence.ranked c.requires.acyclic) c.requires.dependence.in_order c.requires.closed place.0 place.1 (c.requires.dependence.within _ place.2)
+    (fits.dependence.ranked fits.acyclic) fits.dependence.in_order c.requires.closed place.0 place.1 (fits.dependence.within _ place.2)
     (rw c.as_slice.ensures.value at c.is_missing-is_missing.ensures) c.in_ok-add_resolved.ensures.added c.loop-place.invariant
 
 pub returns-in_err-add_resolved-clause-answered : goal.returns-in_err-add_resolved-clause-answered
@@ -42,6 +47,6 @@ returns-clause-answered g c = c.loop-place.invariant.answered
 
 pub returns-clause-there : goal.returns-clause-there
 returns-clause-there g c =
-    let left : length (order_in c.args.self.now.declared.now.dependence.now) ≡ length c.order-place-items.result.now = ap (λ xs. length xs) (sym c.order-place-items.ensures) in
+    let left : length (order_in c.args.self.now.declared.now.dependence.now) ≡ length c.order-place-items.result.now = ap (λ xs. length xs) (sym (c.order-place-items.ensures ∙ ap (λ (m : ModuleParts). order_in m.dependence.now) c.declared.view_is)) in
     adding_all (entries_view c.args.self.now.declared.now.variables.now.entries) (names_in c.args.self.now.declared.now.names.now) (shapes_of c.args.self.now.shapes.now) (g.R.Results.objects c.args.self.now.results.now)
     (order_in c.args.self.now.declared.now.dependence.now) c.args.wanted.now c.loop-place.place-index c.loop-place.kept.items (omega (arith, left, c.loop-place-test.false)) c.loop-place.invariant

@@ -1,3 +1,0 @@
-pub mod Check
-pub mod Place
-pub mod Walk
