@@ -1,3 +1,4 @@
+mod book;
 mod cells;
 mod claims;
 mod journal;

@@ -1,6 +1,7 @@
 mod accepted;
 mod afterwards;
 mod data;
+mod made;
 mod memory;
 mod refused;
 mod writing;

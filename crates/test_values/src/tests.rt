@@ -4,6 +4,7 @@ mod graph;
 mod json_text;
 mod limits;
 mod operators;
+mod places;
 mod sizes;
 mod template;
 mod texts;

@@ -120,39 +120,55 @@ fn publish_twice<N: WalkBrand + Send + Sync, R: Threads + Sync>(
     )
 }
 
+/// Whether of two ends for one action the first goes into its cell, and the other comes back.
+fn is_published_once(cells: Cells<Brand>, one: Waived, other: Waived) -> bool
+    requires { (cells ≡ 2) × (one ≡ 1) × (other ≡ 1) }
+{
+    let is_empty = cells.read(1).is_none();
+    let first = publish(&cells, one, &set_stop());
+    let second = publish(&cells, other, &Stop::new());
+    let good = cells.read(1).map(|reading| reading.is_good());
+    let is_alone = cells.read(0).is_none();
+    let taken = taken(cells);
+    is_empty
+        && is_alone
+        && (first, second) == (None, Some(Kind::NotAsked))
+        && good == Some(false)
+        && taken == (None, Some(Kind::Left))
+}
+
 #[test]
 fn an_end_is_published_once(rt: HostRuntime) -> Result<(), Fail> {
     let (one, other) = (second_waived(rt.alloc())?, second_waived(rt.alloc())?);
     let cells = Cells::<Brand>::new(rt.alloc(), 2)?;
-    let empty = cells.read(1).is_none();
-    let (set, unset) = (set_stop(), Stop::new());
-    let first = publish(&cells, one, &set);
-    let second = publish(&cells, other, &unset);
-    let good = cells.read(1).map(|reading| reading.is_good());
-    let other = cells.read(0).is_none();
-    let taken = taken(cells);
-    assert!(rt; empty && other);
-    assert_eq!(rt; (first, second), (None, Some(Kind::NotAsked)));
-    assert_eq!(rt; good, Some(false));
-    assert_eq!(rt; taken, (None, Some(Kind::Left)));
+    assert!(rt; is_published_once(cells, one, other));
     Ok(())
+}
+
+/// Whether of two threads that publish for one action one does, and the end of the other comes back.
+fn is_published_by_one<R: Threads + Sync>(
+    rt: &R,
+    cells: Cells<Brand>,
+    one: Waived,
+    other: Waived,
+) -> bool
+    requires { (cells ≡ 2) × (one ≡ 1) × (other ≡ 1) }
+{
+    let (set, unset) = (set_stop(), Stop::new());
+    let (first, second) = publish_twice(rt, &cells, one, other, &set, &unset);
+    let (none, there) = taken(cells);
+    let wanted = if first.is_none() {
+        (None, Some(Kind::NotAsked), Some(Kind::Left))
+    } else {
+        (Some(Kind::Left), None, Some(Kind::NotAsked))
+    };
+    none.is_none() && (first, second, there) == wanted
 }
 
 #[test]
 fn of_two_threads_one_publishes(rt: HostRuntime) -> Result<(), Fail> {
     let (one, other) = (second_waived(rt.alloc())?, second_waived(rt.alloc())?);
     let cells = Cells::<Brand>::new(rt.alloc(), 2)?;
-    let (set, unset) = (set_stop(), Stop::new());
-    let (first, second) = publish_twice(&rt, &cells, one, other, &set, &unset);
-    let (none, there) = taken(cells);
-    assert_eq!(rt; none, None);
-    if first.is_none() {
-        assert_eq!(rt; (second, there), (Some(Kind::NotAsked), Some(Kind::Left)));
-    } else {
-        assert_eq!(rt;
-            (first, second, there),
-            (Some(Kind::Left), None, Some(Kind::NotAsked))
-        );
-    }
+    assert!(rt; is_published_by_one(&rt, cells, one, other));
     Ok(())
 }

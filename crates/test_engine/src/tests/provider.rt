@@ -3,14 +3,14 @@
 ghost use Rattle.std.specs.Prelude.{◌≡◌, IsTrue, MatchResult};
 ghost use Rattle.tf_claim.specs.Ledger.{is_taken, stage_in};
 
+use crate::tests::journal::is_called_well;
 use std::alloc::{AllocError, Global};
 use std::collections::{BTreeMap, BTreeSet};
 use std::test::Fail;
-use tf_claim::{Book, Finished, Permit, waive};
-use tf_graph::Graph;
+use tf_claim::{Book, Finished, Permit};
 use tf_provider::{
-    Attribute, Called, Journal, Kind, Mode, Op, Provider, Recorded, Reply, Request, Schema,
-    SchemaFault, Verdict, asks_fully, call, first_provider, judge, well_formed,
+    Attribute, Called, Kind, Mode, Op, Provider, Recorded, Reply, Request, Schema, SchemaFault,
+    Verdict, asks_fully, call, first_provider, judge, well_formed,
 };
 use tf_value::Value;
 
@@ -33,12 +33,19 @@ fn fault_of(alloc: Global, names: &[&str]) -> Result<Option<SchemaFault>, AllocE
     Ok(Schema::new(alloc, 0, attributes).err())
 }
 
+/// The attributes of a net.
+static NET: [(&str, Kind, Mode); 3] = [
+    ("cidr", Kind::String, Mode::Required),
+    ("tag", Kind::String, Mode::Optional),
+    ("id", Kind::String, Mode::Computed),
+];
+
 /// The schema of a net: a required `cidr`, an optional `tag` and a computed `id`, all texts.
 fn net_schema(alloc: Global) -> Result<Schema, SchemaFault> {
     let mut attributes = Vec::new(alloc);
-    attributes.push(attribute(alloc, "cidr", Kind::String, Mode::Required)?)?;
-    attributes.push(attribute(alloc, "tag", Kind::String, Mode::Optional)?)?;
-    attributes.push(attribute(alloc, "id", Kind::String, Mode::Computed)?)?;
+    for (name, kind, mode) in &NET {
+        attributes.push(attribute(alloc, name, *kind, *mode)?)?;
+    }
     Schema::new(alloc, 7, attributes)
 }
 
@@ -52,14 +59,46 @@ enum Said {
     NoMemory,
 }
 
-/// The value of a word: nothing is null, `?` isn't known, `5` is the number, and any other word is a text.
+/// A text.
+fn text_of(alloc: Global, text: &str) -> Result<Value, AllocError> {
+    Ok(Value::Text(String::from_str(alloc, text)?))
+}
+
+/// The set of one text.
+fn set_of(alloc: Global, text: &str) -> Result<Value, AllocError> {
+    let mut texts = BTreeSet::new(alloc);
+    texts.insert(String::from_str(alloc, text)?)?;
+    Ok(Value::Set(texts))
+}
+
+/// The list of one value.
+fn list_of(alloc: Global, value: Value) -> Result<Value, AllocError> {
+    Ok(Value::List(vec![in alloc; value]?))
+}
+
+/// The value of a word: nothing is null, `?` isn't known, a number is itself, `[x]` is a list of a text, `{x}` a set and `[{x}]`
+/// a list of a set, and any other word is a text.
 fn value(alloc: Global, word: &str) -> Result<Value, AllocError> {
     match word {
         "" => Ok(Value::Null),
         "?" => Ok(Value::Unknown),
-        "5" => Ok(Value::Int(5)),
-        _ => Ok(Value::Text(String::from_str(alloc, word)?)),
+        "[x]" => list_of(alloc, text_of(alloc, "x")?),
+        "{x}" => set_of(alloc, "x"),
+        "[{x}]" => list_of(alloc, set_of(alloc, "x")?),
+        _ => match word.parse::<i64>() {
+            Ok(number) => Ok(Value::Int(number)),
+            Err(_) => text_of(alloc, word),
+        },
     }
+}
+
+/// An object of these words at their keys.
+pub(crate) fn object(alloc: Global, words: &[(&str, &str)]) -> Result<Value, AllocError> {
+    let mut entries = BTreeMap::new(alloc);
+    for (key, word) in words {
+        add(alloc, &mut entries, key, word)?;
+    }
+    Ok(Value::Map(entries))
 }
 
 /// Adds the value of a word to an object.
@@ -69,17 +108,14 @@ fn add(
     key: &str,
     word: &str,
 ) -> Result<(), AllocError> {
-    drop(entries.insert(String::from_str(alloc, key)?, value(alloc, word)?)?);
+    let value = value(alloc, word)?;
+    drop(entries.insert(String::from_str(alloc, key)?, value)?);
     Ok(())
 }
 
 /// A net's object.
 fn net(alloc: Global, cidr: &str, tag: &str, id: &str) -> Result<Value, AllocError> {
-    let mut entries = BTreeMap::new(alloc);
-    add(alloc, &mut entries, "cidr", cidr)?;
-    add(alloc, &mut entries, "tag", tag)?;
-    add(alloc, &mut entries, "id", id)?;
-    Ok(Value::Map(entries))
+    object(alloc, [("cidr", cidr), ("tag", tag), ("id", id)].as_slice())
 }
 
 fn reply(alloc: Global, said: Said) -> Result<Reply, AllocError> {
@@ -95,23 +131,53 @@ fn reply(alloc: Global, said: Said) -> Result<Reply, AllocError> {
     }
 }
 
-/// The create of the net with cidr `x` and an id that isn't known, or a destroy.
-fn request(alloc: Global, op: Op) -> Result<Request, AllocError> {
-    let object = match op {
-        Op::Destroy => None,
-        _ => Some(net(alloc, "x", "", "?")?),
-    };
+/// A request without objects.
+pub(crate) fn bare(
+    alloc: Global,
+    op: Op,
+    address: &str,
+    type_name: &str,
+) -> Result<Request, AllocError> {
+    let address = String::from_str(alloc, address)?;
+    let type_name = String::from_str(alloc, type_name)?;
     Ok(Request {
         op,
-        address: String::from_str(alloc, "net.a")?,
-        type_name: String::from_str(alloc, "net")?,
+        address,
+        type_name,
         deposed: None,
         prior: None,
-        object,
+        object: None,
     })
 }
 
+/// A request for an object of these words.
+fn asking(alloc: Global, op: Op, words: &[(&str, &str)]) -> Result<Request, AllocError> {
+    let mut request = bare(alloc, op, "net.a", "net")?;
+    request.object = Some(object(alloc, words)?);
+    Ok(request)
+}
+
+/// The create of the net with cidr `x` and an id that isn't known, or a destroy.
+pub(crate) fn request(alloc: Global, op: Op) -> Result<Request, AllocError> {
+    match op {
+        Op::Destroy => bare(alloc, op, "net.a", "net"),
+        Op::Create | Op::Update => {
+            let words = [("cidr", "x"), ("tag", ""), ("id", "?")];
+            asking(alloc, op, words.as_slice())
+        }
+    }
+}
+
 /// The verdict on a reply; none where the request's object hasn't the schema's attributes.
+fn judged(request: &Request, reply: &Reply, schema: &Schema) -> Option<Verdict> {
+    if asks_fully(request, schema) {
+        Some(judge(request, reply, schema))
+    } else {
+        None
+    }
+}
+
+/// The verdict on what a reply says.
 fn verdict_on(
     alloc: Global,
     schema: &Schema,
@@ -120,11 +186,7 @@ fn verdict_on(
 ) -> Result<Option<Verdict>, AllocError> {
     let request = request(alloc, op)?;
     let reply = reply(alloc, said)?;
-    if asks_fully(&request, schema) {
-        Ok(Some(judge(&request, &reply, schema)))
-    } else {
-        Ok(None)
-    }
+    Ok(judged(&request, &reply, schema))
 }
 
 static REPLIES: [(Op, Said, Verdict); 14] = [
@@ -152,6 +214,11 @@ static REPLIES: [(Op, Said, Verdict); 14] = [
     (Op::Destroy, Said::NoMemory, Verdict::Excused),
 ];
 
+/// Whether a net with this cidr, whose other attributes are null, has what the schema says.
+fn is_well_formed(alloc: Global, schema: &Schema, cidr: &str) -> Result<bool, AllocError> {
+    Ok(well_formed(&net(alloc, cidr, "", "")?, schema))
+}
+
 #[test]
 fn replies_are_judged(rt: HostRuntime) -> Result<(), Fail> {
     let schema = net_schema(rt.alloc())?;
@@ -159,63 +226,50 @@ fn replies_are_judged(rt: HostRuntime) -> Result<(), Fail> {
         let found = verdict_on(rt.alloc(), &schema, *op, *said)?;
         assert!(rt; found == Some(*verdict), "{said:?}");
     }
-    assert!(rt; well_formed(&net(rt.alloc(), "x", "", "")?, &schema));
-    assert!(rt; !well_formed(&net(rt.alloc(), "", "", "")?, &schema));
     Ok(())
 }
 
-/// An object whose only attribute, `more`, may have any value.
-fn with_more(alloc: Global, more: Value) -> Result<Value, AllocError> {
-    let mut entries = BTreeMap::new(alloc);
-    drop(entries.insert(String::from_str(alloc, "more")?, more)?);
-    Ok(Value::Map(entries))
+#[test]
+fn a_net_has_a_cidr(rt: HostRuntime) -> Result<(), Fail> {
+    let schema = net_schema(rt.alloc())?;
+    for (cidr, wanted) in [("x", true), ("", false)] {
+        assert!(rt;
+            is_well_formed(rt.alloc(), &schema, cidr)? == wanted,
+            "{cidr}"
+        );
+    }
+    Ok(())
 }
 
-/// The verdict on an object where one with any value for `more` was asked for.
+/// The schema of one attribute, `more`, which may have any value.
+fn more_schema(alloc: Global) -> Result<Schema, SchemaFault> {
+    let mut attributes = Vec::new(alloc);
+    attributes.push(attribute(alloc, "more", Kind::Any, Mode::Optional)?)?;
+    Schema::new(alloc, 0, attributes)
+}
+
+/// The verdict on an object with this word for `more`, where one with any value for it was asked for.
 fn verdict_on_more(
     alloc: Global,
     schema: &Schema,
-    more: Value,
+    word: &str,
 ) -> Result<Option<Verdict>, AllocError> {
-    let mut request = request(alloc, Op::Create)?;
-    request.object = Some(with_more(alloc, Value::Unknown)?);
-    let reply = Reply::Object(with_more(alloc, more)?);
-    if asks_fully(&request, schema) {
-        Ok(Some(judge(&request, &reply, schema)))
-    } else {
-        Ok(None)
-    }
-}
-
-/// The set of one text.
-fn set_of(alloc: Global, text: &str) -> Result<Value, AllocError> {
-    let mut texts = BTreeSet::new(alloc);
-    texts.insert(String::from_str(alloc, text)?)?;
-    Ok(Value::Set(texts))
+    let request = asking(alloc, Op::Create, [("more", "?")].as_slice())?;
+    let reply = Reply::Object(object(alloc, [("more", word)].as_slice())?);
+    Ok(judged(&request, &reply, schema))
 }
 
 #[test]
 fn replies_with_sets_are_malformed(rt: HostRuntime) -> Result<(), Fail> {
-    let alloc = rt.alloc();
-    let mut attributes = Vec::new(alloc);
-    attributes.push(attribute(alloc, "more", Kind::Any, Mode::Optional)?)?;
-    let schema = Schema::new(alloc, 0, attributes)?;
-    for (more, verdict) in [
-        (value(alloc, "x")?, Verdict::Good),
-        (
-            Value::List(vec![in alloc; value(alloc, "x")?]?),
-            Verdict::Good,
-        ),
-        (set_of(alloc, "x")?, Verdict::Malformed),
-        (
-            Value::List(vec![in alloc; set_of(alloc, "x")?]?),
-            Verdict::Malformed,
-        ),
+    let schema = more_schema(rt.alloc())?;
+    for (word, verdict) in [
+        ("x", Verdict::Good),
+        ("[x]", Verdict::Good),
+        ("{x}", Verdict::Malformed),
+        ("[{x}]", Verdict::Malformed),
     ] {
-        assert!(rt;
-            verdict_on_more(alloc, &schema, more)? == Some(verdict),
-            "{verdict:?}"
-        );
+        let found = verdict_on_more(rt.alloc(), &schema, word)?;
+        assert!(rt; found == Some(verdict), "{word}");
     }
     Ok(())
 }
@@ -238,19 +292,36 @@ fn schemas_are_refused(rt: HostRuntime) -> Result<(), Fail> {
     Ok(())
 }
 
+/// Whether these are a net's attributes, in byte order.
+fn are_in_order(attributes: &[Attribute]) -> bool {
+    for (attribute, name) in attributes.iter().zip(["cidr", "id", "tag"].iter()) {
+        if attribute.name.as_str() != *name {
+            return false;
+        }
+    }
+    attributes.len() == 3
+}
+
+/// Who sets an attribute, where there is one.
+fn mode_of(schema: &Schema, name: &str) -> Option<Mode> {
+    match schema.attribute(name) {
+        Some(attribute) => Some(attribute.mode),
+        None => None,
+    }
+}
+
+/// Whether this is the schema of a net.
+fn is_of_nets(schema: &Schema) -> bool {
+    schema.version() == 7
+        && are_in_order(schema.attributes())
+        && mode_of(schema, "tag") == Some(Mode::Optional)
+        && mode_of(schema, "net").is_none()
+}
+
 #[test]
 fn schemas_are_in_byte_order(rt: HostRuntime) -> Result<(), Fail> {
     let schema = net_schema(rt.alloc())?;
-    assert!(rt; schema.version() == 7 && schema.attributes().len() == 3);
-    for (place, name) in ["cidr", "id", "tag"].iter().enumerate() {
-        assert!(rt; schema.attributes()[place].name.as_str() == *name, "{name}");
-    }
-    assert!(rt;
-        schema
-            .attribute("tag")
-            .is_some_and(|a| a.mode == Mode::Optional)
-    );
-    assert!(rt; schema.attribute("net").is_none());
+    assert!(rt; is_of_nets(&schema));
     Ok(())
 }
 
@@ -278,6 +349,7 @@ impl Provider for Mute {
 /// Reports an action as done that was claimed from this book.
 pub(crate) fn finish(book: &mut Book, finished: Finished)
     requires { IsTrue (is_taken (stage_in book.old.stages finished)) }
+    ensures { book.new.graph ≡ book.old.graph }
 {
     match book.finish(finished) {
         Ok(()) => {}
@@ -315,33 +387,26 @@ pub(crate) fn settle(book: &mut Book, recorded: Recorded) -> Verdict
     }
 }
 
+/// Whether the first provider has a type, and its call goes well; no provider is the first of none.
+fn is_first_called(
+    alloc: Global,
+    providers: &[Box<dyn Provider + Sync>],
+    type_name: &str,
+) -> Result<bool, Fail> {
+    match first_provider(providers, type_name) {
+        Some(provider) => is_called_well(alloc, provider),
+        None => Ok(false),
+    }
+}
+
 #[test]
 fn a_call_spends_its_permit(rt: HostRuntime) -> Result<(), Fail> {
-    let alloc = rt.alloc();
-    let mut providers: Vec<Box<dyn Provider + Sync>> = Vec::new(alloc);
-    let schema = net_schema(alloc)?;
-    providers.push(Box::new(alloc, Mute { schema })?)?;
-    assert!(rt; first_provider(&providers, "net").is_some());
-    assert!(rt; first_provider(&providers[..0], "net").is_none());
-    let graph = Graph::new(alloc, 1, &[])?;
-    let mut journal = Journal::with_room(alloc, &graph)?;
-    let mut book = Book::new(alloc, &graph)?;
-    let request = request(alloc, Op::Destroy)?;
-    let Some(permit) = book.claim(0) else {
-        return Err("not claimed")?;
-    };
-    match try_call(&providers[0], permit, request) {
-        Ok(called) => match journal.record(called) {
-            Ok(recorded) => {
-                let verdict = settle(&mut book, recorded);
-                assert!(rt; verdict == Verdict::Good);
-                Ok(())
-            }
-            Err(_) => unreachable!(),
-        },
-        Err(permit) => {
-            finish(&mut book, waive(permit));
-            Err("the provider hasn't the type")?
-        }
-    }
+    let schema = net_schema(rt.alloc())?;
+    let mut providers: Vec<Box<dyn Provider + Sync>> = Vec::new(rt.alloc());
+    providers.push(Box::new(rt.alloc(), Mute { schema })?)?;
+    assert!(rt;
+        is_first_called(rt.alloc(), &providers, "net")?
+            && first_provider(&providers[..0], "net").is_none()
+    );
+    Ok(())
 }

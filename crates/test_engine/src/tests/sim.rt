@@ -1,39 +1,23 @@
 //! What the provider answers, row by row, and its schemas.
 
+use crate::tests::provider::{bare, object};
 use std::alloc::{AllocError, Global};
-use std::collections::BTreeMap;
 use std::test::Fail;
 use tf_provider_protocol::{Op, Provider, Reply, Request};
 use tf_provider_sim::Sim;
 use tf_value::Value;
 
-/// The object with these texts at two keys, and a size.
-fn object(
+/// The request that has an object of these words both before and after.
+fn request(
     alloc: Global,
-    first: (&str, &str),
-    second: (&str, &str),
-    size: i64,
-) -> Result<Value, AllocError> {
-    let mut entries = BTreeMap::new(alloc);
-    let text = Value::Text(String::from_str(alloc, first.1)?);
-    drop(entries.insert(String::from_str(alloc, first.0)?, text)?);
-    let text = Value::Text(String::from_str(alloc, second.1)?);
-    drop(entries.insert(String::from_str(alloc, second.0)?, text)?);
-    drop(entries.insert(String::from_str(alloc, "size")?, Value::Int(size))?);
-    Ok(Value::Map(entries))
-}
-
-/// The request that has an object both before and after.
-fn request(alloc: Global, op: Op, type_name: &str, object: Value) -> Result<Request, AllocError> {
-    let prior = object.clone()?;
-    Ok(Request {
-        op,
-        address: String::from_str(alloc, "sim_net.a")?,
-        type_name: String::from_str(alloc, type_name)?,
-        deposed: None,
-        prior: Some(prior),
-        object: Some(object),
-    })
+    op: Op,
+    type_name: &str,
+    words: &[(&str, &str)],
+) -> Result<Request, AllocError> {
+    let mut request = bare(alloc, op, "sim_net.a", type_name)?;
+    request.prior = Some(object(alloc, words)?);
+    request.object = Some(object(alloc, words)?);
+    Ok(request)
 }
 
 /// What a reply says: an object's tag and id, a failure's message, or a word.
@@ -58,6 +42,20 @@ fn text_at<'a>(object: &'a Value, key: &str) -> &'a str {
     }
 }
 
+/// Whether the provider answers a request that has an object of these words so.
+fn is_answered(
+    alloc: Global,
+    sim: &Sim,
+    op: Op,
+    type_name: &str,
+    words: &[(&str, &str)],
+    wanted: (&str, &str),
+) -> Result<bool, AllocError> {
+    let request = request(alloc, op, type_name, words)?;
+    let reply = sim.apply(&request);
+    Ok(said(&reply) == wanted)
+}
+
 static NETS: [(Op, &str, &str, (&str, &str)); 6] = [
     (Op::Create, "x", "t", ("t", "net-x")),
     (Op::Update, "x", "lie", ("truth", "net-x")),
@@ -71,35 +69,35 @@ static NETS: [(Op, &str, &str, (&str, &str)); 6] = [
 fn nets_are_answered(rt: HostRuntime) -> Result<(), Fail> {
     let sim = Sim::new(rt.alloc())?;
     for (op, cidr, tag, wanted) in &NETS {
-        let net = object(rt.alloc(), ("cidr", cidr), ("tag", tag), 101)?;
-        let reply = sim.apply(&request(rt.alloc(), *op, "sim_net", net)?);
-        assert!(rt; said(&reply) == *wanted, "{op:?} {cidr} {tag}");
+        let words = [("cidr", *cidr), ("tag", *tag), ("size", "101")];
+        let is_answered = is_answered(rt.alloc(), &sim, *op, "sim_net", words.as_slice(), *wanted)?;
+        assert!(rt; is_answered, "{op:?} {cidr} {tag}");
     }
     Ok(())
 }
 
-static HOSTS: [(Op, &str, &str, i64, (&str, &str)); 5] = [
-    (Op::Create, "sim_host", "name", 100, ("lie", "host-h")),
+static HOSTS: [(Op, &str, &str, &str, (&str, &str)); 5] = [
+    (Op::Create, "sim_host", "name", "100", ("lie", "host-h")),
     (
         Op::Update,
         "sim_host",
         "name",
-        101,
+        "101",
         ("failed", "size too large"),
     ),
-    (Op::Destroy, "sim_host", "name", 101, ("gone", "")),
+    (Op::Destroy, "sim_host", "name", "101", ("gone", "")),
     (
         Op::Create,
         "sim_host",
         "net",
-        1,
+        "1",
         ("failed", "malformed request"),
     ),
     (
         Op::Create,
         "sim_disk",
         "name",
-        1,
+        "1",
         ("failed", "unknown type"),
     ),
 ];
@@ -108,18 +106,30 @@ static HOSTS: [(Op, &str, &str, i64, (&str, &str)); 5] = [
 fn hosts_are_answered(rt: HostRuntime) -> Result<(), Fail> {
     let sim = Sim::new(rt.alloc())?;
     for (op, type_name, key, size, wanted) in &HOSTS {
-        let host = object(rt.alloc(), (key, "h"), ("tag", "lie"), *size)?;
-        let reply = sim.apply(&request(rt.alloc(), *op, type_name, host)?);
-        assert!(rt; said(&reply) == *wanted, "{op:?} {type_name} {key} {size}");
+        let words = [(*key, "h"), ("tag", "lie"), ("size", *size)];
+        let is_answered = is_answered(rt.alloc(), &sim, *op, type_name, words.as_slice(), *wanted)?;
+        assert!(rt; is_answered, "{op:?} {type_name} {key} {size}");
     }
-    assert!(rt;
-        sim.schema("sim_host")
-            .is_some_and(|s| s.attributes().len() == 4)
-    );
-    assert!(rt;
-        sim.schema("sim_net")
-            .is_some_and(|s| s.attributes().len() == 3)
-    );
-    assert!(rt; sim.schema("sim_disk").is_none());
+    Ok(())
+}
+
+/// How many attributes the schema of a type has, where there is one.
+fn attributes_of(sim: &Sim, type_name: &str) -> Option<usize> {
+    match sim.schema(type_name) {
+        Some(schema) => Some(schema.attributes().len()),
+        None => None,
+    }
+}
+
+#[test]
+fn nets_and_hosts_have_schemas(rt: HostRuntime) -> Result<(), Fail> {
+    let sim = Sim::new(rt.alloc())?;
+    for (type_name, count) in [
+        ("sim_host", Some(4)),
+        ("sim_net", Some(3)),
+        ("sim_disk", None),
+    ] {
+        assert!(rt; attributes_of(&sim, type_name) == count, "{type_name}");
+    }
     Ok(())
 }

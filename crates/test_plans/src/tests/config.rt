@@ -1,10 +1,9 @@
 use std::alloc::{AllocError, Global};
-use std::process::Abort;
 use std::test::Fail;
 use test_helpers::series;
 use tf_config::{
-    Detail, EvalFault, Refusal, blocks_are_in_order, blocks_have_names, faultless_trees_stand,
-    names_are_few, read, refusals_are_one,
+    Config, Detail, EvalFault, Refusal, blocks_are_in_order, blocks_have_names,
+    faultless_trees_stand, names_are_few, read, refusals_are_one,
 };
 
 // The refusal's text, or how many blocks were read.
@@ -18,15 +17,23 @@ fn answer(alloc: Global, bytes: &[u8]) -> Result<String, AllocError> {
     }
 }
 
-// The configuration whose one block has this body.
-fn with_body(alloc: Global, body: &str) -> Result<String, AllocError> {
-    format!(in alloc; "{{\"resource\":{{\"sim_net\":{{\"a\":{body}}}}}}}")
+// Whether such a text is answered so.
+pub(crate) fn is_answered(alloc: Global, text: &str, want: &str) -> Result<bool, AllocError> {
+    Ok(answer(alloc, text.as_bytes())?.as_str() == want)
 }
 
-// Such a text is answered so.
-pub(crate) fn answers(rt: &impl Abort, alloc: Global, text: &str, want: &str) -> Result<(), Fail> {
-    assert_eq!(rt; answer(alloc, text.as_bytes())?.as_str(), want, "{text}");
-    Ok(())
+// A text of a head, of so many openings, of a core, of as many closings, and of a tail.
+pub(crate) fn nested(
+    alloc: Global,
+    count: usize,
+    head: &str,
+    pair: (&str, &str),
+    core: &str,
+    tail: &str,
+) -> Result<String, AllocError> {
+    let (open, close) = pair;
+    let opened = series(alloc, head, open, 0..count, core)?;
+    series(alloc, opened.as_str(), close, 0..count, tail)
 }
 
 // Each is read.
@@ -65,13 +72,22 @@ static ACCEPTED: [&str; 31] = [
 ];
 
 #[test]
-fn reads_configurations(rt: HostRuntime) -> Result<(), Fail> {
+fn reads_configurations(rt: HostRuntime) {
     for text in &ACCEPTED {
         assert!(rt; read(rt.alloc(), text.as_bytes()).is_ok(), "{text}");
     }
-    let said = answer(rt.alloc(), b"{\"//\": \"\xff\"}")?;
-    assert_eq!(rt; said.as_str(), "error 1 at configuration: NotJson");
-    answers(&rt, rt.alloc(), "", "error 1 at configuration: NotJson")
+}
+
+#[test]
+fn refuses_what_is_no_text(rt: HostRuntime) -> Result<(), Fail> {
+    for bytes in [b"{\"//\": \"\xff\"}".as_slice(), b"".as_slice()] {
+        let said = answer(rt.alloc(), bytes)?;
+        assert!(rt;
+            said.as_str() == "error 1 at configuration: NotJson",
+            "{said}"
+        );
+    }
+    Ok(())
 }
 
 static FAULTY: &str =
@@ -79,36 +95,27 @@ static FAULTY: &str =
 
 #[test]
 fn tells_the_first_fault(rt: HostRuntime) -> Result<(), Fail> {
-    answers(
-        &rt,
-        rt.alloc(),
-        FAULTY,
-        "error 3 at resource.t.a-1.z: BadTemplate(2)",
-    )
-}
-
-fn push_each(text: &mut String, count: usize, char: char) -> Result<(), AllocError> {
-    for _ in 0..count {
-        text.push(char)?;
-    }
+    let fault = "error 3 at resource.t.a-1.z: BadTemplate(2)";
+    assert!(rt; is_answered(rt.alloc(), FAULTY, fault)?);
     Ok(())
 }
 
 // A text in a list, in which a number stands in this many parentheses.
 fn grouped(alloc: Global, count: usize) -> Result<String, AllocError> {
-    let mut text = String::from_str(alloc, "{\"x\": [\"\", \"${")?;
-    push_each(&mut text, count, '(')?;
-    text.push('1')?;
-    push_each(&mut text, count, ')')?;
-    text.push_str("}\"]}")?;
-    with_body(alloc, text.as_str())
+    let head = "{\"resource\":{\"sim_net\":{\"a\":{\"x\": [\"\", \"${";
+    nested(alloc, count, head, ("(", ")"), "1", "}\"]}}}}")
 }
 
 #[test]
 fn refuses_deep_templates(rt: HostRuntime) -> Result<(), Fail> {
-    let limit = "error 14 at resource.sim_net.a.x.1: Limit";
-    answers(&rt, rt.alloc(), &grouped(rt.alloc(), 62)?, "1 blocks")?;
-    answers(&rt, rt.alloc(), &grouped(rt.alloc(), 63)?, limit)
+    for (count, want) in [
+        (62, "1 blocks"),
+        (63, "error 14 at resource.sim_net.a.x.1: Limit"),
+    ] {
+        let text = grouped(rt.alloc(), count)?;
+        assert!(rt; is_answered(rt.alloc(), text.as_str(), want)?, "{count}");
+    }
+    Ok(())
 }
 
 static ARGUMENTS: &str =
@@ -118,21 +125,32 @@ static READ: &str = "sim_net.a {\"t\": List([Map({\"k\": Null}), Int(7), Bool(fa
 sim_net.b {\"cidr\": Template(Template { parts: [(\"\", Binary(Add, Number(1), Number(2)))], last: \"\" })}
 ";
 
-#[test]
-fn reads_arguments(rt: HostRuntime) -> Result<(), Fail> {
-    let config = read(rt.alloc(), ARGUMENTS.as_bytes()).map_err(|_| "refused")?;
-    let mut seen = String::new(rt.alloc());
+// A line for each block of a configuration.
+fn lines(alloc: Global, config: &Config) -> Result<String, AllocError> {
+    let mut lines = String::new(alloc);
     for (addr, block) in config.resources.iter() {
         let arguments = &block.arguments;
-        seen.push_str(format!(in rt.alloc(); "{addr} {arguments:?}\n")?.as_str())?;
+        lines.push_str(format!(in alloc; "{addr} {arguments:?}\n")?.as_str())?;
     }
-    assert_eq!(rt; seen.as_str(), READ);
+    Ok(lines)
+}
+
+#[test]
+fn reads_arguments(rt: HostRuntime) -> Result<(), Fail> {
+    let Ok(config) = read(rt.alloc(), ARGUMENTS.as_bytes()) else {
+        return Err("refused".into());
+    };
+    assert!(rt; lines(rt.alloc(), &config)?.as_str() == READ);
+    Ok(())
+}
+
+#[test]
+fn has_its_laws() {
     faultless_trees_stand();
     blocks_are_in_order();
     blocks_have_names();
     names_are_few();
     refusals_are_one();
-    Ok(())
 }
 
 // A configuration with this many blocks, the first of which has this body.
@@ -143,30 +161,34 @@ fn many(alloc: Global, count: usize, body: &str) -> Result<String, AllocError> {
 
 // An argument below as many arrays that the text nests this deep.
 fn deep(alloc: Global, depth: usize) -> Result<String, AllocError> {
-    let mut text = String::from_str(alloc, "{\"resource\": {\"t\": {\"a\": {\"x\": ")?;
-    let arrays = depth.saturating_sub(4);
-    push_each(&mut text, arrays, '[')?;
-    push_each(&mut text, arrays, ']')?;
-    text.push_str("}}}}")?;
-    Ok(text)
+    let head = "{\"resource\": {\"t\": {\"a\": {\"x\": ";
+    nested(alloc, depth.saturating_sub(4), head, ("[", "]"), "", "}}}}")
 }
+
+static MANY: [(usize, &str, &str); 5] = [
+    (2_000, "{}", "2000 blocks"),
+    (2_000, "{\"x\": \"${var.x}\"}", "2000 blocks"),
+    (2_001, "{}", "error 14 at configuration: Limit"),
+    (
+        2_001,
+        "{\"x\": \"${var.x}\"}",
+        "error 14 at configuration: Limit",
+    ),
+    (
+        2_001,
+        "{\"x\": \"${\"}",
+        "error 3 at resource.t.a.x: BadTemplate(2)",
+    ),
+];
 
 #[test]
 fn keeps_the_limit_of_blocks(rt: HostRuntime) -> Result<(), Fail> {
-    let named = "{\"x\": \"${var.x}\"}";
-    let misshapen = "{\"x\": \"${\"}";
-    for (count, body, want) in [
-        (2_000, "{}", "2000 blocks"),
-        (2_000, named, "2000 blocks"),
-        (2_001, "{}", "error 14 at configuration: Limit"),
-        (2_001, named, "error 14 at configuration: Limit"),
-        (
-            2_001,
-            misshapen,
-            "error 3 at resource.t.a.x: BadTemplate(2)",
-        ),
-    ] {
-        answers(&rt, rt.alloc(), &many(rt.alloc(), count, body)?, want)?;
+    for (count, body, want) in &MANY {
+        let text = many(rt.alloc(), *count, body)?;
+        assert!(rt;
+            is_answered(rt.alloc(), text.as_str(), want)?,
+            "{count} {body}"
+        );
     }
     Ok(())
 }
@@ -183,83 +205,102 @@ fn wide(alloc: Global, size: usize) -> Result<String, AllocError> {
 
 #[test]
 fn keeps_the_limit_of_bytes(rt: HostRuntime) -> Result<(), Fail> {
-    let limit = "error 14 at configuration: Limit";
-    assert_eq!(rt; wide(rt.alloc(), 4_194_304)?.as_str(), "0 blocks");
-    assert_eq!(rt; wide(rt.alloc(), 4_194_305)?.as_str(), limit);
+    for (size, want) in [
+        (4_194_304, "0 blocks"),
+        (4_194_305, "error 14 at configuration: Limit"),
+    ] {
+        let said = wide(rt.alloc(), size)?;
+        assert!(rt; said.as_str() == want, "{said}");
+    }
     Ok(())
 }
 
 #[test]
 fn keeps_the_limit_of_depth(rt: HostRuntime) -> Result<(), Fail> {
-    let limit = "error 1 at configuration: NotJson";
-    answers(&rt, rt.alloc(), &deep(rt.alloc(), 127)?, "1 blocks")?;
-    answers(&rt, rt.alloc(), &deep(rt.alloc(), 128)?, limit)
-}
-
-#[test]
-fn prints_refusals(rt: HostRuntime) -> Result<(), Fail> {
-    let mut names = Vec::new(rt.alloc());
-    names.push(String::from_str(rt.alloc(), "local.x")?)?;
-    names.push(String::from_str(rt.alloc(), "local.y")?)?;
-    for (code, detail, want) in [
-        (
-            5,
-            Detail::Names(names),
-            "error 5 at p: Cycle(local.x, local.y)",
-        ),
-        (
-            9,
-            Detail::Kind(EvalFault::TooLarge),
-            "error 9 at p: Evaluate(TooLarge)",
-        ),
-        (3, Detail::At(17), "error 3 at p: BadTemplate(17)"),
-        (11, Detail::Bare, "error 11 at p: NoProvider"),
+    for (depth, want) in [
+        (127, "1 blocks"),
+        (128, "error 1 at configuration: NotJson"),
     ] {
-        let place = String::from_str(rt.alloc(), "p")?;
-        let refusal = Refusal::Fault {
-            code,
-            place,
-            detail,
-        };
-        assert_eq!(rt; format!(in rt.alloc(); "{refusal}")?.as_str(), want);
-    }
-    for (refusal, want) in [
-        (Refusal::OutOfMemory, "error 15 at memory: OutOfMemory"),
-        (Refusal::Workers, "error 14 at workers: Limit"),
-    ] {
-        assert_eq!(rt; format!(in rt.alloc(); "{refusal}")?.as_str(), want);
+        let text = deep(rt.alloc(), depth)?;
+        assert!(rt; is_answered(rt.alloc(), text.as_str(), want)?, "{depth}");
     }
     Ok(())
 }
 
-// A text is refused with this code at this place, with the detail that is given, or there was no memory.
-fn refused_at(
-    rt: &impl Abort,
+// Whether this is what is printed of a refusal.
+fn is_printed(alloc: Global, refusal: &Refusal, want: &str) -> Result<bool, AllocError> {
+    Ok(format!(in alloc; "{refusal}")?.as_str() == want)
+}
+
+// Whether this is what is printed of a fault at `p`.
+fn is_fault_printed(
     alloc: Global,
-    text: &[u8],
     code: u8,
-    place: &str,
-) -> Option<Detail> {
+    detail: Detail,
+    want: &str,
+) -> Result<bool, AllocError> {
+    let place = String::from_str(alloc, "p")?;
+    let refusal = Refusal::Fault {
+        code,
+        place,
+        detail,
+    };
+    is_printed(alloc, &refusal, want)
+}
+
+// The names of two locals.
+fn names(alloc: Global) -> Result<Vec<String>, AllocError> {
+    let mut names = Vec::new(alloc);
+    for name in ["local.x", "local.y"] {
+        names.push(String::from_str(alloc, name)?)?;
+    }
+    Ok(names)
+}
+
+#[test]
+fn prints_names(rt: HostRuntime) -> Result<(), Fail> {
+    let want = "error 5 at p: Cycle(local.x, local.y)";
+    let detail = Detail::Names(names(rt.alloc())?);
+    assert!(rt; is_fault_printed(rt.alloc(), 5, detail, want)?);
+    Ok(())
+}
+
+#[test]
+fn prints_faults(rt: HostRuntime) -> Result<(), Fail> {
+    let kind = Detail::Kind(EvalFault::TooLarge);
+    let want = "error 9 at p: Evaluate(TooLarge)";
+    assert!(rt; is_fault_printed(rt.alloc(), 9, kind, want)?);
+    let want = "error 3 at p: BadTemplate(17)";
+    assert!(rt; is_fault_printed(rt.alloc(), 3, Detail::At(17), want)?);
+    let want = "error 11 at p: NoProvider";
+    assert!(rt; is_fault_printed(rt.alloc(), 11, Detail::Bare, want)?);
+    Ok(())
+}
+
+#[test]
+fn prints_refusals(rt: HostRuntime) -> Result<(), Fail> {
+    let want = "error 15 at memory: OutOfMemory";
+    assert!(rt; is_printed(rt.alloc(), &Refusal::OutOfMemory, want)?);
+    let want = "error 14 at workers: Limit";
+    assert!(rt; is_printed(rt.alloc(), &Refusal::Workers, want)?);
+    Ok(())
+}
+
+// Whether a configuration has two blocks, of one argument each.
+fn has_two_blocks(config: &Config) -> bool {
+    for block in config.resources.values() {
+        if block.arguments.len() != 1 {
+            return false;
+        }
+    }
+    config.resources.len() == 2
+}
+
+// Whether the text of such a configuration is read, or there is no memory.
+fn is_read_whole(alloc: Global, text: &[u8]) -> bool {
     match read(alloc, text) {
-        Ok(_) => {
-            assert!(rt; false, "read");
-            None
-        }
-        Err(
-            Refusal::Fault {
-                code: told,
-                place: at,
-                detail,
-            },
-        ) => {
-            assert_eq!(rt; told, code);
-            assert_eq!(rt; at.as_str(), place);
-            Some(detail)
-        }
-        Err(refusal) => {
-            assert!(rt; matches!(refusal, Refusal::OutOfMemory));
-            None
-        }
+        Ok(config) => has_two_blocks(&config),
+        Err(refusal) => matches!(refusal, Refusal::OutOfMemory),
     }
 }
 
@@ -268,14 +309,19 @@ fn refused_at(
 fn says_when_memory_ran_out(rt: HostRuntime) {
     let text =
         b"{\"resource\": {\"t\": {\"a\": {\"x\": [\"y${keys(1)}\"]}, \"b\": {\"z\": {\"k\": 1}}}}}";
-    match read(rt.alloc(), text) {
-        Ok(config) => {
-            assert_eq!(rt; config.resources.len(), 2);
-            for block in config.resources.values() {
-                assert_eq!(rt; block.arguments.len(), 1);
-            }
-        }
-        Err(refusal) => assert!(rt; matches!(refusal, Refusal::OutOfMemory)),
+    assert!(rt; is_read_whole(rt.alloc(), text));
+}
+
+// Whether a refusal is of this template, which ends at its third byte, or there was no memory.
+fn is_of_a_template(refusal: &Refusal, path: &str) -> bool {
+    match refusal {
+        Refusal::OutOfMemory => true,
+        Refusal::Fault {
+            code: 3,
+            place,
+            detail: Detail::At(2),
+        } => place.as_str() == path,
+        _ => false,
     }
 }
 
@@ -283,6 +329,9 @@ fn says_when_memory_ran_out(rt: HostRuntime) {
 #[test]
 fn says_when_memory_ran_out_in_a_template(rt: HostRuntime) {
     let text = b"{\"resource\": {\"t\": {\"a\": {\"x\": [\"${\"]}}}}";
-    let detail = refused_at(&rt, rt.alloc(), text, 3, "resource.t.a.x.0");
-    assert!(rt; matches!(detail, None | Some(Detail::At(2))));
+    let is_refused = match read(rt.alloc(), text) {
+        Ok(_) => false,
+        Err(refusal) => is_of_a_template(&refusal, "resource.t.a.x.0"),
+    };
+    assert!(rt; is_refused);
 }

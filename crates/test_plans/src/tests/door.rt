@@ -1,43 +1,42 @@
-//! Plans, their texts and orders, or what is refused, through the planner's door.
+//! Plans and their orders, or what is refused, through the planner's door.
 
 use std::alloc::{AllocError, Global};
 use tf_cli_inputs::{Inputs, read_texts};
 use tf_config_refusal::Refusal;
-use tf_plan::{Planned, Refused, plan, plan_text};
+use tf_plan::{Planned, Refused, plan};
 use tf_provider_protocol::Provider;
 use tf_provider_sim::Sim;
 
-/// The text of the plan of a configuration from a state, none where its text is empty; or a line for each refusal.
-pub(crate) fn text_of(alloc: Global, config: &str, state: &str) -> Result<String, AllocError> {
+/// What is told of an order.
+#[derive(Clone, Copy)]
+pub(crate) enum Told {
+    /// The pairs of actions of which the first is before the second, by their places in the plan.
+    Pairs,
+    /// How many such pairs there are.
+    Count,
+}
+
+/// What is told of the order of the plan of a configuration from a state; or a line for each refusal.
+pub(crate) fn order_of(
+    alloc: Global,
+    config: &str,
+    state: &str,
+    told: Told,
+) -> Result<String, AllocError> {
     match planned(alloc, config, state) {
-        Ok(planned) => plan_text(
-            alloc,
-            planned.plan.actions.as_slice(),
-            planned.plan.late.as_slice(),
-        ),
+        Ok(planned) => tell(alloc, planned.plan.order.graph().edges(), told),
         Err(Refused::NoMemory) => Err(AllocError),
         Err(Refused::These(refusals)) => lines(alloc, refusals.as_slice()),
     }
 }
 
-/// The pairs of actions of which the first is before the second, by their places in the plan; or a line for each refusal.
-pub(crate) fn order_of(alloc: Global, config: &str, state: &str) -> Result<String, AllocError> {
-    match planned(alloc, config, state) {
-        Ok(planned) => pairs(alloc, planned.plan.order.graph().edges()),
-        Err(Refused::NoMemory) => Err(AllocError),
-        Err(Refused::These(refusals)) => lines(alloc, refusals.as_slice()),
-    }
-}
-
-/// How many such pairs there are; or a line for each refusal.
-pub(crate) fn count_of(alloc: Global, config: &str, state: &str) -> Result<String, AllocError> {
-    match planned(alloc, config, state) {
-        Ok(planned) => {
-            let count = planned.plan.order.graph().edges().len();
+fn tell(alloc: Global, edges: &[(usize, usize)], told: Told) -> Result<String, AllocError> {
+    match told {
+        Told::Pairs => pairs(alloc, edges),
+        Told::Count => {
+            let count = edges.len();
             format!(in alloc; "{count}\n")
         }
-        Err(Refused::NoMemory) => Err(AllocError),
-        Err(Refused::These(refusals)) => lines(alloc, refusals.as_slice()),
     }
 }
 
@@ -47,7 +46,7 @@ pub(crate) fn is_known(alloc: Global, config: &str) -> bool {
 }
 
 /// The plan of a configuration from a state, none where its text is empty.
-pub(crate) fn planned(alloc: Global, config: &str, state: &str) -> Result<Planned, Refused> {
+fn planned(alloc: Global, config: &str, state: &str) -> Result<Planned, Refused> {
     let providers = sims(alloc)?;
     planned_by(alloc, config, state, providers.as_slice())
 }

@@ -1,64 +1,69 @@
 //! Variables, locals and outputs, and what a resource body has beside arguments.
 
-use crate::tests::config::answers;
+use crate::tests::config::{is_answered, nested};
 use std::alloc::{AllocError, Global};
 use std::test::Fail;
-use tf_config::{Refusal, read};
+use test_helpers::series;
+use tf_config::{Config, Refusal, read};
 
 static FULL: &str =
     "{\"variable\": {\"size\": {\"type\": \"list(string)\", \"default\": [\"a\"]}}, \"locals\": {\"x\": 1}, \"output\": {\"o\": {\"value\": \"${local.x}\"}}, \"resource\": {\"t\": {\"a\": {\"count\": 2, \"depends_on\": [\"t.b\"], \"lifecycle\": {\"create_before_destroy\": true, \"ignore_changes\": [\"z\"]}, \"y\": null}}}}";
 
+// Whether this is the debugging text of a configuration.
+fn is_shown(alloc: Global, config: &Config, want: &str) -> Result<bool, AllocError> {
+    Ok(format!(in alloc; "{config:?}")?.as_str() == want)
+}
+
 #[test]
 fn reads_each_property(rt: HostRuntime) -> Result<(), Fail> {
-    let config = read(rt.alloc(), FULL.as_bytes()).map_err(|_| "refused")?;
-    let seen = format!(in rt.alloc(); "{config:?}")?;
-    assert_eq!(rt; seen.as_str(), READ);
+    let Ok(config) = read(rt.alloc(), FULL.as_bytes()) else {
+        return Err("refused".into());
+    };
+    assert!(rt; is_shown(rt.alloc(), &config, READ)?);
     Ok(())
 }
 
 static READ: &str =
     "Config { variables: {\"size\": Variable { value_type: List(String), default: Some(List([Text(\"a\")])) }}, locals: {\"x\": Int(1)}, outputs: {\"o\": Template(Template { parts: [(\"\", Reference(Reference { first: \"local\", name: \"x\" }))], last: \"\" })}, resources: {ResourceAddr { type_name: \"t\", name: \"a\" }: Block { repetition: Count(Int(2)), depends_on: [ResourceAddr { type_name: \"t\", name: \"b\" }], lifecycle: Lifecycle { create_before_destroy: true, prevent_destroy: false, ignore_changes: [\"z\"] }, arguments: {\"y\": Null} }} }";
 
-// A default of as many arrays in one another.
-fn nested(alloc: Global, depth: usize) -> Result<String, AllocError> {
-    let mut text = String::from_str(alloc, "{\"variable\": {\"v\": {\"default\": ")?;
-    for _ in 0..depth {
-        text.push('[')?;
+static HEAD: &str = "{\"variable\": {\"v\": {\"default\": ";
+
+static REFUSED: &str = "error 2 at variable.v.default: BadShape";
+
+#[test]
+fn keeps_the_depth_of_defaults(rt: HostRuntime) -> Result<(), Fail> {
+    for (depth, want) in [(32, "0 blocks"), (33, REFUSED)] {
+        let text = nested(rt.alloc(), depth, HEAD, ("[", "]"), "", "}}}")?;
+        assert!(rt; is_answered(rt.alloc(), text.as_str(), want)?, "{depth}");
     }
-    for _ in 0..depth {
-        text.push(']')?;
-    }
-    text.push_str("}}}")?;
-    Ok(text)
+    Ok(())
 }
 
 // A default that is a text of this many bytes.
 fn long(alloc: Global, size: usize) -> Result<String, AllocError> {
-    let mut text = String::from_str(alloc, "{\"variable\": {\"v\": {\"default\": \"")?;
-    for _ in 0..size {
-        text.push('x')?;
-    }
-    text.push_str("\"}}}")?;
-    Ok(text)
+    let head = "{\"variable\": {\"v\": {\"default\": \"";
+    series(alloc, head, "x", 0..size, "\"}}}")
 }
 
 #[test]
-fn keeps_the_limits_of_defaults(rt: HostRuntime) -> Result<(), Fail> {
-    let limit = "error 2 at variable.v.default: BadShape";
-    answers(&rt, rt.alloc(), &nested(rt.alloc(), 32)?, "0 blocks")?;
-    answers(&rt, rt.alloc(), &nested(rt.alloc(), 33)?, limit)?;
-    answers(&rt, rt.alloc(), &long(rt.alloc(), 999_999)?, "0 blocks")?;
-    answers(&rt, rt.alloc(), &long(rt.alloc(), 1_000_000)?, limit)
+fn keeps_the_length_of_defaults(rt: HostRuntime) -> Result<(), Fail> {
+    for (size, want) in [(999_999, "0 blocks"), (1_000_000, REFUSED)] {
+        let text = long(rt.alloc(), size)?;
+        assert!(rt; is_answered(rt.alloc(), text.as_str(), want)?, "{size}");
+    }
+    Ok(())
+}
+
+// Whether the configuration is read, or there is no memory.
+fn is_read_whole(alloc: Global) -> bool {
+    match read(alloc, FULL.as_bytes()) {
+        Ok(config) => config.variables.len() == 1 && config.resources.len() == 1,
+        Err(refusal) => matches!(refusal, Refusal::OutOfMemory),
+    }
 }
 
 // Nothing is read or told in place of a refused growth: run with each allocation failing in turn.
 #[test]
 fn says_when_memory_ran_out(rt: HostRuntime) {
-    match read(rt.alloc(), FULL.as_bytes()) {
-        Ok(config) => {
-            assert_eq!(rt; config.variables.len(), 1);
-            assert_eq!(rt; config.resources.len(), 1);
-        }
-        Err(refusal) => assert!(rt; matches!(refusal, Refusal::OutOfMemory)),
-    }
+    assert!(rt; is_read_whole(rt.alloc()));
 }

@@ -1,70 +1,88 @@
+use crate::tests::made::resource;
 use std::alloc::Global;
 use std::collections::BTreeSet;
 use std::test::Fail;
-use tf_config_address::{InstanceKey, ObjectId, ResourceAddr};
-use tf_state_data::{Object, Record, Resource, provider_address};
+use tf_config_address::{InstanceKey, ObjectId};
+use tf_state_data::{Object, Record, Resource};
 use tf_state_next::{
     ApplyResult, Left, RecordInput, Saved, deposed_key, record_apply, record_destroy,
 };
 use tf_value::Value;
 
-fn id(alloc: Global, key: InstanceKey, deposed: &str) -> Result<ObjectId, Fail> {
-    let deposed = match deposed {
-        "" => None,
-        key => Some(String::from_str(alloc, key)?),
-    };
-    Ok(ObjectId { key, deposed })
-}
+// Records with deposed objects of the instances 1 and 2.
+static DEPOSED: &str =
+    "{\"attributes\":{},\"index_key\":1,\"deposed\":\"0000000a\"},{\"attributes\":{},\"index_key\":1,\"deposed\":\"ffffffff\"},{\"attributes\":{},\"index_key\":2,\"deposed\":\"0000000b\"}";
 
-fn old(alloc: Global, id: ObjectId) -> Record {
-    Record {
-        id,
-        attributes: Object { value: Value::Null },
-        schema_version: 3,
-        tainted: false,
-        dependencies: BTreeSet::new(alloc),
-        create_before_destroy: true,
-    }
-}
+// New serials, and the keys that the object of the instance 1 has if it becomes deposed.
+static FREE_KEYS: [(u32, &str); 5] = [
+    (9, "00000009"),
+    (10, "0000000b"),
+    (11, "0000000b"),
+    (4294967295, "00000000"),
+    (2596069104, "9abcdef0"),
+];
 
-fn resource(alloc: Global, records: [ObjectId; 3]) -> Result<Resource, Fail> {
-    let addr = ResourceAddr {
-        type_name: String::from_str(alloc, "sim_net")?,
-        name: String::from_str(alloc, "a")?,
-    };
-    let provider = provider_address(alloc, "sim_net")?;
-    let mut resource = Resource::empty(alloc, addr, provider);
-    for id in records {
-        resource.reserve(1)?;
-        drop(resource.put(old(alloc, id)));
+// Whether that key is the one of the instance 1; there are three records.
+fn is_free_key(alloc: Global, records: &[Record], serial: u32, want: &str) -> Result<bool, Fail> {
+    if records.len() != 3 {
+        return Ok(false);
     }
-    Ok(resource)
+    let key = deposed_key(alloc, serial, &InstanceKey::Number(1), records)?;
+    Ok(key.as_str() == want)
 }
 
 // The first free key from the new serial on, around past the last one; what other instances have isn't counted.
 #[test]
 fn makes_free_keys(rt: HostRuntime) -> Result<(), Fail> {
-    let alloc = rt.alloc();
-    let resource = resource(
-        alloc,
-        [
-            id(alloc, InstanceKey::Number(1), "0000000a")?,
-            id(alloc, InstanceKey::Number(1), "ffffffff")?,
-            id(alloc, InstanceKey::Number(2), "0000000b")?,
-        ],
-    )?;
-    let records = resource.records();
-    assert!(rt; records.len() < 4);
-    for (serial, want) in [
-        (9, "00000009"),
-        (10, "0000000b"),
-        (11, "0000000b"),
-        (4294967295, "00000000"),
-        (2596069104, "9abcdef0"),
-    ] {
-        let key = deposed_key(alloc, serial, &InstanceKey::Number(1), records)?;
-        assert_eq!(rt; key.as_str(), want);
+    let resource = resource(rt.alloc(), DEPOSED)?;
+    for (serial, want) in &FREE_KEYS {
+        assert!(rt;
+            is_free_key(rt.alloc(), resource.records(), *serial, want)?,
+            "{want}"
+        );
     }
+    Ok(())
+}
+
+// Records of the instances 1 and 2, and a deposed object of the first.
+static REPLACED: &str =
+    "{\"attributes\":{},\"schema_version\":3,\"index_key\":1,\"create_before_destroy\":true},{\"attributes\":{},\"schema_version\":3,\"index_key\":2,\"create_before_destroy\":true},{\"attributes\":{},\"schema_version\":3,\"index_key\":1,\"deposed\":\"00000001\",\"create_before_destroy\":true}";
+
+// The id of an object of the instance 1.
+fn id(deposed: Option<String>) -> ObjectId {
+    ObjectId {
+        key: InstanceKey::Number(1),
+        deposed,
+    }
+}
+
+// What the record of an object says of its schema's version, of its damage and of the order of its replacement.
+fn shown(resource: &Resource, id: &ObjectId) -> Option<(u32, bool, bool)> {
+    let kept = resource.record(id)?;
+    Some((
+        kept.schema_version,
+        kept.tainted,
+        kept.create_before_destroy,
+    ))
+}
+
+// Records a create of the instance 1 that saved a tainted object, for which the old one becomes deposed under this key.
+fn replace(alloc: Global, resource: &mut Resource, deposed_key: String) -> Result<(), Fail> {
+    resource.reserve(1)?;
+    let given = RecordInput {
+        key: InstanceKey::Number(1),
+        schema_version: 4,
+        dependencies: BTreeSet::new(alloc),
+        create_before_destroy: false,
+        deposed_key: Some(deposed_key),
+    };
+    let applied = ApplyResult::Saved(Saved {
+        attributes: Object {
+            value: Value::Bool(true),
+        },
+        tainted: true,
+    });
+    record_apply(resource, given, applied);
     Ok(())
 }
 
@@ -73,45 +91,13 @@ fn makes_free_keys(rt: HostRuntime) -> Result<(), Fail> {
 #[test]
 fn deposes_what_was_replaced(rt: HostRuntime) -> Result<(), Fail> {
     let alloc = rt.alloc();
-    let mut resource = resource(
-        alloc,
-        [
-            id(alloc, InstanceKey::Number(1), "")?,
-            id(alloc, InstanceKey::Number(2), "")?,
-            id(alloc, InstanceKey::Number(1), "00000001")?,
-        ],
-    )?;
-    let current = id(alloc, InstanceKey::Number(1), "")?;
-    let deposed = id(alloc, InstanceKey::Number(1), "00000002")?;
-    let given = RecordInput {
-        key: InstanceKey::Number(1),
-        schema_version: 4,
-        dependencies: BTreeSet::new(alloc),
-        create_before_destroy: false,
-        deposed_key: Some(String::from_str(alloc, "00000002")?),
-    };
-    resource.reserve(1)?;
-    let applied = ApplyResult::Saved(Saved {
-        attributes: Object {
-            value: Value::Bool(true),
-        },
-        tainted: true,
-    });
-    record_apply(&mut resource, given, applied);
+    let mut resource = resource(alloc, REPLACED)?;
+    replace(alloc, &mut resource, String::from_str(alloc, "00000002")?)?;
+    let deposed = id(Some(String::from_str(alloc, "00000002")?));
     let value = Value::Bool(false);
     record_destroy(&mut resource, &deposed, Left::Changed(Object { value }));
-    assert_eq!(rt; resource.records().len(), 4);
-    let shown = resource.record(&current).map(|kept| (
-        kept.schema_version,
-        kept.tainted,
-        kept.create_before_destroy,
-    ));
-    assert_eq!(rt; shown, Some((4, true, false)));
-    let shown = resource.record(&deposed).map(|kept| (
-        kept.schema_version,
-        kept.tainted,
-        kept.create_before_destroy,
-    ));
-    assert_eq!(rt; shown, Some((3, false, true)));
+    assert!(rt; resource.records().len() == 4);
+    assert!(rt; shown(&resource, &id(None)) == Some((4, true, false)));
+    assert!(rt; shown(&resource, &deposed) == Some((3, false, true)));
     Ok(())
 }

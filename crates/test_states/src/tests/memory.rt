@@ -1,3 +1,4 @@
+use crate::tests::made::fault_of;
 use std::alloc::{AllocError, Global};
 use tf_state::{StateFault, copy, read, write};
 
@@ -37,8 +38,6 @@ fn says_when_memory_ran_out(rt: HostRuntime) {
 fn says_when_memory_ran_out_before_a_refusal(rt: HostRuntime) {
     let twice =
         b"{\"lineage\": \"L\", \"resources\": [{\"instances\": [{\"attributes\": {\"a\": [1]}}, {\"attributes\": {}}], \"mode\": \"managed\", \"name\": \"a\", \"provider\": \"p\", \"type\": \"t\"}], \"serial\": 1, \"version\": 4}";
-    match read(rt.alloc(), twice) {
-        Ok(_) => assert!(rt; false, "read"),
-        Err(fault) => assert!(rt; matches!(fault, StateFault::BadState | StateFault::OutOfMemory)),
-    }
+    let fault = fault_of(rt.alloc(), twice);
+    assert!(rt; matches!(fault, Some(StateFault::BadState | StateFault::OutOfMemory)));
 }

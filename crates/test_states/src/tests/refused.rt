@@ -1,12 +1,13 @@
 //! Bytes that are no state's, whatever they are.
 
-use std::alloc::Global;
+use crate::tests::made::fault_of;
+use std::alloc::{AllocError, Global};
 use std::test::Fail;
 use test_helpers::series;
-use tf_state::{StateFault, read};
+use tf_state::StateFault;
 
 fn is_bad(alloc: Global, bytes: &[u8]) -> bool {
-    matches!(read(alloc, bytes), Err(StateFault::BadState))
+    fault_of(alloc, bytes) == Some(StateFault::BadState)
 }
 
 // No byte alone is a state.
@@ -24,10 +25,10 @@ fn refuses_bytes_that_are_no_text(rt: HostRuntime) {
 }
 
 // A state with an output whose type nests this deep, and doesn't end.
-fn deep(alloc: Global, depth: usize) -> Result<String, Fail> {
+fn deep(alloc: Global, depth: usize) -> Result<String, AllocError> {
     let first =
         "{\"version\":4,\"serial\":0,\"lineage\":\"L\",\"outputs\":{\"o\":{\"value\":0,\"type\":";
-    Ok(series(alloc, first, "[", 0..depth, "")?)
+    series(alloc, first, "[", 0..depth, "")
 }
 
 #[test]

@@ -1,12 +1,12 @@
 //! Expressions, read from JSON texts.
 
-use crate::tests::texts::{names_of, read};
+use crate::tests::texts::read;
 use serde_json::Value;
 use std::alloc::Global;
 use std::test::Fail;
+use tf_config_refusal::Path;
 use tf_expr::laws::{faultless_trees_are_expressions, faulty_trees_are_none};
 use tf_expr::{Expr, copy_expr, read_expr, read_expr_at};
-use tf_expr_path::Path;
 
 /// The trees of expressions, and what is told where there is none.
 pub(crate) static TREES: [(&str, &str); 40] = [
@@ -88,59 +88,73 @@ pub(crate) static VALUES: [(&str, &str); 11] = [
     ("\"${var.n}\"", "Missing"),
 ];
 
+// What is told, and shown, of a text that isn't read as an expression at a place.
+fn refused_at(alloc: Global, place: &Path, text: &str) -> Result<String, Fail> {
+    let json = Value::from_str(alloc, text)?;
+    match read_expr_at(alloc, place, &json) {
+        Ok(_) => Err("read".into()),
+        Err(fault) => Ok(format!(in alloc; "{fault}, {fault:?}")?),
+    }
+}
+
+static FAR_IN: &str =
+    "no template from byte 2 on at sim_net.a.cidr.x.0, Refused { place: \"sim_net.a.cidr.x.0\", cause: At(2) }";
+
 #[test]
 fn writes_places_from_the_top(rt: HostRuntime) -> Result<(), Fail> {
-    let json = Value::from_str(rt.alloc(), "{\"x\": [\"${\"]}")?;
     let kind = Path::Member(&Path::Root, "sim_net");
     let name = Path::Member(&kind, "a");
     let argument = Path::Member(&name, "cidr");
-    let Err(fault) = read_expr_at(rt.alloc(), &argument, &json) else {
-        return Err("read".into());
-    };
-    let text = format!(in rt.alloc(); "{fault}, {fault:?}")?;
-    assert_eq!(rt;
-        text.as_str(),
-        "no template from byte 2 on at sim_net.a.cidr.x.0, Refused { place: \"sim_net.a.cidr.x.0\", cause: At(2) }"
-    );
+    let text = refused_at(rt.alloc(), &argument, "{\"x\": [\"${\"]}")?;
+    assert!(rt; text.as_str() == FAR_IN, "{text}");
     Ok(())
 }
 
 static NAMES: &str =
     "{\"b\": \"${f(var.x)}\", \"a\": [\"${g(h(local.y))}${t.n}\", 1, {\"z\": \"${t.n}\"}], \"c\": \"d\"}";
 
+// The names that it takes and the functions that it calls.
+static NAMED: &str =
+    "[Reference { first: \"local\", name: \"y\" }, Reference { first: \"t\", name: \"n\" }, Reference { first: \"t\", name: \"n\" }, Reference { first: \"var\", name: \"x\" }], [\"g\", \"h\", \"f\"]";
+
 #[test]
 fn lists_names_in_walk_order(rt: HostRuntime) -> Result<(), Fail> {
     let expr = read(rt.alloc(), NAMES)?;
     let named = expr.references(rt.alloc())?;
-    let names = names_of(rt.alloc(), &named)?;
-    assert_eq!(rt; names.as_str(), "local.y t.n t.n var.x ");
     let called = expr.functions(rt.alloc())?;
-    let calls = format!(in rt.alloc(); "{called:?}")?;
-    assert_eq!(rt; calls.as_str(), "[\"g\", \"h\", \"f\"]");
+    let listed = format!(in rt.alloc(); "{named:?}, {called:?}")?;
+    assert!(rt; listed.as_str() == NAMED, "{listed}");
     Ok(())
 }
 
 #[test]
 fn copies_expressions(rt: HostRuntime) -> Result<(), Fail> {
     let expr = read(rt.alloc(), NAMES)?;
+    let copied = copy_expr(&expr)?;
+    let cloned = expr.clone()?;
     let text = format!(in rt.alloc(); "{expr:?}")?;
-    for copied in [copy_expr(&expr)?, expr.clone()?] {
-        let same = format!(in rt.alloc(); "{copied:?}")?;
-        assert_eq!(rt; same.as_str(), text.as_str());
-    }
+    let same = format!(in rt.alloc(); "{copied:?}")?;
+    let too = format!(in rt.alloc(); "{cloned:?}")?;
+    assert!(rt; same == text && too == text);
     Ok(())
+}
+
+// How long the text before the only interpolation of a template is.
+fn length_before(expr: &Expr) -> Option<usize> {
+    match expr {
+        Expr::Template(template) if template.parts.len() == 1 => {
+            Some(template.parts.first()?.0.len())
+        }
+        _ => None,
+    }
 }
 
 #[test]
 fn reads_a_long_text(rt: HostRuntime) -> Result<(), Fail> {
     let mut text = "a".repeat(rt.alloc(), 1_000_000)?;
     text.push_str("${var.n}")?;
-    let expr = read_expr(rt.alloc(), &Value::String(text)).map_err(|_| "refused")?;
-    let Expr::Template(template) = expr else {
-        return Err("no template".into());
-    };
-    assert_eq!(rt; template.parts.len(), 1);
-    assert_eq!(rt; template.parts[0].0.len(), 1_000_000);
+    let expr = read_expr(rt.alloc(), &Value::String(text))?;
+    assert!(rt; length_before(&expr) == Some(1_000_000));
     Ok(())
 }
 

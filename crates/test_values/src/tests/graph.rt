@@ -24,53 +24,65 @@ fn refuses_what_is_no_graph(rt: HostRuntime) -> Result<(), Fail> {
     Ok(())
 }
 
+static REPEATED: [(usize, usize); 5] = [(0, 2), (1, 2), (0, 2), (2, 2), (2, 1)];
+
+// Whether a graph has three nodes and the repeated edges, and a node's neighbours stand as often as their edges do.
+fn lists_repeated(graph: &Graph) -> bool {
+    graph.nodes() == 3
+        && graph.edges() == REPEATED.as_slice()
+        && graph.predecessors(2) == [0, 1, 0, 2].as_slice()
+        && graph.predecessors(0).is_empty()
+        && graph.successors(0) == [2, 2].as_slice()
+        && graph.successors(2) == [2, 1].as_slice()
+}
+
 #[test]
 fn lists_neighbours_as_often_as_the_edge_stands(rt: HostRuntime) -> Result<(), Fail> {
-    let edges = [(0, 2), (1, 2), (0, 2), (2, 2), (2, 1)];
-    let graph = Graph::new(rt.alloc(), 3, &edges)?;
-    assert_eq!(rt; graph.edges(), edges.as_slice());
-    assert_eq!(rt; graph.nodes(), 3);
-    assert_eq!(rt; graph.predecessors(2), [0, 1, 0, 2].as_slice());
-    assert_eq!(rt; graph.predecessors(0), [0; 0].as_slice());
-    assert_eq!(rt; graph.successors(0), [2, 2].as_slice());
-    assert_eq!(rt; graph.successors(2), [2, 1].as_slice());
+    let graph = Graph::new(rt.alloc(), 3, &REPEATED)?;
+    assert!(rt; lists_repeated(&graph));
     Ok(())
 }
 
 // A diamond; a cycle of three with one before it and one after it; a self-loop with one after it; a cycle of two that is
-// entered twice. Beside each, as digits, the nodes that each node reaches, and those that are left when what has no
+// entered twice. Beside each the nodes that each node reaches, and those that are left when what has no
 // predecessor left is taken away.
-static GRAPHS: [(usize, &[(usize, usize)], [&str; 5], &str); 4] = [
+static GRAPHS: [(usize, &[(usize, usize)], [&[usize]; 5], &[usize]); 4] = [
     (
         4,
         &[(0, 1), (0, 2), (1, 3), (2, 3)],
-        ["123", "3", "3", "", ""],
-        "",
+        [&[1, 2, 3], &[3], &[3], &[], &[]],
+        &[],
     ),
     (
         5,
         &[(0, 1), (1, 2), (2, 3), (3, 1), (3, 4)],
-        ["1234", "1234", "1234", "1234", ""],
-        "1234",
+        [
+            &[1, 2, 3, 4],
+            &[1, 2, 3, 4],
+            &[1, 2, 3, 4],
+            &[1, 2, 3, 4],
+            &[],
+        ],
+        &[1, 2, 3, 4],
     ),
-    (3, &[(1, 1), (1, 0), (2, 0)], ["", "01", "0", "", ""], "01"),
+    (
+        3,
+        &[(1, 1), (1, 0), (2, 0)],
+        [&[], &[0, 1], &[0], &[], &[]],
+        &[0, 1],
+    ),
     (
         4,
         &[(2, 3), (3, 2), (0, 3), (1, 2), (0, 1)],
-        ["123", "23", "23", "23", ""],
-        "23",
+        [&[1, 2, 3], &[2, 3], &[2, 3], &[2, 3], &[]],
+        &[2, 3],
     ),
 ];
 
-// Whether a node is among those of the digits.
-fn is_among(digits: &str, node: usize) -> bool {
-    digits.as_bytes().contains(&(b'0' + (node % 10) as u8))
-}
-
-// Whether a node reaches just those of the digits.
-fn reaches_just(closure: &Closure, from: usize, digits: &str) -> bool {
+// Whether a node reaches just these.
+fn reaches_just(closure: &Closure, from: usize, reached: &[usize]) -> bool {
     for to in 0..5 {
-        if closure.reaches(from, to) != is_among(digits, to) {
+        if closure.reaches(from, to) != reached.contains(&to) {
             return false;
         }
     }
@@ -98,7 +110,7 @@ fn finds_what_is_left(rt: HostRuntime) -> Result<(), Fail> {
         let stripped = Graph::new(rt.alloc(), *nodes, edges)?.strip(rt.alloc())?;
         assert!(rt; stripped.len() == *nodes);
         for (node, is_left) in stripped.iter().enumerate() {
-            assert!(rt; *is_left == is_among(left, node), "{node} of {nodes}");
+            assert!(rt; *is_left == left.contains(&node), "{node} of {nodes}");
         }
     }
     Ok(())

@@ -5,18 +5,19 @@ ghost use Rattle.serde_json.specs.Events.{SendsValue};
 ghost use Rattle.std.specs.Prelude.{codes, string_bytes};
 
 use serde::{Described, Serialize, Serializer};
-use serde_json::json;
+use serde_json::Value as Json;
 use std::test::Fail;
 use tf_state_json::text;
 
+static LAID_OUT: &str =
+    "{\n  \"a\": {},\n  \"b\": [],\n  \"c\": [\n    1,\n    {\n      \"d\": null\n    }\n  ]\n}\n";
+
 #[test]
 fn lays_out(rt: HostRuntime) -> Result<(), Fail> {
-    let json = json!(in rt.alloc(); {"b": [], "a": {}, "c": [1, {"d": null}]})?;
+    let compact = "{\"b\":[],\"a\":{},\"c\":[1,{\"d\":null}]}";
+    let json = Json::from_str(rt.alloc(), compact)?;
     let found = text(rt.alloc(), &json)?;
-    assert_eq!(rt;
-        found.as_str(),
-        "{\n  \"a\": {},\n  \"b\": [],\n  \"c\": [\n    1,\n    {\n      \"d\": null\n    }\n  ]\n}\n"
-    );
+    assert!(rt; found.as_str() == LAID_OUT, "{found}");
     Ok(())
 }
 
@@ -51,9 +52,7 @@ fn lays_out_what_is_sent(rt: HostRuntime) -> Result<(), Fail> {
         name: String::from_str(rt.alloc(), "a \"b\"\n")?,
     };
     let found = text(rt.alloc(), &tile)?;
-    assert_eq!(rt;
-        found.as_str(),
-        "{\n  \"row\": 7,\n  \"name\": \"a \\\"b\\\"\\n\"\n}\n"
-    );
+    let wanted = "{\n  \"row\": 7,\n  \"name\": \"a \\\"b\\\"\\n\"\n}\n";
+    assert!(rt; found.as_str() == wanted, "{found}");
     Ok(())
 }

@@ -83,20 +83,48 @@ static NESTED: [Nested; 10] = [
     ),
 ];
 
+// Whether what is said of a text with so much nested begins so.
+fn begins(
+    alloc: Global,
+    reader: Reader,
+    pieces: &[&str; 5],
+    times: usize,
+    start: &str,
+) -> Result<bool, Fail> {
+    let text = nested(alloc, pieces, times)?;
+    let answer = shown(alloc, reader, text.as_str())?;
+    Ok(answer.as_str().starts_with(start))
+}
+
+// Whether a text with so much nested is refused so.
+fn is_refused(
+    alloc: Global,
+    reader: Reader,
+    pieces: &[&str; 5],
+    times: usize,
+    refusal: &str,
+) -> Result<bool, Fail> {
+    let text = nested(alloc, pieces, times)?;
+    let answer = shown(alloc, reader, text.as_str())?;
+    Ok(answer.as_str() == refusal)
+}
+
 #[test]
 fn reads_to_the_greatest_depth(rt: HostRuntime) -> Result<(), Fail> {
-    for (reader, pieces, deepest, begins, refusal) in &NESTED {
-        let text = nested(rt.alloc(), pieces, *deepest)?;
-        let answer = shown(rt.alloc(), *reader, text.as_str())?;
-        assert!(rt; answer.as_str().starts_with(*begins), "{text}");
-        let text = nested(rt.alloc(), pieces, deepest.saturating_add(1))?;
-        let answer = shown(rt.alloc(), *reader, text.as_str())?;
-        assert_eq!(rt; answer.as_str(), *refusal, "{text}");
+    for (reader, pieces, deepest, start, refusal) in &NESTED {
+        let beyond = deepest.saturating_add(1);
+        assert!(rt;
+            begins(rt.alloc(), *reader, pieces, *deepest, start)?,
+            "{deepest}"
+        );
+        assert!(rt;
+            is_refused(rt.alloc(), *reader, pieces, beyond, refusal)?,
+            "{beyond}"
+        );
     }
     // JSON nests deeper than values do.
-    let text = nested(rt.alloc(), &["", "[", "\"a\"", "]", ""], 120)?;
-    let answer = shown(rt.alloc(), Reader::Expression, text.as_str())?;
-    assert!(rt; answer.as_str().starts_with("List("));
+    let pieces = ["", "[", "\"a\"", "]", ""];
+    assert!(rt; begins(rt.alloc(), Reader::Expression, &pieces, 120, "List(")?);
     Ok(())
 }
 
@@ -129,7 +157,7 @@ fn behind_are_refused(
             None => ReadFault::TooDeep,
         };
         let fault = fault_of(alloc, &["${", parts, *behind])?;
-        assert_eq!(rt; fault, Some(wanted), "{parts} {behind}");
+        assert!(rt; fault == Some(wanted), "{parts} {behind}");
     }
     Ok(())
 }
@@ -234,7 +262,7 @@ fn all_are_answered(rt: &impl Abort, alloc: Global, rows: &[Long]) -> Result<(),
     for (before, part, times, behind, wanted) in rows {
         let parts = part.repeat(alloc, *times)?;
         let fault = fault_of(alloc, &[*before, parts.as_str(), *behind])?;
-        assert_eq!(rt; fault, *wanted, "{part}");
+        assert!(rt; fault == *wanted, "{part}");
     }
     Ok(())
 }

@@ -65,6 +65,19 @@ fn binary_agrees(
     agrees(alloc, found, expected)
 }
 
+// Operators answer what these rows say.
+fn binaries_agree(
+    rt: &impl Abort,
+    alloc: Global,
+    rows: &[(&str, Operator, &str, &str)],
+) -> Result<(), Fail> {
+    for (left, operator, right, expected) in rows {
+        let fits = binary_agrees(alloc, left, *operator, right, expected)?;
+        assert!(rt; fits, "{left} {operator:?} {right}");
+    }
+    Ok(())
+}
+
 static WHOLE_NUMBERS: [(&str, Operator, &str, &str); 21] = [
     ("3", Operator::Multiply, "4", "12"),
     ("2", Operator::Add, "12", "14"),
@@ -91,11 +104,7 @@ static WHOLE_NUMBERS: [(&str, Operator, &str, &str); 21] = [
 
 #[test]
 fn whole_numbers(rt: HostRuntime) -> Result<(), Fail> {
-    for (left, operator, right, expected) in &WHOLE_NUMBERS {
-        let fits = binary_agrees(rt.alloc(), left, *operator, right, expected)?;
-        assert!(rt; fits, "{left} {operator:?} {right}");
-    }
-    Ok(())
+    binaries_agree(&rt, rt.alloc(), &WHOLE_NUMBERS)
 }
 
 static OTHERS: [(&str, Operator, &str, &str); 28] = [
@@ -133,11 +142,7 @@ static OTHERS: [(&str, Operator, &str, &str); 28] = [
 
 #[test]
 fn truths_and_other_kinds(rt: HostRuntime) -> Result<(), Fail> {
-    for (left, operator, right, expected) in &OTHERS {
-        let fits = binary_agrees(rt.alloc(), left, *operator, right, expected)?;
-        assert!(rt; fits, "{left} {operator:?} {right}");
-    }
-    Ok(())
+    binaries_agree(&rt, rt.alloc(), &OTHERS)
 }
 
 static PARTS: [(&str, &str, &str); 20] = [

@@ -18,24 +18,36 @@ fn nulls(alloc: Global, count: usize) -> Result<Vec<Value>, AllocError> {
 
 // Whether an answer is beyond the limits.
 fn is_too_large(answer: Result<Value, EvalFault>) -> bool {
-    matches!(answer, Err(EvalFault::TooLarge))
+    answer.err() == Some(EvalFault::TooLarge)
 }
 
-// Whether a map of one key of so many bytes is beyond the limits.
-fn is_key_too_long(alloc: Global, bytes: usize) -> Result<bool, AllocError> {
+// Why a list of so many nulls is none, if it is none.
+fn fault_of_list(alloc: Global, count: usize) -> Result<Option<EvalFault>, AllocError> {
+    Ok(list(nulls(alloc, count)?).err())
+}
+
+// So of a text of so many bytes.
+fn fault_of_text(alloc: Global, bytes: usize) -> Result<Option<EvalFault>, AllocError> {
+    Ok(limited(Value::Text(long(alloc, bytes)?)).err())
+}
+
+// So of a map of one key of so many bytes.
+fn fault_of_key(alloc: Global, bytes: usize) -> Result<Option<EvalFault>, AllocError> {
     let mut entries = BTreeMap::new(alloc);
     drop(entries.insert(long(alloc, bytes)?, Value::Null)?);
-    Ok(is_too_large(map(entries)))
+    Ok(map(entries).err())
 }
 
 #[test]
 fn weights(rt: HostRuntime) -> Result<(), Fail> {
     let alloc = rt.alloc();
-    assert!(rt; list(nulls(alloc, 999_999)?).is_ok());
-    assert!(rt; is_too_large(list(nulls(alloc, 1_000_000)?)));
-    assert!(rt; limited(Value::Text(long(alloc, 999_999)?)).is_ok());
-    assert!(rt; is_too_large(limited(Value::Text(long(alloc, 1_000_000)?))));
-    assert!(rt; !is_key_too_long(alloc, 999_998)? && is_key_too_long(alloc, 999_999)?);
+    let beyond = Some(EvalFault::TooLarge);
+    assert!(rt; fault_of_list(alloc, 999_999)?.is_none());
+    assert!(rt; fault_of_list(alloc, 1_000_000)? == beyond);
+    assert!(rt; fault_of_text(alloc, 999_999)?.is_none());
+    assert!(rt; fault_of_text(alloc, 1_000_000)? == beyond);
+    assert!(rt; fault_of_key(alloc, 999_998)?.is_none());
+    assert!(rt; fault_of_key(alloc, 999_999)? == beyond);
     Ok(())
 }
 
@@ -66,17 +78,18 @@ fn weights_of_joined_parts(rt: HostRuntime) -> Result<(), Fail> {
     Ok(())
 }
 
+// A list of a value alone, where the limits allow it.
+fn deeper(alloc: Global, value: Value) -> Result<Value, Fail> {
+    Ok(list(vec![in alloc; value]?)?)
+}
+
 #[test]
 fn depths(rt: HostRuntime) -> Result<(), Fail> {
-    let alloc = rt.alloc();
     let mut value = Value::Null;
     for _ in 0..32 {
-        let Ok(deeper) = list(vec![in alloc; value]?) else {
-            return Err("too deep".into());
-        };
-        value = deeper;
+        value = deeper(rt.alloc(), value)?;
     }
-    assert!(rt; is_too_large(list(vec![in alloc; value]?)));
+    assert!(rt; is_too_large(list(vec![in rt.alloc(); value]?)));
     Ok(())
 }
 

@@ -1,6 +1,6 @@
 //! Templates, read from texts.
 
-use crate::tests::texts::{Reader, fault_of, names_of, shown};
+use crate::tests::texts::{Reader, fault_of, shown};
 use std::alloc::Global;
 use std::test::Fail;
 use tf_expr::{ReadFault, functions, read_template, references};
@@ -77,7 +77,7 @@ fn groups_operators(rt: HostRuntime) -> Result<(), Fail> {
     for (text, other) in &GROUPS {
         let bare = shape(rt.alloc(), text)?;
         let grouped = shape(rt.alloc(), other)?;
-        assert_eq!(rt; bare.as_str(), grouped.as_str(), "{text}");
+        assert!(rt; bare == grouped, "{text}");
     }
     Ok(())
 }
@@ -181,58 +181,72 @@ static FIRSTS: [(&str, &str, &str, &str); 87] = [
     ("${\"${1", "", "", "}\"}"),
 ];
 
+// Whether a text is refused at its wrong token, also where it ends behind that, and isn't where it is completed there.
+fn is_first_wrong(
+    alloc: Global,
+    before: &str,
+    wrong: &str,
+    behind: &str,
+    completion: &str,
+) -> Result<bool, Fail> {
+    let refused = fault_of(alloc, &[before, wrong, behind])?;
+    let completed = fault_of(alloc, &[before, completion])?;
+    let cut = fault_of(alloc, &[before, wrong])?;
+    Ok(
+        refused == Some(ReadFault::At(before.len()))
+            && completed.is_none()
+            && matches!(cut, Some(ReadFault::At(at)) if at <= before.len()),
+    )
+}
+
 // What stands before the offset of a refusal begins a template, shown by one, and with the token there it doesn't.
 #[test]
 fn refuses_at_the_first_wrong_token(rt: HostRuntime) -> Result<(), Fail> {
     for (before, wrong, behind, completion) in &FIRSTS {
-        let refused = fault_of(rt.alloc(), &[*before, *wrong, *behind])?;
-        assert_eq!(rt;
-            refused,
-            Some(ReadFault::At(before.len())),
-            "{before} {wrong}"
-        );
-        let completed = fault_of(rt.alloc(), &[*before, *completion])?;
-        assert_eq!(rt; completed, None, "{before} {completion}");
-        let cut = fault_of(rt.alloc(), &[*before, *wrong])?;
-        assert!(rt;
-            matches!(cut, Some(ReadFault::At(at)) if at <= before.len()),
-            "{before} {wrong}"
-        );
+        let is_so = is_first_wrong(rt.alloc(), before, wrong, behind, completion)?;
+        assert!(rt; is_so, "{before} {wrong}");
     }
     Ok(())
 }
 
+static NAMES: &str = "${a.b ? [c.d, \"x${e.f}\"] : g(h.i.j[k.l], m())}${a.b}";
+
+// The names that it takes and the functions that it calls.
+static NAMED: &str =
+    "[Reference { first: \"a\", name: \"b\" }, Reference { first: \"c\", name: \"d\" }, Reference { first: \"e\", name: \"f\" }, Reference { first: \"h\", name: \"i\" }, Reference { first: \"k\", name: \"l\" }, Reference { first: \"a\", name: \"b\" }], [\"g\", \"m\"]";
+
 #[test]
 fn lists_names(rt: HostRuntime) -> Result<(), Fail> {
-    let text = "${a.b ? [c.d, \"x${e.f}\"] : g(h.i.j[k.l], m())}${a.b}";
-    let template = read_template(rt.alloc(), text).map_err(|_| "refused")?;
+    let template = read_template(rt.alloc(), NAMES)?;
     let named = references(rt.alloc(), &template)?;
-    let names = names_of(rt.alloc(), &named)?;
-    assert_eq!(rt; names.as_str(), "a.b c.d e.f h.i k.l a.b ");
     let called = functions(rt.alloc(), &template)?;
-    let calls = format!(in rt.alloc(); "{called:?}")?;
-    assert_eq!(rt; calls.as_str(), "[\"g\", \"m\"]");
+    let listed = format!(in rt.alloc(); "{named:?}, {called:?}")?;
+    assert!(rt; listed.as_str() == NAMED, "{listed}");
     Ok(())
 }
+
+static EACH_FORM: &str = "a${1}${true ? null : [-2, !c.d[0].e]}\n${f(\"x${(1 + 2) * 3}y\", g())}b";
 
 #[test]
 fn copies_each_form(rt: HostRuntime) -> Result<(), Fail> {
-    let text = "a${1}${true ? null : [-2, !c.d[0].e]}\n${f(\"x${(1 + 2) * 3}y\", g())}b";
-    let template = read_template(rt.alloc(), text).map_err(|_| "refused")?;
+    let template = read_template(rt.alloc(), EACH_FORM)?;
+    let copied = template.clone()?;
     let written = format!(in rt.alloc(); "{template:?}")?;
-    let cloned = format!(in rt.alloc(); "{:?}", template.clone()?)?;
-    assert_eq!(rt; cloned.as_str(), written.as_str());
+    let cloned = format!(in rt.alloc(); "{copied:?}")?;
+    assert!(rt; cloned == written);
     Ok(())
 }
 
+static FAULTS: [(ReadFault, &str); 3] = [
+    (ReadFault::At(12), "no template from byte 12 on"),
+    (ReadFault::TooDeep, "deeper than 64"),
+    (ReadFault::OutOfMemory, "out of memory"),
+];
+
 #[test]
 fn shows_faults(rt: HostRuntime) -> Result<(), Fail> {
-    for (fault, text) in [
-        (ReadFault::At(12), "no template from byte 12 on"),
-        (ReadFault::TooDeep, "deeper than 64"),
-        (ReadFault::OutOfMemory, "out of memory"),
-    ] {
-        assert_eq!(rt; format!(in rt.alloc(); "{fault}")?.as_str(), text);
+    for (fault, text) in &FAULTS {
+        assert!(rt; fault.to_string(rt.alloc())?.as_str() == *text, "{text}");
     }
     Ok(())
 }

@@ -86,31 +86,35 @@ fn texts(rt: HostRuntime) -> Result<(), Fail> {
     Ok(())
 }
 
+// Why there is no value of a JSON text, if there is none.
+fn fault_of(alloc: Global, text: &str) -> Result<Option<JsonFault>, Fail> {
+    Ok(read(alloc, text)?.err())
+}
+
+static DEPTHS: [(usize, &str, Option<JsonFault>); 5] = [
+    (31, "", None),
+    (32, "", None),
+    (32, "1", None),
+    (33, "", Some(JsonFault::TooLarge)),
+    (33, "1.5", Some(JsonFault::NotWhole)),
+];
+
 #[test]
 fn limit_of_depth(rt: HostRuntime) -> Result<(), Fail> {
-    let alloc = rt.alloc();
-    for (levels, inside, fault) in [
-        (31, "", None),
-        (32, "", None),
-        (32, "1", None),
-        (33, "", Some(JsonFault::TooLarge)),
-        (33, "1.5", Some(JsonFault::NotWhole)),
-    ] {
-        let text = nested(alloc, levels, inside)?;
-        let found = read(alloc, text.as_str())?;
-        assert_eq!(rt; found.err(), fault, "{levels} levels around {inside}");
+    for (levels, inside, fault) in &DEPTHS {
+        let text = nested(rt.alloc(), *levels, inside)?;
+        let found = fault_of(rt.alloc(), text.as_str())?;
+        assert!(rt; found == *fault, "{levels} levels around {inside}");
     }
     Ok(())
 }
 
 #[test]
 fn limit_of_weight(rt: HostRuntime) -> Result<(), Fail> {
-    let alloc = rt.alloc();
-    for (bytes, fault) in [(999_999, None), (1_000_000, Some(JsonFault::TooLarge))] {
-        let text = quoted(alloc, bytes)?;
-        let found = read(alloc, text.as_str())?;
-        assert_eq!(rt; found.err(), fault, "{bytes} bytes");
-    }
+    let text = quoted(rt.alloc(), 999_999)?;
+    assert!(rt; fault_of(rt.alloc(), text.as_str())?.is_none());
+    let text = quoted(rt.alloc(), 1_000_000)?;
+    assert!(rt; fault_of(rt.alloc(), text.as_str())? == Some(JsonFault::TooLarge));
     Ok(())
 }
 
@@ -124,15 +128,17 @@ static MEASURES: [(&str, u64, u32); 7] = [
     ("{\"key\":{\"k\":true},\"l\":0}", 9, 2),
 ];
 
+fn measures_as(value: &Value, weighs: u64, nests: u32) -> bool {
+    weight(value) == weighs && depth(value) == nests
+}
+
 #[test]
 fn measures(rt: HostRuntime) -> Result<(), Fail> {
-    let alloc = rt.alloc();
     for (text, weighs, nests) in &MEASURES {
-        let value = read(alloc, text)??;
-        assert!(rt; weight(&value) == *weighs, "the weight of {text}");
-        assert!(rt; depth(&value) == *nests, "the depth of {text}");
+        let value = read(rt.alloc(), text)??;
+        assert!(rt; measures_as(&value, *weighs, *nests), "{text}");
     }
-    assert!(rt; weight(&Value::Unknown) == 1 && depth(&Value::Unknown) == 0);
+    assert!(rt; measures_as(&Value::Unknown, 1, 0));
     assert!(rt; is_within_limits(&Value::Unknown));
     assert!(rt; MAX_WEIGHT == 1_000_000 && MAX_DEPTH == 32);
     Ok(())
@@ -165,7 +171,7 @@ fn refinement(rt: HostRuntime) -> Result<(), Fail> {
     let actual = item_and_entry(alloc, Value::Int(1), Value::Bool(true))?;
     let other = item_and_entry(alloc, Value::Int(2), Value::Unknown)?;
     assert!(rt; are_refined(&planned, &actual, &other));
-    assert!(rt; is_copied(alloc, &actual)? && planned.clone()? == planned);
+    assert!(rt; is_copied(&actual)? && planned.clone()? == planned);
     Ok(())
 }
 
@@ -188,7 +194,7 @@ fn differs_from(set: &Value, list: &Value) -> bool {
 }
 
 // Whether the copies of a value are equal to it.
-fn is_copied(alloc: Global, value: &Value) -> Result<bool, Fail> {
+fn is_copied(value: &Value) -> Result<bool, Fail> {
     let copied = copy(value)?;
     let settled = with_nulls(copy(value)?);
     Ok(copied == *value && settled == *value)
@@ -216,22 +222,24 @@ static SETS: [(&str, u64, &str); 3] = [
     ("set(a,b)", 5, "[\"a\",\"b\"]"),
 ];
 
+// Whether all of this is so of a set, beside the list of its texts.
+fn is_whole_set(alloc: Global, text: &str, weighs: u64, form: &str) -> Result<bool, Fail> {
+    let set = value(alloc, text)?;
+    let list = read(alloc, form)??;
+    Ok(
+        measures_as_a_set(&set, weighs)
+            && differs_from(&set, &list)
+            && is_copied(&set)?
+            && is_written_as(alloc, &set, form)?
+            && scalar_text(alloc, &set)?.is_none()
+            && is_listed_inside(alloc, set, list)?,
+    )
+}
+
 #[test]
 fn sets(rt: HostRuntime) -> Result<(), Fail> {
-    let alloc = rt.alloc();
     for (text, weighs, form) in &SETS {
-        let set = value(alloc, text)?;
-        let list = read(alloc, form)??;
-        assert!(rt;
-            measures_as_a_set(&set, *weighs) && differs_from(&set, &list),
-            "{text}"
-        );
-        assert!(rt;
-            is_copied(alloc, &set)? && is_written_as(alloc, &set, form)?,
-            "{text}"
-        );
-        assert!(rt; scalar_text(alloc, &set)?.is_none(), "{text}");
-        assert!(rt; is_listed_inside(alloc, set, list)?, "{text}");
+        assert!(rt; is_whole_set(rt.alloc(), text, *weighs, form)?, "{text}");
     }
     Ok(())
 }
@@ -244,18 +252,31 @@ fn a_set_is_not_refined_by_a_larger_one(rt: HostRuntime) -> Result<(), Fail> {
     Ok(())
 }
 
+// Whether the entries are a 2 at `b` and something at `a`, and no others are found.
+fn finds_entries(entries: &BTreeMap<String, Value>) -> bool {
+    find(entries, "a").is_some()
+        && matches!(find(entries, "b"), Some(Value::Int(2)))
+        && find(entries, "c").is_none()
+}
+
+// So for what stands in a value that is a map, and whether its entries are written as this text.
+fn is_looked_up(alloc: Global, value: &Value, form: &str) -> Result<bool, Fail> {
+    let Value::Map(entries) = value else {
+        return Ok(false);
+    };
+    let text = Json::Object(entries_to_json(alloc, entries)?).to_string(alloc)?;
+    Ok(
+        finds_entries(entries)
+            && matches!(value.get("b"), Some(Value::Int(2)))
+            && value.get("c").is_none()
+            && text.as_str() == form,
+    )
+}
+
 #[test]
 fn look_up(rt: HostRuntime) -> Result<(), Fail> {
-    let alloc = rt.alloc();
-    let mut entries = BTreeMap::new(alloc);
-    drop(entries.insert(String::from_str(alloc, "b")?, Value::Int(2))?);
-    drop(entries.insert(String::from_str(alloc, "a")?, Value::Null)?);
-    assert!(rt; find(&entries, "b").is_some() && find(&entries, "c").is_none());
-    let object = Json::Object(entries_to_json(alloc, &entries)?);
-    let text = object.to_string(alloc)?;
-    assert_eq!(rt; text.as_str(), "{\"a\":null,\"b\":2}");
-    let value = Value::Map(entries);
-    assert!(rt; matches!(value.get("b"), Some(Value::Int(2))) && value.get("c").is_none());
+    let value = value(rt.alloc(), "{\"b\":2,\"a\":null}")?;
+    assert!(rt; is_looked_up(rt.alloc(), &value, "{\"a\":null,\"b\":2}")?);
     assert!(rt; Value::Null.get("a").is_none());
     Ok(())
 }
@@ -264,10 +285,9 @@ fn look_up(rt: HostRuntime) -> Result<(), Fail> {
 fn unknown_is_not_written(rt: HostRuntime) -> Result<(), Fail> {
     let alloc = rt.alloc();
     let planned = item_and_entry(alloc, Value::Null, Value::Unknown)?;
-    let found = to_json(alloc, &planned);
-    assert!(rt; matches!(found, Err(JsonFault::UnknownInside)));
+    assert!(rt; to_json(alloc, &planned).err() == Some(JsonFault::UnknownInside));
     let message = JsonFault::UnknownInside.to_string(alloc)?;
-    assert_eq!(rt; message.as_str(), "a part of the value is unknown");
+    assert!(rt; message.as_str() == "a part of the value is unknown");
     Ok(())
 }
 
@@ -285,21 +305,28 @@ static SENT: [&str; 11] = [
     "{\"a\":{\"b\":[true]},\"c\":-3}",
 ];
 
+// Whether a value is laid out alike where it is sent and where its JSON is written.
+fn is_sent_as_laid_out(alloc: Global, value: &Value) -> Result<bool, Fail> {
+    let json = to_json(alloc, value)?.to_string_pretty(alloc)?;
+    let sent = serde_json::to_string_pretty(alloc, value)?;
+    Ok(sent == json)
+}
+
 #[test]
 fn sent(rt: HostRuntime) -> Result<(), Fail> {
-    let alloc = rt.alloc();
     for text in &SENT {
-        let value = read(alloc, text)??;
-        let json = to_json(alloc, &value)?;
-        let short = serde_json::to_string(alloc, &value)?;
-        assert!(rt; short.as_str() == *text, "{text}");
-        assert!(rt; short == json.to_string(alloc)?, "{text}");
-        let long = serde_json::to_string_pretty(alloc, &value)?;
-        assert!(rt; long == json.to_string_pretty(alloc)?, "{text}");
+        let value = read(rt.alloc(), text)??;
+        assert!(rt; is_written_as(rt.alloc(), &value, text)?, "{text}");
+        assert!(rt; is_sent_as_laid_out(rt.alloc(), &value)?, "{text}");
     }
-    let planned = item_and_entry(alloc, Value::Unknown, Value::Unknown)?;
-    let text = serde_json::to_string(alloc, &planned)?;
-    assert_eq!(rt; text.as_str(), "[null,{\"k\":null}]");
+    Ok(())
+}
+
+#[test]
+fn unknown_is_sent_as_null(rt: HostRuntime) -> Result<(), Fail> {
+    let planned = item_and_entry(rt.alloc(), Value::Unknown, Value::Unknown)?;
+    let text = serde_json::to_string(rt.alloc(), &planned)?;
+    assert!(rt; text.as_str() == "[null,{\"k\":null}]");
     Ok(())
 }
 
@@ -317,26 +344,34 @@ fn derives(rt: HostRuntime) -> Result<(), Fail> {
     Ok(())
 }
 
+// Whether a value may be stored only once what is unknown in it is null, and is this then.
+fn is_settled_as(planned: Value, settled: &Value) -> bool {
+    if may_be_stored(&planned) {
+        return false;
+    }
+    let saved = with_nulls(planned);
+    may_be_stored(&saved) && saved == *settled
+}
+
 #[test]
 fn nulls_for_unknowns(rt: HostRuntime) -> Result<(), Fail> {
     let alloc = rt.alloc();
+    let settled = read(alloc, "[null,{\"k\":{\"id\":null}}]")??;
     let planned = item_and_entry(alloc, Value::Unknown, entry(alloc, "id", Value::Unknown)?)?;
-    assert!(rt; !may_be_stored(&planned));
-    let saved = with_nulls(planned);
-    assert!(rt; may_be_stored(&saved));
-    assert!(rt; saved == item_and_entry(alloc, Value::Null, entry(alloc, "id", Value::Null)?)?);
+    assert!(rt; is_settled_as(planned, &settled));
     Ok(())
+}
+
+// Whether the text of a value, where it has one, is this.
+fn has_text(alloc: Global, value: &Value, text: Option<&str>) -> Result<bool, Fail> {
+    Ok(scalar_text(alloc, value)?.as_deref() == text)
 }
 
 #[test]
 fn texts_of_scalars(rt: HostRuntime) -> Result<(), Fail> {
-    let alloc = rt.alloc();
-    assert_eq!(rt; scalar_text(alloc, &Value::Int(-7))?.as_deref(), Some("-7"));
-    assert_eq!(rt;
-        scalar_text(alloc, &Value::Bool(true))?.as_deref(),
-        Some("true")
-    );
-    assert!(rt; scalar_text(alloc, &Value::Null)?.is_none());
+    assert!(rt; has_text(rt.alloc(), &Value::Int(-7), Some("-7"))?);
+    assert!(rt; has_text(rt.alloc(), &Value::Bool(true), Some("true"))?);
+    assert!(rt; has_text(rt.alloc(), &Value::Null, None)?);
     Ok(())
 }
 
