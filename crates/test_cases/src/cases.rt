@@ -1,91 +1,18 @@
 //! Cases: texts that are planned and applied, and what has to come of them. `README.md` says how a file of cases is read.
 
+use crate::case::Case;
+use crate::replying::carry_out;
 use std::alloc::Global;
 use std::sync::Wait;
 use std::test::Fail;
 use std::thread::Threads;
-use test_watching::{Manner, SeenApply, Texts, WORKERS, planned, watch_apply, watch_manner};
-
-/// The parts that a case may have.
-static PARTS: [&str; 16] = [
-    "configuration",
-    "variables",
-    "state",
-    "first",
-    "manner",
-    "refused",
-    "planned",
-    "well",
-    "told",
-    "errors",
-    "outcomes",
-    "excused",
-    "journal",
-    "calls",
-    "left",
-    "kept",
-];
-
-/// A case of a file: its title, and its parts behind it.
-#[derive(Clone, Copy)]
-struct Case<'a> {
-    text: &'a str,
-}
-
-impl<'a> Case<'a> {
-    fn title(&self) -> &'a str {
-        self.text.lines().next().unwrap_or("").trim_start()
-    }
-
-    /// The text of the part of this name, without the end of its last line, where the case has one.
-    fn part(&self, name: &str) -> Option<&'a str> {
-        for part in self.text.split("\n--- ").skip(1) {
-            let (named, text) = part.split_once("\n").unwrap_or((part, ""));
-            if named == name {
-                return Some(text);
-            }
-        }
-        None
-    }
-
-    /// The first of its parts that no case has.
-    fn unknown_part(&self) -> Option<&'a str> {
-        for part in self.text.split("\n--- ").skip(1) {
-            let named = part.lines().next().unwrap_or("");
-            if !PARTS.iter().any(|part| *part == named) {
-                return Some(named);
-            }
-        }
-        None
-    }
-
-    /// What the case hands in, beside a state.
-    fn texts(&self, state: Option<&'a str>) -> Texts<'a> {
-        Texts {
-            config: self.part("configuration").unwrap_or("").as_bytes(),
-            vars: self.part("variables").map(|vars| vars.as_bytes()),
-            state: state.map(|state| state.as_bytes()),
-        }
-    }
-
-    /// How its provider is; none where it says that in no words that are known.
-    fn manner(&self) -> Option<Manner> {
-        match self.part("manner") {
-            None => Some(Manner::Plain),
-            Some("without memory") => Some(Manner::Forgetful),
-            Some("stops before the first call") => Some(Manner::Stops(0)),
-            Some("stops in the first call") => Some(Manner::Stops(1)),
-            Some("stops in the third call") => Some(Manner::Stops(3)),
-            Some(_) => None,
-        }
-    }
-}
+use test_watching::{SeenApply, Texts, WORKERS, planned, watch_apply};
 
 /// What was seen otherwise than a case says.
 #[derive(Drop)]
 struct Check<'a> {
     alloc: Global,
-    case: Case<'a>,
+    case: &'a Case<'a>,
     /// What the case hands in.
     texts: Texts<'a>,
     faults: String,
@@ -93,7 +20,7 @@ struct Check<'a> {
 
 impl<'a> Check<'a> {
     fn note(&mut self, what: &str, seen: &str) -> Result<(), Fail> {
-        let line = format!(in self.alloc; "{}: {what} {seen}\n", self.case.title())?;
+        let line = format!(in self.alloc; "{}: {what} {seen}\n", self.case.title)?;
         self.faults.push_str(line.as_str())?;
         Ok(())
     }
@@ -121,6 +48,23 @@ impl<'a> Check<'a> {
         }
         self.compare(part, seen)
     }
+
+    /// The state that was left is the text of a part, by whether it was changed.
+    fn compare_left(&mut self, seen: &SeenApply) -> Result<(), Fail> {
+        let part = if seen.changed { "left" } else { "kept" };
+        self.compare(part, seen.state.as_str())
+    }
+
+    /// Each part of this name is found in what was seen, or none is.
+    fn find(&mut self, name: &str, seen: &str, is_found: bool) -> Result<(), Fail> {
+        let case = self.case;
+        for part in &case.parts {
+            if part.name == name && seen.contains(part.text.as_str()) != is_found {
+                self.note(name, part.text.as_str())?;
+            }
+        }
+        Ok(())
+    }
 }
 
 /// How many cases a file has, and what is otherwise than they say.
@@ -139,7 +83,7 @@ pub fn check_cases<R: Threads + Wait + Sync>(
     let mut faults = String::new(alloc);
     for (number, text) in file.trim_end().split("\n\n===").enumerate() {
         if number > 0 {
-            let found = check_case(rt, alloc, Case { text })?;
+            let found = check_case(rt, alloc, &Case::read(alloc, text)?)?;
             faults.push_str(found.as_str())?;
             cases = number;
         }
@@ -150,7 +94,7 @@ pub fn check_cases<R: Threads + Wait + Sync>(
 fn check_case<R: Threads + Wait + Sync>(
     rt: &R,
     alloc: Global,
-    case: Case<'_>,
+    case: &Case<'_>,
 ) -> Result<String, Fail> {
     let first = match case.part("first") {
         Some(config) => Some(watch_apply(rt, alloc, Texts::of(config), 1)?.state),
@@ -170,81 +114,166 @@ fn check_case<R: Threads + Wait + Sync>(
     if let Some(part) = case.unknown_part() {
         check.note("a part that no case has:", part)?;
     }
-    let said = planned(alloc, texts)?;
-    if case.part("refused").is_some() {
-        check_refused(rt, &mut check, said.as_str())?;
-    } else if case.part("planned").is_some() {
-        check.compare("planned", said.as_str())?;
-    } else {
-        for workers in WORKERS {
-            check_applied(rt, &mut check, said.as_str(), workers)?;
-        }
-    }
+    check_texts(rt, &mut check)?;
     Ok(check.faults)
 }
 
-/// The plan is refused, the apply too, and nothing is called.
+/// What is handed in comes to what the case says.
+fn check_texts<R: Threads + Wait + Sync>(rt: &R, check: &mut Check<'_>) -> Result<(), Fail> {
+    check_beginnings(rt, check)?;
+    if check.case.part("refused").is_some() {
+        return check_refused(rt, check, "refused", check.texts);
+    }
+    let said = planned(check.alloc, check.texts)?;
+    if check.case.part("planned").is_some() {
+        return check.compare("planned", said.as_str());
+    }
+    if let Some(last) = check.case.part("plan ends") {
+        return check.demand(said.lines().last() == Some(last), "the plan ends so");
+    }
+    check_applied(rt, check, said.as_str())
+}
+
+/// The plan is refused by the lines of a part, the apply too, and nothing is called.
 fn check_refused<R: Threads + Wait + Sync>(
     rt: &R,
     check: &mut Check<'_>,
-    said: &str,
+    part: &str,
+    texts: Texts<'_>,
 ) -> Result<(), Fail> {
-    check.compare("refused", said)?;
-    let seen = watch_apply(rt, check.alloc, check.texts, 2)?;
-    check.compare("refused", seen.errors.as_str())?;
-    check.demand(seen.output.is_empty(), "nothing else is told")?;
-    check.demand(seen.status == 1, "the status is 1")?;
-    check.demand(seen.calls == 0, "nothing is called")
+    let said = planned(check.alloc, texts)?;
+    check.compare(part, said.as_str())?;
+    let seen = watch_apply(rt, check.alloc, texts, 2)?;
+    check.compare(part, seen.errors.as_str())?;
+    let is_refused = seen.output.is_empty() && seen.status == 1 && seen.calls == 0;
+    check.demand(
+        is_refused,
+        "nothing else is told, the status is 1, and nothing is called",
+    )
 }
 
-/// The apply by so many workers comes to what the case says, and where all went well a second one does nothing.
+/// Each shorter text with which the configuration begins, or the variables file, is refused, where the case says how.
+fn check_beginnings<R: Threads + Wait + Sync>(rt: &R, check: &mut Check<'_>) -> Result<(), Fail> {
+    let texts = check.texts;
+    if check.case.part("beginnings").is_some() {
+        for length in 0..texts.config.len() {
+            let config = &texts.config[..length];
+            check_refused(rt, check, "beginnings", Texts { config, ..texts })?;
+        }
+    }
+    if check.case.part("beginnings of variables").is_some() {
+        let vars = texts.vars.unwrap_or(b"");
+        check.demand(!vars.is_empty(), "variables begin somehow")?;
+        for length in 0..vars.len() {
+            let vars = Some(&vars[..length]);
+            check_refused(
+                rt,
+                check,
+                "beginnings of variables",
+                Texts { vars, ..texts },
+            )?;
+        }
+    }
+    Ok(())
+}
+
+/// Applies by few and many workers come to what the case says; where all goes well, another one does nothing.
 fn check_applied<R: Threads + Wait + Sync>(
     rt: &R,
     check: &mut Check<'_>,
     planned: &str,
-    workers: usize,
 ) -> Result<(), Fail> {
-    let Some(manner) = check.case.manner() else {
-        return check.note("manner", "isn't known");
-    };
-    let seen = watch_manner(rt, check.alloc, check.texts, workers, manner)?;
+    let mut first = None;
+    for workers in WORKERS {
+        if check.case.number("workers").unwrap_or(workers) == workers {
+            let seen = check_apply(rt, check, planned, workers)?;
+            if seen.status == 0 {
+                check_again(rt, check, seen.state.as_str())?;
+            }
+            check_alike(rt, check, planned, workers, first.as_ref().unwrap_or(&seen))?;
+            first = first.or(Some(seen));
+        }
+    }
+    check.demand(first.is_some(), "so many workers apply it")
+}
+
+/// So many more applies, where the case says how many, come to what the first one came to.
+fn check_alike<R: Threads + Wait + Sync>(
+    rt: &R,
+    check: &mut Check<'_>,
+    planned: &str,
+    workers: usize,
+    first: &SeenApply,
+) -> Result<(), Fail> {
+    for _ in 0..check.case.number("alike").unwrap_or(0) {
+        let seen = check_apply(rt, check, planned, workers)?;
+        check.demand(
+            seen.output == first.output
+                && seen.errors == first.errors
+                && seen.outcomes == first.outcomes
+                && seen.excused.is_empty()
+                && seen.state == first.state,
+            "all come to the same",
+        )?;
+    }
+    Ok(())
+}
+
+/// An apply by so many workers comes to what the case says.
+fn check_apply<R: Threads + Wait + Sync>(
+    rt: &R,
+    check: &mut Check<'_>,
+    planned: &str,
+    workers: usize,
+) -> Result<SeenApply, Fail> {
+    let seen = carry_out(rt, check.alloc, check.case, check.texts, workers)?;
     let summary = seen.output.strip_prefix(planned).unwrap_or("");
     check.demand(
         summary.starts_with("Apply ") && summary.lines().count() == 1,
         "the plan's text comes first, and one line behind it",
     )?;
-    check.demand(seen.whole, "the journal is whole")?;
+    check.compare_said("ends", summary)?;
     check.demand(
-        seen.calls == seen.journal.len(),
-        "each call is in the journal",
+        seen.whole && seen.calls == seen.journal.len(),
+        "the journal is whole, and has each call",
     )?;
-    if check.case.part("well").is_some() {
-        check.demand(seen.errors.is_empty(), "all goes well")?;
-    } else {
-        compare_seen(check, &seen)?;
-    }
     let status = if seen.errors.is_empty() { 0 } else { 2 };
     check.demand(
         seen.status == status,
         "the status is 2 where something is told, else 0",
     )?;
-    if status == 0 {
-        check_again(rt, check, seen.state.as_str())?;
-    }
-    Ok(())
+    compare_seen(check, &seen)?;
+    Ok(seen)
 }
 
 /// What was seen of an apply is what the case says.
 fn compare_seen(check: &mut Check<'_>, seen: &SeenApply) -> Result<(), Fail> {
-    check.compare("told", seen.output.as_str())?;
-    check.compare("errors", seen.errors.as_str())?;
-    check.compare("excused", seen.excused.as_str())?;
+    if check.case.part("well").is_some() {
+        check.demand(seen.errors.is_empty(), "all goes well")?;
+    } else if check.case.part("alike").is_none() {
+        check.compare("told", seen.output.as_str())?;
+        check.compare("errors", seen.errors.as_str())?;
+        check.compare("excused", seen.excused.as_str())?;
+        check.compare_left(seen)?;
+    }
+    compare_said(check, seen)
+}
+
+/// What the case says of an apply, and may leave out, is so.
+fn compare_said(check: &mut Check<'_>, seen: &SeenApply) -> Result<(), Fail> {
+    check.compare_said("told", seen.output.as_str())?;
+    check.compare_said("errors", seen.errors.as_str())?;
+    check.compare_said("excused", seen.excused.as_str())?;
     check.compare_said("outcomes", seen.outcomes.as_str())?;
-    compare_journal(check, seen.journal_text.as_str())?;
     let calls = format!(in check.alloc; "{}", seen.calls)?;
     check.compare_said("calls", calls.as_str())?;
-    let part = if seen.changed { "left" } else { "kept" };
-    check.compare(part, seen.state.as_str())
+    check.find("told has", seen.output.as_str(), true)?;
+    check.find("left has", seen.state.as_str(), true)?;
+    check.find("left lacks", seen.state.as_str(), false)?;
+    if check.case.part("left").is_some() || check.case.part("kept").is_some() {
+        check.compare_left(seen)?;
+    }
+    compare_journal(check, seen.journal_text.as_str())
 }
 
 /// The journal is one of those that the case names, a line each.
@@ -263,15 +292,21 @@ fn check_again<R: Threads + Wait + Sync>(
     check: &mut Check<'_>,
     state: &str,
 ) -> Result<(), Fail> {
+    let state = Some(state.as_bytes());
     let texts = Texts {
-        state: Some(state.as_bytes()),
+        state,
         ..check.texts
     };
     let seen = watch_apply(rt, check.alloc, texts, 1)?;
     let nothing = "No changes.\nApply complete! Resources: 0 added, 0 changed, 0 destroyed.\n";
-    check.demand(seen.output.as_str() == nothing, "nothing is done again")?;
-    check.demand(seen.errors.is_empty(), "nothing is told again")?;
-    check.demand(seen.calls == 0, "nothing is called again")?;
-    check.demand(!seen.changed, "nothing is changed again")?;
-    check.demand(seen.state.as_str() == state, "the state is the same again")
+    let is_told = seen.output.as_str() == nothing && seen.errors.is_empty();
+    check.demand(
+        is_told,
+        "that nothing is done is told again, and nothing else",
+    )?;
+    let is_left = seen.calls == 0 && !seen.changed && Some(seen.state.as_str().as_bytes()) == state;
+    check.demand(
+        is_left,
+        "nothing is called again, and the state is the same",
+    )
 }

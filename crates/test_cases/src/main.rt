@@ -4,7 +4,9 @@
 //! state, and begins anew with none; any other names the variables file of the configurations behind it.
 #![tactic(auto)]
 
+mod case;
 mod cases;
+mod replying;
 
 use crate::cases::{Checked, check_cases};
 use std::process::ExitCode;

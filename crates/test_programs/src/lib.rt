@@ -1,4 +1,5 @@
-//! Tests of what the two programs do around a plan and an apply: over files that stand in memory, and writers that fail.
+//! Tests of what the two programs do around a plan and an apply, and of the provider `local_file`: over files that stand in
+//! memory, where calls on them fail in turn, and writers that fail.
 #![tactic(auto)]
 
 #[cfg(test)]

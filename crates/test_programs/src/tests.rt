@@ -1,6 +1,7 @@
 mod disk;
 mod failing;
 mod kept;
+mod local;
 mod options;
 mod programs;
 mod writers;

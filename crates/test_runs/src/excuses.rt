@@ -1,16 +1,14 @@
 //! Walks in which an action is excused: its call and all others are reported, and nothing is refused.
 
-use crate::runs::{NETS, plan_texts};
+use crate::runs::{NETS, plan_texts, walk_by_many, walk_once};
 use std::alloc::{AllocError, Global};
 use std::process::Abort;
 use std::sync::Arc;
 use std::sync::atomic::{AtomicUsize, Ordering};
 use std::test::Fail;
-use test_watching::{Aside, Sided, tell_of};
+use test_watching::{Aside, Sided, ToldWalk, tell_of};
 use tf_provider::{Provider, Reply, Request};
 use tf_provider_sim::Sim;
-use tf_walk::{run, run_one};
-use tf_walk_action::Stop;
 use tf_walk_report::Walked;
 
 /// It counts its calls, and has no memory in the second.
@@ -50,10 +48,12 @@ fn check_excused<R: Abort>(
     calls: usize,
 ) -> Result<(), Fail> {
     let told = tell_of(alloc, walked)?;
-    assert!(rt; told.whole && calls > 1);
-    assert_eq!(rt; told.journal.len(), calls);
-    assert!(rt; told.excused.as_str().starts_with("During("));
+    assert!(rt; calls > 1 && is_excused(&told, calls), "{calls}");
     Ok(())
+}
+
+fn is_excused(told: &ToldWalk, calls: usize) -> bool {
+    told.whole && told.journal.len() == calls && told.excused.as_str().starts_with("During(")
 }
 
 #[test]
@@ -62,10 +62,8 @@ fn one_worker_reports_an_excuse(rt: HostRuntime) -> Result<(), Fail> {
     let calls = Arc::new(alloc, AtomicUsize::new(0))?;
     let providers = forgetful(alloc, &calls)?;
     let plan = plan_texts(alloc, NETS, None, &providers)?;
-    match run_one(alloc, &plan, &providers, &Stop::new()) {
-        Ok(walked) => check_excused(&rt, alloc, walked, calls.load(Ordering::SeqCst)),
-        Err(_) => Err("refused".into()),
-    }
+    let walked = walk_once(alloc, &plan, &providers)?;
+    check_excused(&rt, alloc, walked, calls.load(Ordering::SeqCst))
 }
 
 #[test]
@@ -74,8 +72,6 @@ fn two_workers_report_an_excuse(rt: HostRuntime) -> Result<(), Fail> {
     let calls = Arc::new(alloc, AtomicUsize::new(0))?;
     let providers = forgetful(alloc, &calls)?;
     let plan = plan_texts(alloc, NETS, None, &providers)?;
-    match run(&rt, alloc, &plan, &providers, 2, &Stop::new()) {
-        Ok(walked) => check_excused(&rt, alloc, walked, calls.load(Ordering::SeqCst)),
-        Err(_) => Err("refused".into()),
-    }
+    let (walked, _) = walk_by_many(&rt, alloc, &plan, &providers, 2)?;
+    check_excused(&rt, alloc, walked, calls.load(Ordering::SeqCst))
 }

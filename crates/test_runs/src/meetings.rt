@@ -1,18 +1,16 @@
 //! Calls that wait for one another: workers call at the same time, and none sleeps while an action may be called.
 
-use crate::runs::plan_texts;
+use crate::runs::{plan_texts, walk_by_many};
 use std::alloc::Global;
 use std::process::Abort;
 use std::sync::atomic::{AtomicUsize, Ordering};
 use std::sync::{Arc, Wait};
 use std::test::Fail;
 use std::thread::Threads;
-use test_watching::{Aside, Meeting, Sided, is_reached_within, meet, tell_of};
+use test_watching::{Aside, Meeting, Sided, ToldWalk, is_reached_within, meet, tell_of};
 use tf_provider::{Provider, Reply, Request};
 use tf_provider_sim::Sim;
 use tf_value::Value;
-use tf_walk::run;
-use tf_walk_action::Stop;
 
 /// How often a call looks for another, or for all others of its kind.
 const TURNS: usize = 10_000_000;
@@ -30,14 +28,15 @@ fn check_meets<R: Abort + Threads + Wait + Sync>(
     misses: &AtomicUsize,
 ) -> Result<(), Fail> {
     let plan = plan_texts(alloc, config, None, providers)?;
-    let Ok(walked) = run(rt, alloc, &plan, providers, workers, &Stop::new()) else {
-        return Err("no memory".into());
-    };
+    let (walked, _) = walk_by_many(rt, alloc, &plan, providers, workers)?;
     let told = tell_of(alloc, walked)?;
-    assert_eq!(rt; misses.load(Ordering::SeqCst), 0, "{config}");
-    assert_eq!(rt; told.journal.len(), plan.plan.actions.len(), "{config}");
-    assert!(rt; told.whole, "{config}");
+    assert!(rt; is_met(&told, plan.plan.actions.len(), misses), "{config}");
     Ok(())
+}
+
+/// Whether a walk is whole, so many calls were made, and none missed another.
+fn is_met(told: &ToldWalk, calls: usize, misses: &AtomicUsize) -> bool {
+    told.whole && told.journal.len() == calls && misses.load(Ordering::SeqCst) == 0
 }
 
 /// Checks that so many calls, of a provider each, are seen by one another where as many workers make them.

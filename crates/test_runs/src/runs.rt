@@ -3,7 +3,7 @@
 ghost use Rattle.std.specs.Prelude.{IfOk, map};
 ghost use Rattle.tf_plan_data.specs.Words.{action_of, AreServed};
 
-use std::alloc::Global;
+use std::alloc::{AllocError, Global};
 use std::process::Abort;
 use std::sync::Wait;
 use std::test::Fail;
@@ -58,6 +58,13 @@ const WIDE: &str =
 const LARGEST: &str =
     r#"{"resource": {"sim_net": {"a": {"count": 2000, "cidr": "${count.index}"}}}}"#;
 
+/// The provider `sim` alone.
+pub(crate) fn sims(alloc: Global) -> Result<Vec<Box<dyn Provider + Sync>>, AllocError> {
+    let mut providers: Vec<Box<dyn Provider + Sync>> = Vec::new(alloc);
+    providers.push(Box::new(alloc, Sim::new(alloc)?)?)?;
+    Ok(providers)
+}
+
 /// The plan of a configuration and a state.
 pub(crate) fn plan_texts(
     alloc: Global,
@@ -94,27 +101,14 @@ fn check_runs<R: Abort + Threads + Wait + Sync>(
     outcomes: Option<&str>,
     times: usize,
 ) -> Result<(), Fail> {
-    let mut providers: Vec<Box<dyn Provider + Sync>> = Vec::new(alloc);
-    providers.push(Box::new(alloc, Sim::new(alloc)?)?)?;
-    check_runs_by(rt, alloc, &providers, config, state, outcomes, times)
-}
-
-/// The same, by these providers.
-pub(crate) fn check_runs_by<R: Abort + Threads + Wait + Sync>(
-    rt: &R,
-    alloc: Global,
-    providers: &[Box<dyn Provider + Sync>],
-    config: &str,
-    state: Option<&str>,
-    outcomes: Option<&str>,
-    times: usize,
-) -> Result<(), Fail> {
-    let plan = plan_texts(alloc, config, state, providers)?;
-    let one = tell_of(alloc, walk_once(alloc, &plan, providers)?)?;
-    if let Some(outcomes) = outcomes {
-        assert_eq!(rt; one.outcomes.as_str(), outcomes);
-    }
-    check_all(rt, alloc, &plan, providers, &one, times)
+    let providers = sims(alloc)?;
+    let plan = plan_texts(alloc, config, state, &providers)?;
+    let one = tell_of(alloc, walk_once(alloc, &plan, &providers)?)?;
+    assert!(rt;
+        outcomes.unwrap_or(one.outcomes.as_str()) == one.outcomes.as_str(),
+        "{config}"
+    );
+    check_all(rt, alloc, &plan, &providers, &one, times)
 }
 
 /// The walk of a plan by one thread.
@@ -127,6 +121,22 @@ pub(crate) fn walk_once(
 {
     match run_one(alloc, plan, providers, &Stop::new()) {
         Ok(walked) => Ok(walked),
+        Err(_) => Err("no memory".into()),
+    }
+}
+
+/// The walk of a plan by so many workers, and whether nothing was left to claim or to let go.
+pub(crate) fn walk_by_many<R: Threads + Wait + Sync>(
+    rt: &R,
+    alloc: Global,
+    plan: &Planned,
+    providers: &[Box<dyn Provider + Sync>],
+    workers: usize,
+) -> Result<(Walked, bool), Fail>
+    requires served { AreServed (map meaning providers.now) (map action_of plan.now.actions.items) }
+{
+    match run_and_close(rt, alloc, plan, providers, workers, &Stop::new()) {
+        Ok(both) => Ok(both),
         Err(_) => Err("no memory".into()),
     }
 }
@@ -161,12 +171,9 @@ fn check_run<R: Abort + Threads + Wait + Sync>(
 ) -> Result<(), Fail>
     requires served { AreServed (map meaning providers.now) (map action_of plan.now.actions.items) }
 {
-    let stop = Stop::new();
-    let Ok((walked, is_closed)) = run_and_close(rt, alloc, plan, providers, workers, &stop) else {
-        return Err("no memory".into());
-    };
+    let (walked, is_closed) = walk_by_many(rt, alloc, plan, providers, workers)?;
     let many = tell_of(alloc, walked)?;
-    assert!(rt; is_whole_as(&many, one) && is_closed, "{workers}");
+    assert!(rt; is_closed && is_whole_as(&many, one), "{workers}");
     check_same(rt, &many, one, workers)
 }
 
@@ -182,18 +189,19 @@ pub(crate) fn check_same<R: Abort>(
     other: &ToldWalk,
     workers: usize,
 ) -> Result<(), Fail> {
-    assert_eq!(rt;
-        told.outcomes.as_str(),
-        other.outcomes.as_str(),
-        "{workers}"
+    assert!(rt;
+        is_same(told, other),
+        "{workers}: {}, {}",
+        told.outcomes,
+        other.outcomes
     );
-    assert_eq!(rt;
-        told.diagnostics.as_str(),
-        other.diagnostics.as_str(),
-        "{workers}"
-    );
-    assert!(rt; told.state == other.state, "{workers}");
     Ok(())
+}
+
+fn is_same(told: &ToldWalk, other: &ToldWalk) -> bool {
+    told.outcomes == other.outcomes
+        && told.diagnostics == other.diagnostics
+        && told.state == other.state
 }
 
 #[test]

@@ -1,14 +1,12 @@
 //! Walks over the orders of plans, by the shared claims alone: each claim, each end and each edge let go of is one step.
 
-use crate::runs::{BEFORE, BOTH_LATE, BROKEN, DIAMOND, LATE, plan_texts};
+use crate::runs::{BEFORE, BOTH_LATE, BROKEN, DIAMOND, LATE, plan_texts, sims};
 use std::alloc::Global;
 use std::process::Abort;
 use std::test::Fail;
 use std::thread::Threads;
 use test_helpers::walk_by;
 use tf_graph::Graph;
-use tf_provider::Provider;
-use tf_provider_sim::Sim;
 
 /// Another net, created where the old one was destroyed.
 const REPLACED: &str =
@@ -43,8 +41,7 @@ fn check_walks<R: Abort + Threads + Sync>(
 /// Checks the order of the plan of a configuration and a prior state.
 fn check_order<R: Abort + Threads + Sync>(rt: &R, alloc: Global, row: &Row) -> Result<(), Fail> {
     let (config, state, counted) = *row;
-    let mut providers: Vec<Box<dyn Provider + Sync>> = Vec::new(alloc);
-    providers.push(Box::new(alloc, Sim::new(alloc)?)?)?;
+    let providers = sims(alloc)?;
     let plan = plan_texts(alloc, config, state, &providers)?;
     check_walks(rt, alloc, plan.plan.order.graph(), counted)
 }

@@ -1,14 +1,15 @@
 //! Reports with a journal that isn't the one of their walk.
 
-ghost use Rattle.std.specs.Prelude.{◌≡◌};
+ghost use Rattle.std.specs.Prelude.{◌≡◌, map};
+ghost use Rattle.tf_plan_data.specs.Words.{action_of, AreServed};
 
-use crate::runs::{BROKEN, DIAMOND, check_same, plan_texts, walk_once};
+use crate::runs::{BROKEN, DIAMOND, check_same, plan_texts, sims, walk_once};
 use std::alloc::Global;
 use std::process::Abort;
 use std::test::Fail;
-use test_watching::tell_of;
+use test_watching::{ToldWalk, tell_of};
+use tf_plan_data::Planned;
 use tf_provider::{Journal, Provider};
-use tf_provider_sim::Sim;
 use tf_walk_report::{Report, Walked, settle};
 
 /// The report of a walk with another journal.
@@ -33,6 +34,19 @@ fn with_journal(walked: Walked, journal: Journal) -> Report
     }
 }
 
+/// What is told of the walk of a plan with a journal in which nothing is.
+fn tell_without_calls(
+    alloc: Global,
+    plan: &Planned,
+    providers: &[Box<dyn Provider + Sync>],
+) -> Result<ToldWalk, Fail>
+    requires served { AreServed (map meaning providers.now) (map action_of plan.now.actions.items) }
+{
+    let empty = Journal::with_room(alloc, plan.plan.order.graph())?;
+    let report = with_journal(walk_once(alloc, plan, providers)?, empty);
+    Ok(tell_of(alloc, settle(&plan.plan, report))?)
+}
+
 /// Checks whether the report on a configuration that is carried out is whole with a journal in which nothing is, and that all
 /// else in it is as it was.
 fn check_without_calls<R: Abort>(
@@ -41,13 +55,10 @@ fn check_without_calls<R: Abort>(
     config: &str,
     whole: bool,
 ) -> Result<(), Fail> {
-    let mut providers: Vec<Box<dyn Provider + Sync>> = Vec::new(alloc);
-    providers.push(Box::new(alloc, Sim::new(alloc)?)?)?;
+    let providers = sims(alloc)?;
     let plan = plan_texts(alloc, config, None, &providers)?;
     let before = tell_of(alloc, walk_once(alloc, &plan, &providers)?)?;
-    let empty = Journal::with_room(alloc, plan.plan.order.graph())?;
-    let report = with_journal(walk_once(alloc, &plan, &providers)?, empty);
-    let told = tell_of(alloc, settle(&plan.plan, report))?;
+    let told = tell_without_calls(alloc, &plan, &providers)?;
     assert!(rt; told.whole == whole && told.journal.is_empty());
     check_same(rt, &told, &before, 1)
 }

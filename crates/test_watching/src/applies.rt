@@ -13,7 +13,7 @@ use tf_provider::Provider;
 use tf_provider_sim::Sim;
 
 /// By how many workers what is applied is applied.
-pub const WORKERS: [usize; 3] = [1, 2, 64];
+pub const WORKERS: [usize; 4] = [1, 2, 4, 64];
 
 /// The texts that are handed in.
 #[derive(Clone, Copy)]

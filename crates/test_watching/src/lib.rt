@@ -13,6 +13,6 @@ pub use applies::{
 };
 pub use aside::{Aside, Sided};
 pub use meeting::{Meeting, Meets, is_reached_within, meet};
-pub use scripted::scripted_reply;
+pub use scripted::Misled;
 pub use telling::{ToldWalk, tell_of};
 pub use watched::Manner;

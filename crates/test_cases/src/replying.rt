@@ -1,0 +1,84 @@
+//! Applies as a case wants them: how its provider is, and what it replies.
+
+use crate::case::Case;
+use serde_json::Value as Json;
+use std::alloc::Global;
+use std::sync::Wait;
+use std::test::Fail;
+use std::thread::Threads;
+use test_watching::{Manner, Misled, SeenApply, Texts, apply_by, watch_manner};
+use tf_cli::Stop;
+use tf_provider::Provider;
+use tf_provider_sim::Sim;
+use tf_value::{Value, from_json};
+
+/// An apply of these texts by so many workers.
+pub(crate) fn carry_out<R: Threads + Wait + Sync>(
+    rt: &R,
+    alloc: Global,
+    case: &Case<'_>,
+    texts: Texts<'_>,
+    workers: usize,
+) -> Result<SeenApply, Fail> {
+    if let Some(request) = case.part("request") {
+        let providers = misleading(alloc, case, request)?;
+        let mut seen = apply_by(rt, alloc, texts, &providers, workers, &Stop::new())?;
+        // The calls of this provider aren't counted.
+        seen.calls = seen.journal.len();
+        return Ok(seen);
+    }
+    match manner(case) {
+        Some(manner) => watch_manner(rt, alloc, texts, workers, manner),
+        None => Err("a provider's manner isn't known".into()),
+    }
+}
+
+/// How a case's provider is; none where it says that in no words that are known.
+fn manner(case: &Case<'_>) -> Option<Manner> {
+    match case.part("manner") {
+        None => Some(Manner::Plain),
+        Some("without memory") => Some(Manner::Forgetful),
+        Some("stops before the first call") => Some(Manner::Stops(0)),
+        Some("stops in the first call") => Some(Manner::Stops(1)),
+        Some("stops in the third call") => Some(Manner::Stops(3)),
+        Some(_) => None,
+    }
+}
+
+/// The provider `sim`, but for its reply to a request: the address of an instance, and `create`, `update` or `destroy`.
+fn misleading(
+    alloc: Global,
+    case: &Case<'_>,
+    request: &str,
+) -> Result<Vec<Box<dyn Provider + Sync>>, Fail> {
+    let (address, operation) = request.rsplit_once(" ").unwrap_or((request, ""));
+    let provider = Misled {
+        sim: Sim::new(alloc)?,
+        address: String::from_str(alloc, address)?,
+        is_apply: operation != "destroy",
+        message: message(alloc, case.part("fails with"))?,
+        object: object(alloc, case.part("object"))?,
+    };
+    let mut providers: Vec<Box<dyn Provider + Sync>> = Vec::new(alloc);
+    providers.push(Box::new(alloc, provider)?)?;
+    Ok(providers)
+}
+
+/// What a JSON text says, where there is one.
+fn message(alloc: Global, text: Option<&str>) -> Result<Option<String>, Fail> {
+    let Some(text) = text else {
+        return Ok(None);
+    };
+    match &Json::from_str(alloc, text)? {
+        Json::String(message) => Ok(Some(message.clone()?)),
+        _ => Err("a message isn't a text".into()),
+    }
+}
+
+/// The value of a JSON text, where there is one.
+fn object(alloc: Global, text: Option<&str>) -> Result<Option<Value>, Fail> {
+    let Some(text) = text else {
+        return Ok(None);
+    };
+    Ok(Some(from_json(alloc, &Json::from_str(alloc, text)?)?))
+}

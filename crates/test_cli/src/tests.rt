@@ -1,9 +1,0 @@
-mod applying;
-mod counted;
-mod large;
-mod limits;
-mod refusals;
-mod replies;
-mod shown;
-mod wide;
-mod workers;

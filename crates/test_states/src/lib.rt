@@ -1,5 +1,0 @@
-//! Tests of states and of their texts, over public calls.
-#![tactic(auto)]
-
-#[cfg(test)]
-mod tests;
