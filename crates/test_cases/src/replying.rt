@@ -21,11 +21,8 @@ pub(crate) fn carry_out<R: Threads + Wait + Sync>(
     workers: usize,
 ) -> Result<SeenApply, Fail> {
     if let Some(request) = case.part("request") {
-        let providers = misleading(alloc, case, request)?;
-        let mut seen = apply_by(rt, alloc, texts, &providers, workers, &Stop::new())?;
-        // The calls of this provider aren't counted.
-        seen.calls = seen.journal.len();
-        return Ok(seen);
+        let misled = misled(alloc, case, request)?;
+        return apply_misled(rt, alloc, misled, texts, workers);
     }
     match manner(case) {
         Some(manner) => watch_manner(rt, alloc, texts, workers, manner),
@@ -46,22 +43,30 @@ fn manner(case: &Case<'_>) -> Option<Manner> {
 }
 
 /// The provider `sim`, but for its reply to a request: the address of an instance, and `create`, `update` or `destroy`.
-fn misleading(
-    alloc: Global,
-    case: &Case<'_>,
-    request: &str,
-) -> Result<Vec<Box<dyn Provider + Sync>>, Fail> {
+fn misled(alloc: Global, case: &Case<'_>, request: &str) -> Result<Misled, Fail> {
     let (address, operation) = request.rsplit_once(" ").unwrap_or((request, ""));
-    let provider = Misled {
+    Ok(Misled {
         sim: Sim::new(alloc)?,
         address: String::from_str(alloc, address)?,
         is_apply: operation != "destroy",
         message: message(alloc, case.part("fails with"))?,
         object: object(alloc, case.part("object"))?,
-    };
+    })
+}
+
+/// An apply by this provider alone, whose calls aren't counted: as many as the journal has are taken for them.
+fn apply_misled<R: Threads + Wait + Sync>(
+    rt: &R,
+    alloc: Global,
+    misled: Misled,
+    texts: Texts<'_>,
+    workers: usize,
+) -> Result<SeenApply, Fail> {
     let mut providers: Vec<Box<dyn Provider + Sync>> = Vec::new(alloc);
-    providers.push(Box::new(alloc, provider)?)?;
-    Ok(providers)
+    providers.push(Box::new(alloc, misled)?)?;
+    let mut seen = apply_by(rt, alloc, texts, &providers, workers, &Stop::new())?;
+    seen.calls = seen.journal.len();
+    Ok(seen)
 }
 
 /// What a JSON text says, where there is one.
