@@ -8,12 +8,12 @@ use Rattle.tf_plan_object.specs.Instance.{InstanceFaultView, for_each_fault, arg
 use Rattle.tf_config_data.specs.Config.{BlockView, LifecycleView}
 use Rattle.tf_config_data.specs.Names.{NameView, Meant, a_local, a_block, directly_before}
 use Rattle.tf_plan_decision.specs.Deciding.{DecidedView, OfView, version_of, with_block, with_members, with_outcome}
-use Rattle.tf_plan_decision.specs.Outcome.{OutcomeView, by_decision, declared_outcome, member_outcome, no_provider, orphan_outcome, removal_outcome}
+use Rattle.tf_plan_decision.specs.Outcome.{OutcomeView, by_decision, declared_outcome, member_outcome, orphan_outcome, removal_outcome}
 use Rattle.tf_plan_decision.specs.Stage.{block_members}
 use Rattle.tf_plan_decision.specs.Steps.{decided_steps}
 use Rattle.tf_plan_decision.specs.Whole.{with_meant, with_numbered}
 use Rattle.tf_plan_decision.specs.Decision as decision
-use Rattle.tf_plan_decision.specs.Decision.{DecisionView, DecisionFaultView, change, current, decided, unless_prevented, unless_unfit}
+use Rattle.tf_plan_decision.specs.Decision.{DecisionView, DecisionFaultView, change, current, decided, no_provider, unless_prevented, unless_unfit}
 use Rattle.tf_plan_decision.specs.Ignored.{heeding, ignored_fault}
 use Rattle.tf_plan_decision.specs.Prior.{PriorFaultView, first_unfit}
 use Rattle.tf_expand.specs.InstanceKeys.{InstanceKeysView}

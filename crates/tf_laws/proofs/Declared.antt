@@ -12,11 +12,11 @@ use Rattle.tf_config_address.specs.Same.{addr_Decides}
 use Rattle.tf_plan_object.specs.Instance.{instance_object}
 use Rattle.tf_config_data.specs.Config.{BlockView}
 use Rattle.tf_config_data.specs.Names.{NameView, Meant, a_local, a_block, meant_at, directly_before}
-use Rattle.tf_plan_decision.specs.Outcome.{OutcomeView, by_removal, declared_outcome, member_outcome, orphan_outcome, removal_outcome, no_provider}
+use Rattle.tf_plan_decision.specs.Outcome.{OutcomeView, by_removal, declared_outcome, member_outcome, orphan_outcome, removal_outcome}
 use Rattle.tf_plan_decision.specs.Stage.{deciding, records_at}
 use Rattle.tf_plan_decision.specs.Steps.{decided_steps, destroy_of, removal_steps}
 use Rattle.tf_plan_decision.specs.Decision as choices
-use Rattle.tf_plan_decision.specs.Decision.{DecisionView, DecisionFaultView, removal_fault}
+use Rattle.tf_plan_decision.specs.Decision.{DecisionView, DecisionFaultView, no_provider, removal_fault}
 use Rattle.tf_expand.specs.InstanceKeys.{InstanceKeysView, instance_keys}
 use Rattle.tf_expand.specs.Resolved.{ResolvedView, AreResolvedNames, environment}
 use Rattle.tf_expr_eval.specs.Environment.{Environment}

@@ -4,8 +4,7 @@ use Rattle.tf_plan_object.specs.Instance.{InstanceFaultView, for_each_fault, arg
 use Rattle.tf_plan_object.specs.declared.argument.ArgumentFault.{ArgumentFault}
 use Rattle.tf_plan_object.specs.declared.argument.ArgumentFault.TheVariants.{Evaluation, BadArgument}
 use Rattle.tf_plan_decision.specs.Deciding.{RefusedInstanceView}
-use Rattle.tf_plan_decision.specs.Outcome.{WhyView, no_provider, refused}
-use Rattle.tf_plan_decision.specs.Decision.{unfit, faulty, prevented}
+use Rattle.tf_plan_decision.specs.Decision.{DecisionFaultView, no_provider, unfit, faulty, prevented}
 use Rattle.tf_plan_decision.specs.Prior.{PriorFaultView, as_a_whole, at_attribute}
 use Rattle.tf_plan_data.specs.Address.{address_text}
 use Rattle.tf_config_refusal.specs.Code as code
@@ -33,11 +32,11 @@ unfit_told address (at_attribute name) = fault code.bad_state (attribute_place a
 
 -- What is told of the instance at an address: 11 where no provider has its type, 12 where an object of it may not be
 -- destroyed.
-abbrev pub why_told : List ℕ → WhyView → RefusalView
+abbrev pub why_told : List ℕ → DecisionFaultView → RefusalView
 why_told address no_provider = fault code.no_provider address bare
-why_told address (refused (unfit why)) = unfit_told address why
-why_told address (refused (faulty why)) = fault_told address why
-why_told address (refused prevented) = fault code.prevent_destroy address bare
+why_told address (unfit why) = unfit_told address why
+why_told address (faulty why) = fault_told address why
+why_told address prevented = fault code.prevent_destroy address bare
 
 abbrev pub instance_told : RefusedInstanceView → RefusalView
 instance_told r = why_told (address_text r.addr r.key) r.why

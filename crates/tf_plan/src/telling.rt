@@ -12,9 +12,7 @@ use std::alloc::{AllocError, Global};
 use tf_config_refusal::Refusal;
 use tf_config_refusal::code::{BAD_ARGUMENT, BAD_STATE, NO_PROVIDER, PREVENT_DESTROY};
 use tf_plan_data::address_text;
-use tf_plan_decision::{
-    DecisionFault as Cause, PriorFault, RefusedInstance as RefusedInstance, Why,
-};
+use tf_plan_decision::{DecisionFault, PriorFault, RefusedInstance};
 use tf_plan_object::{ArgumentFault, InstanceFault};
 
 /// The refusals of instances, in their order.
@@ -38,10 +36,10 @@ fn instance_refusal(alloc: Global, instance: RefusedInstance) -> Result<Refusal,
     let RefusedInstance { addr, key, why } = instance;
     let address = address_text(alloc, &addr, &key)?;
     match why {
-        Why::NoProvider => Ok(bare(NO_PROVIDER, address)),
-        Why::Refused(Cause::Unfit(fault)) => unfit(alloc, address, fault),
-        Why::Refused(Cause::Faulty(fault)) => faulty(alloc, address, fault),
-        Why::Refused(Cause::Prevented) => Ok(bare(PREVENT_DESTROY, address)),
+        DecisionFault::NoProvider => Ok(bare(NO_PROVIDER, address)),
+        DecisionFault::Unfit(fault) => unfit(alloc, address, fault),
+        DecisionFault::Faulty(fault) => faulty(alloc, address, fault),
+        DecisionFault::Prevented => Ok(bare(PREVENT_DESTROY, address)),
     }
 }
 

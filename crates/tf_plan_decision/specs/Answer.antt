@@ -3,7 +3,7 @@ use Rattle.std.specs.Prelude.{ℕ, List, map, String, string_bytes, Result, Ok, 
 use Rattle.std.specs.declared.alloc.Global.{Global}
 use Rattle.tf_plan_object.specs.Instance.{instance_fault_of}
 use Rattle.tf_value.specs.Tree.{tree_of}
-use Rattle.tf_plan_decision.specs.Decision.{DecisionView, nothing, create, update, replace, DecisionFaultView, unfit, faulty, prevented}
+use Rattle.tf_plan_decision.specs.Decision.{DecisionView, nothing, create, update, replace, DecisionFaultView, no_provider, unfit, faulty, prevented}
 use Rattle.tf_plan_decision.specs.Prior.{PriorFaultView, as_a_whole, at_attribute}
 use Rattle.tf_plan_decision.specs.declared.decision.Decision.{Decision}
 use Rattle.tf_plan_decision.specs.declared.decision.Decision.TheVariants as decided
@@ -27,6 +27,7 @@ decision_of (decided.Update t names) = update (tree_of t) (names_of names.items)
 decision_of (decided.Replace t names) = replace (tree_of t) (names_of names.items)
 
 abbrev pub decision_fault_of : DecisionFault → DecisionFaultView
+decision_fault_of refused.NoProvider = no_provider
 decision_fault_of (refused.Unfit fault) = unfit (prior_fault_of fault)
 decision_fault_of (refused.Faulty why) = faulty (instance_fault_of why)
 decision_fault_of refused.Prevented = prevented

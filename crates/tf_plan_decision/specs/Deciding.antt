@@ -5,9 +5,10 @@ use Rattle.tf_plan_data.specs.Action.{ActionView, StepView, action_of}
 use Rattle.tf_config_address.specs.ResourceAddr.{ResourceAddrView, addr_of}
 use Rattle.tf_config_address.specs.ObjectId.{InstanceKeyView, instance_key_of}
 use Rattle.tf_config_data.specs.Config.{BlockView}
-use Rattle.tf_plan_decision.specs.Outcome.{OutcomeView, WhyView, member_outcome, orphan_outcome}
+use Rattle.tf_plan_decision.specs.Outcome.{OutcomeView, member_outcome, orphan_outcome}
 use Rattle.tf_plan_decision.specs.Stage.{block_members}
-use Rattle.tf_plan_decision.specs.Views.{why_of}
+use Rattle.tf_plan_decision.specs.Answer.{decision_fault_of}
+use Rattle.tf_plan_decision.specs.Decision.{DecisionFaultView}
 use Rattle.tf_plan_decision.specs.declared.collecting.Decided.{Decided}
 use Rattle.tf_plan_decision.specs.declared.collecting.OutcomeOf.{OutcomeOf}
 use Rattle.tf_plan_decision.specs.declared.collecting.RefusedInstance.{RefusedInstance}
@@ -22,7 +23,7 @@ use Rattle.tf_state_data.specs.Resource.{ResourceView}
 pub record RefusedInstanceView : Type 0 where
   pub addr : ResourceAddrView
   pub key : InstanceKeyView
-  pub why : WhyView
+  pub why : DecisionFaultView
 
 -- what is done, and what is refused
 pub record DecidedView : Type 0 where
@@ -67,7 +68,7 @@ with_orphan ms n r d =
 
 -- without where they lie in memory
 abbrev pub refused_of : RefusedInstance → RefusedInstanceView
-refused_of r = record { addr = addr_of r.addr; key = instance_key_of r.key; why = why_of r.why }
+refused_of r = record { addr = addr_of r.addr; key = instance_key_of r.key; why = decision_fault_of r.why }
 
 abbrev pub decided_of : Decided → DecidedView
 decided_of d = record { actions = map action_of d.actions.items; refusals = map refused_of d.refusals.items }

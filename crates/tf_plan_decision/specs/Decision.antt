@@ -19,9 +19,10 @@ pub data DecisionView : Type 0 where
   update : Tree → List (List ℕ) → DecisionView
   replace : Tree → List (List ℕ) → DecisionView
 
--- Why nothing is decided: a prior object doesn't fit the schema, something is wrong with what is planned, or an object
--- that may not be destroyed would be replaced or destroyed.
+-- Why an instance is refused: no provider has its type, a prior object doesn't fit the schema, something is wrong with what
+-- is planned, or an object that may not be destroyed would be replaced or destroyed.
 pub data DecisionFaultView : Type 0 where
+  no_provider : DecisionFaultView
   unfit : PriorFaultView → DecisionFaultView
   faulty : InstanceFaultView → DecisionFaultView
   prevented : DecisionFaultView

@@ -3,25 +3,20 @@ use Rattle.std.specs.Prelude.{if◌then◌else◌, List, Option, Some, None, Res
 use Rattle.tf_plan_data.specs.Action.{StepView}
 use Rattle.tf_plan_object.specs.Instance.{instance_object}
 use Rattle.tf_config_data.specs.Config.{BlockView, LifecycleView}
-use Rattle.tf_plan_decision.specs.Decision.{DecisionView, DecisionFaultView, decision, removal_fault}
+use Rattle.tf_plan_decision.specs.Decision.{DecisionView, DecisionFaultView, decision, no_provider, removal_fault}
 use Rattle.tf_plan_decision.specs.Steps.{decided_steps, removal_steps}
 use Rattle.tf_expr_eval.specs.Environment.{Environment}
 use Rattle.tf_plan_order.specs.Members.{InstanceToPlanView}
 use Rattle.tf_provider_protocol.specs.Schema.{SchemaView}
 use Rattle.tf_state_data.specs.Record.{RecordView}
 
--- Why an instance is refused: no provider has its type, or for what is wrong with it.
-pub data WhyView : Type 0 where
-  no_provider : WhyView
-  refused : DecisionFaultView → WhyView
-
 -- what is done, or why the instance is refused
 abbrev pub OutcomeView : Type 0
-OutcomeView = Result (List StepView) WhyView
+OutcomeView = Result (List StepView) DecisionFaultView
 
 abbrev pub by_decision : List RecordView → Result DecisionView DecisionFaultView → OutcomeView
 by_decision records (Ok d) = Ok (decided_steps records d)
-by_decision records (Err why) = Err (refused why)
+by_decision records (Err why) = Err why
 
 -- An instance that the configuration has goes by what is decided beside its records.
 abbrev pub declared_outcome : SchemaView → BlockView → Environment → InstanceToPlanView → OutcomeView
@@ -29,7 +24,7 @@ declared_outcome schema block env m = by_decision m.records (decision schema blo
 
 abbrev pub by_removal : List RecordView → Option DecisionFaultView → OutcomeView
 by_removal records None = Ok (removal_steps records)
-by_removal records (Some why) = Err (refused why)
+by_removal records (Some why) = Err why
 
 -- One that the configuration doesn't have is destroyed with all its objects, unless that is refused.
 abbrev pub removal_outcome : SchemaView → Option LifecycleView → InstanceToPlanView → OutcomeView

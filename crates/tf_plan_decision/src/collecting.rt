@@ -12,7 +12,8 @@ ghost use Rattle.tf_plan_decision.specs.Whole.{nothing_decided};
 ghost use Rattle.tf_plan_order.specs.MemberViews.{member_of};
 ghost use Rattle.tf_plan_order.specs.Words.{resource_of};
 
-use crate::outcome::{Why, orphan_outcome};
+use crate::decision::DecisionFault;
+use crate::outcome::orphan_outcome;
 use crate::settling::Settled;
 use std::alloc::{AllocError, Global};
 use tf_config_address::{InstanceKey, ResourceAddr};
@@ -28,7 +29,7 @@ pub struct RefusedInstance {
     /// Which instance it is.
     pub key: InstanceKey,
     /// Why it is refused.
-    pub why: Why,
+    pub why: DecisionFault,
 }
 
 /// What is done, and what is refused.
@@ -155,7 +156,7 @@ fn add_outcome(
     of: &OutcomeOf<'_>,
     instance: usize,
     key: &InstanceKey,
-    outcome: Result<Vec<Step>, Why>,
+    outcome: Result<Vec<Step>, DecisionFault>,
 ) -> Result<(), AllocError>
     ensures { OnOk result (decided_of decided.new ≡ with_outcome (of_view of.now) instance (instance_key_of key.now) (outcome_of outcome) (decided_of decided.old)) }
 {

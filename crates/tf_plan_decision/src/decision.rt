@@ -32,9 +32,11 @@ pub(crate) enum Decision {
     Replace(Value, Vec<String>),
 }
 
-/// Why nothing is decided about an instance.
+/// Why an instance is refused.
 #[derive(Debug, Drop)]
 pub enum DecisionFault {
+    /// No provider has its type.
+    NoProvider,
     /// A prior object doesn't fit the schema of its type.
     Unfit(PriorFault),
     /// Something is wrong with what is planned; a name in `ignore_changes` that no attribute has is a bad argument.

@@ -24,7 +24,7 @@ mod whole;
 pub use collecting::{Decided, RefusedInstance};
 pub use decision::DecisionFault;
 pub use ignored::ignored_fault;
-pub use outcome::{Why, member_outcome, orphan_outcome};
+pub use outcome::{member_outcome, orphan_outcome};
 pub use planned_values::PlannedValues;
 pub use prior::{PriorFault, prior_fault};
 pub use whole::{InOrder, decide_in_order, gather};

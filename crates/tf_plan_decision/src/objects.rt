@@ -12,8 +12,7 @@ ghost use Rattle.tf_state_data.specs.Ids.{AreById};
 ghost use Rattle.tf_state_data.specs.Record.{record_of};
 ghost use Rattle.tf_state_data.specs.State.{state_of};
 
-use crate::decision::current;
-use crate::outcome::Why;
+use crate::decision::{DecisionFault, current};
 use crate::settling::Settled;
 use std::alloc::{AllocError, Global};
 use tf_config_address::{InstanceKey, ResourceAddr};
@@ -103,7 +102,7 @@ fn settled_at<'a>(settled: &'a [Settled<'a>], key: &InstanceKey) -> Option<&'a S
 /// What an instance with these records stands for, by what becomes of it; nothing where it is refused.
 fn stood_for(
     records: &[Record],
-    outcome: &Result<Vec<Step>, Why>,
+    outcome: &Result<Vec<Step>, DecisionFault>,
 ) -> Result<Option<Value>, AllocError>
     ensures { IfOk result (λ object. option_map tree_of object ≡ stood_for (map record_of records.now) (outcome_of outcome.now)) }
 {

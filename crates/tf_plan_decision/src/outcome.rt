@@ -17,15 +17,6 @@ use tf_plan_object::plan_instance;
 use tf_plan_order::InstanceToPlan;
 use tf_provider_protocol::Schema;
 
-/// Why an instance is refused.
-#[derive(Debug, Drop)]
-pub enum Why {
-    /// No provider has its type.
-    NoProvider,
-    /// Something is wrong with it, or with what exists of it; or it may not be destroyed.
-    Refused(DecisionFault),
-}
-
 /// What becomes of a member of a resource whose block stands, by the schema of its type, where references stand for what the
 /// scope says: what is done, step by step, or why it is refused. What the configuration has is decided; what it doesn't have
 /// is destroyed.
@@ -39,12 +30,12 @@ pub fn member_outcome<S: Scope>(
     block: &Block,
     scope: &S,
     member: &InstanceToPlan<'_>,
-) -> Result<Result<Vec<Step>, Why>, AllocError>
+) -> Result<Result<Vec<Step>, DecisionFault>, AllocError>
     ensures { (addr : ResourceAddrView) → IfOk result (λ outcome. outcome_of outcome
         ≡ member_outcome (option_map (λ s. s.now) schema.entry) (block_at addr block.now) (S.environment scope.now) (member_of member.now)) }
 {
     let Some(schema) = schema else {
-        return Ok(Err(Why::NoProvider));
+        return Ok(Err(DecisionFault::NoProvider));
     };
     if member.is_declared {
         declared_outcome(alloc, schema, block, scope, member)
@@ -62,13 +53,13 @@ pub fn orphan_outcome(
     alloc: Global,
     schema: Option<&Schema>,
     member: &InstanceToPlan<'_>,
-) -> Result<Result<Vec<Step>, Why>, AllocError>
+) -> Result<Result<Vec<Step>, DecisionFault>, AllocError>
     ensures { IfOk result (λ outcome. outcome_of outcome
         ≡ orphan_outcome (option_map (λ s. s.now) schema.entry) (member_of member.now)) }
 {
     match schema {
         Some(schema) => removal_outcome(alloc, schema, None, member),
-        None => Ok(Err(Why::NoProvider)),
+        None => Ok(Err(DecisionFault::NoProvider)),
     }
 }
 
@@ -79,14 +70,14 @@ fn declared_outcome<S: Scope>(
     block: &Block,
     scope: &S,
     member: &InstanceToPlan<'_>,
-) -> Result<Result<Vec<Step>, Why>, AllocError>
+) -> Result<Result<Vec<Step>, DecisionFault>, AllocError>
     ensures { (addr : ResourceAddrView) → IfOk result (λ outcome. outcome_of outcome
         ≡ declared_outcome schema.now (block_at addr block.now) (S.environment scope.now) (member_of member.now)) }
 {
     let planned = plan_instance(alloc, schema, block, &member.key, scope)?;
     match decide(alloc, schema, &block.lifecycle, member.records, planned)? {
         Ok(decision) => Ok(Ok(decided_steps(alloc, member.records, decision)?)),
-        Err(why) => Ok(Err(Why::Refused(why))),
+        Err(why) => Ok(Err(why)),
     }
 }
 
@@ -96,12 +87,12 @@ fn removal_outcome(
     schema: &Schema,
     lifecycle: Option<&Lifecycle>,
     member: &InstanceToPlan<'_>,
-) -> Result<Result<Vec<Step>, Why>, AllocError>
+) -> Result<Result<Vec<Step>, DecisionFault>, AllocError>
     ensures { IfOk result (λ outcome. outcome_of outcome
         ≡ removal_outcome schema.now (option_map (λ l. lifecycle_of l.now) lifecycle.entry) (member_of member.now)) }
 {
     match removal_fault_of(alloc, schema, lifecycle, member.records)? {
-        Some(why) => Ok(Err(Why::Refused(why))),
+        Some(why) => Ok(Err(why)),
         None => Ok(Ok(removal_steps(alloc, member.records)?)),
     }
 }

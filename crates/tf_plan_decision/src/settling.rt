@@ -6,7 +6,8 @@ ghost use Rattle.tf_plan_decision.specs.Outcome.{member_outcome};
 ghost use Rattle.tf_plan_decision.specs.Settling.{settled_from, settled_of};
 ghost use Rattle.tf_plan_order.specs.MemberViews.{member_of};
 
-use crate::outcome::{Why, member_outcome};
+use crate::decision::DecisionFault;
+use crate::outcome::member_outcome;
 use std::alloc::{AllocError, Global};
 use tf_expand::ResourceInScope;
 use tf_expr_eval::Scope;
@@ -22,7 +23,7 @@ pub(crate) struct Settled<'a> {
     /// The member.
     pub(crate) member: &'a InstanceToPlan<'a>,
     /// What is done, step by step, or why it is refused.
-    pub(crate) outcome: Result<Vec<Step>, Why>,
+    pub(crate) outcome: Result<Vec<Step>, DecisionFault>,
 }
 
 /// What becomes of each member of a resource whose block stands.

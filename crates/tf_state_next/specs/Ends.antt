@@ -1,8 +1,6 @@
 -- What came of the actions of an instance, as plain data.
 use Rattle.std.specs.Prelude.{ℕ, Bool, List, [], ◌∷◌, Option, Some, None, option_map, map, string_bytes}
 use Rattle.tf_config_address.specs.ObjectId.{InstanceKeyView, instance_key_of}
-use Rattle.tf_state_next.specs.declared.ends.ApplyResult.{ApplyResult}
-use Rattle.tf_state_next.specs.declared.ends.ApplyResult.TheVariants as applies
 use Rattle.tf_state_next.specs.declared.ends.RecordInput.{RecordInput}
 use Rattle.tf_state_next.specs.declared.ends.Left.{Left}
 use Rattle.tf_state_next.specs.declared.ends.Left.TheVariants as lefts
@@ -26,6 +24,11 @@ pub data ApplyResultView : Type 0 where
   unplanned : ApplyResultView
   nothing : ApplyResultView
   saved : SavedView → ApplyResultView
+
+-- what came of a create or an update that was planned: it saved an object, or nothing
+abbrev pub as_applied : Option SavedView → ApplyResultView
+as_applied None = nothing
+as_applied (Some s) = saved s
 
 -- What came of all actions of an instance: of the create or the update; of the destroy of the object that was current,
 -- where one was planned; and of the destroys of deposed objects, by their keys.
@@ -53,12 +56,6 @@ abbrev pub left_of : Left → LeftView
 left_of lefts.Gone = gone
 left_of (lefts.Changed o) = changed (tree_of o.value)
 left_of lefts.Unchanged = unchanged
-
-abbrev pub apply_result_of : ApplyResult → ApplyResultView
-apply_result_of applies.Unwanted = unwanted
-apply_result_of applies.Unplanned = unplanned
-apply_result_of applies.Nothing = nothing
-apply_result_of (applies.Saved s) = saved (saved_of s)
 
 abbrev pub record_input_of : RecordInput → RecordInputView
 record_input_of g =

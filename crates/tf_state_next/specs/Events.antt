@@ -10,7 +10,7 @@ use Rattle.tf_state_next.specs.declared.events.Destroy.{Destroy}
 use Rattle.tf_state_next.specs.declared.events.Events.{Events}
 use Rattle.tf_state_next.specs.declared.events.MetadataUpdate.{MetadataUpdate}
 use Rattle.tf_state_next.specs.After.{object_at}
-use Rattle.tf_state_next.specs.Ends.{LeftView, left_of, ApplyResultView, unwanted, unplanned, apply_result_of, InstanceResultView, RecordInputView, record_input_of}
+use Rattle.tf_state_next.specs.Ends.{LeftView, left_of, ApplyResultView, unwanted, unplanned, as_applied, saved_of, InstanceResultView, RecordInputView, record_input_of}
 
 -- what came of the create or the update of an instance
 pub record ApplyView : Type 0 where
@@ -107,7 +107,7 @@ ends_in e addr key =
 -- ---- what the code's types stand for
 
 abbrev pub apply_of : Apply → ApplyView
-apply_of a = record { addr = addr_of a.addr.now; given = record_input_of a.given; applied = apply_result_of a.applied }
+apply_of a = record { addr = addr_of a.addr.now; given = record_input_of a.given; applied = as_applied (option_map saved_of a.saved) }
 
 abbrev pub destroy_of : Destroy → DestroyView
 destroy_of d = record { addr = addr_of d.addr.now; id = object_id_of d.id; left = left_of d.left }

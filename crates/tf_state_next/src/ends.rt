@@ -22,19 +22,6 @@ pub enum Left {
     Unchanged,
 }
 
-/// What came of the create or the update of an instance. As it may hold what a provider made, it can be neither copied
-/// nor let go.
-pub enum ApplyResult {
-    /// No object was wanted.
-    Unwanted,
-    /// An object was wanted, and nothing was planned for it.
-    Unplanned,
-    /// It saved nothing, or wasn't called.
-    Nothing,
-    /// It saved an object.
-    Saved(Saved),
-}
-
 /// What the record of an instance's object is given, all of which is had before the first call.
 #[derive(Drop)]
 pub struct RecordInput {

@@ -1,6 +1,6 @@
 //! What came of the actions of an apply.
 
-use crate::ends::{ApplyResult, Left, RecordInput};
+use crate::ends::{Left, RecordInput, Saved};
 use tf_config_address::{ObjectId, ResourceAddr};
 
 /// What came of a create or an update. As it may hold what a provider made, it can be neither copied nor let go.
@@ -9,8 +9,8 @@ pub struct Apply<'a> {
     pub addr: &'a ResourceAddr,
     /// The instance, and what the record of its object is given.
     pub given: RecordInput,
-    /// What came of it.
-    pub applied: ApplyResult,
+    /// The object that it saved; none where it saved nothing, or wasn't called.
+    pub saved: Option<Saved>,
 }
 
 /// What came of the destroy of an object. As it may hold what a provider replied, it can be neither copied nor let go.

@@ -20,7 +20,7 @@ mod saved;
 mod whole;
 
 pub use draft::{StateDraft, draft_state};
-pub use ends::{ApplyResult, Left, RecordInput, Saved};
+pub use ends::{Left, RecordInput, Saved};
 pub use events::{Apply, Destroy, Events, MetadataUpdate};
 pub use key::deposed_key;
 pub use record_ends::{record_apply, record_destroy};

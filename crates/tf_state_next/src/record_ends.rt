@@ -3,28 +3,27 @@
 ghost use Rattle.std.specs.Prelude.{◌≡◌, ◌+◌, ℕ, None, IfNone, IfSome, IsSome, option_and_then, option_map, string_bytes};
 ghost use Rattle.tf_config_address.specs.ObjectId.{object_id_of};
 ghost use Rattle.tf_state_next.specs.After.{IsAfter, left_of_record, object_at, record_of_saved};
-ghost use Rattle.tf_state_next.specs.Ends.{RecordInputView, apply_of, apply_result_of, destroy_of, left_of, record_input_of, saved, saved_of};
+ghost use Rattle.tf_state_next.specs.Ends.{RecordInputView, apply_of, as_applied, destroy_of, left_of, record_input_of, saved, saved_of};
 ghost use Rattle.tf_state_next.specs.Room.{deposed_by, records_more, with_any};
 ghost use Rattle.tf_state_data.specs.Record.{record_of};
 ghost use Rattle.tf_state_data.specs.Resource.{HasRoomForRecords, resource_of, with_metadata, with_record};
 
-use crate::ends::{ApplyResult, Left, RecordInput, Saved};
+use crate::ends::{Left, RecordInput, Saved};
 use tf_config_address::ObjectId;
 use tf_state_data::{Record, Resource};
 
 /// Records what came of the create or the update of an instance. Where an object was saved and a key is given for the one that
 /// was there, that becomes deposed; else the record is written over where it stands, and no other is moved. It takes no memory:
 /// where an object was saved there has to be room for one record more.
-pub fn record_apply(resource: &mut Resource, given: RecordInput, applied: ApplyResult)
-    requires { HasRoomForRecords (records_more (apply_result_of applied)) resource.old }
-    ensures after { IsAfter (record_input_of given) (apply_of (apply_result_of applied)) (resource_of resource.old) (resource_of resource.new) }
-    ensures room { (n : ℕ) → HasRoomForRecords (n + records_more (apply_result_of applied)) resource.old → HasRoomForRecords n resource.new }
+pub fn record_apply(resource: &mut Resource, given: RecordInput, saved: Option<Saved>)
+    requires { HasRoomForRecords (records_more (as_applied (option_map saved_of saved))) resource.old }
+    ensures after { IsAfter (record_input_of given) (apply_of (as_applied (option_map saved_of saved))) (resource_of resource.old) (resource_of resource.new) }
+    ensures room { (n : ℕ) → HasRoomForRecords (n + records_more (as_applied (option_map saved_of saved))) resource.old → HasRoomForRecords n resource.new }
 {
     let is_plain = given.deposed_key.is_none();
-    match applied {
-        ApplyResult::Unwanted | ApplyResult::Nothing => {}
-        ApplyResult::Unplanned => renew_record(resource, given),
-        ApplyResult::Saved(object) => {
+    match saved {
+        None => {}
+        Some(object) => {
             if is_plain {
                 put_saved(resource, given, object);
             } else {
@@ -35,7 +34,7 @@ pub fn record_apply(resource: &mut Resource, given: RecordInput, applied: ApplyR
 }
 
 /// Gives the record of the current object of an instance what it is given anew.
-fn renew_record(resource: &mut Resource, given: RecordInput)
+pub(crate) fn renew_record(resource: &mut Resource, given: RecordInput)
     ensures renewed { resource_of resource.new ≡ with_metadata (object_at (record_input_of given).key None)
         (record_input_of given).dependencies (record_input_of given).create_before_destroy (resource_of resource.old) }
     ensures room { (n : ℕ) → HasRoomForRecords n resource.old → HasRoomForRecords n resource.new }

@@ -9,9 +9,9 @@ ghost use Rattle.tf_state_data.specs.Addresses.{AreByAddress};
 ghost use Rattle.tf_state_data.specs.Order.{IsAt, IsGapFor};
 ghost use Rattle.tf_state_data.specs.Resource.{resource_of};
 
-use crate::ends::{ApplyResult, Left};
+use crate::ends::Left;
 use crate::events::{Apply, Destroy, MetadataUpdate};
-use crate::record_ends::{record_apply, record_destroy};
+use crate::record_ends::{record_apply, record_destroy, renew_record};
 use tf_config_address::ResourceAddr;
 use tf_state_data::Resource;
 
@@ -126,7 +126,7 @@ fn renew(resources: &mut [Resource], event: MetadataUpdate<'_>)
 {
     let MetadataUpdate { addr, given } = event;
     if let Ok(index) = search(resources, addr) {
-        record_apply(&mut resources[index], given, ApplyResult::Unplanned);
+        renew_record(&mut resources[index], given);
     }
 }
 
@@ -153,14 +153,10 @@ fn apply(resources: &mut [Resource], event: Apply<'_>, near: usize) -> usize
     ensures recorded { AreApplied (apply_of event.entry ∷ []) (map resource_of resources.old) (map resource_of resources.new) }
     ensures room { (addrs : List ResourceAddrView) → HaveRoom (count_of (addrs ++ addr_of event.entry.addr.now ∷ [])) resources.old → HaveRoom (count_of addrs) resources.new }
 {
-    let Apply {
-        addr,
-        given,
-        applied,
-    } = event;
+    let Apply { addr, given, saved } = event;
     let Ok(index) = search_near(resources, addr, near) else {
         unreachable!()
     };
-    record_apply(&mut resources[index], given, applied);
+    record_apply(&mut resources[index], given, saved);
     index
 }

@@ -38,9 +38,9 @@ split_destroys (an_apply a) rest = refl
 split_destroys (a_destroy d) rest = refl
 
 -- what came of one action more, where it is a create or an update
-pub applies-more : (old : List ApplyView) (c d : ChangeView) (rest : List ChangeView) → c ≡ d → (old ++ applies_in (c ∷ [])) ++ applies_in rest ≡ old ++ applies_in (d ∷ rest)
-applies-more old c d rest e = append_assoc old (applies_in (c ∷ [])) (applies_in rest) ∙ ap (λ xs. old ++ xs) (split_applies c rest ∙ ap (λ x. applies_in (x ∷ rest)) e)
+pub applies-more : (old : List ApplyView) (c : ChangeView) (rest : List ChangeView) → (old ++ applies_in (c ∷ [])) ++ applies_in rest ≡ old ++ applies_in (c ∷ rest)
+applies-more old c rest = append_assoc old (applies_in (c ∷ [])) (applies_in rest) ∙ ap (λ xs. old ++ xs) (split_applies c rest)
 
 -- and where it is a destroy
-pub destroys-more : (old : List DestroyView) (c d : ChangeView) (rest : List ChangeView) → c ≡ d → (old ++ destroys_in (c ∷ [])) ++ destroys_in rest ≡ old ++ destroys_in (d ∷ rest)
-destroys-more old c d rest e = append_assoc old (destroys_in (c ∷ [])) (destroys_in rest) ∙ ap (λ xs. old ++ xs) (split_destroys c rest ∙ ap (λ x. destroys_in (x ∷ rest)) e)
+pub destroys-more : (old : List DestroyView) (c : ChangeView) (rest : List ChangeView) → (old ++ destroys_in (c ∷ [])) ++ destroys_in rest ≡ old ++ destroys_in (c ∷ rest)
+destroys-more old c rest = append_assoc old (destroys_in (c ∷ [])) (destroys_in rest) ∙ ap (λ xs. old ++ xs) (split_destroys c rest)

@@ -1,29 +1,39 @@
 -- What one action adds to the report.
-use Rattle.std.specs.Prelude.{◌≡◌, List, [], ◌∷◌, ◌++◌, Option, Some, None, option_map}
+use Rattle.std.specs.Prelude.{◌≡◌, ◌+◌, ◌<◌, ◌≤◌, List, [], ◌∷◌, ◌++◌, length, map, Option, Some, None, option_map, vec_capacity}
 use Rattle.tf_state_next.specs.Events.{apply_of, destroy_of}
+use Rattle.tf_state_next.specs.declared.events.Events.{Events}
 use Rattle.tf_walk_action.specs.Outcome.{ActionResultView, called, call_of}
 use Rattle.tf_provider_protocol.specs.Meaning.{Meaning}
 use Rattle.tf_provider_protocol.specs.declared.request.Op.{Op}
-use Rattle.tf_walk_report.specs.Change.{ChangeView, an_apply, a_destroy, MayBeStored, change_at}
+use Rattle.tf_walk_report.specs.Change.{ChangeView, MayBeStored, applies_in, change_at, destroys_in}
 use Rattle.tf_walk_report.specs.Diagnostics.{DiagnosticView, diagnostic_of, diagnostics_at}
+use Rattle.tf_walk_report.specs.declared.diagnostic.Diagnostic.{Diagnostic}
 use Rattle.tf_walk_buffers.specs.Head.{Head}
-use Rattle.tf_walk_report.specs.declared.action_reports.ActionReport.{ActionReport}
-use Rattle.tf_walk_report.specs.declared.action_reports.Change.{Change}
-use Rattle.tf_walk_report.specs.declared.action_reports.Change.TheVariants as rust
-
-abbrev pub change_of : Change → ChangeView
-change_of (rust.Applied a) = an_apply (apply_of a)
-change_of (rust.Destroyed d) = a_destroy (destroy_of d)
 
 abbrev pub listed : {A : Type 0} → Option A → List A
 listed None = []
 listed (Some a) = a ∷ []
 
--- What an action adds to the report is what came of it; what it changes may be stored.
-pub record IsActionReportOf (ms : List Meaning) (h : Head) (d : ActionResultView) (a : ActionReport) : Type 0 where
-  pub change : change_of a.change ≡ change_at ms h d
-  pub stored : MayBeStored (change_of a.change)
-  pub told : listed (option_map diagnostic_of a.diagnostic) ≡ diagnostics_at h.place h.op d
+-- there is room for one change more, whatever it is
+pub record HasRoom (e : Events) : Type 0 where
+  pub applies : length e.applies.items < vec_capacity e.applies
+  pub destroys : length e.destroys.items < vec_capacity e.destroys
+
+-- Behind the events there is a change more, and nothing else is changed. No list has less room.
+pub record IsAdded (change : ChangeView) (old new : Events) : Type 0 where
+  pub applies : map apply_of new.applies.items ≡ map apply_of old.applies.items ++ applies_in (change ∷ [])
+  pub destroys : map destroy_of new.destroys.items ≡ map destroy_of old.destroys.items ++ destroys_in (change ∷ [])
+  pub metadata_updates : new.metadata_updates ≡ old.metadata_updates
+  pub few_applies : length new.applies.items ≤ length old.applies.items + 1
+  pub few_destroys : length new.destroys.items ≤ length old.destroys.items + 1
+  pub applies_room : vec_capacity old.applies ≤ vec_capacity new.applies
+  pub destroys_room : vec_capacity old.destroys ≤ vec_capacity new.destroys
+
+-- What an action changes is put among the events, and may be stored; what is told of it is what came of it.
+pub record IsReported (ms : List Meaning) (h : Head) (d : ActionResultView) (diagnostic : Option Diagnostic) (old new : Events) : Type 0 where
+  pub added : IsAdded (change_at ms h d) old new
+  pub stored : MayBeStored (change_at ms h d)
+  pub told : listed (option_map diagnostic_of diagnostic) ≡ diagnostics_at h.place h.op d
 
 -- a call's answer is that of the provider that has the type, to a request of this kind
 abbrev pub IsJudged : List Meaning → Op → ActionResultView → Type 0

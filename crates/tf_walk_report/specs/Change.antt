@@ -11,7 +11,7 @@ use Rattle.tf_provider_protocol.specs.declared.request.Op.{Op}
 use Rattle.tf_provider_protocol.specs.declared.request.Op.TheVariants.{Create, Update, Destroy}
 use Rattle.tf_provider_protocol.specs.declared.verdict.Verdict.{Verdict}
 use Rattle.tf_state.specs.Valid.{IsAttributes}
-use Rattle.tf_state_next.specs.Ends.{SavedView, LeftView, gone, changed, unchanged, ApplyResultView, unwanted, unplanned, nothing, saved}
+use Rattle.tf_state_next.specs.Ends.{SavedView, LeftView, gone, changed, unchanged, ApplyResultView, unwanted, unplanned, nothing, saved, as_applied}
 use Rattle.tf_state_next.specs.Saved.{saved_by_create, saved_by_update, left_by_destroy}
 use Rattle.tf_walk_buffers.specs.Head.{Head, Target, an_instance, an_object}
 
@@ -20,11 +20,6 @@ abbrev pub saved_by : Op → SchemaView → Asked → Option Answer → Verdict 
 saved_by Create schema asked answer v = saved_by_create schema asked answer v
 saved_by Update schema asked answer v = saved_by_update schema answer v
 saved_by Destroy schema asked answer v = None
-
--- it saved an object, or nothing
-abbrev pub as_applied : Option SavedView → ApplyResultView
-as_applied None = nothing
-as_applied (Some s) = saved s
 
 -- What came of a create or an update: only one that was called saves anything.
 abbrev pub applied_of_done : List Meaning → Op → ActionResultView → ApplyResultView
@@ -45,6 +40,14 @@ pub data ChangeView : Type 0 where
 abbrev pub change_by : ResourceAddrView → Target → ApplyResultView → LeftView → ChangeView
 change_by addr (an_instance given) applied left = an_apply (record { addr = addr; given = given; applied = applied })
 change_by addr (an_object id) applied left = a_destroy (record { addr = addr; id = id; left = left })
+
+-- an action that wasn't called saved nothing, and left what is known as it was
+abbrev pub unchanged_at : Head → ChangeView
+unchanged_at h = change_by h.addr h.target nothing unchanged
+
+-- what a call changes, by the schema of its type, what was asked, the answer and the verdict on it
+abbrev pub changed_by_call : Head → SchemaView → Asked → Option Answer → Verdict → ChangeView
+changed_by_call h schema asked answer v = change_by h.addr h.target (as_applied (saved_by h.op schema asked answer v)) (left_by_destroy schema answer v)
 
 -- what an action changes, by what came of it
 abbrev pub change_at : List Meaning → Head → ActionResultView → ChangeView

@@ -7,7 +7,6 @@
 //! journal (`settle`).
 #![tactic(auto)]
 
-mod action_reports;
 mod additions;
 mod calls_told;
 mod comparing;

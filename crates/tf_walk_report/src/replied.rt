@@ -17,30 +17,15 @@ use tf_state_data::Object;
 use tf_value::{Value, each_may_be_stored};
 
 /// What a reply says: the object in it, where that is well formed, and the message of a failure.
-pub struct Replied {
-    pub formed: Option<Object>,
-    pub failure: Option<String>,
-}
-
-/// What a reply says.
-pub fn open_reply(reply: Reply, schema: &Schema) -> Replied
-    ensures formed { option_map (λ o. tree_of o.value) result.formed ≡ formed_in schema.now (answered reply) }
-    ensures stored { IfSome result.formed (λ o. IsAttributes (tree_of o.value)) }
-    ensures failure { option_map string_bytes result.failure ≡ failure_in (answered reply) }
+pub fn open_reply(reply: Reply, schema: &Schema) -> (Option<Object>, Option<String>)
+    ensures formed { option_map (λ o. tree_of o.value) result.0 ≡ formed_in schema.now (answered reply) }
+    ensures stored { IfSome result.0 (λ o. IsAttributes (tree_of o.value)) }
+    ensures failure { option_map string_bytes result.1 ≡ failure_in (answered reply) }
 {
     match reply {
-        Reply::Object(value) => Replied {
-            formed: formed_object(value, schema),
-            failure: None,
-        },
-        Reply::Failed { message, object } => Replied {
-            formed: object_there(object, schema),
-            failure: Some(message),
-        },
-        Reply::Gone | Reply::NoMemory => Replied {
-            formed: None,
-            failure: None,
-        },
+        Reply::Object(value) => (formed_object(value, schema), None),
+        Reply::Failed { message, object } => (object_there(object, schema), Some(message)),
+        Reply::Gone | Reply::NoMemory => (None, None),
     }
 }
 

@@ -1,51 +1,53 @@
-//! What came of an action becomes a part of the report, without taking memory.
+//! What came of an action is put among the events that the state after is made of, and told, without taking memory.
 
 ghost use Rattle.std.specs.Prelude.{◌≡◌, ◌≤◌, true, None, Option, Some, length, map, option_map, string_bytes, IfSome, IsSome};
 ghost use Rattle.tf_walk_action.specs.Words.{Answer, answered, Asked, asked, result_or_skipped, fault_message, has_stored_attributes, instance_fault_of, addr_of, SchemaView, tree_of, verdict_on, with_nulls};
 ghost use Rattle.tf_provider_protocol.specs.declared.request.Op.TheVariants.{Create};
 ghost use Rattle.tf_provider_protocol.specs.declared.verdict.Verdict.TheVariants.{Malformed};
 ghost use Rattle.tf_state.specs.Valid.{IsAttributes};
-ghost use Rattle.tf_state_next.specs.Ends.{apply_result_of, nothing, saved_of, unchanged};
+ghost use Rattle.tf_state_next.specs.Ends.{as_applied, nothing, saved_of, unchanged};
+ghost use Rattle.tf_state_next.specs.Events.{apply_of, destroy_of};
 ghost use Rattle.tf_state_next.specs.Saved.{formed_in, left_by_destroy};
-ghost use Rattle.tf_walk_report.specs.ActionReport.{IsActionReportOf, IsJudged, change_of, listed};
-ghost use Rattle.tf_walk_report.specs.Change.{MayBeStored, as_applied, change_by, saved_by};
+ghost use Rattle.tf_walk_report.specs.ActionReport.{HasRoom, IsAdded, IsJudged, IsReported, listed};
+ghost use Rattle.tf_walk_report.specs.Change.{MayBeStored, a_destroy, an_apply, change_by, changed_by_call, saved_by, unchanged_at};
 ghost use Rattle.tf_walk_report.specs.Diagnostics.{diagnostic_of, diagnostics_of_verdict};
 ghost use Rattle.tf_walk_buffers.specs.Head.{HasVersion};
 ghost use Rattle.tf_walk_buffers.specs.BuffersHead.{buffers_head, target_of};
 
-use crate::action_reports::{ActionReport, Change};
 use crate::diagnostic::Diagnostic;
-use crate::replied::{Replied, has_stored_attributes, open_reply};
+use crate::replied::{has_stored_attributes, open_reply};
 use crate::telling::telling;
 use tf_config_address::ResourceAddr;
 use tf_provider::{Op, Provider, Schema, Verdict, schema_for};
 use tf_state_data::Object;
 use tf_state_next::{
-    Apply, ApplyResult, Destroy, Left, Saved, left_by_destroy, saved_by_create, saved_by_update,
+    Apply, Destroy, Events, Left, Saved, left_by_destroy, saved_by_create, saved_by_update,
 };
 use tf_value::{Value, with_nulls};
 use tf_walk_action::{ActionResult, Faulted, Served};
 use tf_walk_buffers::{ActionBuffers, Target};
 
-/// What an action adds to the report.
-pub fn report_action<'p>(
+/// Adds what an action changes to the events, and returns what is told of it.
+pub(crate) fn report_action<'p>(
     providers: &[Box<dyn Provider + Sync>],
     room: ActionBuffers<'p>,
     ended: Option<ActionResult>,
-) -> ActionReport<'p>
-    requires { IsJudged (map meaning providers.now) (buffers_head room).op (result_or_skipped ended) }
-    ensures { IsActionReportOf (map meaning providers.now) (buffers_head room.entry) (result_or_skipped ended) result }
+    events: &mut Events<'p>,
+) -> Option<Diagnostic>
+    requires judged { IsJudged (map meaning providers.now) (buffers_head room).op (result_or_skipped ended) }
+    requires room { HasRoom events.old }
+    ensures { IsReported (map meaning providers.now) (buffers_head room.entry) (result_or_skipped ended) result events.old events.new }
 {
     match ended {
-        None => nothing(room),
-        Some(ActionResult::Skipped(_, _)) => nothing(room),
-        Some(ActionResult::NotAsked(_)) => not_called(room, 26, "no memory"),
-        Some(ActionResult::NotServed(_)) => not_called(room, 26, "no memory"),
-        Some(ActionResult::Left(_, _)) => not_called(room, 27, "left"),
-        Some(ActionResult::Faulted(faulted, _)) => fault(room, faulted),
+        None => skip(room, events),
+        Some(ActionResult::Skipped(_, _)) => skip(room, events),
+        Some(ActionResult::NotAsked(_)) => not_called(room, 26, "no memory", events),
+        Some(ActionResult::NotServed(_)) => not_called(room, 26, "no memory", events),
+        Some(ActionResult::Left(_, _)) => not_called(room, 27, "left", events),
+        Some(ActionResult::Faulted(faulted, _)) => fault(room, faulted, events),
         Some(ActionResult::Called(served)) => {
             match schema_for(providers, served.call.request().type_name.as_str()) {
-                Some(schema) => report_call(room, served, schema),
+                Some(schema) => report_call(room, served, schema, events),
                 None => unreachable!(),
             }
         }
@@ -53,22 +55,27 @@ pub fn report_action<'p>(
 }
 
 /// A skipped action changes nothing, and nothing is told of it.
-fn nothing<'p>(room: ActionBuffers<'p>) -> ActionReport<'p>
-    ensures change { change_of result.change ≡ change_by (buffers_head room.entry).addr (buffers_head room.entry).target nothing unchanged }
-    ensures diagnostic { result.diagnostic ≡ None }
+fn skip<'p>(room: ActionBuffers<'p>, events: &mut Events<'p>) -> Option<Diagnostic>
+    requires { HasRoom events.old }
+    ensures added { IsAdded (unchanged_at (buffers_head room.entry)) events.old events.new }
+    ensures diagnostic { result ≡ None }
 {
     let ActionBuffers { addr, target, .. } = room;
-    ActionReport {
-        change: unchanged(addr, target),
-        diagnostic: None,
-    }
+    add_unchanged(addr, target, events);
+    None
 }
 
 /// What is told of an action that wasn't called, and why.
-fn not_called<'p>(room: ActionBuffers<'p>, code: u8, reason: &str) -> ActionReport<'p>
-    requires { length reason.now ≤ 15 }
-    ensures change { change_of result.change ≡ change_by (buffers_head room.entry).addr (buffers_head room.entry).target nothing unchanged }
-    ensures diagnostic { option_map diagnostic_of result.diagnostic
+fn not_called<'p>(
+    room: ActionBuffers<'p>,
+    code: u8,
+    reason: &str,
+    events: &mut Events<'p>,
+) -> Option<Diagnostic>
+    requires short { length reason.now ≤ 15 }
+    requires room { HasRoom events.old }
+    ensures added { IsAdded (unchanged_at (buffers_head room.entry)) events.old events.new }
+    ensures diagnostic { option_map diagnostic_of result
         ≡ Some (record { code = code; place = (buffers_head room.entry).place; verb = Some room.entry.op; message = reason.now }) }
 {
     let ActionBuffers {
@@ -79,41 +86,65 @@ fn not_called<'p>(room: ActionBuffers<'p>, code: u8, reason: &str) -> ActionRepo
         mut message,
     } = room;
     message.push_str(reason).unwrap();
-    ActionReport {
-        change: unchanged(addr, target),
-        diagnostic: told(place, op, Some((code, message))),
-    }
+    add_unchanged(addr, target, events);
+    told(place, op, Some((code, message)))
 }
 
 /// What is told of a request that can't be made.
-fn fault<'p>(room: ActionBuffers<'p>, faulted: Faulted) -> ActionReport<'p>
-    ensures change { change_of result.change ≡ change_by (buffers_head room.entry).addr (buffers_head room.entry).target nothing unchanged }
-    ensures diagnostic { option_map diagnostic_of result.diagnostic
+fn fault<'p>(
+    room: ActionBuffers<'p>,
+    faulted: Faulted,
+    events: &mut Events<'p>,
+) -> Option<Diagnostic>
+    requires { HasRoom events.old }
+    ensures added { IsAdded (unchanged_at (buffers_head room.entry)) events.old events.new }
+    ensures diagnostic { option_map diagnostic_of result
         ≡ Some (record { code = 24; place = (buffers_head room.entry).place; verb = Some room.entry.op; message = fault_message (instance_fault_of faulted.fault) }) }
 {
     let Faulted { message, .. } = faulted;
-    ActionReport {
-        change: unchanged(room.addr, room.target),
-        diagnostic: told(room.place, room.op, Some((24, message))),
+    add_unchanged(room.addr, room.target, events);
+    told(room.place, room.op, Some((24, message)))
+}
+
+/// Adds what an action changes that wasn't called: it saved nothing, and what is known of an object stays.
+fn add_unchanged<'p>(addr: &'p ResourceAddr, target: Target, events: &mut Events<'p>)
+    requires { HasRoom events.old }
+    ensures { IsAdded (change_by (addr_of addr.now) (target_of target) nothing unchanged) events.old events.new }
+{
+    match target {
+        Target::Instance(given) => add_apply(
+            Apply {
+                addr,
+                given,
+                saved: None,
+            },
+            events,
+        ),
+        Target::Object(id) => add_destroy(
+            Destroy {
+                addr,
+                id,
+                left: Left::Unchanged,
+            },
+            events,
+        ),
     }
 }
 
-/// What an action changes that wasn't called: it saved nothing, and what is known of an object stays.
-fn unchanged<'p>(addr: &'p ResourceAddr, target: Target) -> Change<'p>
-    ensures { change_of result ≡ change_by (addr_of addr.now) (target_of target) nothing unchanged }
+/// Adds what came of a create or an update.
+fn add_apply<'p>(apply: Apply<'p>, events: &mut Events<'p>)
+    requires { HasRoom events.old }
+    ensures { IsAdded (an_apply (apply_of apply.entry)) events.old events.new }
 {
-    match target {
-        Target::Instance(given) => Change::Applied(Apply {
-            addr,
-            given,
-            applied: ApplyResult::Nothing,
-        }),
-        Target::Object(id) => Change::Destroyed(Destroy {
-            addr,
-            id,
-            left: Left::Unchanged,
-        }),
-    }
+    events.applies.push(apply).unwrap();
+}
+
+/// Adds what came of a destroy.
+fn add_destroy<'p>(destroy: Destroy<'p>, events: &mut Events<'p>)
+    requires { HasRoom events.old }
+    ensures { IsAdded (a_destroy (destroy_of destroy.entry)) events.old events.new }
+{
+    events.destroys.push(destroy).unwrap();
 }
 
 /// The diagnostic of what is told of an action, by its code and its message.
@@ -132,16 +163,19 @@ fn told(place: String, op: Op, telling: Option<(u8, String)>) -> Option<Diagnost
     }
 }
 
-/// What a call adds to the report.
-fn report_call<'p>(room: ActionBuffers<'p>, served: Served, schema: &Schema) -> ActionReport<'p>
+/// Adds what a call changes, and returns what is told of it.
+fn report_call<'p>(
+    room: ActionBuffers<'p>,
+    served: Served,
+    schema: &Schema,
+    events: &mut Events<'p>,
+) -> Option<Diagnostic>
     requires verdict { served.call.verdict ≡ verdict_on (asked served.call.request) (answered served.call.reply) schema.now }
     requires op { served.call.request.op ≡ room.op }
-    ensures changes { change_of result.change
-        ≡ change_by (buffers_head room.entry).addr (buffers_head room.entry).target
-        (as_applied (saved_by room.entry.op schema.now (asked served.call.request) (answered served.call.reply) served.call.verdict))
-        (left_by_destroy schema.now (answered served.call.reply) served.call.verdict) }
-    ensures stored { MayBeStored (change_of result.change) }
-    ensures tells { listed (option_map diagnostic_of result.diagnostic)
+    requires room { HasRoom events.old }
+    ensures added { IsAdded (changed_by_call (buffers_head room.entry) schema.now (asked served.call.request) (answered served.call.reply) served.call.verdict) events.old events.new }
+    ensures stored { MayBeStored (changed_by_call (buffers_head room.entry) schema.now (asked served.call.request) (answered served.call.reply) served.call.verdict) }
+    ensures tells { listed (option_map diagnostic_of result)
         ≡ diagnostics_of_verdict (buffers_head room.entry).place room.entry.op (asked served.call.request) (answered served.call.reply) served.call.verdict }
 {
     let Served { call, message } = served;
@@ -154,63 +188,42 @@ fn report_call<'p>(room: ActionBuffers<'p>, served: Served, schema: &Schema) -> 
         target,
         ..
     } = room;
-    let Replied { formed, failure } = open_reply(reply, schema);
+    let (formed, failure) = open_reply(reply, schema);
     let telling = telling(verdict, message, &request.object, failure);
     let fallback = fallback_for(op, request.object);
     let _stored = can_be_saved(verdict, &fallback);
-    ActionReport {
-        change: change(addr, target, op, verdict, formed, fallback),
-        diagnostic: told(place, op, telling),
-    }
+    add_change(addr, target, op, verdict, formed, fallback, events);
+    told(place, op, telling)
 }
 
-/// What a call changes, by the verdict on its reply, the object in the reply where that is well formed, and the object that a
-/// create asked for, with null for what isn't known.
-fn change<'p>(
+/// Adds what a call changes, by the verdict on its reply, the object in the reply where that is well formed, and the object that
+/// a create asked for, with null for what isn't known.
+fn add_change<'p>(
     addr: &'p ResourceAddr,
     target: Target,
     op: Op,
     verdict: Verdict,
     formed: Option<Object>,
     fallback: Option<Object>,
-) -> Change<'p>
-    requires { op ≡ Create → IsSome fallback }
+    events: &mut Events<'p>,
+)
+    requires fallback { op ≡ Create → IsSome fallback }
+    requires room { HasRoom events.old }
     ensures versioned { HasVersion (target_of target) }
-    ensures changes { (schema : SchemaView) (r : Asked) (answer : Option Answer) → verdict ≡ verdict_on r answer schema
+    ensures added { (schema : SchemaView) (r : Asked) (answer : Option Answer) → verdict ≡ verdict_on r answer schema
         → option_map (λ o. tree_of o.value) formed ≡ formed_in schema answer
         → (op ≡ Create → option_map with_nulls r.object ≡ option_map (λ o. tree_of o.value) fallback)
-        → change_of result ≡ change_by (addr_of addr.now) (target_of target) (as_applied (saved_by op schema r answer verdict)) (left_by_destroy schema answer verdict) }
+        → IsAdded (change_by (addr_of addr.now) (target_of target) (as_applied (saved_by op schema r answer verdict)) (left_by_destroy schema answer verdict)) events.old events.new }
 {
     match target {
-        Target::Instance(given) => Change::Applied(Apply {
-            addr,
-            given,
-            applied: applied(op, verdict, formed, fallback),
-        }),
-        Target::Object(id) => Change::Destroyed(Destroy {
-            addr,
-            id,
-            left: left_by_destroy(verdict, formed),
-        }),
-    }
-}
-
-/// What came of the call of a create or an update.
-fn applied(
-    op: Op,
-    verdict: Verdict,
-    formed: Option<Object>,
-    fallback: Option<Object>,
-) -> ApplyResult
-    requires { op ≡ Create → IsSome fallback }
-    ensures { (schema : SchemaView) (r : Asked) (answer : Option Answer) → verdict ≡ verdict_on r answer schema
-        → option_map (λ o. tree_of o.value) formed ≡ formed_in schema answer
-        → (op ≡ Create → option_map with_nulls r.object ≡ option_map (λ o. tree_of o.value) fallback)
-        → apply_result_of result ≡ as_applied (saved_by op schema r answer verdict) }
-{
-    match saved(op, verdict, formed, fallback) {
-        Some(saved) => ApplyResult::Saved(saved),
-        None => ApplyResult::Nothing,
+        Target::Instance(given) => {
+            let saved = saved(op, verdict, formed, fallback);
+            add_apply(Apply { addr, given, saved }, events);
+        }
+        Target::Object(id) => {
+            let left = left_by_destroy(verdict, formed);
+            add_destroy(Destroy { addr, id, left }, events);
+        }
     }
 }
 

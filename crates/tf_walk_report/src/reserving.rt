@@ -3,13 +3,14 @@
 ghost use Rattle.std.specs.Prelude.{◌≡◌, ◌+◌, ◌≤◌, ◌++◌, ◌∷◌, [], IfOk, OnOk, if◌then◌else◌, length, map, vec_capacity, vec_len};
 ghost use Rattle.std.specs.List.{range_with_len};
 ghost use Rattle.tf_walk_action.specs.Words.{action_of, FitsTogether, is_apply, IsTable, addr_of, names_in, outputs_of, plan_names, plan_of};
+ghost use Rattle.tf_state_next.specs.Events.{metadata_update_of};
 ghost use Rattle.tf_state_next.specs.StateDraft.{IsStateDraft};
+ghost use Rattle.tf_walk_buffers.specs.MetadataUpdates.{metadata_updates};
 ghost use Rattle.tf_walk_report.specs.Outputs.{kept_entries};
 ghost use Rattle.tf_walk_report.specs.Buffers.{outputs_in};
-ghost use Rattle.tf_walk_report.specs.Reserved.{AreEmptyLists, AreReserved, applied_addrs};
+ghost use Rattle.tf_walk_report.specs.Reserved.{AreEmptyEvents, AreEmptyLists, AreReserved, applied_addrs};
 ghost use Rattle.tf_walk_report.specs.Settling.{IsReady};
 
-use crate::additions::Changes;
 use crate::diagnostic::Diagnostic;
 use crate::keeping::kept_outputs;
 use crate::output_buffers::reserve_outputs;
@@ -20,24 +21,24 @@ use std::alloc::{AllocError, Global};
 use tf_config_address::ResourceAddr;
 use tf_config_names::Declarations;
 use tf_plan_data::{Action, Plan};
-use tf_state_next::{MetadataUpdate, StateDraft, draft_state};
+use tf_state_next::{Events, StateDraft, draft_state};
 use tf_walk_action::{Excuse, Outcome};
 use tf_walk_buffers::{ActionBuffers, metadata_updates_for, reserve_actions};
 
-/// All that the report on a plan needs memory for. What actions change may not be let go, so neither may the lists that are
+/// All that the report on a plan needs memory for. What actions change may not be let go, so neither may the events that are
 /// for it.
 pub struct ReportBuffers<'p> {
-    pub(crate) blank: ReportLists<'p>,
+    pub(crate) lists: ReportLists,
     pub(crate) rooms: Vec<ActionBuffers<'p>>,
     pub(crate) draft: StateDraft<'p>,
-    pub(crate) metadata_updates: Vec<MetadataUpdate<'p>>,
+    pub(crate) events: Events<'p>,
     pub(crate) settling: Settling<'p>,
     pub(crate) output_texts: Vec<OutputTexts>,
 }
 
-/// Lists with room for what actions change and for what is told.
-pub struct ReportLists<'p> {
-    pub changes: Changes<'p>,
+/// Lists with room for what is told.
+#[derive(Drop)]
+pub struct ReportLists {
     pub outcomes: Vec<Outcome>,
     pub diagnostics: Vec<Diagnostic>,
     pub excused: Vec<Excuse>,
@@ -60,49 +61,50 @@ pub fn reserve_report<'p>(
 {
     let rooms = reserve_actions(alloc, plan, names)?;
     let draft = draft_of(alloc, plan)?;
-    let metadata_updates = metadata_updates_for(alloc, plan, names)?;
     let settling = settling_for(alloc, plan, names)?;
     let output_texts = texts_for(alloc, &plan.config.outputs)?;
-    let blank = lists_for(alloc, plan.actions.len(), output_texts.len())?;
+    let lists = lists_for(alloc, plan.actions.len(), output_texts.len())?;
+    let events = events_for(alloc, plan, names)?;
     Ok(ReportBuffers {
-        blank,
+        lists,
         rooms,
         draft,
-        metadata_updates,
+        events,
         settling,
         output_texts,
     })
 }
 
-/// Lists with room for so many actions and outputs.
-fn lists_for<'p>(
-    alloc: Global,
-    actions: usize,
-    outputs: usize,
-) -> Result<ReportLists<'p>, AllocError>
+/// Lists with room for what is told of so many actions and outputs.
+fn lists_for(alloc: Global, actions: usize, outputs: usize) -> Result<ReportLists, AllocError>
     ensures { IfOk result (AreEmptyLists actions outputs) }
 {
-    let outcomes = Vec::with_capacity(alloc, actions)?;
-    let diagnostics = with_both(alloc, actions, outputs)?;
-    let excused = with_both(alloc, actions, outputs)?;
     Ok(ReportLists {
-        changes: changes_for(alloc, actions)?,
-        outcomes,
-        diagnostics,
-        excused,
+        outcomes: Vec::with_capacity(alloc, actions)?,
+        diagnostics: with_both(alloc, actions, outputs)?,
+        excused: with_both(alloc, actions, outputs)?,
     })
 }
 
-/// Lists with room for what so many actions change.
-fn changes_for<'p>(alloc: Global, actions: usize) -> Result<Changes<'p>, AllocError>
-    ensures applies { IfOk result (λ c. c.applies.items ≡ []) }
-    ensures applies_room { IfOk result (λ c. actions ≤ vec_capacity c.applies) }
-    ensures destroys { IfOk result (λ c. c.destroys.items ≡ []) }
-    ensures destroys_room { IfOk result (λ c. actions ≤ vec_capacity c.destroys) }
+/// The records that are given anew, and room for what each action changes.
+fn events_for<'p>(
+    alloc: Global,
+    plan: &'p Plan,
+    names: &Declarations<'p>,
+) -> Result<Events<'p>, AllocError>
+    requires names { names_in names.now ≡ plan_names (plan_of plan.now) }
+    requires fits { FitsTogether plan.now }
+    ensures empty { IfOk result (AreEmptyEvents (vec_len plan.now.actions)) }
+    ensures metadata_updates { IfOk result (λ e. map metadata_update_of e.metadata_updates.items ≡ metadata_updates (plan_of plan.now)) }
 {
-    let applies = Vec::with_capacity(alloc, actions)?;
-    match Vec::with_capacity(alloc, actions) {
-        Ok(destroys) => Ok(Changes { applies, destroys }),
+    let metadata_updates = metadata_updates_for(alloc, plan, names)?;
+    let applies = Vec::with_capacity(alloc, plan.actions.len())?;
+    match Vec::with_capacity(alloc, plan.actions.len()) {
+        Ok(destroys) => Ok(Events {
+            destroys,
+            applies,
+            metadata_updates,
+        }),
         Err(AllocError) => {
             applies.destroy_empty();
             Err(AllocError)

@@ -1,30 +1,23 @@
 //! The report on a plan that was carried out.
 
-ghost use Rattle.std.specs.Prelude.{◌≡◌, ◌+◌, ◌<◌, ◌^◌, List, length, map};
-ghost use Rattle.tf_state_next.specs.Events.{AreEachAboutOne, EventsView, apply_of, destroy_of, ends_in, given_in, metadata_update_of};
-ghost use Rattle.tf_state_next.specs.StateDraft.{IsStateDraft};
-ghost use Rattle.tf_state_next.specs.Sound.{AreSound};
-ghost use Rattle.tf_state_next.specs.StateAfter.{IsStateAfter};
-ghost use Rattle.tf_state.specs.Valid.{IsValid};
-ghost use Rattle.tf_walk_action.specs.Words.{action_results_of, entries_view, FitsTogether, IsTable, names_in, op_of, outputs_of, plan_names, plan_of, state_of};
+ghost use Rattle.std.specs.Prelude.{◌≡◌, List, length, map};
+ghost use Rattle.tf_walk_action.specs.Words.{action_results_of, entries_view, FitsTogether, names_in, op_of, plan_names, plan_of};
 ghost use Rattle.tf_walk_report.specs.Outputs.{OutputResultView};
 ghost use Rattle.tf_walk_report.specs.ActionReport.{AreJudged};
 ghost use Rattle.tf_walk_report.specs.Reserved.{AreReserved};
 ghost use Rattle.tf_walk_report.specs.Report.{IsTold};
 
-use crate::additions::{Changes, report_actions};
+use crate::additions::report_actions;
 use crate::gather::{count_good, tell_excuses, tell_outcomes};
 use crate::outputs::{tell_output_excuses, tell_outputs};
 use crate::report::Report;
 use crate::reserving::{ReportBuffers, ReportLists};
 use crate::settling::{OutputValues, outputs_after};
 use std::alloc::Global;
-use std::collections::BTreeMap;
 use tf_expand::Module;
 use tf_plan_data::Plan;
 use tf_provider::{Journal, Provider};
-use tf_state_data::{Object, State};
-use tf_state_next::{Events, MetadataUpdate, StateDraft, state_after};
+use tf_state_next::state_after;
 use tf_walk_action::ActionResult;
 
 /// The report on a plan, by what came of each of its actions, in action order. It has no answer that says that there was
@@ -50,56 +43,31 @@ pub fn report_of(
 {
     let _nodes = plan.order.graph().nodes();
     let ReportBuffers {
-        blank,
+        lists,
         rooms,
         draft,
-        metadata_updates,
+        mut events,
         settling,
         output_texts,
     } = buffers;
     let ReportLists {
-        mut changes,
         mut outcomes,
         mut diagnostics,
         mut excused,
-    } = blank;
+    } = lists;
     tell_outcomes(&mut outcomes, &results);
     tell_excuses(&mut excused, &results);
     let good = count_good(plan.actions.as_slice(), &results);
     let OutputValues { values, ends } = outputs_after(alloc, plan, declared, settling, &results);
-    report_actions(providers, rooms, results, &mut changes, &mut diagnostics);
+    report_actions(providers, rooms, results, &mut events, &mut diagnostics);
     tell_output_excuses(&mut excused, &ends);
     tell_outputs(output_texts, ends, &mut diagnostics);
     Report {
-        state: state_with(draft, changes, metadata_updates, values),
+        state: state_after(draft, events, values),
         outcomes,
         diagnostics,
         journal,
         excused,
         good,
     }
-}
-
-/// The state after what the actions changed, with what is given anew and with these outputs.
-fn state_with<'p>(
-    draft: StateDraft<'p>,
-    changes: Changes<'p>,
-    metadata_updates: Vec<MetadataUpdate<'p>>,
-    outputs: BTreeMap<String, Object>,
-) -> State
-    requires draft { IsStateDraft (state_of draft.prior.now) (map (λ a. a.addr) (map apply_of changes.applies.items)) draft }
-    requires apart { AreEachAboutOne (record { destroys = map destroy_of changes.destroys.items; applies = map apply_of changes.applies.items; metadata_updates = map metadata_update_of metadata_updates.items }) }
-    requires serial { (state_of draft.prior.now).serial + 1 < 2 ^ 32 }
-    ensures after { (e : EventsView) → map destroy_of changes.entry.destroys.items ≡ e.destroys → map apply_of changes.entry.applies.items ≡ e.applies → map metadata_update_of metadata_updates.entry.items ≡ e.metadata_updates
-        → IsStateAfter (state_of draft.entry.prior.now) (given_in e) (ends_in e) (outputs_of outputs.entries) (state_of result) }
-    ensures valid { (e : EventsView) → map destroy_of changes.entry.destroys.items ≡ e.destroys → map apply_of changes.entry.applies.items ≡ e.applies → map metadata_update_of metadata_updates.entry.items ≡ e.metadata_updates
-        → IsValid (state_of draft.entry.prior.now) → AreSound e → IsTable (outputs_of outputs.entries) → IsValid (state_of result) }
-{
-    let Changes { applies, destroys } = changes;
-    let events = Events {
-        destroys,
-        applies,
-        metadata_updates,
-    };
-    state_after(draft, events, outputs)
 }

@@ -21,12 +21,13 @@ invariant-loop-room g l =
     record {
       judged : AreJudged ms (map (λ h. h.op) (map buffers_head rooms)) (action_results_of results);
       paired : length rooms ≡ length results;
-      applies : map apply_of l.changes.applies.items ++ applies_in left ≡ applies_in all;
-      destroys : map destroy_of l.changes.destroys.items ++ destroys_in left ≡ destroys_in all;
+      applies : map apply_of l.events.applies.items ++ applies_in left ≡ applies_in all;
+      destroys : map destroy_of l.events.destroys.items ++ destroys_in left ≡ destroys_in all;
+      metadata_updates : l.events.metadata_updates ≡ l.fn.events.metadata_updates;
       tells : map diagnostic_of l.diagnostics.items ++ told_in (map buffers_head rooms) (action_results_of results)
           ≡ told_in (map buffers_head l.fn.rooms.items) (action_results_of l.fn.results.items);
-      room_for_applies : length l.changes.applies.items + length results ≤ vec_capacity l.changes.applies;
-      room_for_destroys : length l.changes.destroys.items + length results ≤ vec_capacity l.changes.destroys;
+      room_for_applies : length l.events.applies.items + length results ≤ vec_capacity l.events.applies;
+      room_for_destroys : length l.events.destroys.items + length results ≤ vec_capacity l.events.destroys;
       room_for_diagnostics : length l.diagnostics.items + length results ≤ vec_capacity l.diagnostics;
       capacity : vec_capacity l.fn.diagnostics ≤ vec_capacity l.diagnostics;
       stored : AllByRecursion MayBeStored left → AllByRecursion MayBeStored all;

@@ -12,29 +12,29 @@ use Rattle.tf_value.specs.Nulls.{with_nulls}
 use Rattle.tf_value.specs.Tree.{Tree, tree_of}
 use Rattle.tf_walk_action.proofs.Storable.{planned-there, planned-stored}
 use Rattle.tf_walk_action.specs.Storable.{has_stored_attributes}
-use Rattle.tf_walk_report.specs.ActionReport.{change_of}
-use Rattle.tf_walk_report.specs.Change.{MayBeStored, as_applied, change_by, saved_by}
-use Rattle.tf_walk_buffers.specs.BuffersHead.{target_of}
+use Rattle.tf_walk_report.specs.ActionReport.{IsAdded}
+use Rattle.tf_walk_report.specs.Change.{changed_by_call, saved_by}
+use Rattle.tf_state_next.specs.Ends.{as_applied}
+use Rattle.tf_walk_buffers.specs.BuffersHead.{buffers_head, target_of}
 use Rattle.tf_walk_report.proofs.Called.{change-stored}
 use Rattle.tf_walk_report.proofs.Stored.{left-stored, saved-stored, stored_of, tested_stored, there_of}
 use Rattle.tf_walk_report.proofs.reporting.report_call.Goals as goal
 
-pub change-requires : goal.change-requires
-change-requires c create =
+pub add_change-requires-clause-fallback : goal.add_change-requires-clause-fallback
+add_change-requires-clause-fallback c create =
     let q = c.args.served.call.request in
     there_of c.fallback_for-fallback.result (option_map tree_of q.object)
     (c.fallback_for-fallback.ensures create ∙ ap (λ (x : Request). option_map with_nulls (option_map tree_of x.object)) c.into_report-request.ensures.request)
     (planned-there q.op (c.requires.op ∙ create) (option_map tree_of q.object) c.args.served.planned)
 
-pub returns-clause-changes : goal.returns-clause-changes
-returns-clause-changes c =
+pub returns-clause-added : goal.returns-clause-added
+returns-clause-added c =
     let q = c.args.served.call.request in
     let answer = answered c.args.served.call.reply in
     let schema = c.args.schema.now in
     let formed = c.open_reply-formed.ensures.formed ∙ ap (λ (r : Reply). formed_in schema (answered r)) c.into_report-request.ensures.reply in
-    subst (λ (v : Verdict). change_of c.change.result ≡ change_by (addr_of c.args.room.addr.now) (target_of c.args.room.target)
-    (as_applied (saved_by c.args.room.op schema (asked q) answer v)) (left_by_destroy schema answer v)) c.verdict-verdict.ensures
-    (c.change.ensures.changes schema (asked q) answer (c.verdict-verdict.ensures ∙ c.requires.verdict) formed
+    subst (λ (v : Verdict). IsAdded (changed_by_call (buffers_head c.args.room) schema (asked q) answer v) c.args.events.now c.add_change.new.events) c.verdict-verdict.ensures
+    (c.add_change.ensures.added schema (asked q) answer (c.verdict-verdict.ensures ∙ c.requires.verdict) formed
     (λ create. sym (c.fallback_for-fallback.ensures create ∙ ap (λ (x : Request). option_map with_nulls (option_map tree_of x.object)) c.into_report-request.ensures.request)))
 
 pub returns-clause-stored : goal.returns-clause-stored
@@ -48,17 +48,12 @@ returns-clause-stored c =
     let wanted = option_map tree_of q.object in
     let fallback = c.fallback_for-fallback.result in
     let formed_is = c.open_reply-formed.ensures.formed ∙ ap (λ (x : Reply). formed_in schema (answered x)) c.into_report-request.ensures.reply in
-    let formed = stored_of c.open_reply-formed.result.formed _ formed_is c.open_reply-formed.ensures.stored in
+    let formed = stored_of c.open_reply-formed.result.0 _ formed_is c.open_reply-formed.ensures.stored in
     let stands : c.args.room.op ≡ Create → option_map (λ o. tree_of o.value) fallback ≡ option_map with_nulls wanted =
     λ create. c.fallback_for-fallback.ensures create ∙ ap (λ (x : Request). option_map with_nulls (option_map tree_of x.object)) c.into_report-request.ensures.request in
-    let changes : change_of c.change.result ≡ change_by (addr_of c.args.room.addr.now) (target_of c.args.room.target) (as_applied (saved_by c.args.room.op schema r answer v)) (left_by_destroy schema answer v) =
-    subst (λ (w : Verdict). change_of c.change.result ≡ change_by (addr_of c.args.room.addr.now) (target_of c.args.room.target)
-    (as_applied (saved_by c.args.room.op schema r answer w)) (left_by_destroy schema answer w)) c.verdict-verdict.ensures
-    (c.change.ensures.changes schema r answer (c.verdict-verdict.ensures ∙ c.requires.verdict) formed_is (λ create. sym (stands create))) in
-    subst MayBeStored (sym changes)
-    (change-stored (addr_of c.args.room.addr.now) (target_of c.args.room.target) (as_applied (saved_by c.args.room.op schema r answer v)) (left_by_destroy schema answer v)
+    change-stored (addr_of c.args.room.addr.now) (target_of c.args.room.target) (as_applied (saved_by c.args.room.op schema r answer v)) (left_by_destroy schema answer v)
     (saved-stored c.args.room.op schema r answer v c.requires.verdict formed
     (λ create malformed. subst (λ (x : Option Tree). IfSome x IsAttributes) (stands create)
     (tested_stored fallback (c.can_be_saved-stored.ensures (c.verdict-verdict.ensures ∙ malformed))
     (subst (λ (x : Option Tree). IfSome x (λ t. has_stored_attributes t ≡ true)) (sym (stands create)) (planned-stored q.op (c.requires.op ∙ create) wanted served.planned)))))
-    (left-stored schema answer v formed) c.change.ensures.versioned)
+    (left-stored schema answer v formed) c.add_change.ensures.versioned

@@ -8,8 +8,9 @@ use Rattle.tf_walk_report.specs.Diagnostics.{action_diagnostics, diagnostic_of}
 use Rattle.tf_walk_buffers.specs.BuffersHead.{buffers_head}
 use Rattle.tf_config_address.specs.ResourceAddr.{ResourceAddrView}
 use Rattle.tf_graph.specs.Solutions.{seen_by}
-use Rattle.tf_state_next.specs.Events.{AreEachAboutOne, ApplyView, EventsView, apply_of, ends_in, given_in}
+use Rattle.tf_state_next.specs.Events.{AreEachAboutOne, ApplyView, EventsView, apply_of, ends_in, events_of, given_in, metadata_update_of}
 use Rattle.tf_state_next.specs.StateDraft.{IsStateDraft}
+use Rattle.tf_state_next.specs.Sound.{AreSound}
 use Rattle.tf_state_next.specs.StateAfter.{IsStateAfter}
 use Rattle.tf_walk_action.specs.ResultViews.{action_results_of}
 use Rattle.tf_walk_action.specs.Outcome.{done_at, objects_seen}
@@ -31,7 +32,7 @@ use Rattle.tf_walk_report.specs.Settling.{AreEnded}
 use Rattle.tf_walk_report.proofs.Apart.{each-about_one}
 use Rattle.tf_walk_report.proofs.Assembled.{ended-as, ends-sized}
 use Rattle.tf_walk_report.proofs.Complete.{heads-sized, ops-actions, told_in-actions}
-use Rattle.tf_walk_report.proofs.Joined.{each_ordered, events_as}
+use Rattle.tf_walk_report.proofs.Joined.{each_ordered, events_are, events_as}
 use Rattle.tf_walk_report.proofs.ResourceAddrs.{addrs-applied}
 use Rattle.tf_walk_report.proofs.Sound.{events-sound}
 use Rattle.tf_walk_report.proofs.Told.{told-places}
@@ -56,7 +57,7 @@ tell_output_excuses-requires g c =
     let seen = ap length c.deref-5.ensures.value in
     let few = c.tell_excuses.ensures.few in
     let results = ap length c.deref-2.ensures.value in
-    record { room = omega (arith, sized, seen, few, results, c.tell_excuses.ensures.capacity, c.requires.buffers.blank.excused_room, c.requires.sized, f.output_texts.ok.0, c.args.plan.now.actions.ok.0) }
+    record { room = omega (arith, sized, seen, few, results, c.tell_excuses.ensures.capacity, c.requires.buffers.lists.excused_room, c.requires.sized, f.output_texts.ok.0, c.args.plan.now.actions.ok.0) }
 
 pub tell_outputs-requires-clause-paired : goal.tell_outputs-requires-clause-paired
 tell_outputs-requires-clause-paired g c =
@@ -66,28 +67,28 @@ pub tell_outputs-requires-clause-room : goal.tell_outputs-requires-clause-room
 tell_outputs-requires-clause-room g c =
     let f = c.args.buffers in
     let sized = ends-sized _ _ _ _ _ _ _ _ _ f.output_texts.items c.outputs_after-values.ensures.ended (c.requires.buffers.output_texts ∙ sym (ap places_of c.requires.buffers.outputs)) in
-    omega (arith, sized, c.report_actions.ensures.few, c.report_actions.ensures.capacity, c.requires.buffers.blank.diagnostics_room, c.requires.sized, f.output_texts.ok.0, c.args.plan.now.actions.ok.0)
+    omega (arith, sized, c.report_actions.ensures.few, c.report_actions.ensures.capacity, c.requires.buffers.lists.diagnostics_room, c.requires.sized, f.output_texts.ok.0, c.args.plan.now.actions.ok.0)
 
-pub state_with-requires-clause-draft : goal.state_with-requires-clause-draft
-state_with-requires-clause-draft g c =
+pub state_after-requires-clause-draft : goal.state_after-requires-clause-draft
+state_after-requires-clause-draft g c =
     let ms = map (λ b. (goal.Provider-dyn g (b.vtable, b.value)).meaning b.value) c.args.providers.now in
     let plan = plan_of c.args.plan.now in
     let heads = map buffers_head c.args.buffers.rooms.items in
     let done = action_results_of c.args.results.items in
     let f = c.args.buffers in
     let sized : length plan.actions ≡ length done = length-map c.args.plan.now.actions.items action_of ∙ sym c.requires.sized ∙ sym (length-map c.args.results.items _) in
-    let addrs : map (λ (a : ApplyView). a.addr) (map apply_of c.report_actions.new.changes.applies.items) ≡ applied_addrs plan.actions =
+    let addrs : map (λ (a : ApplyView). a.addr) (map apply_of c.report_actions.new.events.applies.items) ≡ applied_addrs plan.actions =
     ap (map (λ (a : ApplyView). a.addr)) c.report_actions.ensures.applies ∙ addrs-applied ms plan plan.actions heads done c.requires.buffers.rooms sized in
     subst (λ (ls : List ResourceAddrView). IsStateDraft (state_of f.draft.prior.now) ls f.draft) (sym addrs)
     (subst (λ (s : StateView). IsStateDraft s (applied_addrs plan.actions) f.draft) (sym c.requires.buffers.draft.of_prior) c.requires.buffers.draft)
 
-pub state_with-requires-clause-apart : goal.state_with-requires-clause-apart
-state_with-requires-clause-apart g c =
+pub state_after-requires-clause-apart : goal.state_after-requires-clause-apart
+state_after-requires-clause-apart g c =
     let ms = map (λ b. (goal.Provider-dyn g (b.vtable, b.value)).meaning b.value) c.args.providers.now in
     let plan = plan_of c.args.plan.now in
     let heads = map buffers_head c.args.buffers.rooms.items in
     let done = action_results_of c.args.results.items in
-    events_as AreEachAboutOne _ _ _ _ _ _ c.report_actions.ensures.destroys c.report_actions.ensures.applies c.requires.buffers.metadata_updates
+    events_as AreEachAboutOne _ _ _ _ _ _ c.report_actions.ensures.destroys c.report_actions.ensures.applies (ap (λ es. map metadata_update_of es.items) c.report_actions.ensures.metadata_updates ∙ c.requires.buffers.metadata_updates)
     (each-about_one ms plan heads done c.requires.buffers.rooms c.requires.fits.apart c.requires.fits.placed c.args.plan.now.prior.ordered (each_ordered c.args.plan.now.prior.resources.items))
 
 pub returns-clause-told : goal.returns-clause-told
@@ -109,8 +110,10 @@ returns-clause-told g c =
     let told : ends ≡ map end_of outputs = e.ended.told in
     let values : outputs_of after.values.entries ≡ outputs_after plan.prior.outputs plan.config.outputs outputs =
     e.ended.saves ∙ ap₂ (λ (es : expr.Entries) (kept : Entries). with_outputs es outputs kept) fr.outputs fr.kept in
-    let state : IsStateAfter (state_of f.draft.prior.now) (given_in all) (ends_in all) (outputs_of after.values.entries) (state_of c.state_with.result) =
-    c.state_with.ensures.after all c.report_actions.ensures.destroys c.report_actions.ensures.applies fr.metadata_updates in
+    let told_as : events_of c.report_actions.new.events ≡ all =
+    events_are (events_of c.report_actions.new.events) all c.report_actions.ensures.destroys c.report_actions.ensures.applies (ap (λ es. map metadata_update_of es.items) c.report_actions.ensures.metadata_updates ∙ fr.metadata_updates) in
+    let state : IsStateAfter (state_of f.draft.prior.now) (given_in all) (ends_in all) (outputs_of after.values.entries) (state_of c.state_after.result) =
+    subst (λ (e : EventsView). IsStateAfter (state_of f.draft.prior.now) (given_in e) (ends_in e) (outputs_of after.values.entries) (state_of c.state_after.result)) told_as c.state_after.ensures.after in
     let count : c.args.plan.now.actions.len ≡ length plan.actions = omega (arith, c.args.plan.now.actions.ok.0, length-map c.args.plan.now.actions.items action_of) in
     let seen : f.settling.seen.items ≡ range_with_len 0 (length plan.actions) = fr.seen ∙ ap (λ (n : ℕ). range_with_len 0 n) count in
     let each : AreOutputsDone plan.variables names plan.shapes (objects_after plan done) e.settled plan.config.outputs outputs =
@@ -131,12 +134,12 @@ returns-clause-told g c =
               heads = heads;
               are_heads = fr.rooms;
               after =
-                  subst (λ (s : StateView). IsStateAfter s (given_in all) (ends_in all) (outputs_after plan.prior.outputs plan.config.outputs outputs) (state_of c.state_with.result)) fr.draft.of_prior
-                  (subst (λ (es : Entries). IsStateAfter (state_of f.draft.prior.now) (given_in all) (ends_in all) es (state_of c.state_with.result)) values state);
+                  subst (λ (s : StateView). IsStateAfter s (given_in all) (ends_in all) (outputs_after plan.prior.outputs plan.config.outputs outputs) (state_of c.state_after.result)) fr.draft.of_prior
+                  (subst (λ (es : Entries). IsStateAfter (state_of f.draft.prior.now) (given_in all) (ends_in all) es (state_of c.state_after.result)) values state);
             };
         valid = λ named prior.
-            c.state_with.ensures.valid all c.report_actions.ensures.destroys c.report_actions.ensures.applies fr.metadata_updates (subst IsValid (sym fr.draft.of_prior) prior)
-            (events-sound ms plan heads done named fr.rooms c.requires.fits.declared c.report_actions.ensures.stored) (e.stored (fr.kept_stored prior.outputs));
+            c.state_after.ensures.valid (subst IsValid (sym fr.draft.of_prior) prior)
+            (subst AreSound (sym told_as) (events-sound ms plan heads done named fr.rooms c.requires.fits.declared c.report_actions.ensures.stored)) (e.stored (fr.kept_stored prior.outputs));
         diagnostics_told = c.tell_outputs.ensures ∙ ap₂ (λ xs ys. xs ++ ys) diagnostics of_outputs;
         good =
             c.count_good-good.ensures
