@@ -3,7 +3,8 @@ use Rattle.std.specs.Prelude.{◌≡◌, ◌⊎◌, ℕ, codes, List, Option, So
 use Rattle.tf_config.specs.Reading.{IsRefused}
 use Rattle.tf_config_data.specs.Config.{ConfigView}
 use Rattle.tf_config_names.specs.Judging.{RefusesItsNames}
-use Rattle.tf_config_refusal.specs.Code.{bad_state, limit}
+use Rattle.tf_config_refusal.specs.declared.code.Code.{Code}
+use Rattle.tf_config_refusal.specs.declared.code.Code.TheVariants as code
 use Rattle.tf_config_refusal.specs.Refusal.{RefusalView, no_memory, fault, bare}
 use Rattle.tf_state.specs.Table.{IsUnread}
 use Rattle.tf_state.specs.declared.fault.StateFault.{StateFault}
@@ -26,13 +27,13 @@ pub record AreValuesRefused (texts : Texts) (refusal : RefusalView) : Type 0 whe
   pub refused : variables.IsRefused texts.vars config.variables refusal
 
 -- a refusal that stands at the state
-abbrev pub at_state : ℕ → RefusalView
+abbrev pub at_state : Code → RefusalView
 at_state code = fault code (codes "state") bare
 
 -- How a fault of the state's text is refused: 13 where it is no state's, 14 where the state is beyond a limit.
 abbrev pub fault_told : StateFault → RefusalView
-fault_told BadState = at_state bad_state
-fault_told Limit = at_state limit
+fault_told BadState = at_state code.BadState
+fault_told Limit = at_state code.Limit
 fault_told OutOfMemory = no_memory
 
 -- the state's text has a fault, which is refused so

@@ -16,8 +16,7 @@ use std::alloc::{AllocError, Global};
 use std::collections::BTreeMap;
 use tf_config::{Config, names_are_few, read, read_vars};
 use tf_config_names::{Dependence, check_names};
-use tf_config_refusal::code::{BAD_STATE, LIMIT};
-use tf_config_refusal::{Detail, Refusal};
+use tf_config_refusal::{Code, Detail, Refusal};
 use tf_graph::MAX_NODES;
 use tf_state::{StateFault, new_states_are_valid, read as read_state, read_states_are_valid};
 use tf_state_data::State;
@@ -116,14 +115,14 @@ fn state_refusal(alloc: Global, why: StateFault) -> Result<Refusal, AllocError>
     ensures { IfOk result (λ r. refusal_of r ≡ fault_told why) }
 {
     match why {
-        StateFault::BadState => at_state(alloc, BAD_STATE),
-        StateFault::Limit => at_state(alloc, LIMIT),
+        StateFault::BadState => at_state(alloc, Code::BadState),
+        StateFault::Limit => at_state(alloc, Code::Limit),
         StateFault::OutOfMemory => Ok(Refusal::OutOfMemory),
     }
 }
 
 /// The refusal with a code that stands at the state.
-fn at_state(alloc: Global, code: u8) -> Result<Refusal, AllocError>
+fn at_state(alloc: Global, code: Code) -> Result<Refusal, AllocError>
     ensures { IfOk result (λ r. refusal_of r ≡ at_state code) }
 {
     Ok(Refusal::Fault {

@@ -6,21 +6,23 @@ use Rattle.std.specs.Io.KnownBytes.{Appends}
 use Rattle.std.specs.Prelude.{OnOk}
 use Rattle.std.specs.List.{flat_map}
 use Rattle.std.specs.declared.string.String.{String}
+use Rattle.tf_config_refusal.specs.Code.{name_of, number_of}
+use Rattle.tf_config_refusal.specs.declared.code.Code.{Code}
 use Rattle.tf_config_refusal.specs.Refusal.{DetailView, fault}
-use Rattle.tf_config_refusal.specs.Text.{detail_text, names_text, refusal_name}
+use Rattle.tf_config_refusal.specs.Text.{detail_text, names_text}
 use Rattle.tf_cli_text.specs.Saved.{AppendsStart}
 use Rattle.tf_cli_text.specs.Shown.{fault_opening, refusal_line}
 use Rattle.tf_cli_text.proofs.Writes.{appends_as}
 
 -- the parts of a line, grouped as it is printed and as it is told
-line_parts : (e d before place colon name detail behind : List ℕ) → (e ++ (d ++ (before ++ (place ++ (colon ++ name))))) ++ (detail ++ behind) ≡ (e ++ d ++ before ++ place ++ colon ++ (name ++ detail)) ++ behind
+line_parts : (e d before place colon name detail behind : List ℕ) → (e ++ (d ++ (before ++ (place ++ (colon ++ name))))) ++ (detail ++ behind) ≡ (e ++ d ++ before ++ place ++ colon ++ name ++ detail) ++ behind
 line_parts e d before place colon name detail behind = simp append_assoc
 
-fault_told : (code : ℕ) (place : List ℕ) (detail : DetailView) → fault_opening code place (refusal_name code) ++ (detail_text detail ++ codes "\n") ≡ refusal_line (fault code place detail)
-fault_told code place detail = line_parts (codes "error ") (decimal code) (codes " at ") place (codes ": ") (refusal_name code) (detail_text detail) (codes "\n")
+fault_told : (code : Code) (place : List ℕ) (detail : DetailView) → fault_opening (number_of code) place (name_of code) ++ (detail_text detail ++ codes "\n") ≡ refusal_line (fault code place detail)
+fault_told code place detail = line_parts (codes "error ") (decimal (number_of code)) (codes " at ") place (codes ": ") (name_of code) (detail_text detail) (codes "\n")
 
-pub fault_line : (code : ℕ) (p place n : List ℕ) (detail : DetailView) → p ≡ place → n ≡ refusal_name code → fault_opening code p n ++ (detail_text detail ++ codes "\n") ≡ refusal_line (fault code place detail)
-fault_line code p place n detail e f = rw (e, f) (fault_told code place detail)
+pub fault_line : (code : Code) (k : ℕ) (p place n : List ℕ) (detail : DetailView) → k ≡ number_of code → p ≡ place → n ≡ name_of code → fault_opening k p n ++ (detail_text detail ++ codes "\n") ≡ refusal_line (fault code place detail)
+fault_line code k p place n detail d e f = rw (d, e, f) (fault_told code place detail)
 
 pub whole_as : {F : Type 0} (r : Result (Unit {0}) F) (u v : Option (List ℕ)) (a b : List ℕ) → a ≡ b → OnOk r (Appends u v a) → OnOk r (Appends u v b)
 whole_as r u v a b e h = subst (λ (t : List ℕ). OnOk r (Appends u v t)) e h

@@ -2,6 +2,7 @@
 use Rattle.std.specs.Prelude.{ℕ, Bool, true, false, not, ◌&&◌, if◌then◌else◌, List, [], ◌∷◌, ◌++◌, codes, decimal, Option, Some, None, Result, Ok, Err, is_err, option_map, string_bytes}
 use Rattle.std.specs.List.{flat_map, list_all}
 use Rattle.std.specs.Result.{result_ok}
+use Rattle.tf_config_refusal.specs.Code.{number_of}
 use Rattle.tf_config_refusal.specs.Refusal.{RefusalView, no_memory, refusal_of}
 use Rattle.tf_config_refusal.specs.Text.{refusal_text}
 use Rattle.tf_provider_protocol.specs.declared.request.Op.{Op}
@@ -54,7 +55,7 @@ error_line code place verb message =
 
 -- the line of a diagnostic
 abbrev pub diagnostic_line : DiagnosticView → List ℕ
-diagnostic_line d = error_line d.code d.place (verb_text d.verb) d.message
+diagnostic_line d = error_line (number_of d.code) d.place (verb_text d.verb) d.message
 
 -- each diagnostic in a line, in order
 abbrev pub diagnostic_lines : List Diagnostic → List ℕ

@@ -153,7 +153,7 @@ fn print_diagnostic<E: Write>(diagnostic: &Diagnostic, err: &mut E) -> Printed
     let place = diagnostic.place.as_str();
     let verb = verb_text(&diagnostic.verb);
     let message = diagnostic.message.as_str();
-    print_error(diagnostic.code, place, verb, message, err)
+    print_error(diagnostic.code.number(), place, verb, message, err)
 }
 
 fn print_error<'a, E: Write>(

@@ -7,7 +7,7 @@ ghost use Rattle.tf_cli_text.specs.Saved.{AppendsStart};
 ghost use Rattle.tf_cli_text.specs.Shown.{fault_opening, refusal_line};
 ghost use Rattle.tf_expr_syntax.specs.EvalFault.{eval_fault_name};
 ghost use Rattle.tf_config_refusal.specs.Refusal.{detail_of, refusal_of};
-ghost use Rattle.tf_config_refusal.specs.Text.{detail_text, names_text, refusal_name};
+ghost use Rattle.tf_config_refusal.specs.Text.{detail_text, names_text};
 
 use crate::saving::{SaveFault, save, save_all};
 use itoa::Buffer;
@@ -36,7 +36,7 @@ fn print_refusal<E: Write>(refusal: &Refusal, err: &mut E) -> Result<(), SaveFau
             code,
             place,
             detail,
-        } => print_fault(*code, place.as_str(), name_of(*code), detail, err),
+        } => print_fault(code.number(), place.as_str(), code.name(), detail, err),
     }
 }
 
@@ -130,30 +130,6 @@ fn print_behind<'a, E: Write>(before: &'a str, text: &'a str, err: &mut E) -> Re
 {
     let texts = [before, text];
     save_all(err, &texts)
-}
-
-/// The name of the refusals with a code, as they print it themselves.
-fn name_of(code: u8) -> &'static str
-    ensures { result.now ≡ refusal_name code }
-{
-    match code {
-        1 => "NotJson",
-        2 => "BadShape",
-        3 => "BadTemplate",
-        4 => "UnknownName",
-        5 => "Cycle",
-        6 => "BadCount",
-        7 => "BadForEach",
-        8 => "UnknownInstances",
-        9 => "Evaluate",
-        10 => "BadArgument",
-        11 => "NoProvider",
-        12 => "PreventDestroy",
-        13 => "BadState",
-        14 => "Limit",
-        15 => "OutOfMemory",
-        _ => "Unknown",
-    }
 }
 
 /// The name of a fault, as it prints it itself.

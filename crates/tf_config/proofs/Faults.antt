@@ -5,12 +5,12 @@ use Rattle.tf_config.specs.Demand.{Refuses, TellsAt}
 use Rattle.tf_config_data.specs.Config.{VariableView}
 use Rattle.tf_config_refusal.specs.Check.{demanded}
 use Rattle.tf_config_refusal.specs.Place.{dotted}
-use Rattle.tf_config_refusal.specs.Code.{bad_argument}
+use Rattle.tf_config_refusal.specs.declared.code.Code.TheVariants as code
 use Rattle.tf_config_refusal.specs.Refusal.{RefusalView, no_memory, workers, fault, bare}
 use Rattle.tf_config.specs.VariablesRead.{TellsFaulty}
 use Rattle.tf_config.specs.Values.{file_checks, RefusesValues}
 
-pub refuses_none : (place : List (List ℕ)) (has : Bool) (t : RefusalView) → has ≡ false → TellsAt (dotted place) (bad_argument, bare) t → RefusesValues (demanded place has) t
+pub refuses_none : (place : List (List ℕ)) (has : Bool) (t : RefusalView) → has ≡ false → TellsAt (dotted place) (code.BadArgument, bare) t → RefusesValues (demanded place has) t
 refuses_none place has no_memory none h = tt
 refuses_none place has workers none h = absurd h
 refuses_none place has (fault code at detail) none h = inl (h.0, (none, h.1))

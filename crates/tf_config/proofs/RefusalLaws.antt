@@ -13,6 +13,7 @@ use Rattle.tf_expr.specs.declared.fault.ExprCause.TheVariants.{BadShape, At, Too
 use Rattle.tf_config_refusal.proofs.Checks.{IsFirst-unmet}
 use Rattle.tf_config_refusal.specs.Check.{IsFirst}
 use Rattle.tf_expr.specs.Refusing.{way_of}
+use Rattle.tf_config_refusal.specs.declared.code.Code.{Code}
 use Rattle.tf_config_refusal.specs.Refusal.{DetailView, RefusalView, fault, Way}
 
 -- ---- demands
@@ -78,7 +79,7 @@ one_config : (bytes : List ℕ) (t u : Data) (a b : ConfigView) → IsTree bytes
 one_config bytes t u a b text text' h k = configuration_same u a b (subst (λ d. IsConfiguration d a) (one_tree bytes t u text text') h) k
 
 -- a text that stands for a configuration has no fault in its shape
-standing : (bytes : List ℕ) (code : ℕ) (place : List ℕ) (detail : DetailView) (tree : Data) (config : ConfigView) → IsTree bytes tree → IsConfiguration tree config
+standing : (bytes : List ℕ) (code : Code) (place : List ℕ) (detail : DetailView) (tree : Data) (config : ConfigView) → IsTree bytes tree → IsConfiguration tree config
     → IsMisshapen bytes (fault code place detail) → ⊥
 standing bytes code place detail tree config text stands h =
     let same : h.0 ≡ tree = one_tree bytes h.0 tree h.1 text in
@@ -90,7 +91,7 @@ standing bytes code place detail tree config text stands h =
 one_fault : (place place' : List ℕ) (way way' : Way) → place ≡ place' → way ≡ way' → fault way.0 place way.1 ≡ fault way'.0 place' way'.1
 one_fault place place' way way' here same = ap (λ p. fault way.0 p way.1) here ∙ ap (λ (w : Way). fault w.0 place' w.1) same
 
-module _ (bytes : List ℕ) (code code' : ℕ) (place place' : List ℕ) (detail detail' : DetailView) where
+module _ (bytes : List ℕ) (code code' : Code) (place place' : List ℕ) (detail detail' : DetailView) where
   abbrev One : Type 0
   One = fault code place detail ≡ fault code' place' detail'
 

@@ -4,7 +4,7 @@ use Rattle.tf_config_address.specs.Name.{is_name}
 use Rattle.tf_expr.specs.Demand as expr
 use Rattle.tf_expr.specs.declared.fault.ExprCause.{ExprCause}
 use Rattle.tf_config_refusal.specs.Check.{Check, AllMet, IsFirst}
-use Rattle.tf_config_refusal.specs.Code as code
+use Rattle.tf_config_refusal.specs.declared.code.Code.TheVariants as code
 use Rattle.tf_expr.specs.Refusing.{way_of}
 use Rattle.tf_config_refusal.specs.Refusal.{bare, RefusalView, no_memory, workers, fault, refusal_of, Way}
 use Rattle.tf_config.specs.Words.{is_type_name}
@@ -41,7 +41,7 @@ AreMet = AllMet IsMet
 
 -- 2, BadShape
 abbrev pub bad_shape : Way
-bad_shape = (code.bad_shape, bare)
+bad_shape = (code.BadShape, bare)
 
 -- a demand fails in this way
 abbrev pub Fails : Demand → Way → Type 0

@@ -15,6 +15,7 @@ use Rattle.tf_config.specs.Configuration.{configuration_checks, IsConfiguration}
 use Rattle.tf_config.specs.Demand.{Demand, of_expression, AreMet, IsMet}
 use Rattle.tf_expr.specs.Refusing.{bad_template, too_deep}
 use Rattle.tf_config.specs.Reading.{IsTree, IsRefused, max_bytes, IsWithinCounts}
+use Rattle.tf_config_refusal.specs.declared.code.Code.{Code}
 use Rattle.tf_config_refusal.specs.Refusal.{DetailView, fault, Way}
 
 -- All checks of a tree that stands for a configuration are met.
@@ -61,11 +62,11 @@ IsTemplateWay way = ((offset : ℕ) × (way ≡ bad_template offset)) ⊎ (way �
 -- One fault is told of a text at most. Where the first fault is a text in it that spells no template, it is
 -- told at its place by 3 with some offset or by 14.
 abbrev pub RefusedOnce : Type 0
-RefusedOnce = (bytes : List ℕ) (code code' : ℕ) (place place' : List ℕ) (detail detail' : DetailView)
+RefusedOnce = (bytes : List ℕ) (code code' : Code) (place place' : List ℕ) (detail detail' : DetailView)
     → IsRefused bytes (fault code place detail) → IsRefused bytes (fault code' place' detail')
     → (place ≡ place') × ((fault code place detail ≡ fault code' place' detail') ⊎ (IsUnspelled bytes place × IsTemplateWay (code, detail) × IsTemplateWay (code', detail')))
 
 -- A text of which a fault is told isn't a configuration within the limits.
 abbrev pub RefusedIsNotRead : Type 0
-RefusedIsNotRead = (bytes : List ℕ) (code : ℕ) (place : List ℕ) (detail : DetailView) (tree : Data) (config : ConfigView) → IsRefused bytes (fault code place detail)
+RefusedIsNotRead = (bytes : List ℕ) (code : Code) (place : List ℕ) (detail : DetailView) (tree : Data) (config : ConfigView) → IsRefused bytes (fault code place detail)
     → length bytes ≤ max_bytes → IsTree bytes tree → IsConfiguration tree config → IsWithinCounts config → ⊥

@@ -7,7 +7,8 @@ use Rattle.tf_config_refusal.specs.Place.{dotted}
 use Rattle.tf_config.specs.Config.{names_in}
 use Rattle.tf_config.specs.Configuration.{configuration_checks, whole_file, IsConfiguration}
 use Rattle.tf_config.specs.Demand.{Refuses}
-use Rattle.tf_config_refusal.specs.Code.{not_json, limit}
+use Rattle.tf_config_refusal.specs.declared.code.Code.{Code}
+use Rattle.tf_config_refusal.specs.declared.code.Code.TheVariants as code
 use Rattle.tf_config_refusal.specs.Refusal.{bare, RefusalView, no_memory, workers, fault}
 
 -- the text is UTF-8, and is this tree as `serde_json` reads it
@@ -28,12 +29,12 @@ IsWithinCounts c =
     (length c.variables ≤ max_declared) × (length (names_in c.locals) ≤ max_declared) × (length (names_in c.outputs) ≤ max_declared) × (length c.blocks ≤ max_declared)
 
 -- a bare fault at the whole file
-abbrev pub whole_fault : ℕ → RefusalView
+abbrev pub whole_fault : Code → RefusalView
 whole_fault code = fault code (dotted whole_file) bare
 
 -- A file's text is no tree: 1, NotJson.
 abbrev pub IsNotJsonAt : List (List ℕ) → List ℕ → RefusalView → Type 0
-IsNotJsonAt file bytes refusal = ((tree : Data) → ¬ IsTree bytes tree) × (refusal ≡ fault not_json (dotted file) bare)
+IsNotJsonAt file bytes refusal = ((tree : Data) → ¬ IsTree bytes tree) × (refusal ≡ fault code.NotJson (dotted file) bare)
 
 -- That is told, or that there was no memory.
 abbrev pub TellsNotJson : List (List ℕ) → List ℕ → RefusalView → Type 0
@@ -52,7 +53,7 @@ IsMisshapen bytes refusal = (tree : Data) × IsTree bytes tree × Refuses (confi
 -- The text reads as a configuration, and there are too many variables, locals, outputs or blocks: 14, Limit.
 abbrev pub HasTooMany : List ℕ → RefusalView → Type 0
 HasTooMany bytes refusal =
-    (tree : Data) × IsTree bytes tree × (config : ConfigView) × IsConfiguration tree config × (¬ IsWithinCounts config) × (refusal ≡ whole_fault limit)
+    (tree : Data) × IsTree bytes tree × (config : ConfigView) × IsConfiguration tree config × (¬ IsWithinCounts config) × (refusal ≡ whole_fault code.Limit)
 
 -- What is told of a text, in the order of tests: it is longer than it may be, 14; it is no JSON; it has a fault in its
 -- shape; there is too much of something in it. That there was no memory may be told of any text.
@@ -61,5 +62,5 @@ IsRefused bytes no_memory = Unit {0}
 IsRefused bytes workers = ⊥
 IsRefused bytes (fault code place detail) =
     let refusal = fault code place detail in
-    ((max_bytes < length bytes) × (refusal ≡ whole_fault limit))
+    ((max_bytes < length bytes) × (refusal ≡ whole_fault code.Limit))
     ⊎ ((length bytes ≤ max_bytes) × (IsNotJson bytes refusal ⊎ IsMisshapen bytes refusal ⊎ HasTooMany bytes refusal))

@@ -6,7 +6,7 @@ use Rattle.tf_config.specs.Demand.{Checks, RefusesBy}
 use Rattle.tf_config.specs.Parts.{literal_checks}
 use Rattle.tf_config_data.specs.Config.{VariableView}
 use Rattle.tf_config_refusal.specs.Check.{Check, demanded}
-use Rattle.tf_config_refusal.specs.Code.{bad_argument}
+use Rattle.tf_config_refusal.specs.declared.code.Code.TheVariants as code
 use Rattle.tf_config_refusal.specs.Refusal.{RefusalView, bare, Way}
 use Rattle.tf_value.specs.Json.{value_from}
 use Rattle.tf_value.specs.Tree.{Tree, Entries, no_entries, entry}
@@ -58,7 +58,7 @@ value_checks file (v ∷ vs) = value_check file v ++ value_checks file vs
 
 -- a variable that has no value is told as 10, BadArgument
 abbrev pub HasNone : Bool → Way → Type 0
-HasNone has way = (has ≡ false) × (way ≡ (bad_argument, bare))
+HasNone has way = (has ≡ false) × (way ≡ (code.BadArgument, bare))
 
 -- The first variable without a value is told, or there was no memory.
 abbrev pub RefusesValues : List (Check Bool) → RefusalView → Type 0

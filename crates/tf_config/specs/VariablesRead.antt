@@ -6,7 +6,8 @@ use Rattle.tf_config.specs.Demand.{AreMet, Refuses}
 use Rattle.tf_config.specs.Reading.{IsTree, IsNotJsonAt}
 use Rattle.tf_config_data.specs.Config.{VariableView}
 use Rattle.tf_config_refusal.specs.Place.{dotted}
-use Rattle.tf_config_refusal.specs.Code.{bad_shape, limit}
+use Rattle.tf_config_refusal.specs.declared.code.Code.{Code}
+use Rattle.tf_config_refusal.specs.declared.code.Code.TheVariants as code
 use Rattle.tf_config_refusal.specs.Refusal.{RefusalView, no_memory, workers, fault, bare}
 use Rattle.tf_config.specs.Values.{file_checks, value_checks, RefusesValues}
 
@@ -32,15 +33,15 @@ IsFileOf (Some bytes) (Some tree) = IsFile bytes tree
 IsFileOf _ _ = ⊥
 
 -- a bare fault of the whole file
-abbrev pub file_fault : ℕ → RefusalView
+abbrev pub file_fault : Code → RefusalView
 file_fault code = fault code (dotted the_file) bare
 
 -- What is told of a text that is no file: it is longer than it may be, 14; it is no JSON, 1; it is no object, 2.
 abbrev pub IsNoFile : List ℕ → RefusalView → Type 0
 IsNoFile bytes refusal =
-    ((max_bytes < length bytes) × (refusal ≡ file_fault limit))
+    ((max_bytes < length bytes) × (refusal ≡ file_fault code.Limit))
     ⊎ ((length bytes ≤ max_bytes)
-    × (IsNotJsonAt the_file bytes refusal ⊎ ((tree : Data) × IsTree bytes tree × (is_object tree ≡ false) × (refusal ≡ file_fault bad_shape))))
+    × (IsNotJsonAt the_file bytes refusal ⊎ ((tree : Data) × IsTree bytes tree × (is_object tree ≡ false) × (refusal ≡ file_fault code.BadShape))))
 
 -- That is told, or that there was no memory.
 abbrev pub TellsNoFile : List ℕ → RefusalView → Type 0

@@ -13,14 +13,13 @@ use crate::words;
 use serde_json::{Number, Value};
 use std::alloc::Global;
 use tf_config_address::is_name;
-use tf_config_refusal::code::BAD_SHAPE;
-use tf_config_refusal::{Detail, Path, Refusal};
+use tf_config_refusal::{Code, Detail, Path, Refusal};
 
 /// What a configuration is called as a file.
 pub(crate) const CONFIGURATION: &str = "configuration";
 
 /// A fault at a place, or that there is no memory to write the place out.
-pub(crate) fn fault_at(alloc: Global, path: &Path<'_>, code: u8, detail: Detail) -> Refusal
+pub(crate) fn fault_at(alloc: Global, path: &Path<'_>, code: Code, detail: Detail) -> Refusal
     ensures { TellsAt (dotted (place_of path.now)) (code, detail_of detail) (refusal_of result) }
 {
     match path.text(alloc) {
@@ -34,7 +33,7 @@ pub(crate) fn fault_at(alloc: Global, path: &Path<'_>, code: u8, detail: Detail)
 }
 
 /// A fault of a whole file, by what it is called, which has nothing behind its name.
-pub(crate) fn file_fault(alloc: Global, file: &str, code: u8) -> Refusal
+pub(crate) fn file_fault(alloc: Global, file: &str, code: Code) -> Refusal
     ensures { TellsAt (dotted (file.now ∷ [])) (code, bare) (refusal_of result) }
 {
     let path = Path::Member(&Path::Root, file);
@@ -42,7 +41,7 @@ pub(crate) fn file_fault(alloc: Global, file: &str, code: u8) -> Refusal
 }
 
 /// A fault of the whole configuration.
-pub(crate) fn whole_file_fault(alloc: Global, code: u8) -> Refusal
+pub(crate) fn whole_file_fault(alloc: Global, code: Code) -> Refusal
     ensures { TellsAt (dotted whole_file) (code, bare) (refusal_of result) }
 {
     file_fault(alloc, CONFIGURATION, code)
@@ -52,7 +51,7 @@ pub(crate) fn whole_file_fault(alloc: Global, code: u8) -> Refusal
 pub(crate) fn bad_shape(alloc: Global, path: &Path<'_>) -> Refusal
     ensures { TellsAt (dotted (place_of path.now)) bad_shape (refusal_of result) }
 {
-    fault_at(alloc, path, BAD_SHAPE, Detail::Bare)
+    fault_at(alloc, path, Code::BadShape, Detail::Bare)
 }
 
 pub(crate) fn demand_name(alloc: Global, path: &Path<'_>, text: &str) -> Result<(), Refusal>

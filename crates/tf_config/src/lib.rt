@@ -27,6 +27,6 @@ pub use laws::{
 };
 pub use reading::read;
 pub use tf_config_data::{Block, Config, Element, Lifecycle, Repetition, Variable, VariableType};
-pub use tf_config_refusal::{Detail, EvalFault, Refusal};
+pub use tf_config_refusal::{Code, Detail, EvalFault, Refusal};
 pub use variable_laws::values_are_one;
 pub use variables::read_vars;

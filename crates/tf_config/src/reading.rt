@@ -9,7 +9,7 @@ ghost use Rattle.tf_config_data.specs.Config.{config_of};
 ghost use Rattle.tf_config_refusal.specs.Place.{dotted, place_of};
 ghost use Rattle.tf_config_refusal.specs.Walk.{each, Builds};
 ghost use Rattle.tf_config_refusal.specs.Refusal.{bare, refusal_of};
-ghost use Rattle.tf_config_refusal.specs.Code.{limit};
+ghost use Rattle.tf_config_refusal.specs.declared.code.Code.TheVariants as code;
 
 use crate::demand::{CONFIGURATION, file_fault, whole_file_fault};
 use crate::kinds::Sections;
@@ -18,8 +18,7 @@ use serde_json::{Map, Value};
 use std::alloc::Global;
 use std::collections::BTreeMap;
 use tf_config_data::Config;
-use tf_config_refusal::code::{BAD_SHAPE, LIMIT, NOT_JSON};
-use tf_config_refusal::{Path, Refusal};
+use tf_config_refusal::{Code, Path, Refusal};
 
 /// The longest configuration that is read, in bytes.
 const MAX_BYTES: usize = 4_194_304;
@@ -55,7 +54,7 @@ pub fn read(alloc: Global, bytes: &[u8]) -> Result<Config, Refusal>
     ensures fault { IfErr result (λ refusal. IsRefused bytes.now (refusal_of refusal)) }
 {
     if bytes.len() > MAX_BYTES {
-        return Err(whole_file_fault(alloc, LIMIT));
+        return Err(whole_file_fault(alloc, Code::Limit));
     }
     let tree = read_tree(alloc, bytes, CONFIGURATION)?;
     let config = read_configuration(alloc, &tree)?;
@@ -67,7 +66,7 @@ pub fn read(alloc: Global, bytes: &[u8]) -> Result<Config, Refusal>
 fn demand_counts(alloc: Global, config: &Config) -> Result<(), Refusal>
     ensures ok { OnOk result (IsWithinCounts (config_of config.now)) }
     ensures fault { IfErr result (λ refusal. (¬ IsWithinCounts (config_of config.now))
-        × TellsAt (dotted whole_file) (limit, bare) (refusal_of refusal)) }
+        × TellsAt (dotted whole_file) (code.Limit, bare) (refusal_of refusal)) }
 {
     demand_count(alloc, config.variables.len())?;
     demand_count(alloc, config.locals.len())?;
@@ -79,10 +78,10 @@ fn demand_counts(alloc: Global, config: &Config) -> Result<(), Refusal>
 fn demand_count(alloc: Global, count: usize) -> Result<(), Refusal>
     ensures ok { OnOk result (count ≤ max_declared) }
     ensures fault { IfErr result (λ refusal. (max_declared < count)
-        × TellsAt (dotted whole_file) (limit, bare) (refusal_of refusal)) }
+        × TellsAt (dotted whole_file) (code.Limit, bare) (refusal_of refusal)) }
 {
     if count > MAX_DECLARED {
-        Err(whole_file_fault(alloc, LIMIT))
+        Err(whole_file_fault(alloc, Code::Limit))
     } else {
         Ok(())
     }
@@ -100,7 +99,7 @@ pub(crate) fn read_tree(alloc: Global, bytes: &[u8], file: &str) -> Result<Value
     match Value::from_slice(alloc, bytes) {
         Ok(tree) => Ok(tree),
         Err(error) if error.is_memory() => Err(Refusal::OutOfMemory),
-        Err(_) => Err(file_fault(alloc, file, NOT_JSON)),
+        Err(_) => Err(file_fault(alloc, file, Code::NotJson)),
     }
 }
 
@@ -111,7 +110,7 @@ fn read_configuration(alloc: Global, tree: &Value) -> Result<Config, Refusal>
 {
     match tree {
         Value::Object(members) => read_sections(alloc, &Path::Root, members),
-        _ => Err(whole_file_fault(alloc, BAD_SHAPE)),
+        _ => Err(whole_file_fault(alloc, Code::BadShape)),
     }
 }
 

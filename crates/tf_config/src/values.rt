@@ -19,8 +19,7 @@ use serde_json::Value as Json;
 use std::alloc::Global;
 use std::collections::BTreeMap;
 use tf_config_data::{Variable, VariableType};
-use tf_config_refusal::code::BAD_ARGUMENT;
-use tf_config_refusal::{Detail, Path, Refusal};
+use tf_config_refusal::{Code, Detail, Path, Refusal};
 use tf_value::Value;
 
 /// The value of each variable; the first fault in the file, or else the first variable without a value.
@@ -129,7 +128,7 @@ fn with_value(
         None => {
             let var = Path::Member(&Path::Root, "var");
             let place = Path::Member(&var, name.as_str());
-            Err(fault_at(alloc, &place, BAD_ARGUMENT, Detail::Bare))
+            Err(fault_at(alloc, &place, Code::BadArgument, Detail::Bare))
         }
     }
 }

@@ -17,8 +17,7 @@ use serde_json::Value as Json;
 use std::alloc::Global;
 use std::collections::BTreeMap;
 use tf_config_data::Config;
-use tf_config_refusal::Refusal;
-use tf_config_refusal::code::{BAD_SHAPE, LIMIT};
+use tf_config_refusal::{Code, Refusal};
 use tf_value::Value;
 
 /// The longest variables file that is read, in bytes.
@@ -71,12 +70,12 @@ fn read_file(alloc: Global, bytes: &[u8]) -> Result<Json, Refusal>
     ensures fault { IfErr result (λ refusal. TellsNoFile bytes.now (refusal_of refusal)) }
 {
     if bytes.len() > MAX_BYTES {
-        return Err(file_fault(alloc, FILE, LIMIT));
+        return Err(file_fault(alloc, FILE, Code::Limit));
     }
     let tree = read_tree(alloc, bytes, FILE)?;
     if tree.is_object() {
         Ok(tree)
     } else {
-        Err(file_fault(alloc, FILE, BAD_SHAPE))
+        Err(file_fault(alloc, FILE, Code::BadShape))
     }
 }

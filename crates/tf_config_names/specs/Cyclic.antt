@@ -1,7 +1,7 @@
 -- How a configuration is refused whose names need themselves.
 use Rattle.std.specs.Prelude.{◌≡◌, ℕ, List, [], MatchResult, Result, codes}
 use Rattle.tf_config_data.specs.Names.{NameView}
-use Rattle.tf_config_refusal.specs.Code as code
+use Rattle.tf_config_refusal.specs.declared.code.Code.TheVariants as code
 use Rattle.tf_config_refusal.specs.Refusal.{DetailView, RefusalView, no_memory, workers, fault, refusal_of}
 use Rattle.tf_config_refusal.specs.Refusal as refusals
 use Rattle.tf_config_refusal.specs.declared.refusal.Refusal.{Refusal}
@@ -13,7 +13,7 @@ abbrev pub RefusesCycle : List NameView → RefusalView → Type 0
 RefusesCycle names no_memory = Unit {0}
 RefusesCycle names workers = ⊥
 RefusesCycle names (fault code' place detail) =
-    (code' ≡ code.cycle) × (place ≡ codes "configuration")
+    (code' ≡ code.Cycle) × (place ≡ codes "configuration")
     × ((texts : List (List ℕ)) × (detail ≡ refusals.names texts) × AreCyclic names texts × (texts ≡ [] → ⊥))
 
 -- no name needs itself, or those that do are told

@@ -10,7 +10,7 @@ use Rattle.tf_config_data.specs.Config.{VariableView, RepetitionView, single, co
 use Rattle.tf_config_data.specs.Names.{NameView, names_of, place_of, same_pair, addr_pair}
 use Rattle.tf_config_refusal.specs.Check.{Check, AllMet, IsFirst, demanded}
 use Rattle.tf_expr_syntax.specs.Function.{function_named}
-use Rattle.tf_config_refusal.specs.Code as code
+use Rattle.tf_config_refusal.specs.declared.code.Code.TheVariants as code
 use Rattle.tf_config_refusal.specs.Refusal.{bare, RefusalView, no_memory, workers, fault, refusal_of, Way}
 use Rattle.tf_config_refusal.specs.declared.refusal.Refusal.{Refusal}
 use Rattle.tf_expr_syntax.specs.ExprTree.{Tree, null, boolean, whole, template, list, map, Trees, no_trees, tree, Entries, no_entries, entry}
@@ -79,7 +79,7 @@ IsKnown declared demand = holds declared demand ≡ true
 
 -- 4, UnknownName
 abbrev pub unknown_name : Way
-unknown_name = (code.unknown_name, bare)
+unknown_name = (code.UnknownName, bare)
 
 abbrev pub IsUnknown : Declared → NameDemand → Way → Type 0
 IsUnknown declared demand way = (holds declared demand ≡ false) × (way ≡ unknown_name)

@@ -12,8 +12,7 @@ use crate::dependence::Dependence;
 use crate::table::Declarations;
 use std::alloc::{AllocError, Global};
 use std::collections::BTreeSet;
-use tf_config_refusal::code::CYCLE;
-use tf_config_refusal::{Detail, Refusal};
+use tf_config_refusal::{Code, Detail, Refusal};
 
 impl Dependence {
     /// The names that need themselves, as `local.NAME` or `TYPE.NAME`, each once and in byte order of these texts.
@@ -56,7 +55,7 @@ pub fn demand_acyclic(
     }
     let place = String::from_str(alloc, "configuration")?;
     Err(Refusal::Fault {
-        code: CYCLE,
+        code: Code::Cycle,
         place,
         detail: Detail::Names(texts),
     })

@@ -18,8 +18,7 @@ use std::alloc::{AllocError, Global};
 use std::collections::BTreeMap;
 use tf_config_address::ResourceAddr;
 use tf_config_data::{Block, Config, Variable};
-use tf_config_refusal::code::UNKNOWN_NAME;
-use tf_config_refusal::{Detail, Path, Refusal};
+use tf_config_refusal::{Code, Detail, Path, Refusal};
 use tf_expr_syntax::{Expr, Function, Reference, Template, names_of};
 
 /// What an expression may name beside what is declared, by where it stands.
@@ -122,7 +121,7 @@ fn names_unknown(alloc: Global, path: &Path<'_>) -> Refusal
 {
     match path.text(alloc) {
         Ok(place) => Refusal::Fault {
-            code: UNKNOWN_NAME,
+            code: Code::UnknownName,
             place,
             detail: Detail::Bare,
         },

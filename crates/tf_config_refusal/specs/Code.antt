@@ -1,58 +1,34 @@
--- The codes of refusals, by name.
-use Rattle.std.specs.Prelude.{ℕ}
+-- The codes of refusals and diagnostics: the number and the name of each.
+use Rattle.std.specs.Prelude.{ℕ, List, codes}
+use Rattle.tf_config_refusal.specs.declared.code.Code.{Code}
+use Rattle.tf_config_refusal.specs.declared.code.Code.TheVariants as code
 
--- a file isn't JSON
-abbrev pub not_json : ℕ
-not_json = 1
+-- Refusals have the numbers 1 to 15, diagnostics of actions and outputs those from 21 on.
+abbrev pub row_of : Code → ℕ × List ℕ
+row_of code.NotJson = (1, codes "NotJson")
+row_of code.BadShape = (2, codes "BadShape")
+row_of code.BadTemplate = (3, codes "BadTemplate")
+row_of code.UnknownName = (4, codes "UnknownName")
+row_of code.Cycle = (5, codes "Cycle")
+row_of code.BadCount = (6, codes "BadCount")
+row_of code.BadForEach = (7, codes "BadForEach")
+row_of code.UnknownInstances = (8, codes "UnknownInstances")
+row_of code.Evaluate = (9, codes "Evaluate")
+row_of code.BadArgument = (10, codes "BadArgument")
+row_of code.NoProvider = (11, codes "NoProvider")
+row_of code.PreventDestroy = (12, codes "PreventDestroy")
+row_of code.BadState = (13, codes "BadState")
+row_of code.Limit = (14, codes "Limit")
+row_of code.OutOfMemory = (15, codes "OutOfMemory")
+row_of code.Failed = (21, codes "Failed")
+row_of code.Contradiction = (22, codes "Contradiction")
+row_of code.Malformed = (23, codes "Malformed")
+row_of code.ArgumentFault = (24, codes "ArgumentFault")
+row_of code.NoMemory = (26, codes "NoMemory")
+row_of code.Left = (27, codes "Left")
 
--- a property, a block or a name that the format doesn't allow
-abbrev pub bad_shape : ℕ
-bad_shape = 2
+abbrev pub number_of : Code → ℕ
+number_of c = (row_of c).0
 
--- a text is no template
-abbrev pub bad_template : ℕ
-bad_template = 3
-
--- a name that isn't declared, or a function that isn't there
-abbrev pub unknown_name : ℕ
-unknown_name = 4
-
--- locals or resources that need themselves
-abbrev pub cycle : ℕ
-cycle = 5
-
--- `count` isn't a whole number of 0 or more
-abbrev pub bad_count : ℕ
-bad_count = 6
-
--- `for_each` is neither a map nor a set of texts
-abbrev pub bad_for_each : ℕ
-bad_for_each = 7
-
--- `count` or `for_each` isn't known yet
-abbrev pub unknown_instances : ℕ
-unknown_instances = 8
-
--- an evaluation has a fault
-abbrev pub evaluate : ℕ
-evaluate = 9
-
--- an argument is missing, not in the schema, or of the wrong kind
-abbrev pub bad_argument : ℕ
-bad_argument = 10
-
--- no provider has the type
-abbrev pub no_provider : ℕ
-no_provider = 11
-
--- an object that may not be destroyed would be
-abbrev pub prevent_destroy : ℕ
-prevent_destroy = 12
-
--- a state isn't in the format
-abbrev pub bad_state : ℕ
-bad_state = 13
-
--- more than is allowed
-abbrev pub limit : ℕ
-limit = 14
+abbrev pub name_of : Code → List ℕ
+name_of c = (row_of c).1

@@ -1,6 +1,7 @@
 -- What a refusal tells, without where it lies in memory.
 use Rattle.std.specs.Prelude.{ℕ, List, map, string_bytes}
 use Rattle.tf_expr_syntax.specs.declared.fault.EvalFault.{EvalFault}
+use Rattle.tf_config_refusal.specs.declared.code.Code.{Code}
 use Rattle.tf_config_refusal.specs.declared.refusal.Detail.{Detail}
 use Rattle.tf_config_refusal.specs.declared.refusal.Detail.TheVariants as details
 use Rattle.tf_config_refusal.specs.declared.refusal.Refusal.{Refusal}
@@ -19,11 +20,11 @@ pub data DetailView : Type 0 where
 pub data RefusalView : Type 0 where
   no_memory : RefusalView
   workers : RefusalView
-  fault : ℕ → List ℕ → DetailView → RefusalView
+  fault : Code → List ℕ → DetailView → RefusalView
 
 -- a refusal's code, and what stands behind its name
 abbrev pub Way : Type 0
-Way = ℕ × DetailView
+Way = Code × DetailView
 
 abbrev pub detail_of : Detail → DetailView
 detail_of details.Bare = bare

@@ -1,43 +1,97 @@
-//! The codes of refusals, by name.
+//! The codes of refusals and diagnostics.
 
-/// A file isn't JSON.
-pub const NOT_JSON: u8 = 1;
+ghost use Rattle.std.specs.Prelude.{◌≡◌};
+ghost use Rattle.tf_config_refusal.specs.Code.{name_of, number_of};
 
-/// A property, a block or a name that the format doesn't allow.
-pub const BAD_SHAPE: u8 = 2;
+/// What is refused before any call, or told of an action or an output: each has a number and a name.
+#[derive(Clone, Copy, Debug, PartialEq, Eq)]
+pub enum Code {
+    /// A file isn't JSON.
+    NotJson,
+    /// A property, a block or a name that the format doesn't allow.
+    BadShape,
+    /// A text is no template.
+    BadTemplate,
+    /// A name that isn't declared, or a function that isn't there.
+    UnknownName,
+    /// Locals or resources that need themselves.
+    Cycle,
+    /// `count` isn't a whole number of 0 or more.
+    BadCount,
+    /// `for_each` is neither a map nor a set of texts.
+    BadForEach,
+    /// `count` or `for_each` isn't known yet.
+    UnknownInstances,
+    /// An evaluation has a fault.
+    Evaluate,
+    /// An argument is missing, not in the schema, or of the wrong kind.
+    BadArgument,
+    /// No provider has the type.
+    NoProvider,
+    /// An object that may not be destroyed would be.
+    PreventDestroy,
+    /// A state isn't in the format.
+    BadState,
+    /// More than is allowed.
+    Limit,
+    /// There was no memory before any call.
+    OutOfMemory,
+    /// A provider failed.
+    Failed,
+    /// A reply contradicts what was planned.
+    Contradiction,
+    /// A reply is no object of the type.
+    Malformed,
+    /// What is asked of a provider, or an output, has a fault.
+    ArgumentFault,
+    /// There was no memory for an action or an output.
+    NoMemory,
+    /// An action was left because of a stop.
+    Left,
+}
 
-/// A text is no template.
-pub const BAD_TEMPLATE: u8 = 3;
+impl Code {
+    /// The number that stands in texts.
+    pub fn number(self) -> u8
+        ensures { result ≡ number_of self }
+    {
+        self.row().0
+    }
 
-/// A name that isn't declared, or a function that isn't there.
-pub const UNKNOWN_NAME: u8 = 4;
+    /// The name that stands in texts of refusals.
+    pub fn name(self) -> &'static str
+        ensures { result.now ≡ name_of self }
+    {
+        self.row().1
+    }
 
-/// Locals or resources that need themselves.
-pub const CYCLE: u8 = 5;
-
-/// `count` isn't a whole number of 0 or more.
-pub const BAD_COUNT: u8 = 6;
-
-/// `for_each` is neither a map nor a set of texts.
-pub const BAD_FOR_EACH: u8 = 7;
-
-/// `count` or `for_each` isn't known yet.
-pub const UNKNOWN_INSTANCES: u8 = 8;
-
-/// An evaluation has a fault.
-pub const EVALUATE: u8 = 9;
-
-/// An argument is missing, not in the schema, or of the wrong kind.
-pub const BAD_ARGUMENT: u8 = 10;
-
-/// No provider has the type.
-pub const NO_PROVIDER: u8 = 11;
-
-/// An object that may not be destroyed would be.
-pub const PREVENT_DESTROY: u8 = 12;
-
-/// A state isn't in the format.
-pub const BAD_STATE: u8 = 13;
-
-/// More than is allowed.
-pub const LIMIT: u8 = 14;
+    /// The number and the name.
+    fn row(self) -> (u8, &'static str)
+        ensures number { result.0 ≡ number_of self }
+        ensures name { result.1.now ≡ name_of self }
+    {
+        match self {
+            Code::NotJson => (1, "NotJson"),
+            Code::BadShape => (2, "BadShape"),
+            Code::BadTemplate => (3, "BadTemplate"),
+            Code::UnknownName => (4, "UnknownName"),
+            Code::Cycle => (5, "Cycle"),
+            Code::BadCount => (6, "BadCount"),
+            Code::BadForEach => (7, "BadForEach"),
+            Code::UnknownInstances => (8, "UnknownInstances"),
+            Code::Evaluate => (9, "Evaluate"),
+            Code::BadArgument => (10, "BadArgument"),
+            Code::NoProvider => (11, "NoProvider"),
+            Code::PreventDestroy => (12, "PreventDestroy"),
+            Code::BadState => (13, "BadState"),
+            Code::Limit => (14, "Limit"),
+            Code::OutOfMemory => (15, "OutOfMemory"),
+            Code::Failed => (21, "Failed"),
+            Code::Contradiction => (22, "Contradiction"),
+            Code::Malformed => (23, "Malformed"),
+            Code::ArgumentFault => (24, "ArgumentFault"),
+            Code::NoMemory => (26, "NoMemory"),
+            Code::Left => (27, "Left"),
+        }
+    }
+}

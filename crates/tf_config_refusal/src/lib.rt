@@ -5,11 +5,12 @@
 //! after another. `Path` is the place in code: a list of borrowed steps that is written out only where there is a fault.
 #![tactic(auto)]
 
-pub mod code;
+mod code;
 mod names;
 pub mod path;
 pub mod refusal;
 
+pub use code::Code;
 pub use path::Path;
 pub use refusal::{Detail, Refusal};
 pub use tf_expr_syntax::EvalFault;

@@ -1,8 +1,7 @@
 ghost use Rattle.tf_config_refusal.specs.declared.refusal.Refusal.TheVariants.{OutOfMemory};
 ghost use Rattle.std.specs.Prelude.{◌≡◌, Some};
-ghost use Rattle.tf_config_refusal.specs.Refusal.{detail_of};
-ghost use Rattle.tf_config_refusal.specs.Text.{refusal_name};
 
+use crate::code::Code;
 use crate::names::NameList;
 use std::alloc::{AllocError, AllocFailed};
 use std::fmt;
@@ -17,8 +16,8 @@ pub enum Refusal {
     Workers,
     /// Anything else that is refused.
     Fault {
-        /// The refusal's code, 1 to 14.
-        code: u8,
+        /// What is refused.
+        code: Code,
         /// Where the fault is: a whole file's name, a path of property names and array positions joined
         /// by dots, or an address.
         place: String,
@@ -72,38 +71,17 @@ impl fmt::Display for Refusal {
                 place,
                 detail,
             } => {
-                let cause = Cause {
-                    code: *code,
-                    detail,
-                };
-                write!(f, "error {code} at {place}: {cause}")
+                let number = code.number();
+                let name = code.name();
+                write!(f, "error {number} at {place}: {name}{detail}")
             }
         }
     }
 }
 
-/// The name of a fault with what stands behind it.
-#[derive(Clone, Copy)]
-struct Cause<'a> {
-    code: u8,
-    detail: &'a Detail,
-}
-
-impl fmt::Display for Cause<'_> {
-    ghost use Rattle.tf_config_refusal.specs.Refusal.{detail_of};
-    ghost use Rattle.tf_config_refusal.specs.Text.{cause_text};
-
-    ghost output = { λ cause. Some (cause_text cause.code (detail_of cause.detail.now)) };
-
-    fn fmt<W: fmt::Write>(&self, f: &mut fmt::Formatter<W>) -> fmt::Result {
-        let name = name_of(self.code);
-        let detail = self.detail;
-        write!(f, "{name}{detail}")
-    }
-}
-
 /// What stands behind a refusal's name: nothing, or the detail in parentheses.
 impl fmt::Display for Detail {
+    ghost use Rattle.tf_config_refusal.specs.Refusal.{detail_of};
     ghost use Rattle.tf_config_refusal.specs.Text.{detail_text};
 
     ghost output = { λ detail. Some (detail_text (detail_of detail)) };
@@ -120,29 +98,5 @@ impl fmt::Display for Detail {
             }
             Detail::Kind(fault) => write!(f, "({fault})"),
         }
-    }
-}
-
-/// The name of the refusals with a code.
-fn name_of(code: u8) -> &'static str
-    ensures { result.now ≡ refusal_name code }
-{
-    match code {
-        1 => "NotJson",
-        2 => "BadShape",
-        3 => "BadTemplate",
-        4 => "UnknownName",
-        5 => "Cycle",
-        6 => "BadCount",
-        7 => "BadForEach",
-        8 => "UnknownInstances",
-        9 => "Evaluate",
-        10 => "BadArgument",
-        11 => "NoProvider",
-        12 => "PreventDestroy",
-        13 => "BadState",
-        14 => "Limit",
-        15 => "OutOfMemory",
-        _ => "Unknown",
     }
 }

@@ -3,20 +3,20 @@ use Rattle.std.specs.Prelude.{ℕ}
 use Rattle.tf_expr.specs.Fault as faults
 use Rattle.tf_expr.specs.declared.fault.ExprCause.{ExprCause}
 use Rattle.tf_expr.specs.declared.fault.ExprCause.TheVariants as causes
-use Rattle.tf_config_refusal.specs.Code as code
+use Rattle.tf_config_refusal.specs.declared.code.Code.TheVariants as code
 use Rattle.tf_config_refusal.specs.Refusal.{RefusalView, Way, at, bare, fault, no_memory}
 
 -- BadTemplate, with the byte offset
 abbrev pub bad_template : ℕ → Way
-bad_template offset = (code.bad_template, at offset)
+bad_template offset = (code.BadTemplate, at offset)
 
 -- Limit: a template that is too deep
 abbrev pub too_deep : Way
-too_deep = (code.limit, bare)
+too_deep = (code.Limit, bare)
 
 -- the way in which a fault of an expression is refused
 abbrev pub way_of : ExprCause → Way
-way_of causes.BadShape = (code.bad_shape, bare)
+way_of causes.BadShape = (code.BadShape, bare)
 way_of (causes.At offset) = bad_template offset
 way_of causes.TooDeep = too_deep
 

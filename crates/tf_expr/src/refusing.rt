@@ -6,8 +6,7 @@ ghost use Rattle.tf_expr.specs.Refusing.{refused_expression, way_of};
 ghost use Rattle.tf_config_refusal.specs.Refusal.{detail_of, refusal_of};
 
 use crate::fault::{ExprCause, ExprFault};
-use tf_config_refusal::code::{BAD_SHAPE, BAD_TEMPLATE, LIMIT};
-use tf_config_refusal::{Detail, Refusal};
+use tf_config_refusal::{Code, Detail, Refusal};
 
 /// A fault of an expression, as it is refused.
 impl From<ExprFault> for Refusal {
@@ -29,12 +28,12 @@ impl From<ExprFault> for Refusal {
 }
 
 /// The code of a fault of an expression, and what stands behind its name.
-fn way_of(cause: ExprCause) -> (u8, Detail)
+fn way_of(cause: ExprCause) -> (Code, Detail)
     ensures { (result.0, detail_of result.1) ≡ way_of cause }
 {
     match cause {
-        ExprCause::BadShape => (BAD_SHAPE, Detail::Bare),
-        ExprCause::At(offset) => (BAD_TEMPLATE, Detail::At(offset)),
-        ExprCause::TooDeep => (LIMIT, Detail::Bare),
+        ExprCause::BadShape => (Code::BadShape, Detail::Bare),
+        ExprCause::At(offset) => (Code::BadTemplate, Detail::At(offset)),
+        ExprCause::TooDeep => (Code::Limit, Detail::Bare),
     }
 }

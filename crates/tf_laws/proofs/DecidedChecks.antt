@@ -14,12 +14,13 @@ use Rattle.tf_expr.specs.Opening.{IsPlain, OpensAt, opens}
 use Rattle.tf_expr.specs.declared.fault.ExprCause.TheVariants.{BadShape, TooDeep}
 use Rattle.tf_config_refusal.specs.Check.{AllMet, Check, IsFirst}
 use Rattle.tf_expr.specs.Refusing.{way_of}
+use Rattle.tf_config_refusal.specs.declared.code.Code.{Code}
 use Rattle.tf_config_refusal.specs.Refusal.{DetailView, fault, no_memory, Way}
 use Rattle.tf_expr_syntax.specs.TemplateTree.{Woven, template_depth}
 use Rattle.tf_value.specs.Json.{whole_from}
 use Rattle.tf_value.specs.Known.{known}
 
-pub not_memory : (code : ℕ) (place : List ℕ) (detail : DetailView) → fault code place detail ≡ no_memory → ⊥
+pub not_memory : (code : Code) (place : List ℕ) (detail : DetailView) → fault code place detail ≡ no_memory → ⊥
 not_memory code place detail e = absurd (cc)
 
 -- ---- the first of some checks

@@ -15,6 +15,7 @@ use Rattle.tf_config_names.specs.Cyclic.{RefusesCycle}
 use Rattle.tf_config_names.specs.Judging.{RefusesItsNames}
 use Rattle.tf_config_names.specs.KnownNames.{AreKnown, IsKnown, IsUnknown, RefusesNames, config_checks, declared_in}
 use Rattle.tf_config_names.specs.Needs.{AreCyclic, Needs}
+use Rattle.tf_config_refusal.specs.declared.code.Code.{Code}
 use Rattle.tf_config_refusal.specs.Refusal.{RefusalView, fault, no_memory, workers}
 use Rattle.tf_expr_syntax.specs.TemplateNames.{Pair}
 use Rattle.tf_config.specs.VariableLaws.{ValuesAreFaultless}
@@ -53,7 +54,7 @@ names_good config refusal some good h = elim h [ inl unknown ↦ names_known con
 
 -- ---- variables
 
-pub not_faulty : (file : Option Data) (vs : List VariableView) (code : ℕ) (place : List ℕ) (detail : _) → AreMet (file_checks file vs) → AllMet IsTrue (value_checks file vs) → IsFaulty file vs (fault code place detail) → ⊥
+pub not_faulty : (file : Option Data) (vs : List VariableView) (code : Code) (place : List ℕ) (detail : _) → AreMet (file_checks file vs) → AllMet IsTrue (value_checks file vs) → IsFaulty file vs (fault code place detail) → ⊥
 not_faulty file vs code place detail literal valued h = elim h [
   | inl wrong ↦ IsFirst-unmet IsMet Fails apart (file_checks file vs) place (code, detail) literal wrong
   | inr none ↦ IsFirst-unmet IsTrue HasNone (λ has way met fails. absurd (cc (met, fails.0))) (value_checks file vs) place (code, detail) valued none.1
@@ -71,7 +72,7 @@ is_file bytes tree refusal file h = elim h [
   ]
 ]
 
-not_refused_as : (vars : Option (List ℕ)) (file : Option Data) (vs : List VariableView) (code : ℕ) (place : List ℕ) (detail : _) → IsFileOf vars file → AreMet (file_checks file vs) → AllMet IsTrue (value_checks file vs)
+not_refused_as : (vars : Option (List ℕ)) (file : Option Data) (vs : List VariableView) (code : Code) (place : List ℕ) (detail : _) → IsFileOf vars file → AreMet (file_checks file vs) → AllMet IsTrue (value_checks file vs)
     → IsRefusedAs vars vs (fault code place detail) → ⊥
 not_refused_as None None vs code place detail is literal valued h = not_faulty None vs code place detail literal valued h
 not_refused_as None (Some tree) vs code place detail is literal valued h = is

@@ -24,6 +24,7 @@ use Rattle.tf_config_names.specs.Judging.{RefusesItsNames}
 use Rattle.tf_config_names.specs.KnownNames.{Declared, IsKnown, IsUnknown, NameChecks, RefusesNames, config_checks, declared_in}
 use Rattle.tf_config_names.specs.Needs.{AreCyclic}
 use Rattle.tf_expr.specs.Refusing.{way_of}
+use Rattle.tf_config_refusal.specs.declared.code.Code.{Code}
 use Rattle.tf_config_refusal.specs.Refusal as refusals
 use Rattle.tf_config_refusal.specs.Refusal.{DetailView, RefusalView, fault, no_memory, workers, Way}
 use Rattle.tf_state.proofs.Permuted.{one_order}
@@ -64,7 +65,7 @@ one_fault place there way other here same = ap (λ (p : List ℕ). fault way.0 p
 
 -- of two faults that it tells it tells one
 abbrev TellsOneFault : (RefusalView → Type 0) → Type 0
-TellsOneFault P = (code other : ℕ) (place there : List ℕ) (detail more : DetailView) → P (fault code place detail) → P (fault other there more) → fault code place detail ≡ fault other there more
+TellsOneFault P = (code other : Code) (place there : List ℕ) (detail more : DetailView) → P (fault code place detail) → P (fault other there more) → fault code place detail ≡ fault other there more
 
 told_once : (P : RefusalView → Type 0) → (P workers → ⊥) → TellsOneFault P → (first second : RefusalView) → (first ≡ no_memory → ⊥) → (second ≡ no_memory → ⊥) → P first → P second → first ≡ second
 told_once P none one no_memory second some more h k = absurd (some refl)
@@ -169,7 +170,7 @@ module _ (file : Option Data) (vs : List VariableView) where
       let same = IsFirst-same IsTrue HasNone (λ has way met fails. absurd (cc (met, fails.0))) (λ has way also a b. a.1 ∙ sym b.1) (value_checks file vs) place there (code, detail) (other, more) h k in
       one_fault place there (code, detail) (other, more) same.0 same.1
 
-  literal_apart : (code : ℕ) (place : List ℕ) (detail : DetailView) → AreMet (file_checks file vs) → Refuses (file_checks file vs) (fault code place detail) → ⊥
+  literal_apart : (code : Code) (place : List ℕ) (detail : DetailView) → AreMet (file_checks file vs) → Refuses (file_checks file vs) (fault code place detail) → ⊥
   literal_apart code place detail met h = IsFirst-unmet IsMet Fails apart (file_checks file vs) place (code, detail) met h
 
   faulty_once : TellsOneFault (IsFaulty file vs)

@@ -13,7 +13,7 @@ use Rattle.tf_cli_inputs.specs.Texts.{AreTheValues, Texts}
 use Rattle.tf_config_names.specs.Judging.{RefusesItsNames}
 use Rattle.tf_plan.specs.Refused.{AreRefused, AreRefusedOf}
 use Rattle.tf_provider_protocol.specs.Meaning.{Meaning}
-use Rattle.tf_config_refusal.specs.Code.{limit}
+use Rattle.tf_config_refusal.specs.declared.code.Code.TheVariants as code
 use Rattle.tf_config_refusal.specs.Refusal.{RefusalView, no_memory}
 use Rattle.tf_state.specs.Laws.{TextIsOfOne, TextReadsAsState}
 use Rattle.tf_state.specs.Table.{IsBeyond, IsUnread, Reads}
@@ -40,7 +40,7 @@ pub record Others : Type 0 where
   pub quiet : NothingIsPlannedAtRest
 
 -- a state's text that reads is refused as beyond a limit alone
-beyond : TextIsOfOne → (bytes : List ℕ) (s : StateView) (why : StateFault) (refusal : RefusalView) → Reads bytes s → (refusal ≡ no_memory → ⊥) → IsUnread bytes why → refusal ≡ fault_told why → (refusal ≡ at_state limit) × IsBeyond s
+beyond : TextIsOfOne → (bytes : List ℕ) (s : StateView) (why : StateFault) (refusal : RefusalView) → Reads bytes s → (refusal ≡ no_memory → ⊥) → IsUnread bytes why → refusal ≡ fault_told why → (refusal ≡ at_state code.Limit) × IsBeyond s
 beyond one bytes s BadState refusal reads some unread is = absurd (unread s reads)
 beyond one bytes s Limit refusal reads some unread is = (is, subst IsBeyond (one bytes unread.0 s unread.1 reads) unread.2)
 beyond one bytes s OutOfMemory refusal reads some unread is = absurd (some is)

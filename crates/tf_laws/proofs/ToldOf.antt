@@ -18,7 +18,8 @@ use Rattle.tf_config_refusal.specs.Place.{dotted}
 use Rattle.tf_config_names.specs.Judging.{AllAreKnown, RefusesItsNames}
 use Rattle.tf_config_names.specs.KnownNames.{Declared, IsKnown, IsUnknown, NameDemand, config_checks, declared_in, holds, unknown_name}
 use Rattle.tf_config_names.specs.Needs.{AreCyclic}
-use Rattle.tf_config_refusal.specs.Code as code
+use Rattle.tf_config_refusal.specs.declared.code.Code.TheVariants as code
+use Rattle.tf_config_refusal.specs.declared.code.Code.{Code}
 use Rattle.tf_config_refusal.specs.Refusal as refusals
 use Rattle.tf_config_refusal.specs.Refusal.{DetailView, RefusalView, bare, fault}
 use Rattle.tf_state.proofs.ByTable.{state_said, state_says}
@@ -37,9 +38,9 @@ use Rattle.tf_laws.specs.OneOfTwo.{AreRead, AreToldOf}
 
 -- some fault is refused
 abbrev pub SomeFault : (RefusalView → Type 0) → Type 0
-SomeFault P = (its_code : ℕ) × (place : List ℕ) × (detail : DetailView) × P (fault its_code place detail)
+SomeFault P = (its_code : Code) × (place : List ℕ) × (detail : DetailView) × P (fault its_code place detail)
 
-fault_of : (P : RefusalView → Type 0) (its_code : ℕ) (place : List ℕ) (detail : DetailView) → P (fault its_code place detail) → SomeFault P
+fault_of : (P : RefusalView → Type 0) (its_code : Code) (place : List ℕ) (detail : DetailView) → P (fault its_code place detail) → SomeFault P
 fault_of P its_code place detail h = (its_code, place, detail, h)
 
 -- ---- counts
@@ -67,7 +68,7 @@ name_decided declared d = elim (cases_Bool (holds declared d)) [ inl known ↦ i
 by_texts : (c : ConfigView) (texts : List (List ℕ)) → AllAreKnown c → AreCyclic (names_of c) texts → AreNamesGood c ⊎ SomeFault (RefusesItsNames c)
 by_texts c [] known cyclic = inl (record { known = known; acyclic = λ pair needs. let led = cyclic.found pair needs in omega (arith, led.1) })
 by_texts c (text ∷ texts) known cyclic =
-    inr (fault_of (RefusesItsNames c) code.cycle (codes "configuration") (refusals.names (text ∷ texts)) (inr (known, (refl, refl, (text ∷ texts, refl, cyclic, λ (e : text ∷ texts ≡ []). absurd (cc))))))
+    inr (fault_of (RefusesItsNames c) code.Cycle (codes "configuration") (refusals.names (text ∷ texts)) (inr (known, (refl, refl, (text ∷ texts, refl, cyclic, λ (e : text ∷ texts ≡ []). absurd (cc))))))
 
 pub names_told : (c : ConfigView) → AreNamesGood c ⊎ SomeFault (RefusesItsNames c)
 names_told c =
@@ -79,10 +80,10 @@ names_told c =
 
 -- ---- states
 
-no_state : (bytes : List ℕ) → ((s : StateView) → Reads bytes s → ⊥) → HasFault bytes (at_state code.bad_state)
+no_state : (bytes : List ℕ) → ((s : StateView) → Reads bytes s → ⊥) → HasFault bytes (at_state code.BadState)
 no_state bytes none = record { why = BadState; unread = none; refused = refl }
 
-beyond : (bytes : List ℕ) (s : StateView) → Reads bytes s → IsBeyond s → HasFault bytes (at_state code.limit)
+beyond : (bytes : List ℕ) (s : StateView) → Reads bytes s → IsBeyond s → HasFault bytes (at_state code.Limit)
 beyond bytes s reads more = record { why = Limit; unread = (s, reads, more); refused = refl }
 
 said_none : (o : Option StateView) (s : StateView) → o ≡ None → o ≡ Some s → ⊥
@@ -90,14 +91,14 @@ said_none o s e f = absurd (cc)
 
 by_state : (bytes : List ℕ) (lineage : List ℕ) (tree : Data) → IsTree bytes tree → (o : Option StateView) → state_in tree ≡ o → ((prior : StateView) × IsPrior (Some bytes) lineage prior) ⊎ SomeFault (HasFault bytes)
 by_state bytes lineage tree is None e =
-    inr (fault_of (HasFault bytes) code.bad_state (codes "state") bare
+    inr (fault_of (HasFault bytes) code.BadState (codes "state") bare
     (no_state bytes (λ s reads. said_none (state_in tree) s e (ap state_in (one_tree bytes tree reads.0 is (reads.1, reads.2)) ∙ state_said reads.0 s reads.3))))
 by_state bytes lineage tree is (Some s) e =
     let reads : Reads bytes s = (tree, is.0, is.1, state_says tree s e) in
     elim (cases_lt max_resources (length s.resources)) [
-      | inl many ↦ inr (fault_of (HasFault bytes) code.limit (codes "state") bare (beyond bytes s reads (inl many)))
+      | inl many ↦ inr (fault_of (HasFault bytes) code.Limit (codes "state") bare (beyond bytes s reads (inl many)))
       | inr few ↦ elim (cases_lt s.serial last_serial) [
-        | inr last ↦ inr (fault_of (HasFault bytes) code.limit (codes "state") bare (beyond bytes s reads (inr last)))
+        | inr last ↦ inr (fault_of (HasFault bytes) code.Limit (codes "state") bare (beyond bytes s reads (inr last)))
         | inl before ↦ inl (s, (reads, (few, before)))
       ]
     ]
@@ -106,7 +107,7 @@ pub state_told : (state : Option (List ℕ)) (lineage : List ℕ) → ((prior : 
 state_told None lineage = inl (empty_state lineage, refl)
 state_told (Some bytes) lineage = elim (tree_told bytes) [
   | inl tree ↦ by_state bytes lineage tree.0 tree.1 (state_in tree.0) refl
-  | inr none ↦ inr (fault_of (HasFault bytes) code.bad_state (codes "state") bare (no_state bytes (λ s reads. none reads.0 (reads.1, reads.2))))
+  | inr none ↦ inr (fault_of (HasFault bytes) code.BadState (codes "state") bare (no_state bytes (λ s reads. none reads.0 (reads.1, reads.2))))
 ]
 
 -- ---- the laws that all this rests on
@@ -124,14 +125,14 @@ module _ (laws : Resolved) (R : Type 0) (decided : (checks : Checks) → (AllMet
         let found = laws.stands tree met in
         elim (counts_told found.0) [
           | inl few ↦ read found.0 (record { tree = tree; is_tree = is; stands = found.1; size = small; counts = few })
-          | inr many ↦ refused (fault_of (config.IsRefused bytes) code.limit (dotted whole_file) bare (inr (small, inr (inr (tree, is, found.0, found.1, many, refl)))))
+          | inr many ↦ refused (fault_of (config.IsRefused bytes) code.Limit (dotted whole_file) bare (inr (small, inr (inr (tree, is, found.0, found.1, many, refl)))))
         ]
 
     pub config_told : R
     config_told = elim (cases_lt config.max_bytes (length bytes)) [
-      | inl long ↦ refused (fault_of (config.IsRefused bytes) code.limit (dotted whole_file) bare (inl (long, refl)))
+      | inl long ↦ refused (fault_of (config.IsRefused bytes) code.Limit (dotted whole_file) bare (inl (long, refl)))
       | inr small ↦ elim (tree_told bytes) [
-        | inr none ↦ refused (fault_of (config.IsRefused bytes) code.not_json (dotted whole_file) bare (inr (small, inl (none, refl))))
+        | inr none ↦ refused (fault_of (config.IsRefused bytes) code.NotJson (dotted whole_file) bare (inr (small, inl (none, refl))))
         | inl tree ↦ decided (configuration_checks tree.0) (λ each. elim (first_told IsMet Fails (configuration_checks tree.0) each) [
           | inl met ↦ by_counts tree.0 small tree.1 met
           | inr first ↦ refused (fault_of (config.IsRefused bytes) first.1.0 first.0 first.1.1 (inr (small, inr (inl (tree.0, tree.1, first.2)))))
@@ -151,7 +152,7 @@ module _ (laws : Resolved) (R : Type 0) (decided : (checks : Checks) → (AllMet
     where
       value_decided : (b : Bool) → IsDecidedBy IsTrue HasNone b
       value_decided true = inl refl
-      value_decided false = inr ((code.bad_argument, bare), (refl, refl))
+      value_decided false = inr ((code.BadArgument, bare), (refl, refl))
 
   module _ (vs : List VariableView) where
     -- of the values of variables, by a file where there is one
@@ -164,14 +165,14 @@ module _ (laws : Resolved) (R : Type 0) (decided : (checks : Checks) → (AllMet
         let file : IsFile bytes tree = (small, is, e) in
         faulty_told (Some tree) vs (λ met values valued. good (Some tree, file, met, (values, valued))) (λ f. refused (f.0, f.1, f.2, inr (tree, file, f.3)))
     by_tree bytes tree small is false e good refused =
-        refused (fault_of (variables.IsRefused (Some bytes) vs) code.bad_shape (dotted variables.the_file) bare (inl (inr (small, inr (tree, is, e, refl)))))
+        refused (fault_of (variables.IsRefused (Some bytes) vs) code.BadShape (dotted variables.the_file) bare (inl (inr (small, inr (tree, is, e, refl)))))
 
     pub values_told : (vars : Option (List ℕ)) → (HasValues vars → R) → (SomeFault (variables.IsRefused vars vs) → R) → R
     values_told None good refused = faulty_told None vs (λ met values valued. good (None, tt, met, (values, valued))) (λ f. refused (f.0, f.1, f.2, f.3))
     values_told (Some bytes) good refused = elim (cases_lt variables.max_bytes (length bytes)) [
-      | inl long ↦ refused (fault_of (variables.IsRefused (Some bytes) vs) code.limit (dotted variables.the_file) bare (inl (inl (long, refl))))
+      | inl long ↦ refused (fault_of (variables.IsRefused (Some bytes) vs) code.Limit (dotted variables.the_file) bare (inl (inl (long, refl))))
       | inr small ↦ elim (tree_told bytes) [
-        | inr none ↦ refused (fault_of (variables.IsRefused (Some bytes) vs) code.not_json (dotted variables.the_file) bare (inl (inr (small, inl (none, refl)))))
+        | inr none ↦ refused (fault_of (variables.IsRefused (Some bytes) vs) code.NotJson (dotted variables.the_file) bare (inl (inr (small, inl (none, refl)))))
         | inl tree ↦ by_tree bytes tree.0 small tree.1 (is_object tree.0) refl good refused
       ]
     ]

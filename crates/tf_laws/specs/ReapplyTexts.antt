@@ -19,7 +19,7 @@ use Rattle.tf_plan.specs.Refused.{IsUnplanned}
 use Rattle.tf_provider_protocol.specs.Meaning.{Meaning}
 use Rattle.tf_provider_protocol.specs.Schema.{SchemaView, IsSchema}
 use Rattle.tf_provider_protocol.specs.declared.verdict.Verdict.TheVariants.{Good}
-use Rattle.tf_config_refusal.specs.Code.{limit}
+use Rattle.tf_config_refusal.specs.declared.code.Code.TheVariants as code
 use Rattle.tf_config_refusal.specs.Refusal.{RefusalView}
 use Rattle.tf_walk_report.specs.Report.{report_of}
 use Rattle.tf_state.specs.Table.{last_serial}
@@ -103,7 +103,7 @@ pub record AreUnplannedAgain (ms : List Meaning) (texts : Texts) (a : Applied) (
 
 -- The new state itself is refused, with 14 alone: it has the last serial, so no other can follow.
 abbrev pub HasLastSerial : Applied → List RefusalView → Type 0
-HasLastSerial a refusal_views = (refusal_views ≡ at_state limit ∷ []) × (last_serial ≤ (state_in a).serial)
+HasLastSerial a refusal_views = (refusal_views ≡ at_state code.Limit ∷ []) × (last_serial ≤ (state_in a).serial)
 
 -- What is refused of the same configuration and variables over that text is the state itself, or instances and outputs. No fault of
 -- the configuration, of its names or of the variables is, nor how many instances and actions there are.

@@ -3,7 +3,7 @@ use Rattle.std.specs.Prelude.{ℕ, if◌then◌else◌, List, [], ◌∷◌, ◌
 use Rattle.tf_config_data.specs.Names.{NameView, places}
 use Rattle.tf_graph.specs.Solutions.{seen_by}
 use Rattle.tf_expr_operators.specs.Answer.{Answer}
-use Rattle.tf_config_refusal.specs.Code.{evaluate}
+use Rattle.tf_config_refusal.specs.declared.code.Code.TheVariants as code
 use Rattle.tf_config_refusal.specs.Refusal.{RefusalView, fault, kind}
 use Rattle.tf_expr_syntax.specs.ExprNames.{named_by}
 use Rattle.tf_expr_syntax.specs.ExprTree as expr
@@ -14,7 +14,7 @@ use Rattle.tf_expand.specs.Resolved.{ResolvedView, all_stand, environment}
 -- an output whose value can't be evaluated is refused with 9
 abbrev pub output_fault : List ℕ → Answer → List RefusalView
 output_fault name (Ok t) = []
-output_fault name (Err why) = fault evaluate (codes "output." ++ name) (kind why) ∷ []
+output_fault name (Err why) = fault code.Evaluate (codes "output." ++ name) (kind why) ∷ []
 
 -- An output is looked at only where nothing that it refers to was refused, nor what that needs.
 abbrev pub output_refusal : Entries → List NameView → (ℕ → ResolvedView) → List ℕ → expr.Tree → List RefusalView

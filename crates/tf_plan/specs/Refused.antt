@@ -19,7 +19,7 @@ use Rattle.tf_plan.specs.declared.refused.Refused.{Refused}
 use Rattle.tf_plan.specs.declared.refused.Refused.TheVariants.{NoMemory, These}
 use Rattle.tf_plan_order.specs.OrderInput.{OrderInputView}
 use Rattle.tf_provider_protocol.specs.Meaning.{Meaning}
-use Rattle.tf_config_refusal.specs.Code.{bad_count, bad_for_each, unknown_instances, evaluate, limit}
+use Rattle.tf_config_refusal.specs.declared.code.Code.TheVariants as code
 use Rattle.tf_config_refusal.specs.Refusal.{RefusalView, fault, bare, kind, refusal_of}
 use Rattle.tf_state_data.specs.Resource.{ResourceView}
 use Rattle.tf_state_data.specs.State.{StateView}
@@ -29,14 +29,14 @@ use Rattle.tf_value.specs.Tree.{Entries}
 -- A resource whose instances can't be told is refused at its address: 6 for a bad `count`, 7 for a bad `for_each`, 8
 -- where either isn't known yet, and 9 where it can't be evaluated.
 abbrev pub instances_refusal : ResourceAddrView → RepetitionFault → RefusalView
-instances_refusal addr BadCount = fault bad_count (addr_text addr) bare
-instances_refusal addr BadForEach = fault bad_for_each (addr_text addr) bare
-instances_refusal addr UnknownInstances = fault unknown_instances (addr_text addr) bare
-instances_refusal addr (Evaluation why) = fault evaluate (addr_text addr) (kind why)
+instances_refusal addr BadCount = fault code.BadCount (addr_text addr) bare
+instances_refusal addr BadForEach = fault code.BadForEach (addr_text addr) bare
+instances_refusal addr UnknownInstances = fault code.UnknownInstances (addr_text addr) bare
+instances_refusal addr (Evaluation why) = fault code.Evaluate (addr_text addr) (kind why)
 
 -- what is more than may be is refused with 14, of the whole configuration
 abbrev pub beyond_limit : RefusalView
-beyond_limit = fault limit (codes "configuration") bare
+beyond_limit = fault code.Limit (codes "configuration") bare
 
 -- The first resource by address whose instances can't be told in the expansion, of those that need none such, is refused
 -- alone.

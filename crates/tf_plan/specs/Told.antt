@@ -7,7 +7,7 @@ use Rattle.tf_plan_decision.specs.Deciding.{RefusedInstanceView}
 use Rattle.tf_plan_decision.specs.Decision.{DecisionFaultView, no_provider, unfit, faulty, prevented}
 use Rattle.tf_plan_decision.specs.Prior.{PriorFaultView, as_a_whole, at_attribute}
 use Rattle.tf_plan_data.specs.Address.{address_text}
-use Rattle.tf_config_refusal.specs.Code as code
+use Rattle.tf_config_refusal.specs.declared.code.Code.TheVariants as code
 use Rattle.tf_config_refusal.specs.Refusal.{RefusalView, fault, bare, kind}
 
 -- where an attribute's fault is told: at the instance's address, a dot and the attribute
@@ -16,27 +16,27 @@ attribute_place address name = address ++ 46 ∷ name
 
 -- an evaluation that fails is code 9, a bad argument code 10
 abbrev pub argument_told : List ℕ → ArgumentFault → RefusalView
-argument_told place (Evaluation why) = fault code.evaluate place (kind why)
-argument_told place BadArgument = fault code.bad_argument place bare
+argument_told place (Evaluation why) = fault code.Evaluate place (kind why)
+argument_told place BadArgument = fault code.BadArgument place bare
 
 -- A fault of `for_each` is told with 9 at the instance's address, one of an argument at the attribute.
 abbrev pub fault_told : List ℕ → InstanceFaultView → RefusalView
-fault_told address (for_each_fault why) = fault code.evaluate address (kind why)
+fault_told address (for_each_fault why) = fault code.Evaluate address (kind why)
 fault_told address (argument_fault named) = argument_told (attribute_place address named.0) named.1
 
 -- A prior object that doesn't fit is told with 13, at the instance's address where the whole of it doesn't, and else at the
 -- attribute; so is a deposed one.
 abbrev pub unfit_told : List ℕ → PriorFaultView → RefusalView
-unfit_told address as_a_whole = fault code.bad_state address bare
-unfit_told address (at_attribute name) = fault code.bad_state (attribute_place address name) bare
+unfit_told address as_a_whole = fault code.BadState address bare
+unfit_told address (at_attribute name) = fault code.BadState (attribute_place address name) bare
 
 -- What is told of the instance at an address: 11 where no provider has its type, 12 where an object of it may not be
 -- destroyed.
 abbrev pub why_told : List ℕ → DecisionFaultView → RefusalView
-why_told address no_provider = fault code.no_provider address bare
+why_told address no_provider = fault code.NoProvider address bare
 why_told address (unfit why) = unfit_told address why
 why_told address (faulty why) = fault_told address why
-why_told address prevented = fault code.prevent_destroy address bare
+why_told address prevented = fault code.PreventDestroy address bare
 
 abbrev pub instance_told : RefusedInstanceView → RefusalView
 instance_told r = why_told (address_text r.addr r.key) r.why

@@ -5,14 +5,13 @@ ghost use Rattle.tf_config_address.specs.ResourceAddr.{addr_of};
 ghost use Rattle.tf_config_names.specs.Table.{names_in};
 ghost use Rattle.tf_plan.specs.Refused.{IsPlaced, Tells, TellsFault, beyond_limit, instances_refusal};
 ghost use Rattle.tf_config_refusal.specs.Refusal.{bare, fault, kind, refusal_of};
-ghost use Rattle.tf_config_refusal.specs.Code.{evaluate};
+ghost use Rattle.tf_config_refusal.specs.declared.code.Code.TheVariants.{Evaluate};
 
 use crate::refused::Refused;
 use std::alloc::{AllocError, Global};
 use tf_config_address::ResourceAddr;
 use tf_config_names::{Declaration, Declarations};
-use tf_config_refusal::code::{BAD_COUNT, BAD_FOR_EACH, EVALUATE, LIMIT, UNKNOWN_INSTANCES};
-use tf_config_refusal::{Detail, Refusal};
+use tf_config_refusal::{Code, Detail, Refusal};
 use tf_expand::{ExpansionFault, RepetitionFault};
 use tf_expr_eval::EvalFault;
 
@@ -49,9 +48,9 @@ fn instances_refusal(
 {
     let place = addr.to_string(alloc)?;
     match why {
-        RepetitionFault::BadCount => Ok(bare(BAD_COUNT, place)),
-        RepetitionFault::BadForEach => Ok(bare(BAD_FOR_EACH, place)),
-        RepetitionFault::UnknownInstances => Ok(bare(UNKNOWN_INSTANCES, place)),
+        RepetitionFault::BadCount => Ok(bare(Code::BadCount, place)),
+        RepetitionFault::BadForEach => Ok(bare(Code::BadForEach, place)),
+        RepetitionFault::UnknownInstances => Ok(bare(Code::UnknownInstances, place)),
         RepetitionFault::Evaluation(why) => Ok(evaluation(place, why)),
     }
 }
@@ -65,22 +64,22 @@ pub(crate) fn limit_refusal(alloc: Global) -> Result<Refusal, AllocError>
     ensures { IfOk result (λ refusal. refusal_of refusal ≡ beyond_limit) }
 {
     let place = String::from_str(alloc, "configuration")?;
-    Ok(bare(LIMIT, place))
+    Ok(bare(Code::Limit, place))
 }
 
 /// An evaluation at a place failed.
 pub(crate) fn evaluation(place: String, why: EvalFault) -> Refusal
-    ensures { refusal_of result ≡ fault evaluate (string_bytes place) (kind why) }
+    ensures { refusal_of result ≡ fault Evaluate (string_bytes place) (kind why) }
 {
     Refusal::Fault {
-        code: EVALUATE,
+        code: Code::Evaluate,
         place,
         detail: Detail::Kind(why),
     }
 }
 
 /// A fault at a place of which nothing more is told.
-pub(crate) fn bare(code: u8, place: String) -> Refusal
+pub(crate) fn bare(code: Code, place: String) -> Refusal
     ensures { refusal_of result ≡ fault code (string_bytes place) bare }
 {
     Refusal::Fault {

@@ -9,8 +9,7 @@ ghost use Rattle.tf_config_refusal.specs.Refusal.{refusal_of};
 
 use crate::faults::{bare, evaluation};
 use std::alloc::{AllocError, Global};
-use tf_config_refusal::Refusal;
-use tf_config_refusal::code::{BAD_ARGUMENT, BAD_STATE, NO_PROVIDER, PREVENT_DESTROY};
+use tf_config_refusal::{Code, Refusal};
 use tf_plan_data::address_text;
 use tf_plan_decision::{DecisionFault, PriorFault, RefusedInstance};
 use tf_plan_object::{ArgumentFault, InstanceFault};
@@ -36,10 +35,10 @@ fn instance_refusal(alloc: Global, instance: RefusedInstance) -> Result<Refusal,
     let RefusedInstance { addr, key, why } = instance;
     let address = address_text(alloc, &addr, &key)?;
     match why {
-        DecisionFault::NoProvider => Ok(bare(NO_PROVIDER, address)),
+        DecisionFault::NoProvider => Ok(bare(Code::NoProvider, address)),
         DecisionFault::Unfit(fault) => unfit(alloc, address, fault),
         DecisionFault::Faulty(fault) => faulty(alloc, address, fault),
-        DecisionFault::Prevented => Ok(bare(PREVENT_DESTROY, address)),
+        DecisionFault::Prevented => Ok(bare(Code::PreventDestroy, address)),
     }
 }
 
@@ -48,10 +47,10 @@ fn unfit(alloc: Global, address: String, fault: PriorFault) -> Result<Refusal, A
     ensures { IfOk result (λ refusal. refusal_of refusal ≡ unfit_told (string_bytes address) (prior_fault_of fault)) }
 {
     match fault {
-        PriorFault::Whole => Ok(bare(BAD_STATE, address)),
+        PriorFault::Whole => Ok(bare(Code::BadState, address)),
         PriorFault::Attribute(name) => {
             let place = attribute_place(alloc, address, name)?;
-            Ok(bare(BAD_STATE, place))
+            Ok(bare(Code::BadState, place))
         }
     }
 }
@@ -84,6 +83,6 @@ fn argument(place: String, fault: ArgumentFault) -> Refusal
 {
     match fault {
         ArgumentFault::Evaluation(why) => evaluation(place, why),
-        ArgumentFault::BadArgument => bare(BAD_ARGUMENT, place),
+        ArgumentFault::BadArgument => bare(Code::BadArgument, place),
     }
 }

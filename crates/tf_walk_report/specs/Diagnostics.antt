@@ -1,5 +1,7 @@
 -- What an apply tells of actions that aren't good.
 use Rattle.std.specs.Prelude.{ℕ, nat_lt, if◌then◌else◌, List, [], ◌∷◌, ◌++◌, map, codes, Option, Some, string_bytes, slice_index_or}
+use Rattle.tf_config_refusal.specs.declared.code.Code.{Code}
+use Rattle.tf_config_refusal.specs.declared.code.Code.TheVariants as code
 use Rattle.tf_plan_data.specs.Action.{ActionView}
 use Rattle.tf_walk_action.specs.Excuse.{Moment, by_stop}
 use Rattle.tf_walk_action.specs.Message.{fault_message}
@@ -15,7 +17,7 @@ use Rattle.tf_walk_report.specs.declared.diagnostic.Diagnostic.{Diagnostic}
 
 -- a diagnostic: its code, the address that it speaks of, what was to be done there, and its message
 pub record DiagnosticView : Type 0 where
-  pub code : ℕ
+  pub code : Code
   pub place : List ℕ
   pub verb : Option Op
   pub message : List ℕ
@@ -40,27 +42,27 @@ name_at (Some (tree.map es)) place = slice_index_or (keys_of es) place []
 name_at _ place = []
 
 -- the diagnostic of an object's address, and of what was to be done with it
-abbrev pub told_at : List ℕ → Op → ℕ → List ℕ → List DiagnosticView
-told_at place op code message = record { code = code; place = place; verb = Some op; message = message } ∷ []
+abbrev pub told_at : List ℕ → Op → Code → List ℕ → List DiagnosticView
+told_at place op which message = record { code = which; place = place; verb = Some op; message = message } ∷ []
 
 -- A failure is 21 with the provider's message, a contradiction 22 with the first attribute in byte order, a
 -- malformed reply 23.
 abbrev pub diagnostics_of_verdict : List ℕ → Op → Asked → Option Answer → Verdict → List DiagnosticView
-diagnostics_of_verdict place op asked answer verdict.Failed = told_at place op 21 (failure_message answer)
-diagnostics_of_verdict place op asked answer (verdict.Contradicted n) = told_at place op 22 (codes "contradicts " ++ name_at asked.object n)
-diagnostics_of_verdict place op asked answer verdict.Malformed = told_at place op 23 (codes "malformed reply")
+diagnostics_of_verdict place op asked answer verdict.Failed = told_at place op code.Failed (failure_message answer)
+diagnostics_of_verdict place op asked answer (verdict.Contradicted n) = told_at place op code.Contradiction (codes "contradicts " ++ name_at asked.object n)
+diagnostics_of_verdict place op asked answer verdict.Malformed = told_at place op code.Malformed (codes "malformed reply")
 diagnostics_of_verdict place op asked answer _ = []
 
 -- want of memory is 26, and an action that was left is 27
 abbrev pub diagnostics_of_excuse : List ℕ → Op → Moment → List DiagnosticView
-diagnostics_of_excuse place op by_stop = told_at place op 27 (codes "left")
-diagnostics_of_excuse place op _ = told_at place op 26 (codes "no memory")
+diagnostics_of_excuse place op by_stop = told_at place op code.Left (codes "left")
+diagnostics_of_excuse place op _ = told_at place op code.NoMemory (codes "no memory")
 
 -- what is wrong with a request is 24; a skipped action has none
 abbrev pub diagnostics_at : List ℕ → Op → ActionResultView → List DiagnosticView
 diagnostics_at place op skipped = []
 diagnostics_at place op (excused moment) = diagnostics_of_excuse place op moment
-diagnostics_at place op (faulted why) = told_at place op 24 (fault_message why)
+diagnostics_at place op (faulted why) = told_at place op code.ArgumentFault (fault_message why)
 diagnostics_at place op (called asked answer v) = diagnostics_of_verdict place op asked answer v
 
 -- the diagnostics of actions, in their order

@@ -1,5 +1,6 @@
 -- What an apply tells of outputs.
 use Rattle.std.specs.Prelude.{ℕ, ◌+◌, List, [], ◌∷◌, ◌++◌, codes, None}
+use Rattle.tf_config_refusal.specs.declared.code.Code.TheVariants as code
 use Rattle.tf_walk_action.specs.Message.{evaluation_text}
 use Rattle.tf_walk_action.specs.declared.excuse.Excuse.{Excuse}
 use Rattle.tf_walk_action.specs.declared.excuse.Excuse.TheVariants.{Output}
@@ -14,8 +15,8 @@ output_place name = codes "output." ++ name
 
 -- A fault is 24, want of memory 26; an output that wasn't evaluated anew, or has a value, has none.
 abbrev pub diagnostics_of_output : List ℕ → OutputResult → List DiagnosticView
-diagnostics_of_output place (Faulted why) = record { code = 24; place = place; verb = None; message = evaluation_text why } ∷ []
-diagnostics_of_output place NoMemory = record { code = 26; place = place; verb = None; message = codes "no memory" } ∷ []
+diagnostics_of_output place (Faulted why) = record { code = code.ArgumentFault; place = place; verb = None; message = evaluation_text why } ∷ []
+diagnostics_of_output place NoMemory = record { code = code.NoMemory; place = place; verb = None; message = codes "no memory" } ∷ []
 diagnostics_of_output place NotEvaluated = []
 diagnostics_of_output place Valued = []
 

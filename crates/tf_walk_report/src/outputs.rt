@@ -14,6 +14,7 @@ use crate::ends::OutputResult;
 use crate::texts::OutputTexts;
 use std::alloc::{AllocError, Global};
 use std::collections::BTreeMap;
+use tf_config_refusal::Code;
 use tf_expr_eval::EvalFault;
 use tf_expr_syntax::Expr;
 use tf_walk_action::Excuse;
@@ -73,16 +74,16 @@ fn tell_output(texts: OutputTexts, end: OutputResult) -> Option<Diagnostic>
         OutputResult::NotEvaluated | OutputResult::Valued => None,
         OutputResult::NoMemory => {
             message.push_str("no memory").unwrap();
-            Some(diagnostic(26, place, message))
+            Some(diagnostic(Code::NoMemory, place, message))
         }
         OutputResult::Faulted(fault) => {
             message.push_str(evaluation_message(fault)).unwrap();
-            Some(diagnostic(24, place, message))
+            Some(diagnostic(Code::ArgumentFault, place, message))
         }
     }
 }
 
-fn diagnostic(code: u8, place: String, message: String) -> Diagnostic
+fn diagnostic(code: Code, place: String, message: String) -> Diagnostic
     ensures { diagnostic_of result ≡ record { code = code; place = string_bytes place; verb = None; message = string_bytes message } }
 {
     Diagnostic {

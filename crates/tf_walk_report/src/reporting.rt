@@ -2,6 +2,7 @@
 
 ghost use Rattle.std.specs.Prelude.{◌≡◌, ◌≤◌, true, None, Option, Some, length, map, option_map, string_bytes, IfSome, IsSome};
 ghost use Rattle.tf_walk_action.specs.Words.{Answer, answered, Asked, asked, result_or_skipped, fault_message, has_stored_attributes, instance_fault_of, addr_of, SchemaView, tree_of, verdict_on, with_nulls};
+ghost use Rattle.tf_config_refusal.specs.declared.code.Code.TheVariants.{ArgumentFault};
 ghost use Rattle.tf_provider_protocol.specs.declared.request.Op.TheVariants.{Create};
 ghost use Rattle.tf_provider_protocol.specs.declared.verdict.Verdict.TheVariants.{Malformed};
 ghost use Rattle.tf_state.specs.Valid.{IsAttributes};
@@ -18,6 +19,7 @@ use crate::diagnostic::Diagnostic;
 use crate::replied::{has_stored_attributes, open_reply};
 use crate::telling::telling;
 use tf_config_address::ResourceAddr;
+use tf_config_refusal::Code;
 use tf_provider::{Op, Provider, Schema, Verdict, schema_for};
 use tf_state_data::Object;
 use tf_state_next::{
@@ -41,9 +43,9 @@ pub(crate) fn report_action<'p>(
     match ended {
         None => skip(room, events),
         Some(ActionResult::Skipped(_, _)) => skip(room, events),
-        Some(ActionResult::NotAsked(_)) => not_called(room, 26, "no memory", events),
-        Some(ActionResult::NotServed(_)) => not_called(room, 26, "no memory", events),
-        Some(ActionResult::Left(_, _)) => not_called(room, 27, "left", events),
+        Some(ActionResult::NotAsked(_)) => not_called(room, Code::NoMemory, "no memory", events),
+        Some(ActionResult::NotServed(_)) => not_called(room, Code::NoMemory, "no memory", events),
+        Some(ActionResult::Left(_, _)) => not_called(room, Code::Left, "left", events),
         Some(ActionResult::Faulted(faulted, _)) => fault(room, faulted, events),
         Some(ActionResult::Called(served)) => {
             match schema_for(providers, served.call.request().type_name.as_str()) {
@@ -68,7 +70,7 @@ fn skip<'p>(room: ActionBuffers<'p>, events: &mut Events<'p>) -> Option<Diagnost
 /// What is told of an action that wasn't called, and why.
 fn not_called<'p>(
     room: ActionBuffers<'p>,
-    code: u8,
+    code: Code,
     reason: &str,
     events: &mut Events<'p>,
 ) -> Option<Diagnostic>
@@ -99,11 +101,11 @@ fn fault<'p>(
     requires { HasRoom events.old }
     ensures added { IsAdded (unchanged_at (buffers_head room.entry)) events.old events.new }
     ensures diagnostic { option_map diagnostic_of result
-        ≡ Some (record { code = 24; place = (buffers_head room.entry).place; verb = Some room.entry.op; message = fault_message (instance_fault_of faulted.fault) }) }
+        ≡ Some (record { code = ArgumentFault; place = (buffers_head room.entry).place; verb = Some room.entry.op; message = fault_message (instance_fault_of faulted.fault) }) }
 {
     let Faulted { message, .. } = faulted;
     add_unchanged(room.addr, room.target, events);
-    told(room.place, room.op, Some((24, message)))
+    told(room.place, room.op, Some((Code::ArgumentFault, message)))
 }
 
 /// Adds what an action changes that wasn't called: it saved nothing, and what is known of an object stays.
@@ -148,7 +150,7 @@ fn add_destroy<'p>(destroy: Destroy<'p>, events: &mut Events<'p>)
 }
 
 /// The diagnostic of what is told of an action, by its code and its message.
-fn told(place: String, op: Op, telling: Option<(u8, String)>) -> Option<Diagnostic>
+fn told(place: String, op: Op, telling: Option<(Code, String)>) -> Option<Diagnostic>
     ensures { option_map diagnostic_of result
         ≡ option_map (λ t. record { code = t.0; place = string_bytes place; verb = Some op; message = string_bytes t.1 }) telling }
 {

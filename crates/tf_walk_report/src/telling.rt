@@ -8,6 +8,7 @@ ghost use Rattle.tf_walk_report.specs.Diagnostics.{diagnostics_of_verdict, failu
 ghost use Rattle.tf_walk_report.specs.Replied.{failure_in};
 
 use crate::one_line::one_line;
+use tf_config_refusal::Code;
 use tf_provider::Verdict;
 use tf_value::Value;
 
@@ -18,7 +19,7 @@ pub fn telling(
     mut message: String,
     object: &Option<Value>,
     failure: Option<String>,
-) -> Option<(u8, String)>
+) -> Option<(Code, String)>
     requires blank { string_bytes message ≡ [] }
     requires fits { message_fits (string_capacity message) (option_map tree_of object.now) ≡ true }
     ensures { (place : List ℕ) (op : Op) (r : Asked) (answer : Option Answer) → r.object ≡ option_map tree_of object.now
@@ -28,12 +29,15 @@ pub fn telling(
 {
     match verdict {
         Verdict::Good | Verdict::Excused => None,
-        Verdict::Contradicted(place) => Some((22, contradiction(message, object, place))),
+        Verdict::Contradicted(place) => Some((
+            Code::Contradiction,
+            contradiction(message, object, place),
+        )),
         Verdict::Malformed => {
             message.push_str("malformed reply").unwrap();
-            Some((23, message))
+            Some((Code::Malformed, message))
         }
-        Verdict::Failed => Some((21, failed(message, failure))),
+        Verdict::Failed => Some((Code::Failed, failed(message, failure))),
     }
 }
 

@@ -5,7 +5,7 @@ use std::io;
 use std::io::{ErrorKind, Write};
 use std::test::Fail;
 use tf_cli::{Refused, print_refused, save};
-use tf_config_refusal::{Detail, EvalFault, Refusal};
+use tf_config_refusal::{Code, Detail, EvalFault, Refusal};
 
 /// What the bad call of a writer does.
 #[derive(Clone, Copy, PartialEq)]
@@ -123,7 +123,7 @@ fn saves_up_to_the_bad_write(rt: HostRuntime) -> Result<(), Fail> {
 const LINES: &str =
     "error 14 at workers: Limit\nerror 3 at output.o.value: BadTemplate(2)\nerror 5 at configuration: Cycle(local.x, local.y)\nerror 9 at output.o: Evaluate(Overflow)\nerror 2 at v: BadShape\nerror 15 at memory: OutOfMemory\n";
 
-fn fault(alloc: Global, code: u8, place: &str, detail: Detail) -> Result<Refusal, Fail> {
+fn fault(alloc: Global, code: Code, place: &str, detail: Detail) -> Result<Refusal, Fail> {
     Ok(Refusal::Fault {
         code,
         place: String::from_str(alloc, place)?,
@@ -138,10 +138,15 @@ fn refusals(alloc: Global) -> Result<Refused, Fail> {
     names.push(String::from_str(alloc, "local.y")?)?;
     let mut all = Vec::new(alloc);
     all.push(Refusal::Workers)?;
-    all.push(fault(alloc, 3, "output.o.value", Detail::At(2))?)?;
-    all.push(fault(alloc, 5, "configuration", Detail::Names(names))?)?;
-    all.push(fault(alloc, 9, "output.o", Detail::Kind(EvalFault::Overflow))?)?;
-    all.push(fault(alloc, 2, "v", Detail::Bare)?)?;
+    all.push(fault(alloc, Code::BadTemplate, "output.o.value", Detail::At(2))?)?;
+    all.push(fault(alloc, Code::Cycle, "configuration", Detail::Names(names))?)?;
+    all.push(fault(
+        alloc,
+        Code::Evaluate,
+        "output.o",
+        Detail::Kind(EvalFault::Overflow),
+    )?)?;
+    all.push(fault(alloc, Code::BadShape, "v", Detail::Bare)?)?;
     all.push(Refusal::OutOfMemory)?;
     Ok(Refused::These(all))
 }

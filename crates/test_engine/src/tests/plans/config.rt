@@ -3,7 +3,7 @@
 use std::alloc::{AllocError, Global};
 use std::test::Fail;
 use tf_config::{
-    Config, Detail, Refusal, blocks_are_in_order, blocks_have_names, faultless_trees_stand,
+    Code, Config, Detail, Refusal, blocks_are_in_order, blocks_have_names, faultless_trees_stand,
     names_are_few, read, refusals_are_one,
 };
 
@@ -129,7 +129,7 @@ fn is_of_a_template(refusal: &Refusal, path: &str) -> bool {
     match refusal {
         Refusal::OutOfMemory => true,
         Refusal::Fault {
-            code: 3,
+            code: Code::BadTemplate,
             place,
             detail: Detail::At(2),
         } => place.as_str() == path,

@@ -4,9 +4,7 @@ use std::collections::BTreeSet;
 use std::test::Fail;
 use tf_config_address::{InstanceKey, ObjectId};
 use tf_state_data::{Object, Record, Resource};
-use tf_state_next::{
-    ApplyResult, Left, RecordInput, Saved, deposed_key, record_apply, record_destroy,
-};
+use tf_state_next::{Left, RecordInput, Saved, deposed_key, record_apply, record_destroy};
 use tf_value::Value;
 
 // Records with deposed objects of the instances 1 and 2.
@@ -76,13 +74,13 @@ fn replace(alloc: Global, resource: &mut Resource, deposed_key: String) -> Resul
         create_before_destroy: false,
         deposed_key: Some(deposed_key),
     };
-    let applied = ApplyResult::Saved(Saved {
+    let saved = Some(Saved {
         attributes: Object {
             value: Value::Bool(true),
         },
         tainted: true,
     });
-    record_apply(resource, given, applied);
+    record_apply(resource, given, saved);
     Ok(())
 }
 

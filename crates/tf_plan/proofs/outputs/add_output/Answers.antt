@@ -2,7 +2,7 @@ use Rattle.std.proofs.Common.{rules, ◌≡◌, ◌++◌, ◌∷◌, [], true, E
 use Rattle.std.proofs.lemmas.List.{map-append}
 use Rattle.tf_config_data.specs.Names.{places}
 use Rattle.tf_config_names.specs.Table.{names_in}
-use Rattle.tf_config_refusal.specs.Code.{evaluate}
+use Rattle.tf_config_refusal.specs.declared.code.Code.TheVariants as code
 use Rattle.tf_config_refusal.specs.Refusal.{refusal_of, fault, kind}
 use Rattle.tf_expand.specs.Resolved.{all_stand, environment}
 use Rattle.tf_expand.specs.Views.{resolved_names_of}
@@ -21,7 +21,7 @@ returns c =
     let stand : all_stand (seen_by (resolved_names_of c.args.kept.now) (places (names_in parts.names.now) (named_by (tree_of c.args.expr.now)))) ≡ true = search rules in
     let meant : meaning (environment (entries_view parts.variables.now.entries) (names_in parts.names.now) (resolved_names_of c.args.kept.now)) (tree_of c.args.expr.now) ≡ Err c.in-Err.why = search rules in
     let text : string_bytes c.in_ok-place-in-Err.place ≡ codes "output." ++ c.args.name.now = search rules in
-    let refused : refusal_of c.evaluation.result ≡ fault evaluate (codes "output." ++ c.args.name.now) (kind c.in-Err.why) = c.evaluation.ensures ∙ ap (λ place. fault evaluate place (kind c.in-Err.why)) text in
+    let refused : refusal_of c.evaluation.result ≡ fault code.Evaluate (codes "output." ++ c.args.name.now) (kind c.in-Err.why) = c.evaluation.ensures ∙ ap (λ place. fault code.Evaluate place (kind c.in-Err.why)) text in
     let old = c.args.refusals.now.items in
     let told = ap (map refusal_of) c.in_ok-push-in-Err.ensures.items ∙ map-append refusal_of old (c.evaluation.result ∷ []) ∙ ap (λ t. map refusal_of old ++ t ∷ []) refused in
     subst
