@@ -46,7 +46,7 @@ impl Part<'_> {
     fn is_known(&self) -> bool {
         let is_number = self.text.as_str().parse::<usize>().is_ok();
         match self.name {
-            "workers" | "alike" => is_number,
+            "workers" | "alike" | "left exceeds" => is_number,
             other => NAMES.iter().any(|name| *name == other),
         }
     }
@@ -94,6 +94,12 @@ impl<'a> Case<'a> {
     /// The number that is the text of a part; without such a part there is none.
     pub(crate) fn number(&self, name: &str) -> Option<usize> {
         self.part(name)?.parse::<usize>().ok()
+    }
+
+    /// Whether the case has no part of this name, and needs none: `well` or `alike` stands in its place.
+    pub(crate) fn leaves_out(&self, name: &str) -> bool {
+        let may_leave_out = self.part("well").is_some() || self.part("alike").is_some();
+        may_leave_out && self.part(name).is_none()
     }
 
     /// What the case hands in, beside a state.

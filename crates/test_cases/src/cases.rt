@@ -41,7 +41,7 @@ impl<'a> Check<'a> {
         self.note(part, seen)
     }
 
-    /// The same, of a part that may be left out.
+    /// The same, of a part without which nothing is compared.
     fn compare_said(&mut self, part: &str, seen: &str) -> Result<(), Fail> {
         if self.case.part(part).is_none() {
             return Ok(());
@@ -242,36 +242,49 @@ fn check_apply<R: Threads + Wait + Sync>(
         seen.status == status,
         "the status is 2 where something is told, else 0",
     )?;
+    compare_met(check, seen.met)?;
     compare_seen(check, &seen)?;
     Ok(seen)
+}
+
+/// The request to which a case has a reply, where it names one, was met.
+fn compare_met(check: &mut Check<'_>, met: usize) -> Result<(), Fail> {
+    match check.case.part("request") {
+        Some(request) if met == 0 => check.note("no action asks for", request),
+        _ => Ok(()),
+    }
 }
 
 /// What was seen of an apply is what the case says.
 fn compare_seen(check: &mut Check<'_>, seen: &SeenApply) -> Result<(), Fail> {
     if check.case.part("well").is_some() {
         check.demand(seen.errors.is_empty(), "all goes well")?;
-    } else if check.case.part("alike").is_none() {
-        check.compare("told", seen.output.as_str())?;
-        check.compare("errors", seen.errors.as_str())?;
-        check.compare("excused", seen.excused.as_str())?;
+    }
+    for (part, text) in [
+        ("told", seen.output.as_str()),
+        ("errors", seen.errors.as_str()),
+        ("excused", seen.excused.as_str()),
+    ] {
+        if !check.case.leaves_out(part) {
+            check.compare(part, text)?;
+        }
+    }
+    if !check.case.leaves_out("left") || !check.case.leaves_out("kept") {
         check.compare_left(seen)?;
     }
     compare_said(check, seen)
 }
 
-/// What the case says of an apply, and may leave out, is so.
+/// What the case says of an apply beside these, and may always leave out, is so.
 fn compare_said(check: &mut Check<'_>, seen: &SeenApply) -> Result<(), Fail> {
-    check.compare_said("told", seen.output.as_str())?;
-    check.compare_said("errors", seen.errors.as_str())?;
-    check.compare_said("excused", seen.excused.as_str())?;
     check.compare_said("outcomes", seen.outcomes.as_str())?;
     let calls = format!(in check.alloc; "{}", seen.calls)?;
     check.compare_said("calls", calls.as_str())?;
     check.find("told has", seen.output.as_str(), true)?;
     check.find("left has", seen.state.as_str(), true)?;
     check.find("left lacks", seen.state.as_str(), false)?;
-    if check.case.part("left").is_some() || check.case.part("kept").is_some() {
-        check.compare_left(seen)?;
+    if let Some(bytes) = check.case.number("left exceeds") {
+        check.demand(seen.state.len() > bytes, "the state after has more bytes")?;
     }
     compare_journal(check, seen.journal_text.as_str())
 }

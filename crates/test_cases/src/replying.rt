@@ -3,7 +3,8 @@
 use crate::case::Case;
 use serde_json::Value as Json;
 use std::alloc::Global;
-use std::sync::Wait;
+use std::sync::atomic::{AtomicUsize, Ordering};
+use std::sync::{Arc, Wait};
 use std::test::Fail;
 use std::thread::Threads;
 use test_watching::{Manner, Misled, SeenApply, Texts, apply_by, watch_manner};
@@ -51,6 +52,7 @@ fn misled(alloc: Global, case: &Case<'_>, request: &str) -> Result<Misled, Fail>
         is_apply: operation != "destroy",
         message: message(alloc, case.part("fails with"))?,
         object: object(alloc, case.part("object"))?,
+        met: Arc::new(alloc, AtomicUsize::new(0))?,
     })
 }
 
@@ -62,10 +64,12 @@ fn apply_misled<R: Threads + Wait + Sync>(
     texts: Texts<'_>,
     workers: usize,
 ) -> Result<SeenApply, Fail> {
+    let met = Arc::try_clone(&misled.met)?;
     let mut providers: Vec<Box<dyn Provider + Sync>> = Vec::new(alloc);
     providers.push(Box::new(alloc, misled)?)?;
     let mut seen = apply_by(rt, alloc, texts, &providers, workers, &Stop::new())?;
     seen.calls = seen.journal.len();
+    seen.met = met.load(Ordering::SeqCst);
     Ok(seen)
 }
 

@@ -65,6 +65,8 @@ pub struct SeenApply {
     /// What is excused.
     pub excused: String,
     pub calls: usize,
+    /// How many of the calls were the request to which a script replies.
+    pub met: usize,
     /// The actions in the journal.
     pub journal: Vec<usize>,
     /// The same, as a text.
@@ -141,6 +143,7 @@ pub fn apply_by<R: Threads + Wait + Sync>(
         outcomes: after.outcomes,
         excused: after.excused,
         calls: 0,
+        met: 0,
         journal_text: listed(alloc, after.journal.as_slice())?,
         journal: after.journal,
     })

@@ -6,6 +6,8 @@ ghost use Rattle.tf_provider_protocol.specs.Meaning.{answered, failed, gone, obj
 ghost use Rattle.tf_value.specs.Tree.{tree_of};
 
 use std::alloc::AllocError;
+use std::sync::Arc;
+use std::sync::atomic::{AtomicUsize, Ordering};
 use tf_provider::{Provider, Reply, Request, Schema};
 use tf_provider_sim::Sim;
 use tf_value::{Value, copy};
@@ -21,6 +23,8 @@ pub struct Misled {
     pub is_apply: bool,
     pub message: Option<String>,
     pub object: Option<Value>,
+    /// How often it was asked for.
+    pub met: Arc<AtomicUsize>,
 }
 
 impl Provider for Misled {
@@ -46,6 +50,7 @@ impl Provider for Misled {
         let is_apply = request.object.is_some();
         let is_kind = if self.is_apply { is_apply } else { !is_apply };
         if request.address.as_str() == self.address.as_str() && is_kind {
+            self.met.fetch_add(1, Ordering::SeqCst);
             scripted_reply(&self.message, &self.object)
         } else {
             self.sim.apply(request)
