@@ -60,7 +60,7 @@ HasTooMany bytes refusal =
 abbrev pub IsRefused : List ℕ → RefusalView → Type 0
 IsRefused bytes no_memory = Unit {0}
 IsRefused bytes workers = ⊥
-IsRefused bytes (fault code place detail) =
-    let refusal = fault code place detail in
+IsRefused bytes (fault which place detail) =
+    let refusal = fault which place detail in
     ((max_bytes < length bytes) × (refusal ≡ whole_fault code.Limit))
     ⊎ ((length bytes ≤ max_bytes) × (IsNotJson bytes refusal ⊎ IsMisshapen bytes refusal ⊎ HasTooMany bytes refusal))
