@@ -3,7 +3,7 @@ use Rattle.std.proofs.Common.{◌≡◌, ◌∙◌, ◌<◌, ℕ, Bool, true, fa
 use Rattle.std.specs.Option.{option_map_or}
 use Rattle.std.specs.Prelude.{option_and_then, slice_get}
 use Rattle.tf_plan_data.specs.Action.{ActionView, StepView, create, update, replacement, replaced, destroyed, deposed_destroyed}
-use Rattle.tf_walk_report.specs.Change.{applied_of_done, as_applied, left_of_done, saved_by}
+use Rattle.tf_walk_report.specs.Change.{applied_of_done, left_of_done, saved_by}
 use Rattle.tf_config_address.specs.ObjectId.{InstanceKeyView}
 use Rattle.tf_plan_object.specs.Instance.{InstanceFaultView}
 use Rattle.tf_config_data.specs.Names.{meant_at}
@@ -24,7 +24,7 @@ use Rattle.tf_provider_protocol.specs.declared.request.Op.{Op}
 use Rattle.tf_provider_protocol.specs.declared.request.Op.TheVariants.{Create, Update, Destroy}
 use Rattle.tf_provider_protocol.specs.declared.verdict.Verdict.{Verdict}
 use Rattle.tf_provider_protocol.specs.declared.verdict.Verdict.TheVariants as verdict
-use Rattle.tf_state_next.specs.Ends.{ApplyResultView, LeftView, SavedView, saved, unchanged}
+use Rattle.tf_state_next.specs.Ends.{as_applied, ApplyResultView, LeftView, SavedView, saved, unchanged}
 use Rattle.tf_state_next.specs.Ends as ends
 use Rattle.tf_state_next.specs.Saved.{left_by_destroy}
 use Rattle.tf_value.specs.Tree.{Tree}
