@@ -61,9 +61,9 @@ fn faulty(alloc: Global, address: String, fault: InstanceFault) -> Result<Refusa
 {
     match fault {
         InstanceFault::ForEach(why) => Ok(evaluation(address, why)),
-        InstanceFault::Argument(named) => {
-            let place = attribute_place(alloc, address, named.name)?;
-            Ok(argument(place, named.fault))
+        InstanceFault::Argument { name, fault } => {
+            let place = attribute_place(alloc, address, name)?;
+            Ok(argument(place, fault))
         }
     }
 }

@@ -2,13 +2,12 @@
 
 ghost use Rattle.std.specs.Prelude.{◌≡◌, IfOk, map, option_map, string_bytes};
 ghost use Rattle.tf_plan_object.specs.Instance.{argument_fault, instance_fault_of, instance_of};
-ghost use Rattle.tf_plan_object.specs.Object.{named_fault_of};
 ghost use Rattle.tf_plan_object.specs.declared.argument.ArgumentFault.TheVariants.{BadArgument};
 ghost use Rattle.tf_plan_decision.specs.Ignored.{heeding, ignored_fault, sooner_fault};
 
 use crate::names::sooner;
 use std::alloc::{AllocError, Global};
-use tf_plan_object::{ArgumentFault, InstanceFault, NamedFault};
+use tf_plan_object::{ArgumentFault, InstanceFault};
 use tf_provider_protocol::Schema;
 use tf_value::Value;
 
@@ -39,27 +38,34 @@ pub(crate) fn heeding(
         Some(name) => match planned {
             Ok(_) => Ok(Err(bad_argument(alloc, name)?)),
             Err(InstanceFault::ForEach(why)) => Ok(Err(InstanceFault::ForEach(why))),
-            Err(InstanceFault::Argument(found)) => Ok(Err(sooner_fault(alloc, found, name)?)),
+            Err(InstanceFault::Argument { name: found, fault }) => {
+                Ok(Err(sooner_fault(alloc, found, fault, name)?))
+            }
         },
     }
 }
 
-/// A fault of an argument, or that of a name whose changes are ignored where this comes first in byte order.
-fn sooner_fault(alloc: Global, found: NamedFault, name: &str) -> Result<InstanceFault, AllocError>
-    ensures { IfOk result (λ fault. instance_fault_of fault ≡ argument_fault (sooner_fault (named_fault_of found) (name.now, BadArgument))) }
+/// The fault of the argument that was found, or that of a name whose changes are ignored where this comes first in byte order.
+fn sooner_fault(
+    alloc: Global,
+    found: String,
+    fault: ArgumentFault,
+    name: &str,
+) -> Result<InstanceFault, AllocError>
+    ensures { IfOk result (λ sooner. instance_fault_of sooner ≡ argument_fault (sooner_fault (string_bytes found, fault) (name.now, BadArgument))) }
 {
-    if name < found.name.as_str() {
+    if name < found.as_str() {
         bad_argument(alloc, name)
     } else {
-        Ok(InstanceFault::Argument(found))
+        Ok(InstanceFault::Argument { name: found, fault })
     }
 }
 
 fn bad_argument(alloc: Global, name: &str) -> Result<InstanceFault, AllocError>
     ensures { IfOk result (λ fault. instance_fault_of fault ≡ argument_fault (name.now, BadArgument)) }
 {
-    Ok(InstanceFault::Argument(NamedFault {
+    Ok(InstanceFault::Argument {
         name: String::from_str(alloc, name)?,
         fault: ArgumentFault::BadArgument,
-    }))
+    })
 }

@@ -1,5 +1,5 @@
 -- The object of one instance of a resource.
-use Rattle.std.specs.Prelude.{Result, Ok, Err}
+use Rattle.std.specs.Prelude.{Result, Ok, Err, string_bytes}
 use Rattle.tf_config_address.specs.ObjectId.{InstanceKeyView}
 use Rattle.tf_config_data.specs.Config.{BlockView}
 use Rattle.tf_expr_syntax.specs.declared.fault.EvalFault.{EvalFault}
@@ -9,7 +9,6 @@ use Rattle.tf_value.specs.Tree.{Tree, tree_of}
 use Rattle.tf_value.specs.declared.value.Value.{Value}
 use Rattle.tf_expr_eval.specs.Environment.{Environment}
 use Rattle.tf_expand.specs.Instance.{instance_environment}
-use Rattle.tf_plan_object.specs.Object.{named_fault_of}
 use Rattle.tf_plan_object.specs.Planned.{NamedFaultView, planned_object}
 use Rattle.tf_plan_object.specs.declared.instance.InstanceFault.{InstanceFault}
 use Rattle.tf_plan_object.specs.declared.instance.InstanceFault.TheVariants.{ForEach, Argument}
@@ -21,7 +20,7 @@ pub data InstanceFaultView : Type 0 where
 
 abbrev pub instance_fault_of : InstanceFault → InstanceFaultView
 instance_fault_of (ForEach why) = for_each_fault why
-instance_fault_of (Argument n) = argument_fault (named_fault_of n)
+instance_fault_of (Argument name fault) = argument_fault (string_bytes name, fault)
 
 -- an instance's object, or the fault in its place
 abbrev pub instance_of : Result Value InstanceFault → Result Tree InstanceFaultView

@@ -5,7 +5,8 @@ ghost use Rattle.tf_expand.specs.Words.{block_at, instance_key_of, ResourceAddrV
 ghost use Rattle.tf_plan_object.specs.Bounded.{has_planned_attributes};
 ghost use Rattle.tf_plan_object.specs.Instance.{instance_object, instance_of};
 
-use crate::object::{NamedFault, plan_object};
+use crate::argument::ArgumentFault;
+use crate::object::plan_object;
 use std::alloc::{AllocError, Global};
 use tf_config_address::InstanceKey;
 use tf_config_data::Block;
@@ -21,7 +22,12 @@ pub enum InstanceFault {
     /// `count` numbers the instance beyond the whole numbers.
     ForEach(EvalFault),
     /// The attribute whose name is first in byte order among those with a fault.
-    Argument(NamedFault),
+    Argument {
+        /// The attribute, or the argument that names none.
+        name: String,
+        /// What is wrong with it.
+        fault: ArgumentFault,
+    },
 }
 
 /// Plans the object of an instance by its type's schema, where references stand for what the scope says, and
@@ -50,7 +56,7 @@ pub fn plan_instance<S: Scope>(
             };
             match plan_object(alloc, schema, &block.arguments, &bound)? {
                 Ok(object) => Ok(Ok(object)),
-                Err(named) => Ok(Err(InstanceFault::Argument(named))),
+                Err((name, fault)) => Ok(Err(InstanceFault::Argument { name, fault })),
             }
         }
         Err(EvalFault::OutOfMemory) => Err(AllocError),

@@ -17,4 +17,4 @@ mod object;
 pub use argument::{ArgumentFault, ValueFault, attribute_value};
 pub use instance::{InstanceFault, plan_instance};
 pub use kept::kept_object;
-pub use object::{NamedFault, plan_object};
+pub use object::plan_object;

@@ -19,18 +19,9 @@ use tf_expr_syntax::{Expr, find};
 use tf_provider_protocol::{Attribute, Schema};
 use tf_value::Value;
 
-/// A fault, with the name of the attribute that has it.
-#[derive(Debug, Drop)]
-pub struct NamedFault {
-    /// The attribute, or the argument that names none.
-    pub name: String,
-    /// What is wrong with it.
-    pub fault: ArgumentFault,
-}
-
 /// Plans the object of arguments by a type's schema, where references stand for what the scope says: with unknown values
-/// where the provider decides. Or the fault of the attribute whose name is first in byte order among those with a fault;
-/// an argument that names no attribute is one.
+/// where the provider decides. Or the name that is first in byte order among those of attributes with a fault, and of
+/// arguments that name no attribute, with what is wrong there.
 ///
 /// # Errors
 ///
@@ -40,7 +31,7 @@ pub fn plan_object<S: Scope>(
     schema: &Schema,
     arguments: &BTreeMap<String, Expr>,
     scope: &S,
-) -> Result<Result<Value, NamedFault>, AllocError>
+) -> Result<Result<Value, (String, ArgumentFault)>, AllocError>
     ensures plans { IfOk result (λ planned. planned_of planned
         ≡ planned_object schema.now (S.environment scope.now) (arguments_view arguments.now.entries)) }
     ensures within { IfOk result (λ planned. IfOk planned (λ v. has_planned_attributes (tree_of v) ≡ true)) }
@@ -56,7 +47,8 @@ pub fn plan_object<S: Scope>(
 #[derive(Drop)]
 struct Tried {
     object: BTreeMap<String, Value>,
-    fault: Option<NamedFault>,
+    /// With the name of what has it.
+    fault: Option<(String, ArgumentFault)>,
 }
 
 fn try_attributes<S: Scope>(
@@ -121,10 +113,10 @@ fn add_value(
 /// The first fault, with those of the arguments that name no attribute.
 fn add_strays(
     alloc: Global,
-    first: Option<NamedFault>,
+    first: Option<(String, ArgumentFault)>,
     schema: &Schema,
     arguments: &BTreeMap<String, Expr>,
-) -> Result<Option<NamedFault>, AllocError>
+) -> Result<Option<(String, ArgumentFault)>, AllocError>
     ensures { IfOk result (λ found. option_map named_fault_of found
         ≡ fold sooner (option_map named_fault_of first) (stray_faults schema.now (arguments_view arguments.now.entries))) }
 {
@@ -140,16 +132,16 @@ fn add_strays(
 /// The one of two faults whose name is first in byte order.
 fn first_of(
     alloc: Global,
-    old: Option<NamedFault>,
+    old: Option<(String, ArgumentFault)>,
     name: &str,
     fault: ArgumentFault,
-) -> Result<Option<NamedFault>, AllocError>
+) -> Result<Option<(String, ArgumentFault)>, AllocError>
     ensures { IfOk result (λ first. option_map named_fault_of first ≡ sooner (option_map named_fault_of old) (name.now, fault)) }
 {
     match old {
         None => Ok(Some(with_name(alloc, name, fault)?)),
         Some(old) => {
-            if name < old.name.as_str() {
+            if name < old.0.as_str() {
                 Ok(Some(with_name(alloc, name, fault)?))
             } else {
                 Ok(Some(old))
@@ -158,11 +150,12 @@ fn first_of(
     }
 }
 
-fn with_name(alloc: Global, name: &str, fault: ArgumentFault) -> Result<NamedFault, AllocError>
-    ensures { IfOk result (λ n. named_fault_of n ≡ (name.now, fault)) }
+fn with_name(
+    alloc: Global,
+    name: &str,
+    fault: ArgumentFault,
+) -> Result<(String, ArgumentFault), AllocError>
+    ensures { IfOk result (λ named. named_fault_of named ≡ (name.now, fault)) }
 {
-    Ok(NamedFault {
-        name: String::from_str(alloc, name)?,
-        fault,
-    })
+    Ok((String::from_str(alloc, name)?, fault))
 }

@@ -27,9 +27,9 @@ fn fault_message(alloc: Global, fault: &InstanceFault) -> Result<String, AllocEr
 {
     match fault {
         InstanceFault::ForEach(why) => evaluation_message(alloc, "for_each", *why),
-        InstanceFault::Argument(named) => match named.fault {
-            ArgumentFault::Evaluation(why) => evaluation_message(alloc, named.name.as_str(), why),
-            ArgumentFault::BadArgument => bad_argument_message(alloc, named.name.as_str()),
+        InstanceFault::Argument { name, fault } => match fault {
+            ArgumentFault::Evaluation(why) => evaluation_message(alloc, name.as_str(), *why),
+            ArgumentFault::BadArgument => bad_argument_message(alloc, name.as_str()),
         },
     }
 }
