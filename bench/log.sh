@@ -10,7 +10,7 @@ trap 'rm -rf "$work" "$shm"' EXIT
 cp -r "$here/.." "$work/repo"
 mkdir -p "$work/repo/crates/bench_log/src"
 cp "$here/log/main.rt.txt" "$work/repo/crates/bench_log/src/main.rt"
-echo 'bench_log: tf_cli tf_provider_log tf_cli_program tf_provider tf_provider_sim anyhow' >> "$work/repo/crates.txt"
+echo 'bench_log: tf_cli tf_provider_log tf_cli_files tf_provider tf_provider_sim anyhow' >> "$work/repo/crates.txt"
 "$work/repo/tools/prove" bench_log > "$work/log" 2>&1 || { tail -20 "$work/log"; exit 1; }
 program="$work/repo/crates/bench_log/out/bench_log"
 python3 "$here/runs/make.py" layers 1 > "$work/config"

@@ -1,24 +1,20 @@
 //! Plans a configuration, carries the plan out, and writes the state.
 #![tactic(auto)]
 
-mod stopping;
 mod taking_up;
 
-use crate::stopping::{Countdown, Stopping};
 use crate::taking_up::take_up;
-use std::alloc::Global;
 use std::fs::File;
 use std::io;
 use std::io::{IsTerminal, Stderr, Write};
 use std::process::ExitCode;
 use std::sync::{Arc, Wait};
 use std::thread::Threads;
-use tf_cli::Stop;
+use tf_cli_files::{CallControl, Place, ProgramInput, Seen, hold, run};
 use tf_cli_options::{Options, Program};
-use tf_cli_program::{LogSink, Place, ProgramInput, Seen, carry_out_logged, hold, run};
+use tf_cli_program::carry_out_logged;
 use tf_provider::Provider;
 use tf_provider_local::LocalFile;
-use tf_provider_log::{Logged, OpenLog};
 use tf_provider_progress::Progress;
 use tf_provider_sim::Sim;
 
@@ -72,15 +68,9 @@ fn apply_by<T: Threads + Wait + Sync, O: Write, E: Write>(
     err: &mut E,
 ) -> io::Result<ExitCode> {
     let alloc = rt.alloc();
-    let stop = Arc::new(alloc, Stop::new())?;
-    let last = given.options.stop_after;
-    if last == Some(0) {
-        stop.set();
-    }
-    let log = Arc::new(alloc, OpenLog::new(LogSink::new(Arc::try_clone(file)?)))?;
-    let countdown = Arc::new(alloc, Countdown::new(last, Arc::try_clone(&stop)?))?;
-    let sim = logged(alloc, &log, &countdown, Sim::new(alloc)?)?;
-    let local_file = logged(alloc, &log, &countdown, LocalFile::new(alloc, *rt)?)?;
+    let control = CallControl::new(alloc, Arc::try_clone(file)?, given.options.stop_after)?;
+    let sim = control.control(alloc, Sim::new(alloc)?)?;
+    let local_file = control.control(alloc, LocalFile::new(alloc, *rt)?)?;
     let mut providers: Vec<Box<dyn Provider + Sync>> = Vec::new(alloc);
     providers.push(Box::new(alloc, told(rt, given, sim))?)?;
     providers.push(Box::new(alloc, told(rt, given, local_file))?)?;
@@ -89,24 +79,13 @@ fn apply_by<T: Threads + Wait + Sync, O: Write, E: Write>(
         threads,
         place,
         file,
-        &log,
+        control.log(),
         given,
         providers.as_slice(),
-        &stop,
+        control.stop(),
         out,
         err,
     ))
-}
-
-/// A provider whose calls are counted and logged.
-fn logged<P: Provider>(
-    alloc: Global,
-    log: &Arc<OpenLog<LogSink<File>>>,
-    countdown: &Arc<Countdown>,
-    provider: P,
-) -> io::Result<Logged<Stopping<P>, LogSink<File>>> {
-    let stopping = Stopping::new(provider, Arc::try_clone(countdown)?);
-    Ok(Logged::new(alloc, Arc::try_clone(log)?, stopping))
 }
 
 /// A provider of whose calls it is told, on standard error, where that is a terminal or the words ask for it.

@@ -6,10 +6,9 @@ use std::io::Write;
 use std::process::ExitCode;
 use std::sync::Wait;
 use std::thread::Threads;
+use tf_cli_files::{Past, Place, ProgramInput, Seen, both_replayed, run, see};
 use tf_cli_options::{GraphForm, Options, Program};
-use tf_cli_program::{
-    Past, Place, ProgramInput, Seen, both_replayed, foresee, print_graph, print_plan, run, see,
-};
+use tf_cli_program::{foresee, print_graph, print_plan};
 use tf_provider::Provider;
 use tf_provider_local::LocalFile;
 use tf_provider_log::{LogEntry, split};

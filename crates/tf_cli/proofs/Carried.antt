@@ -55,7 +55,7 @@ is_carried_out ms plan walked a named valid shown was_walked same text changed =
     record {
       shown = shown;
       walked = subst (λ (w : Walked). IsRun ms plan w) (sym same) was_walked;
-      valid = rw same (told.valid named valid);
+      valid = subst (λ (w : Walked). IsValid (state_of (report_of w).state)) (sym same) (told.valid named valid);
       text = subst (λ (w : Walked). IfOk a.state (λ text. string_bytes text ≡ state_text (state_of (report_of w).state))) (sym same) text;
       changed = subst (λ (w : Walked). (a.changed ≡ false) ↔ (state_of (report_of w).state ≡ plan.prior)) (sym same) exactly;
     }

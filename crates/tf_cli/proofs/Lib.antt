@@ -1,3 +1,4 @@
 mod Carried
 mod Planned
 mod Numbered
+mod Shown

@@ -6,9 +6,8 @@ mod planning;
 
 pub use applying::apply_text;
 pub use planning::{InputTexts, plan_of_texts, plan_text};
-pub use tf_cli_text::{
-    Applied, SaveFault, print, print_refused, save, save_all, show, state_to_write, verb_text,
-};
+pub use tf_cli_lines::{SaveFault, save, save_all};
+pub use tf_cli_text::{Applied, print, print_refused, show, state_to_write};
 pub use tf_config_refusal::Refusal;
 pub use tf_plan::Refused;
 pub use tf_walk_action::Stop;

@@ -1,5 +1,4 @@
 mod Cut
-mod Paired
 mod Settling
 mod Taken
 mod Worked

@@ -5,9 +5,9 @@ use Rattle.std.specs.Option.{option_or}
 use Rattle.std.specs.declared.string.String.{String}
 use Rattle.tf_provider_protocol.specs.Meaning.{Meaning}
 use Rattle.tf_cli_program.specs.Settled.{GoesOnFrom, IsLookedAt, IsPut, state_given}
-use Rattle.tf_cli_program.specs.declared.given.ProgramInput.{ProgramInput}
+use Rattle.tf_cli_files.specs.declared.given.ProgramInput.{ProgramInput}
 use Rattle.tf_cli_program.specs.declared.looking.LogStanding.TheVariants.{Before, After}
-use Rattle.tf_cli_program.specs.declared.past.Past.{Past}
+use Rattle.tf_cli_files.specs.declared.past.Past.{Past}
 
 module _ (ms : List Meaning) (past : Past) where
   pub after_goes_on : (given : ProgramInput) → IsLookedAt ms past given After → GoesOnFrom ms past given given

@@ -10,12 +10,12 @@ use Rattle.tf_provider_protocol.specs.Meaning.{Meaning}
 use Rattle.tf_walk.specs.Run.{are_workers}
 use Rattle.tf_cli.specs.Applies.{IsApplied, IsPlanText}
 use Rattle.tf_cli_text.specs.Shown.{to_write}
-use Rattle.tf_cli_program.specs.Kept.{EndsKept}
+use Rattle.tf_cli_files.specs.Kept.{EndsKept}
 use Rattle.tf_cli.specs.Refusals.{AreApplyRefusals, AreRefusals}
 use Rattle.tf_cli_text.specs.Shown.{status_of}
 use Rattle.tf_cli_program.specs.Work.{EndsApply, EndsWith, IsAnswer, IsGraphAnswer, IsGraphText, IsPlanAnswer, IsShown, answer_of, texts_of}
 use Rattle.tf_cli_text.specs.declared.applied.Applied.{Applied}
-use Rattle.tf_cli_program.specs.declared.given.ProgramInput.{ProgramInput}
+use Rattle.tf_cli_files.specs.declared.given.ProgramInput.{ProgramInput}
 
 same_texts : (config config_given : List ℕ) (vars vars_given state state_given : Option (List ℕ)) → config ≡ config_given → vars ≡ vars_given → state ≡ state_given
     → the_texts config vars state ≡ the_texts config_given vars_given state_given

@@ -1,7 +1,4 @@
-pub mod Kept
 pub mod Laws
-pub mod Past
-pub mod Program
 pub mod Recovered
 pub mod Settled
 pub mod Unrecovered

@@ -4,10 +4,10 @@ use Rattle.std.specs.Option.{option_or}
 use Rattle.tf_provider_log.specs.LogEntry.{HeaderView}
 use Rattle.tf_provider_protocol.specs.Meaning.{Meaning}
 use Rattle.tf_cli_program.specs.Recovered.{IsRecovered}
-use Rattle.tf_cli_program.specs.declared.given.ProgramInput.{ProgramInput}
+use Rattle.tf_cli_files.specs.declared.given.ProgramInput.{ProgramInput}
 use Rattle.tf_cli_program.specs.declared.looking.LogStanding.{LogStanding}
 use Rattle.tf_cli_program.specs.declared.looking.LogStanding.TheVariants.{Before, After}
-use Rattle.tf_cli_program.specs.declared.past.Past.{Past}
+use Rattle.tf_cli_files.specs.declared.past.Past.{Past}
 
 -- the text of the state that a program was given
 abbrev pub state_given : ProgramInput → Option (List ℕ)

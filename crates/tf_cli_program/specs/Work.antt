@@ -14,12 +14,12 @@ use Rattle.tf_cli.specs.Applies.{IsApplied, IsPlanOf, IsPlanText}
 use Rattle.tf_cli_text.specs.Shown.{to_write}
 use Rattle.tf_plan_text.specs.Dot.{IsDrawn}
 use Rattle.tf_plan_data.specs.Plan.{PlanView}
-use Rattle.tf_cli_program.specs.Kept.{EndsKept}
+use Rattle.tf_cli_files.specs.Kept.{EndsKept}
 use Rattle.tf_cli.specs.Refusals.{AreApplyRefusals, AreRefusals}
-use Rattle.tf_cli_text.specs.Saved.{AppendsStart}
+use Rattle.tf_cli_lines.specs.Saved.{AppendsStart}
 use Rattle.tf_cli_text.specs.Shown.{errors_of, output_of, refused_errors, status_of}
 use Rattle.tf_cli_text.specs.declared.applied.Applied.{Applied}
-use Rattle.tf_cli_program.specs.declared.given.ProgramInput.{ProgramInput}
+use Rattle.tf_cli_files.specs.declared.given.ProgramInput.{ProgramInput}
 
 -- the texts that a program was given
 abbrev pub texts_of : ProgramInput → Texts

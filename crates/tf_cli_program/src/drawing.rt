@@ -5,9 +5,9 @@ ghost use Rattle.tf_cli.specs.Refusals.{AreRefusals};
 ghost use Rattle.tf_plan.specs.Refused.{Tells};
 ghost use Rattle.tf_cli_program.specs.Work.{IsGraphText, texts_of};
 
-use crate::given::ProgramInput;
 use std::alloc::Global;
 use tf_cli::{InputTexts, Refused, plan_of_texts};
+use tf_cli_files::ProgramInput;
 use tf_plan_text::dot_text;
 use tf_provider::Provider;
 

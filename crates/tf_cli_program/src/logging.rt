@@ -1,18 +1,11 @@
 //! An apply with a log, and what comes before it where the one before it did not end.
 
 ghost use Rattle.std.specs.Prelude.{◌≡◌, ◌⊎◌, IfErr, IfOk, OnOk, map, option_map, string_bytes};
-ghost use Rattle.tf_cli_program.specs.Program.{IsFailure};
+ghost use Rattle.tf_cli_files.specs.Program.{IsFailure};
 ghost use Rattle.tf_cli_program.specs.Work.{EndsLogged};
 ghost use Rattle.tf_cli_program.specs.Settled.{GoesOnFrom, IsLookedInto, IsPut};
 
-use crate::given::ProgramInput;
-use crate::keeping::UNWRITTEN;
-use crate::log_file::{LogFile, empty};
 use crate::looking::{LogStanding, look_back};
-use crate::past::Past;
-use crate::place::Place;
-use crate::replacing::{keep_state, sync_folder};
-use crate::telling::{tell_lost, tell_no_log, tell_no_memory};
 use crate::work::carry_out;
 use std::alloc::{AllocError, Global};
 use std::io::Write;
@@ -21,6 +14,10 @@ use std::rt::Files;
 use std::sync::Wait;
 use std::thread::Threads;
 use tf_cli::Stop;
+use tf_cli_files::{
+    LogFile, Past, Place, ProgramInput, UNWRITTEN, empty, keep_state, sync_folder, tell_lost,
+    tell_no_log, tell_no_memory,
+};
 use tf_provider::Provider;
 use tf_provider_log::{Header, NotStarted, OpenLog, Sink};
 

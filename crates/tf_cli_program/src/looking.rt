@@ -1,21 +1,20 @@
 //! Looking back at an apply that did not end.
 
 ghost use Rattle.std.specs.Prelude.{◌≡◌, ◌↔◌, IfErr, IfOk, IsTrue, map, option_map, string_bytes};
-ghost use Rattle.tf_cli_program.specs.Program.{IsFailure};
+ghost use Rattle.tf_cli_files.specs.Program.{IsFailure};
 ghost use Rattle.tf_cli_program.specs.Settled.{IsLookedAt, state_given};
 
-use crate::given::ProgramInput;
-use crate::past::Past;
-use crate::place::Place;
 use crate::recovering::recover;
 use crate::taking::Unrecovered;
-use crate::telling::{tell_misfit, tell_no_memory, tell_past, tell_unrecovered};
 use std::alloc::Global;
 use std::io::Write;
 use std::process::ExitCode;
 use std::sync::Wait;
 use std::thread::Threads;
 use tf_cli::Refused;
+use tf_cli_files::{
+    Past, Place, ProgramInput, tell_misfit, tell_no_memory, tell_past, tell_unrecovered,
+};
 use tf_provider::Provider;
 
 /// How the state that is there stands to an apply that did not end.

@@ -2,19 +2,17 @@
 
 ghost use Rattle.std.specs.Io.KnownBytes.{Appends};
 ghost use Rattle.std.specs.Prelude.{◌≡◌, ◌⊎◌, map};
-ghost use Rattle.tf_cli_text.specs.Saved.{AppendsStart};
+ghost use Rattle.tf_cli_lines.specs.Saved.{AppendsStart};
 ghost use Rattle.tf_cli_program.specs.Work.{EndsApply, EndsPlan, IsAnswer, IsGraphAnswer, IsPlanAnswer, answer_of};
 
 use crate::drawing::graph_text;
-use crate::given::ProgramInput;
-use crate::place::Place;
-use crate::replacing::keep_state;
 use std::alloc::Global;
 use std::io::Write;
 use std::rt::Files;
 use std::sync::Wait;
 use std::thread::Threads;
 use tf_cli::{Refused, Stop, apply_text, plan_text, print_refused, save, show, state_to_write};
+use tf_cli_files::{Place, ProgramInput, keep_state};
 use tf_provider::Provider;
 
 /// Prints the plan of what `plan` was given, or what is refused of it. The answer is the status: 1 where something is refused, and

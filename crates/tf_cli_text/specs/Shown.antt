@@ -3,10 +3,8 @@ use Rattle.std.specs.Prelude.{ℕ, Bool, true, false, not, ◌&&◌, if◌then�
 use Rattle.std.specs.List.{flat_map, list_all}
 use Rattle.std.specs.Result.{result_ok}
 use Rattle.tf_config_refusal.specs.Code.{number_of}
-use Rattle.tf_config_refusal.specs.Refusal.{RefusalView, no_memory, refusal_of}
-use Rattle.tf_config_refusal.specs.Text.{refusal_text}
-use Rattle.tf_provider_protocol.specs.declared.request.Op.{Op}
-use Rattle.tf_provider_protocol.specs.declared.request.Op.TheVariants as op
+use Rattle.tf_config_refusal.specs.Refusal.{no_memory, refusal_of}
+use Rattle.tf_cli_lines.specs.Lines.{refusal_line, unwritten_line, verb_text}
 use Rattle.tf_plan.specs.declared.refused.Refused.{Refused}
 use Rattle.tf_plan.specs.declared.refused.Refused.TheVariants.{NoMemory, These}
 use Rattle.tf_provider_protocol.specs.Verdict.{is_good_verdict}
@@ -24,29 +22,12 @@ abbrev pub is_torn : Walked → Bool
 is_torn (Whole report) = false
 is_torn (Torn report) = true
 
--- ---- refusals
-
--- a refusal has a line
-abbrev pub refusal_line : RefusalView → List ℕ
-refusal_line t = refusal_text t ++ 10 ∷ []
-
--- `error CODE at PLACE: NAME`, up to what stands behind the name
-abbrev pub fault_opening : ℕ → List ℕ → List ℕ → List ℕ
-fault_opening code place name = codes "error " ++ (decimal code ++ (codes " at " ++ (place ++ (codes ": " ++ name))))
-
 -- each refusal in a line, in order
 abbrev pub refused_errors : Refused → List ℕ
 refused_errors NoMemory = refusal_line no_memory
 refused_errors (These refusals) = flat_map (λ r. refusal_line (refusal_of r)) refusals.items
 
 -- ---- diagnostics
-
--- a space and what was to be done, where something was
-abbrev pub verb_text : Option Op → List ℕ
-verb_text None = []
-verb_text (Some op.Create) = codes " create"
-verb_text (Some op.Update) = codes " update"
-verb_text (Some op.Destroy) = codes " destroy"
 
 -- `error CODE at ADDRESS VERB: MESSAGE`, where the verb has its space
 abbrev pub error_line : ℕ → List ℕ → List ℕ → List ℕ → List ℕ
@@ -97,10 +78,6 @@ cant_write a = a.changed && is_err a.state
 -- a torn report is told
 abbrev pub torn_warning : Bool → List ℕ
 torn_warning torn = if torn then codes "warning: the journal is withheld\n" else []
-
--- what is told where the state isn't written
-abbrev pub unwritten_line : List ℕ
-unwritten_line = codes "error: state not written\n"
 
 abbrev pub unwritten_error : Bool → List ℕ
 unwritten_error unwritten = if unwritten then unwritten_line else []

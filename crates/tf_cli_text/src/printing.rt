@@ -3,16 +3,14 @@
 ghost use Rattle.std.specs.Io.KnownBytes.{Appends};
 ghost use Rattle.std.specs.List.{list_all};
 ghost use Rattle.std.specs.Prelude.{◌≡◌, IsErr, MatchResult, OnOk};
-ghost use Rattle.tf_cli_text.specs.Saved.{AppendsStart};
+ghost use Rattle.tf_cli_lines.specs.Saved.{AppendsStart};
 ghost use Rattle.tf_cli_text.specs.Shown.{all_good, applied_errors, applied_output, applied_status, cant_write, counts, diagnostic_line, diagnostic_lines, error_line, errors_of, is_good_outcome, is_torn, output_of, refused_errors, report_summary, status_of, summary_opening, torn_warning, unwritten_error, warnings};
 ghost use Rattle.tf_walk_report.specs.Diagnostics.{diagnostic_of};
 
 use crate::applied::Applied;
-use crate::lines::verb_text;
-use crate::refusing::print_refusals;
-use crate::saving::{SaveFault, save, save_all};
 use itoa::Buffer;
 use std::io::Write;
+use tf_cli_lines::{SaveFault, print_refusals, save, save_all, verb_text};
 use tf_plan::Refused;
 use tf_provider::Verdict;
 use tf_walk_action::Outcome;
@@ -36,7 +34,7 @@ pub fn show<O: Write, E: Write>(answer: &Result<Applied, Refused>, out: &mut O, 
 
 /// Prints all that `apply` prints before it writes the state file. Where a write to a writer fails, nothing
 /// more is written to it, and what is left is still written to the other.
-#[tactic(auto, using(crate::proofs::Writes::appends_none))]
+#[tactic(auto, using(tf_cli_lines::proofs::Writes::appends_none))]
 pub fn print<O: Write, E: Write>(
     answer: &Result<Applied, Refused>,
     out: &mut O,

@@ -27,8 +27,10 @@ row_of code.ArgumentFault = (24, codes "ArgumentFault")
 row_of code.NoMemory = (26, codes "NoMemory")
 row_of code.Left = (27, codes "Left")
 
+-- the number that a code has in its line
 abbrev pub number_of : Code → ℕ
 number_of c = (row_of c).0
 
+-- the name that a refusal has in its line
 abbrev pub name_of : Code → List ℕ
 name_of c = (row_of c).1

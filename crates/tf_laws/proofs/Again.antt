@@ -18,12 +18,12 @@ use Rattle.tf_plan_order.specs.Members.{is_among}
 use Rattle.tf_expr_operators.specs.Answer.{Answer}
 use Rattle.tf_walk_action.specs.Objects.{object_of}
 use Rattle.tf_walk_action.specs.Outcome.{done_at}
-use Rattle.tf_walk_report.specs.Outputs.{AreOutputsDone, IsOutputDone, OutputResultView, done_with, not_evaluated, valued}
-use Rattle.tf_walk_report.specs.Settled.{names_are_settled}
+use Rattle.tf_walk_outputs.specs.Outputs.{AreOutputsDone, IsOutputDone, OutputResultView, done_with, not_evaluated, valued}
+use Rattle.tf_walk_outputs.specs.Settled.{names_are_settled}
 use Rattle.tf_plan.proofs.Distinct.{at-contained}
 use Rattle.tf_plan_data.specs.Plan.{plan_names}
 use Rattle.tf_walk_report.specs.Report.{objects_after}
-use Rattle.tf_walk_action.specs.Requests.{without_sets}
+use Rattle.tf_walk_names.specs.Resolving.{without_sets}
 use Rattle.tf_expr_syntax.specs.ExprTree as expr
 use Rattle.tf_value.specs.Tree.{Tree, Entries}
 use Rattle.tf_laws.proofs.After.{IsKept, at_index, kept_at}

@@ -22,9 +22,9 @@ use Rattle.tf_state_next.specs.Events.{EventsView, MetadataUpdateView, ends_in, 
 use Rattle.tf_state_next.specs.StateAfter.{IsStateAfter}
 use Rattle.tf_walk_action.specs.Outcome.{AreOutcomes, AreRequests, ActionResultView, Requests}
 use Rattle.tf_walk_action.specs.declared.excuse.Excuse.{Excuse}
-use Rattle.tf_walk_report.specs.Outputs as outputs
-use Rattle.tf_walk_report.specs.Outputs.{AreOutputsDone, IsEvaluated, IsMeant, OutputResultView, outputs_after}
-use Rattle.tf_walk_report.specs.Settled.{names_are_settled}
+use Rattle.tf_walk_outputs.specs.Outputs as outputs
+use Rattle.tf_walk_outputs.specs.Outputs.{AreOutputsDone, IsEvaluated, IsMeant, OutputResultView, outputs_after}
+use Rattle.tf_walk_outputs.specs.Settled.{names_are_settled}
 use Rattle.tf_plan.proofs.Blocks.{names-apart}
 use Rattle.tf_plan.proofs.Tied.{block_found}
 use Rattle.tf_plan_data.specs.Fits.{IsDeclared, deposed_key, is_apply}

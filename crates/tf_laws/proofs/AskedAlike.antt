@@ -20,7 +20,7 @@ use Rattle.tf_plan_order.specs.Members.{is_among}
 use Rattle.tf_walk_action.specs.Asked.{AreRequests, Requests}
 use Rattle.tf_plan_data.specs.Plan.{plan_names}
 use Rattle.tf_provider_protocol.specs.Schema.{SchemaView}
-use Rattle.tf_walk_action.proofs.Answering.{next_is}
+use Rattle.tf_walk_names.proofs.Answering.{next_is}
 use Rattle.tf_value.specs.Tree.{Tree}
 use Rattle.tf_laws.proofs.PlannedParts.{Made}
 use Rattle.tf_laws.proofs.Needing.{meant_same, needs_closed, needs_direct}

@@ -16,9 +16,9 @@ use Rattle.tf_expand.specs.InstanceKeys.{InstanceKeysView}
 use Rattle.tf_graph.specs.Solutions.{Ranked, seen_by}
 use Rattle.tf_walk_action.specs.Outcome.{ActionResultView, called, excused, faulted, is_good, skipped}
 use Rattle.tf_walk_action.specs.declared.excuse.Outcome.{Outcome}
-use Rattle.tf_walk_report.specs.Outputs as outputs
-use Rattle.tf_walk_report.specs.Outputs.{AreOutputsDone, IsEvaluated, OutputResultView, end_of}
-use Rattle.tf_walk_report.specs.Settled.{AreSettled, all_settled, names_are_settled, settled_as}
+use Rattle.tf_walk_outputs.specs.Outputs as outputs
+use Rattle.tf_walk_outputs.specs.Outputs.{AreOutputsDone, IsEvaluated, OutputResultView, end_of}
+use Rattle.tf_walk_outputs.specs.Settled.{AreSettled, all_settled, names_are_settled, settled_as}
 use Rattle.tf_plan_data.specs.Plan.{PlanView, plan_names}
 use Rattle.tf_provider_protocol.specs.Meaning.{Meaning}
 use Rattle.tf_walk_report.specs.Good.{are_good_at, is_apply_of}

@@ -4,8 +4,8 @@ use Rattle.std.specs.List.{AllByRecursion}
 use Rattle.std.specs.Prelude.{slice_get}
 use Rattle.tf_walk_action.specs.Excuse.{before_call, during_call, by_stop}
 use Rattle.tf_walk_action.specs.Outcome.{ActionResultView, skipped, excused, faulted, called}
-use Rattle.tf_walk_report.specs.Outputs as outputs
-use Rattle.tf_walk_report.specs.Settled.{AreSettled, names_are_settled}
+use Rattle.tf_walk_outputs.specs.Outputs as outputs
+use Rattle.tf_walk_outputs.specs.Settled.{AreSettled, names_are_settled}
 use Rattle.tf_plan_data.specs.Plan.{PlanView, plan_names}
 use Rattle.tf_walk_report.specs.Good.{are_good_at}
 use Rattle.tf_walk_report.specs.Outcomes.{excuses_at, excuses_from}

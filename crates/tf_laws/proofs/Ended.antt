@@ -19,17 +19,17 @@ use Rattle.tf_walk_action.specs.Laws.{RequestsAreOne}
 use Rattle.tf_walk_action.specs.Outcome.{AreOutcomes, ActionResultView, all_good, call_at, call_with, comes_of, done_at, objects_by, or_excused, rule, skipped}
 use Rattle.tf_walk_action.specs.declared.excuse.Excuse.{Excuse}
 use Rattle.tf_walk_action.specs.declared.excuse.Excuse.TheVariants.{Output}
-use Rattle.tf_walk_report.specs.OutputLaws.{OutputsAreOne}
-use Rattle.tf_walk_report.specs.Outputs.{OutputResultView, not_evaluated, excused, valued, faulted, AreOutputsDone, IsEvaluated, IsOutputDone, end_of}
-use Rattle.tf_walk_report.specs.Settled.{all_settled, names_are_settled}
-use Rattle.tf_walk_report.specs.declared.ends.OutputResult.{OutputResult}
-use Rattle.tf_walk_report.specs.declared.ends.OutputResult.TheVariants.{NotEvaluated, NoMemory, Faulted, Valued}
+use Rattle.tf_walk_outputs.specs.OutputLaws.{OutputsAreOne}
+use Rattle.tf_walk_outputs.specs.Outputs.{OutputResultView, not_evaluated, excused, valued, faulted, AreOutputsDone, IsEvaluated, IsOutputDone, end_of}
+use Rattle.tf_walk_outputs.specs.Settled.{all_settled, names_are_settled}
+use Rattle.tf_walk_outputs.specs.declared.ends.OutputResult.{OutputResult}
+use Rattle.tf_walk_outputs.specs.declared.ends.OutputResult.TheVariants.{NotEvaluated, NoMemory, Faulted, Valued}
 use Rattle.tf_plan_data.specs.Fits.{IsDeclared, is_apply}
 use Rattle.tf_plan_data.specs.Plan.{PlanView, plan_names}
 use Rattle.tf_provider_protocol.specs.Meaning.{Meaning, schema_in}
 use Rattle.tf_provider_protocol.specs.Schema.{SchemaView}
 use Rattle.tf_walk_report.specs.OutputsTold.{output_excuses, output_excuses_at}
-use Rattle.tf_walk_action.specs.Requests.{is_resource}
+use Rattle.tf_walk_names.specs.Resolving.{is_resource}
 use Rattle.tf_expr_syntax.specs.ExprNames.{named_by}
 use Rattle.tf_expr_syntax.specs.ExprTree as expr
 use Rattle.tf_value.specs.Tree.{Entries, Tree}

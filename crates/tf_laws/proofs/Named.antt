@@ -10,9 +10,9 @@ use Rattle.tf_walk_action.specs.declared.excuse.Excuse.{Excuse}
 use Rattle.tf_walk_action.specs.declared.excuse.Excuse.TheVariants.{Before, During, Left, Output}
 use Rattle.tf_walk_action.specs.declared.excuse.Outcome.{Outcome}
 use Rattle.tf_walk_action.specs.declared.excuse.Outcome.TheVariants as outcome
-use Rattle.tf_walk_report.specs.Outputs.{OutputResultView, end_of}
-use Rattle.tf_walk_report.specs.declared.ends.OutputResult.{OutputResult}
-use Rattle.tf_walk_report.specs.declared.ends.OutputResult.TheVariants.{NotEvaluated, NoMemory, Faulted, Valued}
+use Rattle.tf_walk_outputs.specs.Outputs.{OutputResultView, end_of}
+use Rattle.tf_walk_outputs.specs.declared.ends.OutputResult.{OutputResult}
+use Rattle.tf_walk_outputs.specs.declared.ends.OutputResult.TheVariants.{NotEvaluated, NoMemory, Faulted, Valued}
 use Rattle.tf_plan_data.specs.Plan.{PlanView}
 use Rattle.tf_walk_report.specs.Outcomes.{excuses_at, excuses_from, outcome_of}
 use Rattle.tf_walk_report.specs.OutputsTold.{output_excuses}

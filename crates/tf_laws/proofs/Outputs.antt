@@ -8,7 +8,7 @@ use Rattle.std.specs.List.{AllByRecursion}
 use Rattle.std.specs.List.Sorted.{IsStrictlySortedBy}
 use Rattle.std.specs.Ordering.{match_ordering}
 use Rattle.tf_config.specs.Config.{names_in}
-use Rattle.tf_walk_report.specs.Outputs.{OutputResultView, excused, faulted, is_declared, is_null, kept_entries, not_evaluated, outputs_after, valued, with_output, with_outputs, without}
+use Rattle.tf_walk_outputs.specs.Outputs.{OutputResultView, excused, faulted, is_declared, is_null, kept_entries, not_evaluated, outputs_after, valued, with_output, with_outputs, without}
 use Rattle.tf_expr_syntax.specs.ExprTree as expr
 use Rattle.tf_value.proofs.Keys.{get-put, get-put_other}
 use Rattle.tf_value.proofs.Tables.{sorted-put}

@@ -22,7 +22,7 @@ use Rattle.tf_plan_data.specs.Fits.{is_apply}
 use Rattle.tf_plan_data.specs.Plan.{plan_names}
 use Rattle.tf_provider_protocol.specs.Schema.{SchemaView}
 use Rattle.tf_walk_report.specs.Report.{objects_after}
-use Rattle.tf_walk_action.proofs.Answering.{next_is}
+use Rattle.tf_walk_names.proofs.Answering.{next_is}
 use Rattle.tf_value.specs.Tree.{Tree}
 use Rattle.tf_laws.proofs.Agree.{objects_agree}
 use Rattle.tf_laws.proofs.Applied.{Applied}

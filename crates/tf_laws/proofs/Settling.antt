@@ -15,7 +15,7 @@ use Rattle.tf_laws.specs.Read.{ReadIsSound}
 use Rattle.tf_laws.specs.Twice.{HasOrderedOutputs, HasOwnNames, IsAppliedAgain, IsAppliedWell, SecondAppliesChangeFlags, SecondSerialsTell}
 use Rattle.tf_laws.specs.Twice as twice
 use Rattle.tf_cli_inputs.specs.Texts.{AreTheValues, ReadAs, Texts}
-use Rattle.tf_walk_report.specs.Outputs.{outputs_after}
+use Rattle.tf_walk_outputs.specs.Outputs.{outputs_after}
 use Rattle.tf_plan.specs.Plan.{IsPlan}
 use Rattle.tf_provider_protocol.specs.Meaning.{Meaning}
 use Rattle.tf_walk_report.specs.Report.{report_of}

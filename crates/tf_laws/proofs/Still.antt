@@ -31,7 +31,7 @@ use Rattle.tf_expr_operators.specs.Answer.{limited}
 use Rattle.tf_plan.proofs.Listing.{member_actions, meant_actions, of_at, place_actions}
 use Rattle.tf_provider_protocol.specs.Meaning.{Meaning, schema_in}
 use Rattle.tf_provider_protocol.specs.Schema.{SchemaView}
-use Rattle.tf_walk_action.proofs.Answering.{next_is}
+use Rattle.tf_walk_names.proofs.Answering.{next_is}
 use Rattle.tf_plan_order.specs.ResourceIndex.{ResourceRefView, a_name, an_orphan, numbered}
 use Rattle.tf_state_data.specs.Record.{RecordView}
 use Rattle.tf_state_data.specs.Resource.{ResourceView}

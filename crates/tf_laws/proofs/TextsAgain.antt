@@ -13,7 +13,7 @@ use Rattle.tf_cli_inputs.specs.Texts.{Texts}
 use Rattle.tf_walk_action.specs.Outcome.{ActionResultView}
 use Rattle.tf_walk_action.specs.declared.excuse.Outcome.{Outcome}
 use Rattle.tf_walk_action.specs.declared.excuse.Outcome.TheVariants as outcome
-use Rattle.tf_walk_report.specs.Outputs.{outputs_after}
+use Rattle.tf_walk_outputs.specs.Outputs.{outputs_after}
 use Rattle.tf_plan_data.specs.Plan.{PlanView}
 use Rattle.tf_provider_protocol.specs.Meaning.{Meaning}
 use Rattle.tf_provider_protocol.specs.declared.verdict.Verdict.{Verdict}

@@ -4,7 +4,7 @@ use Rattle.tf_plan_object.specs.Laws.{InstancesGrow}
 use Rattle.tf_config_data.specs.Config.{ConfigView}
 use Rattle.tf_expand.specs.StandingLaws.{ResolvedNamesGrow}
 use Rattle.tf_state_next.proofs.Composed.{state_is}
-use Rattle.tf_walk_report.specs.Outputs.{OutputResultView, outputs_after}
+use Rattle.tf_walk_outputs.specs.Outputs.{OutputResultView, outputs_after}
 use Rattle.tf_walk_action.specs.Outcome.{ActionResultView}
 use Rattle.tf_plan.proofs.Fitting.{all-by_id}
 use Rattle.tf_plan.specs.Plan.{IsPlan}

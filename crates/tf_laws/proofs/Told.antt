@@ -8,8 +8,8 @@ use Rattle.tf_state_next.specs.Events.{ends_in, given_in}
 use Rattle.tf_state_next.specs.Laws.{IsInOrder, StateAfterIsOne}
 use Rattle.tf_state_next.specs.StateAfter.{IsStateAfter}
 use Rattle.tf_walk_action.specs.Outcome.{ActionResultView}
-use Rattle.tf_walk_report.specs.OutputLaws.{OutputsAreOne, SettledAreOne}
-use Rattle.tf_walk_report.specs.Outputs.{OutputResultView, end_of, outputs_after}
+use Rattle.tf_walk_outputs.specs.OutputLaws.{OutputsAreOne, SettledAreOne}
+use Rattle.tf_walk_outputs.specs.Outputs.{OutputResultView, end_of, outputs_after}
 use Rattle.tf_plan_data.specs.Plan.{PlanView, plan_names}
 use Rattle.tf_provider_protocol.specs.Meaning.{Meaning}
 use Rattle.tf_walk_report.proofs.Joined.{each_ordered}

@@ -13,7 +13,7 @@ use Rattle.tf_state_next.proofs.One.{state_after_one}
 use Rattle.tf_state_next.specs.Events.{ends_in, given_in}
 use Rattle.tf_state_next.specs.StateAfter.{IsStateAfter, next_serial}
 use Rattle.tf_walk_action.specs.Outcome.{ActionResultView}
-use Rattle.tf_walk_report.specs.Outputs.{outputs_after}
+use Rattle.tf_walk_outputs.specs.Outputs.{outputs_after}
 use Rattle.tf_plan_data.specs.Plan.{PlanView}
 use Rattle.tf_plan_order.specs.OrderInput.{OrderInputView}
 use Rattle.tf_provider_protocol.specs.Meaning.{Meaning}

@@ -11,7 +11,7 @@ use Rattle.tf_laws.specs.Reapply.{IsCarriedOut, StateAfterIsAtRest}
 use Rattle.tf_laws.specs.Rest.{AreAtRest, NothingIsPlannedAtRest}
 use Rattle.tf_expand.specs.InstanceKeys.{InstanceKeysView}
 use Rattle.tf_graph.specs.Solutions.{Ranked}
-use Rattle.tf_walk_report.specs.Outputs.{outputs_after}
+use Rattle.tf_walk_outputs.specs.Outputs.{outputs_after}
 use Rattle.tf_plan.proofs.Excluding.{none_unexpanded, not_many}
 use Rattle.tf_plan.proofs.Solved.{same_shapes}
 use Rattle.tf_plan.specs.Planned.{AreInstances}

@@ -16,8 +16,8 @@ use Rattle.tf_graph.specs.Solutions.{seen_by}
 use Rattle.tf_plan_order.specs.Members.{is_among}
 use Rattle.tf_walk_action.specs.Objects.{objects_seen, prior_object}
 use Rattle.tf_walk_action.specs.Outcome.{ActionResultView, done_at}
-use Rattle.tf_walk_report.specs.Outputs.{AreOutputsDone, IsOutputDone, OutputResultView, excused, faulted, not_evaluated, valued}
-use Rattle.tf_walk_report.specs.Settled.{names_are_settled}
+use Rattle.tf_walk_outputs.specs.Outputs.{AreOutputsDone, IsOutputDone, OutputResultView, excused, faulted, not_evaluated, valued}
+use Rattle.tf_walk_outputs.specs.Settled.{names_are_settled}
 use Rattle.tf_plan.proofs.Solved.{same_shapes}
 use Rattle.tf_plan.specs.Planned.{AreInstances}
 use Rattle.tf_plan_data.specs.Plan.{PlanView}

@@ -20,7 +20,7 @@ use Rattle.tf_plan_order.specs.Members.{is_among}
 use Rattle.tf_config_names.specs.Needs.{IsAcyclic}
 use Rattle.tf_walk_action.specs.Outcome.{AreRequests, ActionResultView, Requests, called, excused, faulted, is_good, is_good_verdict, skipped}
 use Rattle.tf_walk_action.specs.declared.excuse.Outcome.TheVariants.{Judged}
-use Rattle.tf_walk_report.specs.Outputs.{OutputResultView, outputs_after}
+use Rattle.tf_walk_outputs.specs.Outputs.{OutputResultView, outputs_after}
 use Rattle.tf_plan.proofs.Blocks.{names-apart}
 use Rattle.tf_plan.proofs.Fitting.{all-by_id, plan-fits}
 use Rattle.tf_plan.proofs.Solved.{same_shapes}

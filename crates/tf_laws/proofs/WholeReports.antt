@@ -4,7 +4,7 @@ use Rattle.tf_state_next.specs.Laws.{StateAfterIsOne}
 use Rattle.tf_walk_action.specs.Laws.{RequestsAreOne}
 use Rattle.tf_walk_action.specs.Outcome.{AreOutcomes, ActionResultView}
 use Rattle.tf_walk_action.specs.declared.excuse.Excuse.{Excuse}
-use Rattle.tf_walk_report.specs.OutputLaws.{OutputsAreOne, SettledAreOne}
+use Rattle.tf_walk_outputs.specs.OutputLaws.{OutputsAreOne, SettledAreOne}
 use Rattle.tf_walk_report.specs.Report.{IsTold}
 use Rattle.tf_state_next.specs.ObjectLaws.{KeyIsOne}
 use Rattle.tf_laws.proofs.Ended.{outcomes_one}

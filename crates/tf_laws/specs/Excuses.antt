@@ -6,8 +6,8 @@ use Rattle.tf_walk_action.specs.Outcome.{ActionResultView, excused}
 use Rattle.tf_walk_action.specs.declared.excuse.Excuse.{Excuse}
 use Rattle.tf_walk_action.specs.declared.excuse.Excuse.TheVariants.{Before, During, Left, Output}
 use Rattle.tf_walk_action.specs.declared.excuse.Outcome.TheVariants as outcome
-use Rattle.tf_walk_report.specs.Outputs as outputs
-use Rattle.tf_walk_report.specs.Settled.{AreSettled, names_are_settled}
+use Rattle.tf_walk_outputs.specs.Outputs as outputs
+use Rattle.tf_walk_outputs.specs.Settled.{AreSettled, names_are_settled}
 use Rattle.tf_plan_data.specs.Plan.{PlanView, plan_names}
 use Rattle.tf_provider_protocol.specs.Meaning.{Meaning}
 use Rattle.tf_walk_report.specs.Good.{are_good_at}

@@ -17,7 +17,7 @@ use Rattle.tf_state_next.specs.Laws.{IsInOrder}
 use Rattle.tf_walk_action.specs.Outcome.{AreOutcomes, AreRequests, ActionResultView, Requests, is_good}
 use Rattle.tf_walk_action.specs.declared.excuse.Excuse.{Excuse}
 use Rattle.tf_walk_action.specs.declared.excuse.Outcome.TheVariants.{Judged}
-use Rattle.tf_walk_report.specs.Outputs.{OutputResultView, valued}
+use Rattle.tf_walk_outputs.specs.Outputs.{OutputResultView, valued}
 use Rattle.tf_plan.specs.Plan.{IsPlan}
 use Rattle.tf_plan.specs.Planned.{IsPlanned, unrefused}
 use Rattle.tf_plan_data.specs.Fits.{is_apply}

@@ -9,7 +9,7 @@ use Rattle.tf_config_data.specs.Config.{ConfigView}
 use Rattle.tf_state_next.specs.Laws.{IsInOrder}
 use Rattle.tf_walk_action.specs.Outcome.{AreRequests, ActionResultView, Requests}
 use Rattle.tf_walk_action.specs.declared.excuse.Outcome.TheVariants.{Judged}
-use Rattle.tf_walk_report.specs.Outputs.{OutputResultView, outputs_after}
+use Rattle.tf_walk_outputs.specs.Outputs.{OutputResultView, outputs_after}
 use Rattle.tf_plan.specs.Plan.{IsPlan}
 use Rattle.tf_plan_data.specs.Plan.{PlanView}
 use Rattle.tf_provider_protocol.specs.Meaning.{Meaning}

@@ -11,7 +11,7 @@ ghost use Rattle.tf_laws.specs.Planned.{PlansAreFounded};
 use tf_state_next::laws::state_after_is_one;
 use tf_state_next::object_laws::keys_are_free;
 use tf_walk_action::laws::requests_exist;
-use tf_walk_report::output_laws::{outputs_are_one, settled_are_one};
+use tf_walk_outputs::output_laws::{outputs_are_one, settled_are_one};
 
 /// What a plan must keep to for the other laws, each plan does: one whose parts fit together, and one that is planned of a
 /// configuration whose names don't need themselves, from a valid state.

@@ -3,5 +3,4 @@ pub mod Judged
 pub mod Judging
 pub mod Reported
 pub mod Settling
-pub mod SharedPlan
 pub mod Taking

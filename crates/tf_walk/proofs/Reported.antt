@@ -18,7 +18,7 @@ use Rattle.tf_walk_action.specs.Outcome.{ActionResultView, skipped, excused, fau
 use Rattle.tf_walk_action.specs.declared.excuse.Excuse.{Excuse}
 use Rattle.tf_walk_report.proofs.Excused.{excuses-with_outputs}
 use Rattle.tf_walk_report.specs.ActionReport.{AreJudged, IsJudged}
-use Rattle.tf_walk_report.specs.Outputs.{OutputResultView, end_of}
+use Rattle.tf_walk_outputs.specs.Outputs.{OutputResultView, end_of}
 use Rattle.tf_walk_report.specs.Report.{IsReport, IsTold}
 use Rattle.tf_walk_report.specs.declared.report.Report.{Report}
 use Rattle.tf_walk_action.specs.Run.{IsRun}

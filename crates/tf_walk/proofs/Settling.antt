@@ -6,7 +6,7 @@ use Rattle.tf_graph.specs.Digraph.{Digraph}
 use Rattle.tf_walk_action.specs.Excuse.{Moment, before_call, during_call, by_stop}
 use Rattle.tf_walk_action.specs.Journal.{IsJournal, entered_verdict}
 use Rattle.tf_walk_action.specs.Outcome.{ActionResultView, skipped, excused, faulted, called, done_at, excuse_in}
-use Rattle.tf_walk_report.specs.Outputs.{end_of}
+use Rattle.tf_walk_outputs.specs.Outputs.{end_of}
 use Rattle.tf_plan_data.specs.Plan.{PlanView}
 use Rattle.tf_provider_protocol.specs.Meaning.{Meaning}
 use Rattle.tf_walk_report.specs.Outcomes.{outcome_of}

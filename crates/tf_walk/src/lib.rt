@@ -1,23 +1,16 @@
 //! Carrying out a plan: each action is called once, when all that it depends on is good, and what came of it is recorded and
 //! reported.
 //!
-//! One thread does so (`run_one`), or many workers (`run`), which share claims, result cells and hints. What many workers did
-//! is compared and reported once they are joined.
+//! One thread does so (`run_one`), or many workers (`run`), which share claims, result cells and hints (`tf_walk_workers`). What
+//! many workers did is compared and reported once they are joined.
 #![tactic(auto)]
 
-mod bound;
 mod ending;
 mod fitting;
-mod hinting;
 mod many;
 mod prepared;
 mod prepared_many;
-mod progress;
-mod result_cells;
-mod shared;
-mod sharing;
 mod single;
-mod worker;
 
 pub use many::{MOST_WORKERS, run, run_and_close};
 pub use single::run_one;

@@ -9,10 +9,6 @@ ghost use Rattle.tf_walk.specs.Run.{IsRun, are_workers, is_whole};
 
 use crate::ending::report_walk;
 use crate::prepared_many::{PreparedWalk, Team, prepare};
-use crate::progress::WalkProgress;
-use crate::result_cells::ResultCells;
-use crate::shared::{BorrowedInput, SharedWalk};
-use crate::sharing::share_out;
 use crate::single::run_one;
 use std::alloc::{AllocError, Global};
 use std::marker::Brand;
@@ -23,7 +19,9 @@ use tf_plan_data::{Plan, Planned};
 use tf_provider::Provider;
 use tf_walk_action::Stop;
 use tf_walk_report::Walked;
-use tf_walk_workers::{Log, WalkBrand};
+use tf_walk_workers::{
+    BorrowedInput, Log, ResultCells, SharedWalk, WalkBrand, WalkProgress, share_out,
+};
 
 /// The most workers that a walk may have.
 pub const MOST_WORKERS: usize = 64;

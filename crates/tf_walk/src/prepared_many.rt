@@ -5,17 +5,15 @@ ghost use Rattle.tf_plan_data.specs.Fits.{FitsTogether};
 ghost use Rattle.tf_plan_data.specs.Plan.{plan_of};
 ghost use Rattle.tf_walk.specs.PreparedMany.{IsPrepared};
 
-use crate::bound::PlanBound;
-use crate::hinting::Hinting;
-use crate::result_cells::ResultCells;
-use crate::shared::WorkerState;
 use std::alloc::{AllocError, Global};
 use tf_claim::{Claims, Seat};
 use tf_config_names::Declarations;
 use tf_plan_data::Plan;
 use tf_provider::Journal;
 use tf_walk_report::{ReportBuffers, reserve_report};
-use tf_walk_workers::{HintStealer, Hints, WalkBrand};
+use tf_walk_workers::{
+    HintStealer, Hinting, Hints, PlanBound, ResultCells, WalkBrand, WorkerState,
+};
 
 /// All that a walk needs memory for: the names of the plan's configuration, the claims on its actions, a state for each worker, the
 /// journal, the cells of results, and all that the report needs.

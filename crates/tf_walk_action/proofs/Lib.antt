@@ -1,5 +1,3 @@
-mod Alone
-pub mod Answering
 pub mod AskedRight
 pub mod Calling
 pub mod Storable
@@ -7,6 +5,4 @@ pub mod Judging
 pub mod Lookup
 pub mod Requesting
 pub mod RequestsExist
-pub mod Shared
 pub mod StandingSoFar
-pub mod Wanting

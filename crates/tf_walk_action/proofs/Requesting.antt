@@ -1,4 +1,4 @@
--- What is asked for and what outputs are, where what an expression names stands for what it does among all names.
+-- What is asked for, where what a block names stands for what it does among all names.
 use Rattle.std.proofs.Common.{◌≡◌, ◌++◌, ℕ, List, [], ◌∷◌, zero, suc, ◌<◌, length, true, Some, Result, Ok, Err, IfOk, refl, sym, ap, subst, ◌∙◌, arith}
 use Rattle.std.specs.declared.alloc.AllocError.{AllocError}
 use Rattle.std.specs.List.{AllByRecursion}
@@ -6,17 +6,14 @@ use Rattle.tf_config_address.specs.ObjectId as keys
 use Rattle.tf_config_address.specs.ObjectId.{InstanceKeyView}
 use Rattle.tf_config_data.specs.Config.{BlockView, RepetitionView, single, count, for_each}
 use Rattle.tf_config_data.specs.Names.{NameView, a_block, meant_at, block_refers, named_in_repetition, places}
-use Rattle.tf_expr_operators.specs.Answer.{Answers}
-use Rattle.tf_expr_syntax.specs.declared.fault.EvalFault.{EvalFault}
 use Rattle.tf_provider_protocol.specs.Schema.{SchemaView}
-use Rattle.tf_expr_syntax.specs.ExprNames.{named_by, named_below}
+use Rattle.tf_expr_syntax.specs.ExprNames.{named_below}
 use Rattle.tf_expr_syntax.specs.ExprTree as expr
 use Rattle.tf_expr_syntax.specs.TemplateNames.{Pair}
 use Rattle.tf_value.specs.Tree.{Tree, Entries}
 use Rattle.tf_value.specs.declared.value.Value.{Value}
 use Rattle.tf_expr_eval.proofs.Locality.{expressions_local}
 use Rattle.tf_expr_eval.specs.Environment.{Environment}
-use Rattle.tf_expr_eval.specs.ExprMeaning.{meaning}
 use Rattle.tf_expr_eval.specs.Locality.{AgreeOn}
 use Rattle.tf_expr_eval.specs.Meaning.{and_then}
 use Rattle.tf_expand.proofs.Seen.{agree_on}
@@ -24,13 +21,12 @@ use Rattle.tf_expand.specs.Instance.{bound, instance_constants}
 use Rattle.tf_expand.specs.InstanceKeys.{InstanceKeysView}
 use Rattle.tf_expand.specs.Stages.{applying}
 use Rattle.tf_expand.specs.Resolved.{ResolvedView, AreResolvedNames, environment}
-use Rattle.tf_expand.specs.Views.{resolved_names_of}
-use Rattle.tf_expand.specs.declared.resolved.Resolved.{Resolved}
 use Rattle.tf_plan_object.proofs.Locals.{instances_local}
 use Rattle.tf_plan_object.specs.Instance.{instance_object, instance_of, object_in}
 use Rattle.tf_plan_object.specs.declared.instance.InstanceFault.{InstanceFault}
-use Rattle.tf_walk_action.specs.Requests.{IsRequest, IsOutput, is_resource, without_sets}
-use Rattle.tf_walk_action.specs.Wanted.{instance_names, named_in_for_each}
+use Rattle.tf_walk_action.specs.Requests.{IsRequest}
+use Rattle.tf_walk_names.specs.Resolving.{is_resource}
+use Rattle.tf_walk_names.specs.Wanted.{instance_names, named_in_for_each}
 
 -- a resource stands at a place of the list
 pub resource_below : (names : List NameView) (place : ℕ) → is_resource (meant_at names place) ≡ true → place < length names
@@ -79,11 +75,6 @@ instance_same schema b key e f agree =
     let all : AgreeOn e f (block_refers (bare_block b)) = subst (λ ps. AgreeOn e f ps) (sym (refers_bare b)) agree in
     sym (object_bare schema b key e) ∙ instances_local expressions_local schema (bare_block b) key e f all ∙ object_bare schema b key f
 
--- what stands at some places, where these and what is kept have another name
-pub standing_same : (resolved_names : ℕ → ResolvedView) (others named : List ℕ) (kept slice : List Resolved) → others ≡ named → slice ≡ kept → AllByRecursion (λ n. resolved_names_of kept n ≡ resolved_names n) others
-    → AllByRecursion (λ n. resolved_names_of slice n ≡ resolved_names n) named
-standing_same resolved_names others named kept slice e f h = rw (sym e, f) h
-
 -- the object of an instance where so much stands is what is asked for
 pub requested : (variables : Entries) (names : List NameView) (shapes : ℕ → InstanceKeysView) (objects : ℕ → InstanceKeyView → Tree) (kept : ℕ → ResolvedView) (found : BlockView) (place : ℕ) → meant_at names place ≡ Some (a_block found)
     → ((resolved_names : ℕ → ResolvedView) → AreResolvedNames (applying shapes objects) variables names resolved_names → AllByRecursion (λ n. kept n ≡ resolved_names n) (places names (instance_names found)))
@@ -96,14 +87,3 @@ requested variables names shapes objects kept found place is same key schema (Ok
     planned ∙ instance_same schema found key (environment variables names kept) (environment variables names resolved_names) agree
     ∙ ap (λ b. instance_object schema b key (environment variables names resolved_names)) one
 requested variables names shapes objects kept found place is same key schema (Err e) planned = planned
-
--- what an expression means where so much stands is what the output is
-pub answered : (variables : Entries) (names : List NameView) (shapes : ℕ → InstanceKeysView) (objects : ℕ → InstanceKeyView → Tree) (kept : ℕ → ResolvedView) (e : expr.Tree)
-    → ((resolved_names : ℕ → ResolvedView) → AreResolvedNames (applying shapes objects) variables names resolved_names → AllByRecursion (λ n. kept n ≡ resolved_names n) (places names (named_by e)))
-    → (result : Result (Result Value EvalFault) AllocError)
-    → IfOk result (λ output. Answers (without_sets (meaning (environment variables names kept) e)) output)
-    → IfOk result (λ output. IsOutput variables names shapes objects e output)
-answered variables names shapes objects kept e same (Ok output) given = λ resolved_names solves.
-    let agree = agree_on variables names kept resolved_names (named_by e) (same resolved_names solves) in
-    rw (sym (expressions_local (environment variables names kept) (environment variables names resolved_names) e agree)) given
-answered variables names shapes objects kept e same (Err why) given = given

@@ -15,7 +15,7 @@ use Rattle.tf_expand.specs.Resolved.{ResolvedView, environment}
 use Rattle.tf_plan_object.proofs.Locals.{instances_local}
 use Rattle.tf_plan_object.specs.Instance.{InstanceFaultView, for_each_fault, instance_object}
 use Rattle.tf_plan_data.specs.Plan.{plan_names}
-use Rattle.tf_walk_action.specs.Requests.{is_resource}
+use Rattle.tf_walk_names.specs.Resolving.{is_resource}
 use Rattle.tf_walk_action.specs.Laws.{RequestsExist, RequestsAreOne}
 
 -- a resource has a block

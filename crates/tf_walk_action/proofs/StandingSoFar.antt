@@ -6,7 +6,7 @@ use Rattle.tf_expand.specs.InstanceKeys.{InstanceKeysView}
 use Rattle.tf_expand.specs.Views.{resolved_names_of}
 use Rattle.tf_expand.specs.declared.resolved.Resolved.{Resolved}
 use Rattle.tf_plan_data.specs.Plan.{PlanView, plan_names}
-use Rattle.tf_walk_action.specs.Requests.{AreResolvedSoFar}
+use Rattle.tf_walk_names.specs.Resolving.{AreResolvedSoFar}
 use Rattle.tf_value.specs.Tree.{Tree}
 use Rattle.tf_walk_action.specs.SoFar.{ResolvedSoFar}
 

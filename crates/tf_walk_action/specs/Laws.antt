@@ -6,7 +6,7 @@ use Rattle.tf_config_data.specs.Names.{meant_at, directly_before}
 use Rattle.tf_graph.specs.Solutions.{Ranked}
 use Rattle.tf_plan_data.specs.Plan.{PlanView, plan_names}
 use Rattle.tf_provider_protocol.specs.Schema.{SchemaView}
-use Rattle.tf_walk_action.specs.Requests.{is_resource}
+use Rattle.tf_walk_names.specs.Resolving.{is_resource}
 use Rattle.tf_value.specs.Tree.{Tree}
 use Rattle.tf_walk_action.specs.Asked.{Requests, AreRequests}
 

@@ -13,5 +13,4 @@ pub mod ResultViews
 pub mod Room
 pub mod Run
 pub mod SoFar
-pub mod Wanted
 pub mod Words

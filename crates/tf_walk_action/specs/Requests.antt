@@ -1,25 +1,14 @@
--- What an apply asks of providers, and what outputs are then.
-use Rattle.std.specs.Prelude.{◌≡◌, ℕ, Bool, true, false, List, Option, Some, is_some, Result, Ok, Err}
+-- What an apply asks of providers.
+use Rattle.std.specs.Prelude.{◌≡◌, ℕ, List, Some, Result}
 use Rattle.tf_config_address.specs.ObjectId.{InstanceKeyView}
 use Rattle.tf_config_data.specs.Config.{BlockView}
-use Rattle.tf_config_data.specs.Names.{NameView, Meant, a_block, meant_at}
-use Rattle.tf_expr_operators.specs.Answer.{Answer, Answers}
-use Rattle.tf_expr_syntax.specs.declared.fault.EvalFault.{EvalFault}
+use Rattle.tf_config_data.specs.Names.{NameView, a_block, meant_at}
 use Rattle.tf_provider_protocol.specs.Schema.{SchemaView}
-use Rattle.tf_expr_syntax.specs.ExprTree as expr
-use Rattle.tf_value.specs.Sets.{with_lists}
 use Rattle.tf_value.specs.Tree.{Tree, Entries}
-use Rattle.tf_value.specs.declared.value.Value.{Value}
-use Rattle.tf_expr_eval.specs.ExprMeaning.{meaning}
 use Rattle.tf_expand.specs.InstanceKeys.{InstanceKeysView}
 use Rattle.tf_expand.specs.Stages.{applying}
 use Rattle.tf_expand.specs.Resolved.{ResolvedView, AreResolvedNames, environment}
 use Rattle.tf_plan_object.specs.Instance.{InstanceFaultView, instance_object}
-
--- whether what stands at a place is a resource
-abbrev pub is_resource : Option Meant → Bool
-is_resource (Some (a_block b)) = true
-is_resource _ = false
 
 -- What is asked of a provider for the create of an instance, or what is wrong with it: the object that is planned for
 -- it where each name stands for what it does in the apply, resources for the objects that their providers answered.
@@ -27,20 +16,3 @@ abbrev pub IsRequest : Entries → List NameView → (ℕ → InstanceKeysView) 
 IsRequest variables names shapes objects place key schema request =
     (resolved_names : ℕ → ResolvedView) (block : BlockView) → AreResolvedNames (applying shapes objects) variables names resolved_names → meant_at names place ≡ Some (a_block block)
     → request ≡ instance_object schema block key (environment variables names resolved_names)
-
--- a value with lists in place of sets, or the fault in its place
-abbrev pub without_sets : Answer → Answer
-without_sets (Ok t) = Ok (with_lists t)
-without_sets (Err why) = Err why
-
--- What an output is after an apply, or the fault of its expression: what the expression means where each name stands
--- for what it does in the apply, with the list of its texts in place of each set.
-abbrev pub IsOutput : Entries → List NameView → (ℕ → InstanceKeysView) → (ℕ → InstanceKeyView → Tree) → expr.Tree → Result Value EvalFault → Type 0
-IsOutput variables names shapes objects e output =
-    (resolved_names : ℕ → ResolvedView) → AreResolvedNames (applying shapes objects) variables names resolved_names
-    → Answers (without_sets (meaning (environment variables names resolved_names) e)) output
-
--- What stands at a place so far is what the name there stands for in the apply. At other places nothing stands yet.
-abbrev pub AreResolvedSoFar : Entries → List NameView → (ℕ → InstanceKeysView) → (ℕ → InstanceKeyView → Tree) → (ℕ → ResolvedView) → Type 0
-AreResolvedSoFar variables names shapes objects kept =
-    (resolved_names : ℕ → ResolvedView) → AreResolvedNames (applying shapes objects) variables names resolved_names → (n : ℕ) → is_some (kept n) ≡ true → kept n ≡ resolved_names n

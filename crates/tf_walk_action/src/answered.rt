@@ -7,7 +7,6 @@ ghost use Rattle.tf_walk_action.specs.Objects.{current_object, is_of, object_of,
 ghost use Rattle.tf_walk_action.specs.Outcome.{done_at};
 
 use crate::action_result::ActionResult;
-use crate::results::Results;
 use std::alloc::{AllocError, Global};
 use tf_config_address::{InstanceKey, ObjectId, ResourceAddr};
 use tf_config_names::{Declaration, Declarations};
@@ -15,6 +14,7 @@ use tf_plan_data::Action;
 use tf_provider_protocol::Reply;
 use tf_state_data::State;
 use tf_value::{Value, copy};
+use tf_walk_names::Results;
 
 /// What instances stand for after some actions of a plan: for the objects that providers answered to those, and else for
 /// their prior objects. A request or an output is worked out by it.

@@ -11,7 +11,6 @@ use crate::action_result::Faulted;
 use crate::messages::faulted;
 use crate::objects::Task;
 use crate::prepared_call::PreparedCall;
-use crate::results::Results;
 use crate::rooms::{least_room, reserve_message};
 use std::alloc::{AllocError, Global};
 use tf_config_names::Declarations;
@@ -20,6 +19,7 @@ use tf_plan_data::{Action, Plan, Step, address_text};
 use tf_provider::{Op, Provider, Request, Schema, schema_for};
 use tf_state_data::Object;
 use tf_value::Value;
+use tf_walk_names::Results;
 
 /// What is asked for an action of a plan by the schema of the first provider that has its type, or what is wrong with
 /// it, where instances stand for these results.

@@ -5,7 +5,6 @@ ghost use Rattle.tf_walk_action.specs.SoFar.{ResolvedSoFar};
 ghost use Rattle.tf_walk_action.specs.Words.{action_of, AreRequests, config_of, FitsTogether, has_attributes, has_planned_attributes, ignored_by, instance_of, IsOfBlock, kept_object, meant_at, names_in, names_of, plan_of, Requests, tree_of};
 
 use crate::requests::request;
-use crate::results::Results;
 use std::alloc::{AllocError, Global};
 use tf_config_names::{Declaration, Declarations};
 use tf_expand::{Module, ModuleParts, Resolved};
@@ -13,6 +12,7 @@ use tf_plan_data::{Action, Plan};
 use tf_plan_object::{InstanceFault, kept_object};
 use tf_provider_protocol::Schema;
 use tf_value::Value;
+use tf_walk_names::Results;
 
 /// What an object is asked for by: the action of a plan, the names of its configuration, the schema of the action's type,
 /// and the results that instances stand for.

@@ -7,7 +7,7 @@ use Rattle.tf_walk_buffers.specs.Head.{AreHeads, Head}
 use Rattle.tf_config_data.specs.Names.{NameView, directly_before, meant_at}
 use Rattle.tf_graph.specs.Solutions.{seen_by}
 use Rattle.tf_walk_action.specs.Outcome.{ActionResultView, op_of}
-use Rattle.tf_walk_report.specs.Settled.{AreSettled, all_settled, settled_as}
+use Rattle.tf_walk_outputs.specs.Settled.{AreSettled, all_settled, settled_as}
 use Rattle.tf_plan_data.specs.Plan.{PlanView}
 
 -- what is told of actions is told by what was known of each

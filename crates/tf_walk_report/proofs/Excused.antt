@@ -3,8 +3,8 @@ use Rattle.std.proofs.Common.{◌≡◌, ◌<◌, ℕ, zero, suc, ◌+◌, Bool,
 use Rattle.std.proofs.lemmas.Bool.Decides.{nat_tests}
 use Rattle.tf_walk_action.specs.Excuse.{Moment, before_call, during_call, by_stop, excuse_of, moment_in, or_else}
 use Rattle.tf_walk_action.specs.Outcome.{ActionResultView, skipped, excused, faulted, called, done_at, excuse_in}
-use Rattle.tf_walk_report.specs.declared.ends.OutputResult.{OutputResult}
-use Rattle.tf_walk_report.specs.declared.ends.OutputResult.TheVariants.{NotEvaluated, NoMemory, Faulted, Valued}
+use Rattle.tf_walk_outputs.specs.declared.ends.OutputResult.{OutputResult}
+use Rattle.tf_walk_outputs.specs.declared.ends.OutputResult.TheVariants.{NotEvaluated, NoMemory, Faulted, Valued}
 use Rattle.tf_walk_report.specs.Outcomes.{excuses_at, excuses_from}
 use Rattle.tf_walk_report.specs.OutputsTold.{output_excuses}
 use Rattle.tf_walk_action.specs.declared.excuse.Excuse.{Excuse}

@@ -1,6 +1,6 @@
 -- What is told of outputs, one after another.
 use Rattle.std.proofs.Common.{◌≡◌, ℕ, List, [], ◌∷◌, ◌++◌, string_bytes, refl, ap}
-use Rattle.tf_walk_report.specs.declared.ends.OutputResult.{OutputResult}
+use Rattle.tf_walk_outputs.specs.declared.ends.OutputResult.{OutputResult}
 use Rattle.tf_expr_syntax.specs.ExprTree.{Entries, no_entries, entry}
 use Rattle.tf_walk_report.specs.OutputsBuffers.{places_in, places_of, told_of_texts}
 use Rattle.tf_walk_report.specs.OutputsTold.{diagnostics_of_output, output_diagnostics, output_place}

@@ -1,6 +1,6 @@
 -- The texts that are had for what is told of outputs.
 use Rattle.std.specs.Prelude.{ℕ, List, [], ◌∷◌, ◌++◌, map, string_bytes}
-use Rattle.tf_walk_report.specs.declared.ends.OutputResult.{OutputResult}
+use Rattle.tf_walk_outputs.specs.declared.ends.OutputResult.{OutputResult}
 use Rattle.tf_expr_syntax.specs.ExprTree.{Entries, no_entries, entry}
 use Rattle.tf_walk_report.specs.Diagnostics.{DiagnosticView}
 use Rattle.tf_walk_report.specs.OutputsTold.{diagnostics_of_output, output_place}

@@ -4,8 +4,8 @@ use Rattle.tf_config_refusal.specs.declared.code.Code.TheVariants as code
 use Rattle.tf_walk_action.specs.Message.{evaluation_text}
 use Rattle.tf_walk_action.specs.declared.excuse.Excuse.{Excuse}
 use Rattle.tf_walk_action.specs.declared.excuse.Excuse.TheVariants.{Output}
-use Rattle.tf_walk_report.specs.declared.ends.OutputResult.{OutputResult}
-use Rattle.tf_walk_report.specs.declared.ends.OutputResult.TheVariants.{NotEvaluated, NoMemory, Faulted, Valued}
+use Rattle.tf_walk_outputs.specs.declared.ends.OutputResult.{OutputResult}
+use Rattle.tf_walk_outputs.specs.declared.ends.OutputResult.TheVariants.{NotEvaluated, NoMemory, Faulted, Valued}
 use Rattle.tf_expr_syntax.specs.ExprTree.{Entries, entry}
 use Rattle.tf_walk_report.specs.Diagnostics.{DiagnosticView}
 

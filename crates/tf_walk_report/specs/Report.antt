@@ -11,8 +11,8 @@ use Rattle.tf_state_next.specs.StateAfter.{IsStateAfter}
 use Rattle.tf_walk_action.specs.Excuse.{during_call}
 use Rattle.tf_walk_action.specs.Journal.{IsJournal}
 use Rattle.tf_walk_action.specs.Outcome.{ActionResultView, Requests, AreOutcomes, AreRequests, call_at, done_at, excused, is_faulted, objects_by}
-use Rattle.tf_walk_report.specs.Outputs.{OutputResultView, AreOutputsDone, end_of, outputs_after}
-use Rattle.tf_walk_report.specs.Settled.{AreSettled}
+use Rattle.tf_walk_outputs.specs.Outputs.{OutputResultView, AreOutputsDone, end_of, outputs_after}
+use Rattle.tf_walk_outputs.specs.Settled.{AreSettled}
 use Rattle.tf_plan_data.specs.Plan.{PlanView, plan_names}
 use Rattle.tf_provider_protocol.specs.Meaning.{Meaning}
 use Rattle.tf_state.specs.Valid.{IsValid}

@@ -8,8 +8,8 @@ use Rattle.tf_config_address.specs.ResourceAddr.{ResourceAddrView}
 use Rattle.tf_state_next.specs.Events.{metadata_update_of}
 use Rattle.tf_state_next.specs.StateDraft.{IsStateDraft}
 use Rattle.tf_state_next.specs.declared.events.Events.{Events}
-use Rattle.tf_walk_report.specs.Outputs.{kept_entries}
-use Rattle.tf_walk_report.specs.Buffers.{outputs_in}
+use Rattle.tf_walk_outputs.specs.Outputs.{kept_entries}
+use Rattle.tf_walk_outputs.specs.Buffers.{outputs_in}
 use Rattle.tf_plan_data.specs.Fits.{is_apply}
 use Rattle.tf_plan_data.specs.Plan.{plan_names, plan_of}
 use Rattle.tf_plan_data.specs.declared.plan.Plan.{Plan}

@@ -4,9 +4,9 @@ use Rattle.tf_config_data.specs.Names.{NameView}
 use Rattle.tf_expand.specs.InstanceKeys.{InstanceKeysView}
 use Rattle.tf_graph.specs.Solutions.{seen_by}
 use Rattle.tf_walk_action.specs.Outcome.{ActionResultView, done_at, objects_seen}
-use Rattle.tf_walk_report.specs.Outputs.{AreOutputsEnded}
-use Rattle.tf_walk_report.specs.Buffers.{HavePlaces, outputs_in}
-use Rattle.tf_walk_report.specs.Settled.{AreSettled}
+use Rattle.tf_walk_outputs.specs.Outputs.{AreOutputsEnded}
+use Rattle.tf_walk_outputs.specs.Buffers.{HavePlaces, outputs_in}
+use Rattle.tf_walk_outputs.specs.Settled.{AreSettled}
 use Rattle.tf_plan_data.specs.Action.{ActionView}
 use Rattle.tf_state_data.specs.State.{StateView, outputs_of}
 use Rattle.tf_value.specs.Stored.{IsTable}

@@ -10,7 +10,6 @@ ghost use Rattle.tf_walk_report.specs.OutputsBuffers.{places_in, places_of, told
 
 use crate::additions::add;
 use crate::diagnostic::Diagnostic;
-use crate::ends::OutputResult;
 use crate::texts::OutputTexts;
 use std::alloc::{AllocError, Global};
 use std::collections::BTreeMap;
@@ -18,6 +17,7 @@ use tf_config_refusal::Code;
 use tf_expr_eval::EvalFault;
 use tf_expr_syntax::Expr;
 use tf_walk_action::Excuse;
+use tf_walk_outputs::OutputResult;
 
 /// The texts for each output, in byte order of their names.
 ///

@@ -6,14 +6,12 @@ ghost use Rattle.tf_walk_action.specs.Words.{action_of, FitsTogether, is_apply, 
 ghost use Rattle.tf_state_next.specs.Events.{metadata_update_of};
 ghost use Rattle.tf_state_next.specs.StateDraft.{IsStateDraft};
 ghost use Rattle.tf_walk_buffers.specs.MetadataUpdates.{metadata_updates};
-ghost use Rattle.tf_walk_report.specs.Outputs.{kept_entries};
-ghost use Rattle.tf_walk_report.specs.Buffers.{outputs_in};
+ghost use Rattle.tf_walk_outputs.specs.Outputs.{kept_entries};
+ghost use Rattle.tf_walk_outputs.specs.Buffers.{outputs_in};
 ghost use Rattle.tf_walk_report.specs.Reserved.{AreEmptyEvents, AreEmptyLists, AreReserved, applied_addrs};
 ghost use Rattle.tf_walk_report.specs.Settling.{IsReady};
 
 use crate::diagnostic::Diagnostic;
-use crate::keeping::kept_outputs;
-use crate::output_buffers::reserve_outputs;
 use crate::outputs::texts_for;
 use crate::settling::Settling;
 use crate::texts::OutputTexts;
@@ -24,6 +22,7 @@ use tf_plan_data::{Action, Plan};
 use tf_state_next::{Events, StateDraft, draft_state};
 use tf_walk_action::{Excuse, Outcome};
 use tf_walk_buffers::{ActionBuffers, metadata_updates_for, reserve_actions};
+use tf_walk_outputs::{kept_outputs, reserve_outputs};
 
 /// All that the report on a plan needs memory for. What actions change may not be let go, so neither may the events that are
 /// for it.

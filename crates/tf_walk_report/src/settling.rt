@@ -3,23 +3,20 @@
 ghost use Rattle.std.specs.Prelude.{◌≡◌, ◌<◌, ◌≤◌, ℕ, [], List, length, map, vec_capacity};
 ghost use Rattle.tf_walk_action.specs.Words.{action_of, done_at, action_results_of, entries_view, has, IsTable, names_in, outputs_of, plan_of, seen_by};
 ghost use Rattle.tf_walk_action.specs.Outcome.{objects_seen};
-ghost use Rattle.tf_walk_report.specs.Outputs.{AreOutputsEnded};
-ghost use Rattle.tf_walk_report.specs.Buffers.{HavePlaces, outputs_in};
-ghost use Rattle.tf_walk_report.specs.Settled.{AreSettled};
+ghost use Rattle.tf_walk_outputs.specs.Outputs.{AreOutputsEnded};
+ghost use Rattle.tf_walk_outputs.specs.Buffers.{HavePlaces, outputs_in};
+ghost use Rattle.tf_walk_outputs.specs.Settled.{AreSettled};
 ghost use Rattle.tf_walk_report.specs.Good.{are_good_at};
 ghost use Rattle.tf_walk_report.specs.Settling.{AreEnded, IsReady};
 
-use crate::ending::renew_outputs;
-use crate::ends::OutputResult;
 use crate::good::note_good;
-use crate::output_buffers::OutputBuffers;
-use crate::settled::settle_names;
 use std::alloc::Global;
 use std::collections::BTreeMap;
 use tf_expand::Module;
 use tf_plan_data::{Action, Plan};
 use tf_state_data::Object;
 use tf_walk_action::{ActionResult, Answered};
+use tf_walk_outputs::{OutputBuffers, OutputResult, renew_outputs, settle_names};
 
 /// Room for what comes of outputs.
 #[derive(Drop)]

@@ -2,7 +2,7 @@
 
 ghost use Rattle.std.specs.Prelude.{◌≡◌, List, length, map};
 ghost use Rattle.tf_walk_action.specs.Words.{action_results_of, entries_view, FitsTogether, names_in, op_of, plan_names, plan_of};
-ghost use Rattle.tf_walk_report.specs.Outputs.{OutputResultView};
+ghost use Rattle.tf_walk_outputs.specs.Outputs.{OutputResultView};
 ghost use Rattle.tf_walk_report.specs.ActionReport.{AreJudged};
 ghost use Rattle.tf_walk_report.specs.Reserved.{AreReserved};
 ghost use Rattle.tf_walk_report.specs.Report.{IsTold};

@@ -9,3 +9,4 @@ pub mod TrueEnds
 pub mod Passed
 pub mod Remembered
 pub mod Truth
+pub mod SharedPlan

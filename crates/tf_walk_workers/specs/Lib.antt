@@ -7,3 +7,6 @@ pub mod SeenResult
 pub mod Memo
 pub mod Seen
 pub mod Shared
+pub mod Post
+pub mod Sharing
+pub mod Walk

@@ -14,7 +14,8 @@ use tf_config_names::Declarations;
 use tf_plan_data::Action;
 use tf_state_data::State;
 use tf_value::Value;
-use tf_walk_action::{Results, applies_to, prior_object};
+use tf_walk_action::{applies_to, prior_object};
+use tf_walk_names::Results;
 
 /// What came of some actions of a plan, all of which are good. It stays in their cells while this lives.
 #[derive(Drop)]

@@ -1,13 +1,21 @@
-//! What is true of each hint.
+//! What is true of each hint, and which hints the workers of a walk may have.
 
 ghost use Rattle.std.specs.Prelude.{ℕ, ◌<◌, All};
 
+use crate::walk_brand::WalkBrand;
 use crossbeam_deque::protocol::{Outcome, Protocol};
 use std::marker::PhantomData;
 
 /// Below which number all hints of some workers are. It is for contracts alone.
 pub trait HintBound {
     ghost bound: { ℕ };
+}
+
+/// Each hint is an action of the walk's plan.
+pub struct PlanBound<N>(PhantomData<N>);
+
+impl<N: WalkBrand> HintBound for PlanBound<N> {
+    ghost bound = { N.plan.order.nodes };
 }
 
 /// The rule of some workers' hints: each is below the bound.

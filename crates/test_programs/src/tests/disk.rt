@@ -9,7 +9,7 @@ use std::fs::{Metadata, OpenFile, OpenOptions, Permissions};
 use std::io;
 use std::io::{ErrorKind, Read, Seek, SeekFrom, Write};
 use std::rt::{Env, Files};
-use tf_cli_program::LogFile;
+use tf_cli_files::LogFile;
 
 /// What stands at a name.
 #[derive(Clone, Copy, PartialEq)]

@@ -3,7 +3,7 @@
 use crate::tests::writers::{BAD, Bad, Faulty};
 use std::alloc::Global;
 use std::test::Fail;
-use tf_cli_program::keep;
+use tf_cli_files::keep;
 
 /// The state of one net.
 pub const STATE: &str = r#"{

@@ -1,11 +1,9 @@
-use Rattle.std.proofs.Common.{rules, ◌∙◌, ℕ, false, not, map, option_map, ap, ap₂, sym, subst, string_bytes, slice_index_or}
+use Rattle.std.proofs.Common.{rules, ◌∙◌, ℕ, not, map, option_map, ap, sym, subst, string_bytes}
 use Rattle.std.specs.List.{AllByRecursion}
 use Rattle.std.specs.Prelude.{◌==◌, IfErr}
-use Rattle.tf_plan_data.specs.Action.{action_of}
 use Rattle.tf_config_data.specs.Config.{ConfigView}
 use Rattle.tf_plan_data.specs.Plan.{plan_of}
 use Rattle.tf_plan_data.specs.declared.plan.Plan.{Plan}
-use Rattle.tf_plan_text.specs.Text.{plan_text}
 use Rattle.tf_walk_report.specs.Report.{report_of}
 use Rattle.tf_walk_report.specs.Savable.{IsNamed}
 use Rattle.tf_state_data.specs.State.{state_of}
@@ -14,6 +12,7 @@ use Rattle.tf_plan.specs.Refused.{Tells}
 use Rattle.tf_config_refusal.specs.Refusal.{refusal_of}
 use Rattle.tf_cli.specs.Refusals.{AreRefusals}
 use Rattle.tf_cli.proofs.Carried.{is_carried_out}
+use Rattle.tf_cli.proofs.Shown.{text_of_plan}
 use Rattle.tf_cli.proofs.Numbered.{refused-first, refused-walk}
 use Rattle.tf_cli.proofs.applying.apply_text.Goals as goal
 
@@ -28,9 +27,7 @@ returns-in-Ok-clause-applied g c =
       plan = plan;
       planned = planned;
       carried_out = is_carried_out ms plan c.in-Ok.walked _ named c.in_ok-planned.ensures.valid
-          (ap string_bytes c.answer_of.ensures.plan
-          ∙ (c.in_ok-text.ensures ∙ ap₂ (λ xs ls. plan_text (λ n. slice_index_or ls n false) (map action_of xs)) c.as_slice.ensures.value c.as_slice-2.ensures.value)
-          ∙ ap (λ (p : Plan). plan_text (λ n. slice_index_or p.late.items n false) (map action_of p.actions.items)) c.planned.view_is)
+          (text_of_plan _ c.in_ok-planned.planned _ _ _ (ap string_bytes c.answer_of.ensures.plan ∙ c.in_ok-text.ensures) c.as_slice.ensures.value c.as_slice-2.ensures.value c.planned.view_is)
           c.in-Ok.ensures.walked c.answer_of.ensures.walked c.answer_of.ensures.text
           (c.answer_of.ensures.changed
           ∙ ap (λ (n : ℕ). not ((state_of (report_of c.in-Ok.walked).state).serial == n)) (c.serial.ensures ∙ ap (λ (p : Plan). (state_of p.prior).serial) c.planned.view_is));

@@ -1,4 +1,4 @@
-use Rattle.tf_cli_text.proofs.Writes.{both_part}
+use Rattle.tf_cli_lines.proofs.Writes.{both_part}
 use Rattle.tf_cli_text.proofs.printing.print_applied.Goals as goal
 
 pub returns-in_err-summed-clause-output_part : goal.returns-in_err-summed-clause-output_part

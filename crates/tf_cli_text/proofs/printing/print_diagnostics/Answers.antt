@@ -1,5 +1,5 @@
 use Rattle.tf_cli_text.specs.Shown.{diagnostic_line}
-use Rattle.tf_cli_text.proofs.Writes.{start_at}
+use Rattle.tf_cli_lines.proofs.Writes.{start_at}
 use Rattle.tf_walk_report.specs.Diagnostics.{diagnostic_of}
 use Rattle.tf_cli_text.proofs.printing.print_diagnostics.Goals as goal
 

@@ -1,6 +1,6 @@
 -- what workers read may be shared by threads
 use denote.Param.Send.{sendable}
-use Rattle.tf_walk.proofs.SharedPlan.{grounds_sync}
+use Rattle.tf_walk_workers.proofs.SharedPlan.{grounds_sync}
 use Rattle.tf_walk.proofs.many.carry_out.Goals as goal
 
 pub share_out-seat-requires-sync-B : goal.share_out-seat-requires-sync-B

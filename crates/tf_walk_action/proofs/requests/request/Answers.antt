@@ -11,9 +11,10 @@ use Rattle.tf_expand.specs.declared.table.ModuleParts.{ModuleParts}
 use Rattle.tf_config_names.specs.Table.{names_in}
 use Rattle.tf_plan_object.specs.Instance.{instance_object, instance_of}
 use Rattle.tf_value.specs.Tree.{entries_view}
-use Rattle.tf_walk_action.specs.Wanted.{instance_names}
-use Rattle.tf_walk_action.proofs.Requesting.{requested, resource_below, standing_same}
-use Rattle.tf_walk_action.proofs.Shared.{answered_each}
+use Rattle.tf_walk_names.specs.Wanted.{instance_names}
+use Rattle.tf_walk_action.proofs.Requesting.{requested, resource_below}
+use Rattle.tf_walk_names.proofs.OutputValues.{standing_same}
+use Rattle.tf_walk_names.proofs.Shared.{answered_each}
 use Rattle.tf_walk_action.proofs.requests.request.Goals as goal
 
 pub at-requires : goal.at-requires

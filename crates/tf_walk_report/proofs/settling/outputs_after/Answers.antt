@@ -9,9 +9,9 @@ use Rattle.tf_graph.specs.Solutions.{seen_by}
 use Rattle.tf_config_names.specs.Table.{names_in}
 use Rattle.tf_walk_action.specs.ResultViews.{action_results_of}
 use Rattle.tf_walk_action.specs.Outcome.{done_at, objects_seen}
-use Rattle.tf_walk_report.specs.Outputs.{AreOutputsEnded}
-use Rattle.tf_walk_report.specs.Buffers.{outputs_in}
-use Rattle.tf_walk_report.specs.Settled.{AreSettled}
+use Rattle.tf_walk_outputs.specs.Outputs.{AreOutputsEnded}
+use Rattle.tf_walk_outputs.specs.Buffers.{outputs_in}
+use Rattle.tf_walk_outputs.specs.Settled.{AreSettled}
 use Rattle.tf_plan_data.specs.Plan.{plan_of}
 use Rattle.tf_state_data.specs.State.{outputs_of}
 use Rattle.tf_value.specs.Tree.{entries_view}

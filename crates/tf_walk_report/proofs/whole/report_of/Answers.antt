@@ -14,8 +14,8 @@ use Rattle.tf_state_next.specs.Sound.{AreSound}
 use Rattle.tf_state_next.specs.StateAfter.{IsStateAfter}
 use Rattle.tf_walk_action.specs.ResultViews.{action_results_of}
 use Rattle.tf_walk_action.specs.Outcome.{done_at, objects_seen}
-use Rattle.tf_walk_report.specs.Outputs.{AreOutputsDone, end_of, outputs_after, with_outputs}
-use Rattle.tf_walk_report.specs.Buffers.{outputs_in}
+use Rattle.tf_walk_outputs.specs.Outputs.{AreOutputsDone, end_of, outputs_after, with_outputs}
+use Rattle.tf_walk_outputs.specs.Buffers.{outputs_in}
 use Rattle.tf_plan_data.specs.Plan.{plan_names, plan_of}
 use Rattle.tf_provider_protocol.specs.declared.request.Op.{Op}
 use Rattle.tf_state.specs.Valid.{IsValid}

@@ -8,7 +8,7 @@ use Rattle.tf_config_names.specs.Table.{names_in}
 use Rattle.tf_provider_protocol.specs.Meaning.{Asked}
 use Rattle.tf_provider_protocol.specs.Verdict.{asks_fully, has_attributes}
 use Rattle.tf_walk_action.proofs.Requesting.{resource_below}
-use Rattle.tf_walk_action.specs.Requests.{is_resource}
+use Rattle.tf_walk_names.specs.Resolving.{is_resource}
 use Rattle.tf_value.specs.Tree.{tree_of}
 use Rattle.tf_value.specs.declared.value.Value.{Value}
 use Rattle.tf_walk_action.specs.Asked.{ignored_by}

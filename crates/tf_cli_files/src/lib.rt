@@ -1,0 +1,32 @@
+//! What the programs `plan` and `apply` have around the engine: their words, the files that they read, the lock and the log, how
+//! the state stands on the disk, and the stop after so many calls.
+#![tactic(auto)]
+
+mod controlling;
+mod given;
+mod keeping;
+mod log_file;
+mod past;
+mod place;
+mod program;
+mod reading;
+mod replacing;
+mod replaying;
+mod seeing;
+mod stopping;
+mod telling;
+
+pub use controlling::CallControl;
+pub use given::ProgramInput;
+pub use keeping::{UNWRITTEN, keep};
+pub use log_file::{LogFile, LogSink, empty};
+pub use past::Past;
+pub use place::Place;
+pub use program::run;
+pub use replacing::{keep_state, sync_folder};
+pub use replaying::both_replayed;
+pub use seeing::{Seen, hold, see};
+pub use stopping::Stopping;
+pub use telling::{
+    tell_lost, tell_misfit, tell_no_log, tell_no_memory, tell_past, tell_unrecovered,
+};

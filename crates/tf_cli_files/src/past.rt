@@ -1,0 +1,58 @@
+//! What the log of an apply that did not end tells.
+
+ghost use Rattle.std.specs.Prelude.{◌≡◌, IfErr, IfOk, map, option_map};
+ghost use Rattle.tf_provider_log.specs.LogEntry.{log_entry_of, log_of};
+ghost use Rattle.tf_cli_files.specs.Past.{IsPastIn, IsTold};
+ghost use Rattle.tf_cli_files.specs.Program.{IsFailure};
+
+use crate::telling::{tell_bad_line, tell_no_memory};
+use std::alloc::{AllocError, Global};
+use std::io::Write;
+use std::process::ExitCode;
+use tf_provider_log::{Header, Log, LogEntry, LogFault, answer_count, in_flight, read_log};
+use tf_provider_protocol::Request;
+
+/// An apply that did not end, as its log tells it.
+#[derive(Drop)]
+pub struct Past {
+    /// What it was given.
+    pub header: Header,
+    /// How many results its log has.
+    pub answers: usize,
+    /// What was begun, and what came of it isn't known.
+    pub in_flight: Vec<Request>,
+}
+
+/// Reads a log of this name. Where it can't be read that has been told, and this is the program's status. None where it has no
+/// whole first line: then no call was made.
+pub fn read_past<E: Write>(
+    alloc: Global,
+    name: &str,
+    bytes: &[u8],
+    err: &mut E,
+) -> Result<Option<(Past, Vec<LogEntry>)>, ExitCode>
+    ensures past { IfOk result (λ told. IsPastIn bytes.now (option_map (λ t. (t.0, map log_entry_of t.1.items)) told)) }
+    ensures status { IfErr result IsFailure }
+{
+    match read_log(alloc, bytes) {
+        Ok(None) => Ok(None),
+        Ok(Some(log)) => match past_of(alloc, log) {
+            Ok(past) => Ok(Some(past)),
+            Err(AllocError) => Err(tell_no_memory(err)),
+        },
+        Err(LogFault::OutOfMemory) => Err(tell_no_memory(err)),
+        Err(LogFault::Line(number, fault)) => Err(tell_bad_line(name, number, fault, err)),
+    }
+}
+
+fn past_of(alloc: Global, log: Log) -> Result<(Past, Vec<LogEntry>), AllocError>
+    ensures { IfOk result (λ told. IsTold (log_of log) told.0 (map log_entry_of told.1.items)) }
+{
+    let Log { header, entries } = log;
+    let past = Past {
+        header,
+        answers: answer_count(&entries),
+        in_flight: in_flight(alloc, &entries)?,
+    };
+    Ok((past, entries))
+}

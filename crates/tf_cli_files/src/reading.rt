@@ -1,0 +1,104 @@
+//! Reading the files that a program's words name.
+
+ghost use Rattle.std.specs.Fn.{FnReturnsAt};
+ghost use Rattle.std.specs.IoError.{error_kind};
+ghost use Rattle.std.specs.Prelude.{◌≡◌, IfErr, IfOk, None, Ok, option_map, string_bytes};
+ghost use Rattle.tf_cli_lines.specs.Saved.{AppendsStart};
+ghost use Rattle.tf_cli_files.specs.Program.{AreReads, GoesOn, IsFailure, ReadsNamed, ReadsOptional, TellsUnread, unread_line};
+
+use crate::given::ProgramInput;
+use std::io;
+use std::io::{ErrorKind, Write};
+use std::process::ExitCode;
+use tf_cli_lines::save_all;
+use tf_cli_options::Options;
+
+/// Reads the files that options name, the configuration and then the variables; the state is none yet. Where one can't be read
+/// that has been told, no other one is read, and this is the program's status.
+pub fn read_files<F: Fn(&str) -> io::Result<Vec<u8>>, E: Write>(
+    options: Options,
+    read: &F,
+    err: &mut E,
+) -> Result<ProgramInput, ExitCode>
+    requires { F.IsAlwaysCallable read.now }
+    ensures status { IfErr result IsFailure }
+    ensures options { IfOk result (λ given. given.options ≡ options) }
+    ensures files { IfOk result (λ given. AreReads (FnReturnsAt F.Fn read.now) (string_bytes options.config) (option_map string_bytes options.vars) given.config given.vars) }
+    ensures stateless { IfOk result (λ given. given.state ≡ None) }
+{
+    let config = read_file(options.config.as_str(), read, err)?;
+    let vars = read_vars_file(&options.vars, read, err)?;
+    Ok(ProgramInput {
+        options,
+        config,
+        vars,
+        state: None,
+    })
+}
+
+/// Reads a file. Where it can't be read, that has been told.
+fn read_file<F: Fn(&str) -> io::Result<Vec<u8>>, E: Write>(
+    file: &str,
+    read: &F,
+    err: &mut E,
+) -> Result<Vec<u8>, ExitCode>
+    requires { F.IsAlwaysCallable read.now }
+    ensures status { IfErr result IsFailure }
+    ensures read { IfOk result (λ bytes. FnReturnsAt F.Fn read.now file.now (Ok bytes)) }
+{
+    or_told(read(file), file, err)
+}
+
+/// Reads the variables file, where one is named. Where it can't be read, that has been told.
+fn read_vars_file<F: Fn(&str) -> io::Result<Vec<u8>>, E: Write>(
+    file: &Option<String>,
+    read: &F,
+    err: &mut E,
+) -> Result<Option<Vec<u8>>, ExitCode>
+    requires { F.IsAlwaysCallable read.now }
+    ensures status { IfErr result IsFailure }
+    ensures read { IfOk result (λ vars. ReadsNamed (FnReturnsAt F.Fn read.now) (option_map string_bytes file.now) vars) }
+{
+    match file {
+        None => Ok(None),
+        Some(file) => Ok(Some(read_file(file.as_str(), read, err)?)),
+    }
+}
+
+/// Reads a file that need not be there, as a state's. Where it is there and can't be read, that has been told, and this is the
+/// program's status.
+pub fn read_optional<F: Fn(&str) -> io::Result<Vec<u8>>, E: Write>(
+    file: &str,
+    read: &F,
+    err: &mut E,
+) -> Result<Option<Vec<u8>>, ExitCode>
+    requires { F.IsAlwaysCallable read.now }
+    ensures status { IfErr result IsFailure }
+    ensures read { IfOk result (λ state. ReadsOptional (λ e. error_kind e ≡ ErrorKind.NotFound) (FnReturnsAt F.Fn read.now) file.now state) }
+{
+    match read(file) {
+        Ok(bytes) => Ok(Some(bytes)),
+        Err(error) if error.kind() == ErrorKind::NotFound => Ok(None),
+        Err(_) => Err(tell_unread(file, err)),
+    }
+}
+
+/// What was read of a file. Where it can't be read that is told, and this is the program's status.
+fn or_told<T: Drop, E: Write>(read: io::Result<T>, file: &str, err: &mut E) -> Result<T, ExitCode>
+    ensures read { GoesOn read result }
+    ensures told { TellsUnread read file.now (E.contents err.old) (E.contents err.new) }
+{
+    match read {
+        Ok(bytes) => Ok(bytes),
+        Err(_) => Err(tell_unread(file, err)),
+    }
+}
+
+/// Tells that a file can't be read. The answer is the program's status.
+pub fn tell_unread<E: Write>(file: &str, err: &mut E) -> ExitCode
+    ensures status { IsFailure result }
+    ensures told { AppendsStart (E.contents err.old) (E.contents err.new) (unread_line file.now) }
+{
+    let _ = save_all(err, &["error: cannot read ", file, "\n"]);
+    ExitCode::FAILURE
+}

@@ -1,0 +1,129 @@
+//! Putting the state's text in the place of its file.
+
+ghost use Rattle.tf_cli_files.specs.Kept.{EndsKept};
+
+use crate::keeping::keep;
+use crate::log_file::OWNER_ALONE;
+use crate::place::Place;
+use std::fs::{Metadata, OpenFile, OpenOptions, Permissions};
+use std::io::{ErrorKind, Write};
+use std::os::unix::fs::{MetadataExt, OpenOptionsExt, PermissionsExt, lchown};
+use std::rt::Files;
+use std::{fs, io};
+
+/// The bits of a file's mode that say who may do what with it.
+const PERMISSIONS: u32 = 0o7777;
+
+/// A new file that is to take the place of a state's. A flush has all that was written on the disk, keeps the state that is there
+/// beside it, and renames the new file then, so nothing is to be written after one.
+#[derive(Drop)]
+struct Replacement<'a, R: Files> {
+    rt: &'a R,
+    written: R::File,
+    place: &'a Place,
+}
+
+impl<'a, R: Files> Replacement<'a, R> {
+    /// Makes the new file, which nobody else has and no link leads from. What stands at its name was left by a program that was
+    /// killed.
+    fn create(rt: &'a R, place: &'a Place) -> io::Result<Replacement<'a, R>> {
+        let _ = fs::remove_file(rt, place.new.as_str());
+        let mut options = OpenOptions::new();
+        options.write(true).create_new(true).mode(OWNER_ALONE);
+        let written = options.open(rt, place.new.as_str())?;
+        keep_permissions(rt, place, &written)?;
+        Ok(Replacement { rt, written, place })
+    }
+}
+
+impl<R: Files> Write for Replacement<'_, R> {
+    ghost contents = { λ replacement. R.File.contents replacement.written };
+
+    fn write(&mut self, buf: &[u8]) -> io::Result<usize> {
+        self.written.write(buf)
+    }
+
+    fn flush(&mut self) -> io::Result<()> {
+        self.written.sync_all()?;
+        keep_backup(self.rt, self.place)?;
+        fs::rename(self.rt, self.place.new.as_str(), self.place.state.as_str())?;
+        sync_folder(self.rt, self.place)
+    }
+}
+
+/// Gives a new file the mode of the state that is there, and its owner and group where the system lets us.
+fn keep_permissions<R: Files>(rt: &R, place: &Place, written: &R::File) -> io::Result<()> {
+    match fs::metadata(rt, place.state.as_str()) {
+        Ok(old) => {
+            keep_owner(rt, place.new.as_str(), &old, &written.metadata()?);
+            written.set_permissions(Permissions::from_mode(old.mode() & PERMISSIONS))
+        }
+        Err(error) if error.kind() == ErrorKind::NotFound => Ok(()),
+        Err(error) => Err(error),
+    }
+}
+
+fn keep_owner<R: Files>(rt: &R, new: &str, old: &Metadata, now: &Metadata) {
+    if (now.uid() != old.uid() || now.gid() != old.gid())
+        && lchown(rt, new, Some(old.uid()), Some(old.gid())).is_err()
+    {
+        let _ = lchown(rt, new, None, Some(old.gid()));
+    }
+}
+
+/// Has the names of a state's files on the disk.
+pub fn sync_folder<R: Files>(rt: &R, place: &Place) -> io::Result<()> {
+    fs::open(rt, place.folder())?.sync_all()
+}
+
+/// Keeps the state that is there, if there is one, at the backup's name.
+fn keep_backup<R: Files>(rt: &R, place: &Place) -> io::Result<()> {
+    let (state, new) = (place.state.as_str(), place.new_backup.as_str());
+    let _ = fs::remove_file(rt, new);
+    match fs::hard_link(rt, state, new) {
+        Ok(()) => {}
+        Err(error) if error.kind() == ErrorKind::NotFound => return Ok(()),
+        Err(_) => {
+            fs::copy(rt, state, new)?;
+        }
+    }
+    let renamed = fs::rename(rt, new, place.backup.as_str());
+    let _ = fs::remove_file(rt, new);
+    renamed
+}
+
+/// Puts a file with the state's text in the place of its file, by a new one beside it that is renamed once all of it is on the
+/// disk; the one that is there stays as the backup. The status is the one so far, or 3 where any of that fails: then the file stays as
+/// it was, the new one is removed, standard error is told that the state isn't written, and standard output gets its text. (Where
+/// the sync of the folder alone fails, the file is the new one, and all else is so.)
+pub fn keep_state<R: Files, O: Write, E: Write>(
+    rt: &R,
+    place: &Place,
+    text: &str,
+    status: u8,
+    out: &mut O,
+    err: &mut E,
+) -> u8
+    ensures { EndsKept status result text.now (O.contents out.old) (O.contents out.new) (E.contents err.old) (E.contents err.new) }
+{
+    let kept = keep_by(rt, place, text, out, err);
+    if kept == 0 {
+        return status;
+    }
+    let _ = fs::remove_file(rt, place.new.as_str());
+    kept
+}
+
+/// Puts the text in the file's place.
+fn keep_by<R: Files, O: Write, E: Write>(
+    rt: &R,
+    place: &Place,
+    text: &str,
+    out: &mut O,
+    err: &mut E,
+) -> u8
+    ensures { EndsKept 0 result text.now (O.contents out.old) (O.contents out.new) (E.contents err.old) (E.contents err.new) }
+{
+    let mut opened = Replacement::create(rt, place).ok();
+    keep(opened.as_mut(), text, out, err)
+}

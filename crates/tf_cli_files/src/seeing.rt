@@ -1,0 +1,121 @@
+//! What a program finds: the files that its words name, and the log of an apply that did not end.
+
+ghost use Rattle.std.specs.Prelude.{IfErr};
+ghost use Rattle.tf_cli_files.specs.Program.{IsFailure};
+
+use crate::given::ProgramInput;
+use crate::log_file::{LogFile, empty, open_log};
+use crate::past::{Past, read_past};
+use crate::place::Place;
+use crate::reading::{read_files, read_optional, tell_unread};
+use crate::telling::{tell_locked, tell_no_log};
+use std::fs::OpenFile;
+use std::io::Write;
+use std::process::ExitCode;
+use std::rt::Files;
+use std::{fs, io};
+use tf_cli_options::Options;
+use tf_provider_log::LogEntry;
+
+/// What a program was given, where its state stands, and an apply of this state that did not end.
+#[derive(Drop)]
+pub struct Seen {
+    /// What it was given.
+    pub given: ProgramInput,
+    /// Where its state stands.
+    pub place: Place,
+    /// The apply that did not end, if there is one, and the entries of its log.
+    pub past: Option<(Past, Vec<LogEntry>)>,
+}
+
+/// Reads the files that options name, and the log. Where one can't be read that has been told, and this is the program's status.
+pub fn see<R: Files + AllocGlobal, E: Write>(
+    rt: &R,
+    options: Options,
+    err: &mut E,
+) -> Result<Seen, ExitCode>
+    ensures { IfErr result IsFailure }
+{
+    let given = read_files(options, &|file| fs::read(rt, file), err)?;
+    let place = place_of(rt, &given, err)?;
+    see_state(rt, given, place, err)
+}
+
+/// Does the same, and before the state is read it locks it: nobody else who locks it so holds it until the log is closed. Where
+/// somebody else does, that is told.
+pub fn hold<R: Files + AllocGlobal, E: Write>(
+    rt: &R,
+    options: Options,
+    err: &mut E,
+) -> Result<(Seen, R::File), ExitCode>
+where
+    R::File: LogFile,
+    ensures { IfErr result IsFailure }
+{
+    let given = read_files(options, &|file| fs::read(rt, file), err)?;
+    let place = place_of(rt, &given, err)?;
+    let log = lock(rt, &given, &place, err)?;
+    let seen = see_state(rt, given, place, err)?;
+    if seen.past.is_none() && take_torn_away(&log).is_err() {
+        return Err(tell_no_log(seen.place.log.as_str(), err));
+    }
+    Ok((seen, log))
+}
+
+/// Where the state that options name stands. Where its name leads nowhere, that is told as of a file that can't be read.
+fn place_of<R: Files + AllocGlobal, E: Write>(
+    rt: &R,
+    given: &ProgramInput,
+    err: &mut E,
+) -> Result<Place, ExitCode>
+    ensures { IfErr result IsFailure }
+{
+    match Place::of(rt, given.options.state.as_str()) {
+        Ok(place) => Ok(place),
+        Err(_) => Err(tell_unread(given.options.state.as_str(), err)),
+    }
+}
+
+/// Opens the log and locks it. Where that can't be, it is told.
+fn lock<R: Files, E: Write>(
+    rt: &R,
+    given: &ProgramInput,
+    place: &Place,
+    err: &mut E,
+) -> Result<R::File, ExitCode>
+where
+    R::File: LogFile,
+    ensures { IfErr result IsFailure }
+{
+    match open_log(rt, place.log.as_str()) {
+        Ok(Some(file)) => Ok(file),
+        Ok(None) => Err(tell_locked(given.options.state.as_str(), err)),
+        Err(_) => Err(tell_no_log(place.log.as_str(), err)),
+    }
+}
+
+/// Takes away what a log has that has no whole line, if it has anything.
+fn take_torn_away<F: LogFile>(log: &F) -> io::Result<()> {
+    if log.metadata()?.len() == 0 {
+        return Ok(());
+    }
+    empty(log)
+}
+
+/// Reads the state, where there is one, and the log.
+fn see_state<R: Files + AllocGlobal, E: Write>(
+    rt: &R,
+    mut given: ProgramInput,
+    place: Place,
+    err: &mut E,
+) -> Result<Seen, ExitCode>
+    ensures { IfErr result IsFailure }
+{
+    let read = |file: &str| -> io::Result<Vec<u8>> { fs::read(rt, file) };
+    given.state = read_optional(place.state.as_str(), &read, err)?;
+    let past = match read_optional(place.log.as_str(), &read, err)? {
+        Some(log) => read_past(rt.alloc(), place.log.as_str(), log.as_slice(), err)?,
+        None => None,
+    };
+    Ok(Seen { given, place, past })
+}

@@ -1,0 +1,112 @@
+//! What the programs tell on standard error of logs and locks.
+
+ghost use Rattle.std.specs.Prelude.{◌≡◌, ◌∷◌, ◌++◌, codes, string_bytes};
+ghost use Rattle.tf_cli_lines.specs.Saved.{AppendsStart};
+ghost use Rattle.tf_cli_files.specs.Program.{IsFailure};
+
+use crate::past::Past;
+use crate::place::Place;
+use std::alloc::Global;
+use std::io::Write;
+use std::process::ExitCode;
+use tf_cli_lines::{print_refusal, save, save_all, verb_text};
+use tf_config_refusal::Refusal;
+use tf_provider_log::{LineFault, request_line};
+use tf_provider_protocol::Request;
+
+/// Tells that there was no memory. The answer is the program's status.
+pub fn tell_no_memory<E: Write>(err: &mut E) -> ExitCode
+    ensures { IsFailure result }
+{
+    let _ = print_refusal(&Refusal::OutOfMemory, err);
+    ExitCode::FAILURE
+}
+
+/// Tells that another apply holds the lock of a state. The answer is the program's status.
+pub fn tell_locked<E: Write>(file: &str, err: &mut E) -> ExitCode
+    ensures { IsFailure result }
+{
+    let _ = save_all(err, &["error: ", file, " is locked by another apply\n"]);
+    ExitCode::FAILURE
+}
+
+/// Tells that a log can't be written, so that nothing is called. The answer is the program's status.
+pub fn tell_no_log<E: Write>(name: &str, err: &mut E) -> ExitCode
+    ensures { IsFailure result }
+{
+    let _ = save_all(err, &["error: cannot write ", name, "\n"]);
+    ExitCode::FAILURE
+}
+
+/// Tells that a line of a log isn't one. The answer is the program's status.
+pub fn tell_bad_line<E: Write>(name: &str, number: usize, fault: LineFault, err: &mut E) -> ExitCode
+    ensures { IsFailure result }
+{
+    let _ = writeln!(err, "error: {name}: line {number}: {fault}");
+    ExitCode::FAILURE
+}
+
+/// Tells that a log isn't of the state that is there. The answer is the program's status.
+pub fn tell_misfit<E: Write>(place: &Place, err: &mut E) -> ExitCode
+    ensures { IsFailure result }
+{
+    let _ = save_all(
+        err,
+        &[
+            "error: ",
+            place.log.as_str(),
+            " does not fit ",
+            place.state.as_str(),
+            "\n",
+        ],
+    );
+    ExitCode::FAILURE
+}
+
+/// Tells that not all results of a log could be recovered, so that nothing was written. The answer is the program's status.
+pub fn tell_unrecovered<E: Write>(name: &str, err: &mut E) -> ExitCode
+    ensures { IsFailure result }
+{
+    let _ = save_all(
+        err,
+        &["error: ", name, ": not all results could be recovered\n"],
+    );
+    ExitCode::FAILURE
+}
+
+/// Tells that a log's lines couldn't be written any more, so that no further call was begun.
+pub fn tell_lost<E: Write>(name: &str, err: &mut E) {
+    let _ = save_all(
+        err,
+        &[
+            "warning: cannot write ",
+            name,
+            ", so nothing more was begun\n",
+        ],
+    );
+}
+
+/// Tells what is recovered of an apply that did not end: how many results, and each request that was begun and whose result
+/// isn't known, with the request itself.
+pub fn tell_past<E: Write>(alloc: Global, past: &Past, err: &mut E) {
+    let _ = writeln!(
+        err,
+        "recovered {} results of an apply that did not end",
+        past.answers
+    );
+    for request in &past.in_flight {
+        tell_in_flight(alloc, request, err);
+    }
+}
+
+fn tell_in_flight<E: Write>(alloc: Global, request: &Request, err: &mut E) {
+    let verb = verb_text(&Some(request.op));
+    let _ = writeln!(
+        err,
+        "warning: {}{verb} was begun, its result is not known",
+        request.address
+    );
+    if let Ok(line) = request_line(alloc, request) {
+        let _ = save(err, line.as_str());
+    }
+}

@@ -1,0 +1,2 @@
+pub mod Writes
+mod RefusalLines

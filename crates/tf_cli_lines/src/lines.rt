@@ -1,0 +1,18 @@
+//! What a line says of what was to be done.
+
+ghost use Rattle.std.specs.Prelude.{◌≡◌};
+ghost use Rattle.tf_cli_lines.specs.Lines.{verb_text};
+
+use tf_provider_protocol::Op;
+
+/// A space and what was to be done, where something was.
+pub fn verb_text(verb: &Option<Op>) -> &'static str
+    ensures { result.now ≡ verb_text verb.now }
+{
+    match verb {
+        None => "",
+        Some(Op::Create) => " create",
+        Some(Op::Update) => " update",
+        Some(Op::Destroy) => " destroy",
+    }
+}

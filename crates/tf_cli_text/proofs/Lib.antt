@@ -1,2 +1,0 @@
-mod Writes
-mod RefusalLines

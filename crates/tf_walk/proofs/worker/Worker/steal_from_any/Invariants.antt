@@ -1,6 +1,0 @@
--- the worker has what is its own
-use Rattle.tf_walk.specs.Post.{IsPost}
-use Rattle.tf_walk.proofs.worker.Worker.steal_from_any.Given as goal
-
-abbrev pub invariant-loop-stealer : goal.invariant-loop-stealer
-invariant-loop-stealer g l = IsPost g.N.WalkBrand.meanings g.N.WalkBrand.plan (g.B.WalkInput.planned l.self.walk_input.now) (g.B.WalkInput.named l.self.walk_input.now) l.self.walk.now.claims.now l.post

@@ -1,0 +1,5 @@
+pub mod Done
+pub mod Filled
+pub mod Kept
+pub mod Leading
+pub mod Solved

@@ -1,0 +1,32 @@
+-- One output after another is told of and saved.
+use Rattle.std.specs.Prelude.{◌≡◌, ℕ, List, ⊤, ◌⊎◌}
+use Rattle.tf_walk_outputs.specs.Outputs.{OutputResultView, not_evaluated, excused, valued, faulted, end_of, with_output}
+use Rattle.tf_walk_outputs.specs.declared.ends.EvaluatedOutput.{EvaluatedOutput}
+use Rattle.tf_walk_outputs.specs.declared.ends.EvaluatedOutput.TheVariants.{NotEvaluated, NoMemory, Faulted, Valued}
+use Rattle.tf_walk_outputs.specs.declared.ends.OutputResult.{OutputResult}
+use Rattle.tf_value.specs.Stored.{MayBeStored}
+use Rattle.tf_value.specs.Tree.{Entries, tree_of}
+
+-- what came of an output, without where its value lies in memory
+abbrev pub done_of : EvaluatedOutput → OutputResultView
+done_of NotEvaluated = not_evaluated
+done_of NoMemory = excused
+done_of (Faulted why) = faulted why
+done_of (Valued object) = valued (tree_of object.value)
+
+-- a value may be stored
+abbrev pub MayBeSaved : OutputResultView → Type 0
+MayBeSaved (valued t) = MayBeStored t
+MayBeSaved _ = ⊤
+
+-- what comes of an output in the end: the same, or, where there is no memory for the entry of its value, it is excused
+abbrev pub IsSameOrExcused : OutputResultView → OutputResultView → Type 0
+IsSameOrExcused (valued t) kept = (kept ≡ valued t) ⊎ (kept ≡ excused)
+IsSameOrExcused done kept = kept ≡ done
+
+-- an output is told of and saved, by what came of it
+pub record IsKept (name : List ℕ) (done : OutputResultView) (end : OutputResult) (before after : Entries) : Type 0 where
+  pub kept : OutputResultView
+  pub same : IsSameOrExcused done kept
+  pub told : end ≡ end_of kept
+  pub saves : after ≡ with_output name kept before

@@ -1,5 +1,0 @@
-use Rattle.tf_walk_report.proofs.Leading.{evaluated_where_good, outputs_one}
-use Rattle.tf_walk_report.proofs.output_laws.outputs_are_one.Goals as goal
-
-pub returns : goal.returns
-returns c = record { good = evaluated_where_good; one = outputs_one }

@@ -1,0 +1,107 @@
+//! What the workers of a walk share.
+
+ghost use Rattle.std.specs.Prelude.{◌≡◌, ℕ, List};
+
+use crate::bound::PlanBound;
+use crate::cells::Cells;
+use crate::hinting::Hinting;
+use crate::hints::HintStealer;
+use crate::log::Log;
+use crate::progress::WalkProgress;
+use crate::walk_brand::WalkBrand;
+use std::alloc::Global;
+use std::sync::Mutex;
+use tf_claim::{Claims, Seat};
+use tf_config_names::Declarations;
+use tf_plan_data::Plan;
+use tf_walk_action::Stop;
+
+/// What one worker has of its own.
+#[derive(Drop)]
+pub struct WorkerState<N: WalkBrand> {
+    /// Its seat at the claims.
+    pub seat: Seat,
+    /// Its hints.
+    pub hinting: Hinting<N>,
+    /// The place of its own stealer in the list of all.
+    pub place: usize,
+}
+
+/// What all workers of a walk share, beside the providers and what they read.
+#[derive(Drop)]
+pub struct SharedWalk<'a, N: WalkBrand> {
+    /// Where memory comes from.
+    pub alloc: Global,
+    /// The flag that stops the walk.
+    pub stop: &'a Stop,
+    /// The claims on the plan's actions.
+    pub claims: &'a Claims,
+    /// The journal, under its lock.
+    pub journal: &'a Mutex<Log<N>>,
+    /// With what each worker's hints are stolen, in the order of the workers.
+    pub stealers: &'a [HintStealer<PlanBound<N>>],
+    /// How far the walk is.
+    pub progress: &'a WalkProgress,
+}
+
+/// What workers read: the plan, the names of its configuration, and the cells. They reach it through this trait, so that it
+/// may be shared is shown once, where the threads start.
+pub trait WalkInput<N: WalkBrand> {
+    ghost use Rattle.tf_config_data.specs.Names.{NameView};
+    ghost use Rattle.tf_config_names.specs.Table.{names_in};
+    ghost use Rattle.tf_plan_data.specs.declared.plan.Plan.{Plan};
+
+    /// The plan.
+    ghost planned: { Self → Plan };
+
+    /// The names of its configuration.
+    ghost named: { Self → List NameView };
+
+    /// How many cells there are.
+    ghost count: { Self → ℕ };
+
+    /// The plan.
+    fn plan(&self) -> &Plan
+        ensures { result.now ≡ planned self.now };
+
+    /// The names of its configuration.
+    fn names(&self) -> &Declarations<'_>
+        ensures { names_in result.now ≡ named self.now };
+
+    /// The cells.
+    fn cells(&self) -> &Cells<N>
+        ensures { result.now ≡ count self.now };
+}
+
+/// A plan, the names of its configuration, and cells.
+#[derive(Drop)]
+pub struct BorrowedInput<'a, N: WalkBrand> {
+    /// The plan.
+    pub plan: &'a Plan,
+    /// The names of its configuration.
+    pub names: &'a Declarations<'a>,
+    /// The cells.
+    pub cells: &'a Cells<N>,
+}
+
+impl<N: WalkBrand> WalkInput<N> for BorrowedInput<'_, N> {
+    ghost use Rattle.tf_config_names.specs.Table.{names_in};
+
+    ghost planned = { λ g. g.plan.now };
+
+    ghost named = { λ g. names_in g.names.now };
+
+    ghost count = { λ g. g.cells.now };
+
+    fn plan(&self) -> &Plan {
+        self.plan
+    }
+
+    fn names(&self) -> &Declarations<'_> {
+        self.names
+    }
+
+    fn cells(&self) -> &Cells<N> {
+        self.cells
+    }
+}

@@ -1,0 +1,224 @@
+//! One worker of a walk.
+
+ghost use Rattle.std.specs.Prelude.{◌≡◌, ◌<◌, List, map};
+ghost use Rattle.tf_walk_workers.specs.Post.{IsPost};
+ghost use Rattle.tf_walk_workers.specs.Walk.{IsOneWalk};
+
+use crate::bound::PlanBound;
+use crate::hints::HintStealer;
+use crate::memo::Memo;
+use crate::shared::{SharedWalk, WalkInput, WorkerState};
+use crate::steps::WorkerContext;
+use crate::walk_brand::WalkBrand;
+use std::sync::Wait;
+use tf_claim::Seat;
+use tf_provider::Provider;
+
+/// Ends actions, one after another, until all actions have ended. Where there is nothing to do it waits for news.
+pub(crate) fn work<N: WalkBrand, B: WalkInput<N>, R: Wait>(
+    rt: &R,
+    walk: &SharedWalk<'_, N>,
+    walk_input: &B,
+    providers: &[Box<dyn Provider + Sync>],
+    worker_state: WorkerState<N>,
+) -> Seat
+    requires walk { IsOneWalk N.plan N.meanings (B.planned walk_input.now) (B.named walk_input.now) (B.count walk_input.now) walk.now.claims.now.graph (map meaning providers.now) }
+    requires seat { worker_state.seat.table ≡ walk.now.claims.now.table }
+    ensures { result.table ≡ walk.now.claims.now.table }
+{
+    let worker = Worker {
+        rt,
+        walk,
+        walk_input,
+    };
+    let mut post = Post {
+        worker_state,
+        memo: None,
+    };
+    let all = walk.claims.graph().nodes() as u64;
+    // What may be claimed is found, though no contract says so. No worker waits before every action was given to one to look
+    // at, which claims it if nothing stands before it. At any other action a worker has a hint that let go of the last edge into
+    // it, or, where the hint is lost, all actions are given anew; and that worker looks at its own hints, and on, before it
+    // waits. So others are woken only to be quicker, but for the end, when all are. None waits that hasn't looked since the
+    // last news: the news is read before it looks, and told after there is something to find. `tools/model` goes through all
+    // interleavings of this loop, for small orders.
+    for _ in rt.forever() {
+        let news = walk.progress.news();
+        if walk.progress.ended() >= all {
+            break;
+        }
+        if !worker.go_on(providers, &mut post) {
+            walk.progress.wait_for_news(rt, news);
+        }
+    }
+    walk.progress.tell_news(walk.stealers.len() as u64);
+    let Post {
+        worker_state,
+        memo: _,
+    } = post;
+    let WorkerState {
+        seat,
+        hinting: _,
+        place: _,
+    } = worker_state;
+    seat
+}
+
+/// What one worker has of its own: its state, and what it saw for the last action that it asked for.
+#[derive(Drop)]
+struct Post<'a, N: WalkBrand> {
+    worker_state: WorkerState<N>,
+    memo: Option<Memo<'a, N>>,
+}
+
+/// What a worker works with, beside the providers and its post.
+#[derive(Drop)]
+struct Worker<'a, 'w, N: WalkBrand, B, R> {
+    rt: &'a R,
+    walk: &'a SharedWalk<'w, N>,
+    walk_input: &'a B,
+}
+
+impl<'a, N: WalkBrand, B: WalkInput<N>, R: Wait> Worker<'a, '_, N, B, R> {
+    /// Ends an action that may be claimed, if there is one: by a hint of its own, or else the first in the list that no
+    /// worker has looked at, or else by a hint of another worker.
+    fn go_on(&self, providers: &[Box<dyn Provider + Sync>], post: &mut Post<'a, N>) -> bool
+        requires walk { IsOneWalk N.plan N.meanings (B.planned self.now.walk_input.now) (B.named self.now.walk_input.now) (B.count self.now.walk_input.now) self.now.walk.now.claims.now.graph (map meaning providers.now) }
+        requires post { IsPost N.meanings N.plan (B.planned self.now.walk_input.now) (B.named self.now.walk_input.now) self.now.walk.now.claims.now post.old }
+        ensures { IsPost N.meanings N.plan (B.planned self.now.walk_input.now) (B.named self.now.walk_input.now) self.now.walk.now.claims.now post.new }
+    {
+        self.take_own_hint(providers, post)
+            || self.look_on(providers, post)
+            || self.steal_hint(providers, post)
+    }
+
+    /// Ends an action by a hint of the worker's own. Hints at actions that can't be claimed are forgotten.
+    fn take_own_hint(&self, providers: &[Box<dyn Provider + Sync>], post: &mut Post<'a, N>) -> bool
+        requires walk { IsOneWalk N.plan N.meanings (B.planned self.now.walk_input.now) (B.named self.now.walk_input.now) (B.count self.now.walk_input.now) self.now.walk.now.claims.now.graph (map meaning providers.now) }
+        requires post { IsPost N.meanings N.plan (B.planned self.now.walk_input.now) (B.named self.now.walk_input.now) self.now.walk.now.claims.now post.old }
+        ensures { IsPost N.meanings N.plan (B.planned self.now.walk_input.now) (B.named self.now.walk_input.now) self.now.walk.now.claims.now post.new }
+    {
+        for _ in self.rt.forever() {
+            let Some(hint) = post.worker_state.hinting.hints.pop() else {
+                return false;
+            };
+            if self.end_if_free(providers, post, hint) {
+                return true;
+            }
+        }
+        unreachable!()
+    }
+
+    /// Ends an action by a hint that it steals, of the worker behind it first.
+    fn steal_hint(&self, providers: &[Box<dyn Provider + Sync>], post: &mut Post<'a, N>) -> bool
+        requires walk { IsOneWalk N.plan N.meanings (B.planned self.now.walk_input.now) (B.named self.now.walk_input.now) (B.count self.now.walk_input.now) self.now.walk.now.claims.now.graph (map meaning providers.now) }
+        requires post { IsPost N.meanings N.plan (B.planned self.now.walk_input.now) (B.named self.now.walk_input.now) self.now.walk.now.claims.now post.old }
+        ensures { IsPost N.meanings N.plan (B.planned self.now.walk_input.now) (B.named self.now.walk_input.now) self.now.walk.now.claims.now post.new }
+    {
+        let own = post.worker_state.place.min(self.walk.stealers.len());
+        let (before, behind) = self.walk.stealers.split_at(own);
+        self.steal_from_any(providers, post, behind) || self.steal_from_any(providers, post, before)
+    }
+
+    /// Ends an action by a hint that it steals of some workers, of the first that has one.
+    fn steal_from_any(
+        &self,
+        providers: &[Box<dyn Provider + Sync>],
+        post: &mut Post<'a, N>,
+        stealers: &[HintStealer<PlanBound<N>>],
+    ) -> bool
+        requires walk { IsOneWalk N.plan N.meanings (B.planned self.now.walk_input.now) (B.named self.now.walk_input.now) (B.count self.now.walk_input.now) self.now.walk.now.claims.now.graph (map meaning providers.now) }
+        requires post { IsPost N.meanings N.plan (B.planned self.now.walk_input.now) (B.named self.now.walk_input.now) self.now.walk.now.claims.now post.old }
+        ensures { IsPost N.meanings N.plan (B.planned self.now.walk_input.now) (B.named self.now.walk_input.now) self.now.walk.now.claims.now post.new }
+    {
+        for stealer in stealers {
+            if self.steal_from(providers, post, stealer) {
+                return true;
+            }
+        }
+        false
+    }
+
+    /// Ends an action by a hint that it steals of one worker. Hints at actions that can't be claimed are forgotten, until that
+    /// worker has none: behind one of them may lie the only hint at an action that can be claimed.
+    fn steal_from(
+        &self,
+        providers: &[Box<dyn Provider + Sync>],
+        post: &mut Post<'a, N>,
+        stealer: &HintStealer<PlanBound<N>>,
+    ) -> bool
+        requires walk { IsOneWalk N.plan N.meanings (B.planned self.now.walk_input.now) (B.named self.now.walk_input.now) (B.count self.now.walk_input.now) self.now.walk.now.claims.now.graph (map meaning providers.now) }
+        requires post { IsPost N.meanings N.plan (B.planned self.now.walk_input.now) (B.named self.now.walk_input.now) self.now.walk.now.claims.now post.old }
+        ensures { IsPost N.meanings N.plan (B.planned self.now.walk_input.now) (B.named self.now.walk_input.now) self.now.walk.now.claims.now post.new }
+    {
+        for _ in self.rt.forever() {
+            let Some(hint) = stealer.steal(self.rt) else {
+                return false;
+            };
+            if self.end_if_free(providers, post, hint) {
+                return true;
+            }
+        }
+        unreachable!()
+    }
+
+    /// Ends an action that can be claimed, of those that no worker has looked at. None is looked at twice, unless a hint is
+    /// lost. So a worker that looks at one whose turn hasn't come passes it by: whoever ends the last action before it gives
+    /// a hint at it.
+    fn look_on(&self, providers: &[Box<dyn Provider + Sync>], post: &mut Post<'a, N>) -> bool
+        requires walk { IsOneWalk N.plan N.meanings (B.planned self.now.walk_input.now) (B.named self.now.walk_input.now) (B.count self.now.walk_input.now) self.now.walk.now.claims.now.graph (map meaning providers.now) }
+        requires post { IsPost N.meanings N.plan (B.planned self.now.walk_input.now) (B.named self.now.walk_input.now) self.now.walk.now.claims.now post.old }
+        ensures { IsPost N.meanings N.plan (B.planned self.now.walk_input.now) (B.named self.now.walk_input.now) self.now.walk.now.claims.now post.new }
+    {
+        let all = self.walk.claims.graph().nodes();
+        for _ in self.rt.forever() {
+            let Some(action) = self.walk.progress.next(all) else {
+                return false;
+            };
+            if self.end_if_free(providers, post, action) {
+                return true;
+            }
+        }
+        unreachable!()
+    }
+
+    /// Claims an action, takes it to its end, lets go of what waits for it, and gives hints at what is free then; false where
+    /// it can't be claimed. Where a hint is lost, the workers look at all actions anew. Others are woken for what is more than
+    /// one worker does.
+    fn end_if_free(
+        &self,
+        providers: &[Box<dyn Provider + Sync>],
+        post: &mut Post<'a, N>,
+        action: usize,
+    ) -> bool
+        requires walk { IsOneWalk N.plan N.meanings (B.planned self.now.walk_input.now) (B.named self.now.walk_input.now) (B.count self.now.walk_input.now) self.now.walk.now.claims.now.graph (map meaning providers.now) }
+        requires post { IsPost N.meanings N.plan (B.planned self.now.walk_input.now) (B.named self.now.walk_input.now) self.now.walk.now.claims.now post.old }
+        requires action { action < N.plan.order.nodes }
+        ensures { IsPost N.meanings N.plan (B.planned self.now.walk_input.now) (B.named self.now.walk_input.now) self.now.walk.now.claims.now post.new }
+    {
+        let walk = self.walk;
+        let Some(permit) = walk.claims.claim(&mut post.worker_state.seat, action) else {
+            return false;
+        };
+        let context = WorkerContext {
+            rt: self.rt,
+            alloc: walk.alloc,
+            plan: self.walk_input.plan(),
+            names: self.walk_input.names(),
+            cells: self.walk_input.cells(),
+            journal: walk.journal,
+            stop: walk.stop,
+        };
+        let finished = context.end_action(providers, permit, &mut post.memo);
+        let worker_state = &mut post.worker_state;
+        worker_state.hinting.begin();
+        walk.claims.finish(&mut worker_state.seat, finished);
+        walk.claims
+            .let_go_from(&mut worker_state.seat, action, &mut worker_state.hinting);
+        if worker_state.hinting.is_lost {
+            walk.progress.look_anew();
+        }
+        walk.progress.tell_end(worker_state.hinting.free);
+        true
+    }
+}
