@@ -11,7 +11,8 @@ use test_watching::{Manner, Misled, SeenApply, Texts, apply_by, watch_manner};
 use tf_cli::Stop;
 use tf_provider::Provider;
 use tf_provider_sim::Sim;
-use tf_value::{Value, from_json};
+use tf_value::Value;
+use tf_value_json::from_json;
 
 /// An apply of these texts by so many workers.
 pub(crate) fn carry_out<R: Threads + Wait + Sync>(

@@ -9,11 +9,11 @@ use Rattle.tf_config_refusal.specs.Check.{demanded}
 use Rattle.tf_config_refusal.specs.Place.{dotted}
 use Rattle.tf_config_refusal.specs.Refusal.{RefusalView, no_memory, workers, fault}
 use Rattle.tf_value.proofs.Storing.{within-limits}
-use Rattle.tf_value.specs.Json.{tree_from, IsUnread}
+use Rattle.tf_value_json.specs.Json.{tree_from, IsUnread}
 use Rattle.tf_value.specs.Known.{known}
 use Rattle.tf_value.specs.Measure.{is_within, IsWithinLimits, IsTooLarge}
 use Rattle.tf_value.specs.Tree.{Tree}
-use Rattle.tf_value.specs.declared.json.JsonFault.TheVariants.{NotWhole, TooLarge}
+use Rattle.tf_value_json.specs.declared.fault.JsonFault.TheVariants.{NotWhole, TooLarge}
 
 -- a condition that doesn't hold is told
 pub Refuses-holds : (place : List (List ℕ)) (condition : Bool) (t : RefusalView) → condition ≡ false → TellsAt (dotted place) bad_shape t → Refuses (demanded place (holds condition)) t

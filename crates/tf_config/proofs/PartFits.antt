@@ -11,7 +11,7 @@ use Rattle.tf_config_refusal.proofs.Checks.{AllMet-append, AllMet-left, AllMet-r
 use Rattle.tf_expr_syntax.specs.ExprTree.{Tree}
 use Rattle.tf_value.proofs.Conjunction.{and-first, and-second, and-both}
 use Rattle.tf_value.proofs.Storing.{within-true, within-limits}
-use Rattle.tf_value.specs.Json.{tree_from, items_from, entries_from, value_from}
+use Rattle.tf_value_json.specs.Json.{tree_from, items_from, entries_from, value_from}
 use Rattle.tf_value.specs.Known.{known, known_items, known_entries}
 use Rattle.tf_value.specs.Tree as values
 use Rattle.tf_config.proofs.Fits.{Fits}

@@ -10,7 +10,7 @@ use Rattle.tf_expr.specs.Reading.{expr_checks}
 use Rattle.tf_expr.specs.Within.{demanded_as}
 use Rattle.tf_config_refusal.specs.Check.{demanded}
 use Rattle.tf_config_refusal.specs.Walk.{each_item}
-use Rattle.tf_value.specs.Json.{tree_from, value_from}
+use Rattle.tf_value_json.specs.Json.{tree_from, value_from}
 use Rattle.tf_value.specs.Measure.{is_within, IsWithinLimits}
 use Rattle.tf_value.specs.Tree as values
 use Rattle.tf_config_refusal.specs.Refusal.{refusal_of}

@@ -8,7 +8,7 @@ use Rattle.tf_config_data.specs.Config.{VariableView}
 use Rattle.tf_config_refusal.specs.Check.{Check, demanded}
 use Rattle.tf_config_refusal.specs.declared.code.Code.TheVariants as code
 use Rattle.tf_config_refusal.specs.Refusal.{RefusalView, bare, Way}
-use Rattle.tf_value.specs.Json.{value_from}
+use Rattle.tf_value_json.specs.Json.{value_from}
 use Rattle.tf_value.specs.Tree.{Tree, Entries, no_entries, entry}
 use Rattle.tf_config.specs.Types.{fitted}
 

@@ -19,7 +19,8 @@ use tf_config_data::VariableType;
 use tf_config_refusal::{Path, Refusal};
 use tf_expr::read_expr_at;
 use tf_expr_syntax::Expr;
-use tf_value::{JsonFault, Value, from_json};
+use tf_value::Value;
+use tf_value_json::{JsonFault, from_json};
 
 /// An expression.
 pub(crate) fn read_expression(part: &Part<'_>) -> Result<Expr, Refusal>

@@ -5,7 +5,7 @@ use Rattle.serde_json.specs.Data as json
 use Rattle.tf_expr_template.proofs.Alone.{one_template}
 use Rattle.tf_config_refusal.proofs.Checks.{AllMet-append, AllMet-left, AllMet-right, IsFirst-unmet}
 use Rattle.tf_config_refusal.specs.Check.{Check, IsFirst}
-use Rattle.tf_value.specs.Json.{whole_from}
+use Rattle.tf_value_json.specs.Json.{whole_from}
 use Rattle.tf_value.specs.Known.{known}
 use Rattle.tf_value.specs.Tree as values
 use Rattle.tf_expr.specs.Demand.{Demand, a_plain_name, a_whole_number, a_template, AreMet, IsMet, Fails}

@@ -4,7 +4,7 @@ use Rattle.serde_json.specs.Data.{Num}
 use Rattle.tf_expr_template.specs.Spelling.{SpellsTemplate}
 use Rattle.tf_expr_syntax.specs.TemplateTree.{Woven, template_depth}
 use Rattle.tf_config_refusal.specs.Check.{Check, AllMet, IsFirst}
-use Rattle.tf_value.specs.Json.{whole_from}
+use Rattle.tf_value_json.specs.Json.{whole_from}
 use Rattle.tf_value.specs.Known.{known}
 use Rattle.tf_expr.specs.Fault.{Told, no_memory, wrong}
 use Rattle.tf_expr.specs.Opening.{IsPlain}

@@ -3,7 +3,7 @@ use Rattle.std.specs.Prelude.{◌≡◌, ℕ, ◌+◌, List, [], ◌∷◌, ◌+
 use Rattle.std.specs.Fmt.{decimal}
 use Rattle.serde_json.specs.Data as json
 use Rattle.tf_config_refusal.specs.Check.{demanded}
-use Rattle.tf_value.specs.Json.{whole_from}
+use Rattle.tf_value_json.specs.Json.{whole_from}
 use Rattle.tf_value.specs.Tree as values
 use Rattle.tf_expr.specs.Demand.{Checks, a_plain_name, a_whole_number, a_template, IsTemplate}
 use Rattle.tf_expr.specs.Opening.{IsPlain}

@@ -8,7 +8,7 @@ ghost use Rattle.tf_expr.specs.Opening.{opens, IsPlain};
 ghost use Rattle.tf_expr_syntax.specs.TemplateTree.{template_view};
 ghost use Rattle.tf_config_refusal.specs.Check.{demanded};
 ghost use Rattle.tf_config_refusal.specs.Place.{dotted, place_of};
-ghost use Rattle.tf_value.specs.Json.{whole_from};
+ghost use Rattle.tf_value_json.specs.Json.{whole_from};
 ghost use Rattle.tf_value.specs.Tree.{whole};
 
 use crate::fault::{ExprCause, ExprFault};

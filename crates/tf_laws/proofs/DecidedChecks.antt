@@ -17,7 +17,7 @@ use Rattle.tf_expr.specs.Refusing.{way_of}
 use Rattle.tf_config_refusal.specs.declared.code.Code.{Code}
 use Rattle.tf_config_refusal.specs.Refusal.{DetailView, fault, no_memory, Way}
 use Rattle.tf_expr_syntax.specs.TemplateTree.{Woven, template_depth}
-use Rattle.tf_value.specs.Json.{whole_from}
+use Rattle.tf_value_json.specs.Json.{whole_from}
 use Rattle.tf_value.specs.Known.{known}
 
 pub not_memory : (code : Code) (place : List ℕ) (detail : DetailView) → fault code place detail ≡ no_memory → ⊥

@@ -20,7 +20,7 @@ use Rattle.tf_config_data.specs.declared.variable.VariableType.{VariableType}
 use Rattle.tf_config_data.specs.declared.variable.VariableType.TheVariants as types
 use Rattle.tf_expr_syntax.specs.ExprTree as expr
 use Rattle.tf_value.proofs.Conjunction.{and-both, and-first, and-second}
-use Rattle.tf_value.specs.Json.{tree_from, value_from}
+use Rattle.tf_value_json.specs.Json.{tree_from, value_from}
 use Rattle.tf_value.specs.Known.{known, known_entries, known_items}
 use Rattle.tf_value.specs.Scalar.{scalar_text}
 use Rattle.tf_value.specs.Tree as tree

@@ -7,7 +7,7 @@ use Rattle.serde_json.specs.Read.{max_depth}
 use Rattle.tf_provider_protocol.specs.Meaning.{Asked, Answer, object, gone, failed}
 use Rattle.tf_provider_protocol.specs.declared.request.Op.{Op}
 use Rattle.tf_provider_protocol.specs.declared.request.Op.TheVariants as op
-use Rattle.tf_value.specs.Json.{tree_from}
+use Rattle.tf_value_json.specs.Json.{tree_from}
 use Rattle.tf_value.specs.Measure.{depth}
 use Rattle.tf_value.specs.Sets.{has_no_set}
 use Rattle.tf_value.specs.Tree.{Tree, IsHeld}

@@ -6,7 +6,7 @@ use Rattle.serde_json.specs.View.{view, items_view as json_items, items_of as js
 use Rattle.serde_json.specs.declared.value.Value.{Value as Json}
 use Rattle.tf_value.specs.Tree.{tree_of, items_view, entries_view}
 use Rattle.tf_value.specs.declared.value.Value.{Value}
-use Rattle.tf_value.proofs.JsonForms.{listed}
+use Rattle.tf_value_json.proofs.JsonForms.{listed}
 use Rattle.tf_value.proofs.Views.{Entry}
 use Rattle.tf_provider_log.specs.Form.{value_form, items_form, members_form}
 

@@ -6,7 +6,7 @@ use Rattle.serde_json.specs.Find.{get, as_integer}
 use Rattle.tf_provider_protocol.specs.Meaning.{Asked, Answer, object, gone, failed}
 use Rattle.tf_provider_protocol.specs.declared.request.Op.{Op}
 use Rattle.tf_provider_protocol.specs.declared.request.Op.TheVariants as op
-use Rattle.tf_value.specs.Json.{tree_from}
+use Rattle.tf_value_json.specs.Json.{tree_from}
 use Rattle.tf_value.specs.Tree.{Tree}
 use Rattle.tf_provider_log.specs.LogEntry.{LogEntryView, begun, replied, HeaderView}
 

@@ -2,7 +2,7 @@
 
 ghost use Rattle.std.specs.Prelude.{◌≡◌, IfOk};
 ghost use Rattle.serde_json.specs.View.{view, items_view as json_items, members_view};
-ghost use Rattle.tf_value.specs.Json.{tree_from, items_from, entries_from};
+ghost use Rattle.tf_value_json.specs.Json.{tree_from, items_from, entries_from};
 ghost use Rattle.tf_value.specs.Tree.{tree_of, items_view, entries_view};
 
 use serde_json::{Map, Value as Json};

@@ -7,10 +7,10 @@ use Rattle.std.specs.Prelude.{option_and_then}
 use Rattle.std.proofs.lemmas.Cmp.{nat_list_cmp_total}
 use Rattle.serde_json.specs.Data.{Data, string, number as json_number, unsigned, Members, no_members, member}
 use Rattle.serde_json.specs.View.{items_of}
-use Rattle.tf_state_json.specs.Plain.{ArePlainMembers, AreAbove}
-use Rattle.tf_value.specs.Json.{value_data, entries_data}
+use Rattle.tf_value_json.specs.Plain.{ArePlainMembers, AreAbove}
+use Rattle.tf_value_json.specs.Json.{value_data, entries_data}
 use Rattle.tf_value.specs.Tree.{Tree, map, Entries, no_entries, entry, put}
-use Rattle.tf_value.proofs.Forms.{value_from-value_data}
+use Rattle.tf_value_json.proofs.Forms.{value_from-value_data}
 use Rattle.tf_value.proofs.WithLists.{no_set-lists}
 use Rattle.tf_config_address.specs.ObjectId.{InstanceKeyView, single, number, name}
 use Rattle.tf_state.specs.Reading.{value_in, values_in, key_in, deposed_in, attributes_in, addresses_in, dependencies_in, tainted_in, flag_in, put_text, put_new, below, below_or_zero, output_in}

@@ -4,7 +4,7 @@ use Rattle.std.specs.Cmp.Lexicographic.{slice_cmp}
 use Rattle.std.specs.Ordering.{match_ordering}
 use Rattle.std.specs.Prelude.{option_and_then}
 use Rattle.serde_json.specs.Data.{Data, Members, no_members, member}
-use Rattle.tf_value.specs.Json.{tree_from}
+use Rattle.tf_value_json.specs.Json.{tree_from}
 use Rattle.tf_value.specs.Known.{known, known_entries}
 use Rattle.tf_value.specs.Tree.{Tree, Entries, no_entries, entry, put, tree_of, entries_view}
 use Rattle.tf_value.specs.declared.value.Value.{Value, Map as Mapped}

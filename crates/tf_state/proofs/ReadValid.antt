@@ -10,13 +10,13 @@ use Rattle.std.proofs.lemmas.Bool.{and_parts}
 use Rattle.std.proofs.lemmas.Cmp.{nat_list_cmp_total}
 use Rattle.serde_json.specs.Data as json
 use Rattle.serde_json.specs.Find.{get}
-use Rattle.tf_state_json.specs.Plain.{IsPlain, ArePlain, ArePlainMembers, IsSorted, IsAny, AreOrderly, AreOrderlyMembers}
-use Rattle.tf_state_json.proofs.Puts.{plain-put}
-use Rattle.tf_state_json.proofs.Sorted.{read_is_sorted, sorted-get}
-use Rattle.tf_value.specs.Json.{IsJson, IsArray, IsObject, AreTexts, value_data, entries_data, tree_from}
+use Rattle.tf_value_json.specs.Plain.{IsPlain, ArePlain, ArePlainMembers, IsSorted, IsAny, AreOrderly, AreOrderlyMembers}
+use Rattle.tf_value_json.proofs.Puts.{plain-put}
+use Rattle.tf_value_json.proofs.Sorted.{read_is_sorted, sorted-get}
+use Rattle.tf_value_json.specs.Json.{IsJson, IsArray, IsObject, AreTexts, value_data, entries_data, tree_from}
 use Rattle.tf_value.specs.Known.{known}
 use Rattle.tf_value.specs.Tree.{Tree, null, boolean, whole, text, list, map, set, Items, no_items, item, Entries, no_entries, entry, put}
-use Rattle.tf_value.proofs.Forms.{form_of, form-held, form-tree_from, tree_from-no_set, IsJson-one_form}
+use Rattle.tf_value_json.proofs.Forms.{form_of, form-held, form-tree_from, tree_from-no_set, IsJson-one_form}
 use Rattle.tf_value.proofs.Tables.{at_order}
 use Rattle.tf_value.specs.Stored.{IsTable}
 use Rattle.tf_state.specs.Laws.{ReadIsValid}

@@ -6,8 +6,8 @@ use Rattle.std.specs.Ordering.{match_ordering}
 use Rattle.std.specs.Str.{bytes_eq}
 use Rattle.serde_json.specs.Data.{Data, string, number as json_number, unsigned, Members, no_members, member, put}
 use Rattle.serde_json.specs.Find.{get, get_member}
-use Rattle.tf_state_json.proofs.Puts.{get-put, get-put_other}
-use Rattle.tf_value.specs.Json.{value_data}
+use Rattle.tf_value_json.proofs.Puts.{get-put, get-put_other}
+use Rattle.tf_value_json.specs.Json.{value_data}
 use Rattle.tf_state.specs.Reading.{record_in, record_at, id_in}
 use Rattle.tf_state_data.specs.Record.{RecordView}
 use Rattle.tf_state.specs.Text.{put_some, key_data, status_data, flag_data, dependencies_data, record_data}

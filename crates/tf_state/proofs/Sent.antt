@@ -8,14 +8,14 @@ use Rattle.serde.specs.declared.name.Case.TheVariants.{AsIs}
 use Rattle.serde_json.specs.Data.{Data, number as json_number, unsigned, string, array, object, Members, no_members, member, put}
 use Rattle.serde_json.specs.Events.{SendsValue, SendsItems, SendsMembers, members_len}
 use Rattle.serde_json.specs.View.{items_of}
-use Rattle.tf_state_json.specs.Plain.{AreAbove}
+use Rattle.tf_value_json.specs.Plain.{AreAbove}
 use Rattle.tf_state_data.specs.Record.{RecordView}
 use Rattle.tf_state_data.specs.Resource.{ResourceView}
 use Rattle.tf_state_data.specs.State.{StateView}
 use Rattle.tf_state.specs.Arrangement.{is_some_record, with_records}
 use Rattle.tf_state.specs.Sending.{SendsSome, SendsWhere, one_if_some, member_count}
 use Rattle.tf_state.specs.Text.{put_some, dependencies_data, flag_data, key_data, outputs_data, record_data, resource_data, state_data, status_data}
-use Rattle.tf_value.specs.Json.{value_data}
+use Rattle.tf_value_json.specs.Json.{value_data}
 
 -- the members with one more before them, where there is a value for it
 abbrev some_member : List ℕ → Option Data → Members → Members

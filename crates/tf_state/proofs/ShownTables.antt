@@ -8,8 +8,8 @@ use Rattle.std.specs.Prelude.{FitsSigned, ⊤}
 use Rattle.std.proofs.lemmas.Int.{ints}
 use Rattle.serde_json.specs.Data as json
 use Rattle.serde_json.specs.Find.{of_integer}
-use Rattle.tf_state_json.specs.Plain.{IsPlain, ArePlain, ArePlainMembers, AreAbove}
-use Rattle.tf_value.specs.Json.{value_data, items_data, entries_data, texts_data}
+use Rattle.tf_value_json.specs.Plain.{IsPlain, ArePlain, ArePlainMembers, AreAbove}
+use Rattle.tf_value_json.specs.Json.{value_data, items_data, entries_data, texts_data}
 use Rattle.tf_value.specs.Known.{known}
 use Rattle.tf_value.specs.Measure.{IsWithinLimits}
 use Rattle.tf_value.specs.Parts.{items_have_only, entries_have_only}

@@ -2,7 +2,7 @@
 use Rattle.std.proofs.Common.{◌≡◌, Some, sym, ap, ◌∙◌}
 use Rattle.serde_json.specs.Data.{Data}
 use Rattle.serde_json.specs.Read.{read}
-use Rattle.tf_state_json.proofs.ReadsBack.{text_reads_back}
+use Rattle.tf_value_json.proofs.ReadsBack.{text_reads_back}
 use Rattle.tf_state.specs.Laws.{TextIsOfOne, TextReadsAsState, StateOfTextIsOne}
 use Rattle.tf_state.specs.Reading.{state_in}
 use Rattle.tf_state_data.specs.State.{StateView}

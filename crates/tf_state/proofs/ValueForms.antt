@@ -2,12 +2,12 @@
 use Rattle.std.proofs.Common.{◌≡◌, ◌<◌, Bool, true, false, ◌&&◌, Some, None, cond, refl, subst, leb-true, ⊎_elim}
 use Rattle.std.proofs.lemmas.Bool.{and_parts, le-leb, lt-leb}
 use Rattle.serde_json.specs.Data.{Data}
-use Rattle.tf_value.specs.Json.{value_from, tree_from, IsUnread}
+use Rattle.tf_value_json.specs.Json.{value_from, tree_from, IsUnread}
 use Rattle.tf_value.specs.Known.{known}
 use Rattle.tf_value.specs.Measure.{weight, depth, max_weight, max_depth, IsWithinLimits, IsTooLarge}
 use Rattle.tf_value.specs.Tree.{Tree}
-use Rattle.tf_value.specs.declared.json.JsonFault.{JsonFault}
-use Rattle.tf_value.specs.declared.json.JsonFault.TheVariants.{UnknownInside, NotWhole, TooLarge, OutOfMemory}
+use Rattle.tf_value_json.specs.declared.fault.JsonFault.{JsonFault}
+use Rattle.tf_value_json.specs.declared.fault.JsonFault.TheVariants.{UnknownInside, NotWhole, TooLarge, OutOfMemory}
 use Rattle.tf_state.specs.Reading.{is_within, value_in}
 
 pub is_within-true : (t : Tree) → IsWithinLimits t → is_within t ≡ true

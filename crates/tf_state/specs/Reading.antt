@@ -10,7 +10,7 @@ use Rattle.serde_json.specs.Data.{Data, null, boolean, number as json_number, un
 use Rattle.serde_json.specs.Find.{get}
 use Rattle.serde_json.specs.Read.{read}
 use Rattle.tf_config_address.specs.Name.{is_name}
-use Rattle.tf_value.specs.Json.{tree_from}
+use Rattle.tf_value_json.specs.Json.{tree_from}
 use Rattle.tf_value.specs.Known.{known}
 use Rattle.tf_value.specs.Measure.{weight, depth, max_weight, max_depth}
 use Rattle.tf_value.specs.Tree.{Tree, map, Entries, no_entries, put}

@@ -12,7 +12,7 @@ use Rattle.serde_json.specs.Data.{Data, null, boolean, number as json_number, un
 use Rattle.serde_json.specs.Find.{get}
 use Rattle.serde_json.specs.Read.{read}
 use Rattle.tf_config_address.specs.Name.{is_name}
-use Rattle.tf_value.specs.Json.{IsJson}
+use Rattle.tf_value_json.specs.Json.{IsJson}
 use Rattle.tf_value.specs.Measure.{IsWithinLimits}
 use Rattle.tf_value.specs.Sets.{has_no_set}
 use Rattle.tf_value.specs.Tree.{Tree, map, Entries, no_entries, entry, get as value_at}

@@ -2,8 +2,8 @@
 use Rattle.std.specs.Prelude.{ℕ, Bool, true, false, List, [], ◌∷◌, Option, Some, None, option_map, codes, map as each}
 use Rattle.serde_json.specs.Data.{Data, number as json_number, unsigned, string, boolean, array, object, Members, no_members, member, put}
 use Rattle.serde_json.specs.View.{items_of}
-use Rattle.tf_state_json.specs.Text.{text_of}
-use Rattle.tf_value.specs.Json.{value_data}
+use Rattle.tf_value_json.specs.Text.{text_of}
+use Rattle.tf_value_json.specs.Json.{value_data}
 use Rattle.tf_value.specs.Tree.{Tree, Entries, no_entries, entry}
 use Rattle.tf_config_address.specs.ObjectId.{InstanceKeyView, single, number, name}
 use Rattle.tf_state_data.specs.Record.{RecordView}

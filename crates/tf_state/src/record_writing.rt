@@ -13,13 +13,17 @@ use serde::{Serialize, Serializer};
 use std::collections::BTreeSet;
 use tf_config_address::InstanceKey;
 use tf_state_data::Record;
+use tf_value_json::AsJson;
 
 pub(crate) fn send_record<S: Serializer>(instance: &Record, out: &mut S) -> Result<(), S::Error>
     ensures { OnOk result (SendsValue (record_data (record_of instance.now)) (S.written out.old) (S.written out.new)) }
 {
     out.begin_map(Some(member_count(instance)))?;
     out.key("attributes")?;
-    instance.attributes.value.serialize(out)?;
+    AsJson {
+        value: &instance.attributes.value,
+    }
+    .serialize(out)?;
     send_flag(instance.create_before_destroy, out)?;
     send_dependencies(&instance.dependencies, out)?;
     send_deposed(&instance.id.deposed, out)?;

@@ -14,7 +14,8 @@ use std::alloc::Global;
 use std::collections::{BTreeMap, BTreeSet};
 use tf_config_address::{InstanceKey, ObjectId, is_name};
 use tf_state_data::Object;
-use tf_value::{JsonFault, Value, from_json};
+use tf_value::Value;
+use tf_value_json::{JsonFault, from_json};
 
 /// A value, which is known and within the limits.
 #[tactic(auto, using(crate::proofs::ValueForms::value_read, crate::proofs::ValueForms::value_known, crate::proofs::ValueForms::value_refused))]

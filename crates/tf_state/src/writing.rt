@@ -19,13 +19,14 @@ use crate::types::send_type;
 use serde::{Described, Serialize, Serializer};
 use std::alloc::{AllocError, Global};
 use tf_state_data::{Object, Record, Resource, State};
+use tf_value_json::AsJson;
 
 /// The one text of a state: Terraform's state file format, version 4, two spaces a level, keys in byte order,
 /// and one newline at the end. A resource without records isn't written. Refused only where there is no memory.
 pub fn write(alloc: Global, state: &State) -> Result<String, AllocError>
     ensures { IfOk result (λ text. string_bytes text ≡ state_text (state_of state.now)) }
 {
-    match tf_state_json::text(alloc, &StateFile { state }) {
+    match tf_value_json::text(alloc, &StateFile { state }) {
         Ok(text) => Ok(text),
         // What is sent is well formed, so that only memory can be wanting.
         Err(_) => Err(AllocError),
@@ -85,7 +86,10 @@ fn send_output<S: Serializer>(output: &Object, out: &mut S) -> Result<(), S::Err
     out.key("type")?;
     send_type(&output.value, out)?;
     out.key("value")?;
-    output.value.serialize(out)?;
+    AsJson {
+        value: &output.value,
+    }
+    .serialize(out)?;
     out.end_map()
 }
 

@@ -3,8 +3,6 @@ pub mod Copied
 pub mod Views
 pub mod Keys
 pub mod Order
-pub mod JsonForms
-pub mod Forms
 pub mod Rewriting
 pub mod WithNulls
 pub mod Retained
@@ -12,6 +10,5 @@ pub mod WithLists
 pub mod Ordered
 pub mod Refining
 pub mod Scalars
-pub mod Sent
 pub mod Storing
 pub mod Tables

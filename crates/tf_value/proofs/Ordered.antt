@@ -5,9 +5,6 @@ use Rattle.std.specs.List.{AllByRecursion}
 use Rattle.std.specs.List.Sorted.{IsStrictlySortedBy}
 use Rattle.std.specs.Map.{keys_of as map_keys}
 use Rattle.tf_value.specs.Tree.{IsSorted, AreSortedEntries, map, set, keys_of, entries_view, texts_view}
-use Rattle.serde_json.specs.View.{members_view}
-use Rattle.serde_json.proofs.Views.{Entry as Member}
-use Rattle.tf_value.specs.Json.{entries_from}
 use Rattle.tf_value.proofs.Views.{Entry}
 
 keys_after : (k : String Global) (es : List Entry) → AllByRecursion (λ l. string_cmp k l ≡ Less) (map_keys es)
@@ -32,16 +29,3 @@ pub texts_sorted : (ss : List (String Global)) → IsStrictlySortedBy string_cmp
 unfolding IsStrictlySortedBy
 texts_sorted [] h = tt
 texts_sorted (s ∷ ss) h = (text_after s ss h.0, texts_sorted ss h.1)
-
-members_after : (k : String Global) (ms : List Member) → AllByRecursion (λ l. string_cmp k l ≡ Less) (map_keys ms)
-    → AllByRecursion (λ l. slice_cmp nat_cmp (string_bytes k) l ≡ Less) (keys_of (entries_from (members_view ms)))
-members_after k [] h = tt
-members_after k (m ∷ ms) h = (h.0, members_after k ms h.1)
-
-member_keys_sorted : (ms : List Member) → IsStrictlySortedBy string_cmp (map_keys ms) → IsStrictlySortedBy (slice_cmp nat_cmp) (keys_of (entries_from (members_view ms)))
-unfolding IsStrictlySortedBy
-member_keys_sorted [] h = tt
-member_keys_sorted (m ∷ ms) h = (members_after m.0 ms h.0, member_keys_sorted ms h.1)
-
-pub members_sorted : (ms : List Member) → IsStrictlySortedBy string_cmp (map_keys ms) → AreSortedEntries (entries_from (members_view ms)) → IsSorted (map (entries_from (members_view ms)))
-members_sorted ms order each = (member_keys_sorted ms order, each)

@@ -1,14 +1,10 @@
 -- The test of what may be stored.
-use Rattle.std.proofs.Common.{◌≡◌, true, subst, sym, ap, ◌∙◌, leb-true}
+use Rattle.std.proofs.Common.{◌≡◌, true, leb-true}
 use Rattle.std.proofs.lemmas.Bool.{le-leb}
 use Rattle.tf_value.specs.Measure.{weight, depth, max_weight, max_depth, IsWithinLimits, is_within}
-use Rattle.tf_value.specs.Sets.{has_no_set}
 use Rattle.tf_value.specs.Stored.{MayBeStored, may_be_planned, may_be_stored}
 use Rattle.tf_value.specs.Tree.{Tree, IsHeld, IsSorted}
-use Rattle.serde_json.specs.Data.{Data}
-use Rattle.tf_value.specs.Json.{tree_from}
 use Rattle.tf_value.specs.Known.{known}
-use Rattle.tf_value.proofs.Forms.{form-tree_from, form-held, tree_from-no_set}
 use Rattle.tf_value.proofs.Conjunction.{and-both, and-first, and-second}
 
 pub within-true : (t : Tree) → IsWithinLimits t → is_within t ≡ true
@@ -24,9 +20,3 @@ pub tested-stored : (t : Tree) → IsHeld t → IsSorted t → may_be_stored t �
 tested-stored t held sorted e =
     let planned = and-second (known t) (may_be_planned t) e in
     (held, sorted, and-first _ _ e, within-limits t (and-first _ _ planned), and-second _ _ planned)
-
--- what is read of a JSON tree within the limits, whose parts stand in order, may be stored
-pub read_stored : (d : Data) (t : Tree) → t ≡ tree_from d → known (tree_from d) ≡ true → IsWithinLimits t → IsSorted (tree_from d) → MayBeStored t
-read_stored d t is whole within sorted =
-    let form = form-tree_from d whole in
-    (subst IsHeld (sym is) (form-held (tree_from d) d form), subst IsSorted (sym is) sorted, subst (λ u. known u ≡ true) (sym is) whole, within, ap has_no_set is ∙ tree_from-no_set d)

@@ -1,7 +1,5 @@
 -- Values with a list in place of each set.
-use Rattle.std.proofs.Common.{◌≡◌, ℕ, true, false, List, [], ◌∷◌, subst, refl, ap, ◌∙◌}
-use Rattle.serde_json.specs.Data as json
-use Rattle.tf_value.specs.Json.{value_data, items_data, entries_data, texts_data}
+use Rattle.std.proofs.Common.{◌≡◌, true, false, subst, ◌∙◌}
 use Rattle.tf_value.specs.Known.{known}
 use Rattle.tf_value.specs.Measure.{weight, depth, IsWithinLimits, is_within}
 use Rattle.tf_value.specs.Parts.{items_rewritten, entries_rewritten}
@@ -12,10 +10,6 @@ use Rattle.tf_value.specs.Tree.{Tree, null, boolean, whole, text, list, map, set
 use Rattle.tf_value.proofs.Conjunction.{and-both}
 use Rattle.tf_value.proofs.Order.{RefinesItems-refl}
 use Rattle.tf_value.proofs.Rewriting.{only-all, rewritten-only, rewritten-stays, rewritten-measure, rewritten-keeps}
-
-texts-data : (ss : List (List ℕ)) → items_data (text_items ss) ≡ texts_data ss
-texts-data [] = refl
-texts-data (s ∷ ss) = ap (json.item (json.string s)) (texts-data ss)
 
 -- then there is no set
 pub lists-no_set : (t : Tree) → has_no_set (with_lists t) ≡ true
@@ -54,22 +48,6 @@ mutual
 -- neither measure changes
 pub lists-measure : (t : Tree) → (weight (with_lists t) ≡ weight t) × (depth (with_lists t) ≡ depth t)
 lists-measure t = rewritten-measure false true t
-
--- nor does the JSON form
-mutual
-  pub lists-data : (t : Tree) → value_data (with_lists t) ≡ value_data t
-  lists-data (list ts) = ap json.array (item_lists-data ts)
-  lists-data (map es) = ap json.object (entry_lists-data es)
-  lists-data (set ss) = ap json.array (texts-data ss)
-  lists-data _ = refl
-
-  item_lists-data : (ts : Items) → items_data (items_rewritten false true ts) ≡ items_data ts
-  item_lists-data no_items = refl
-  item_lists-data (item t ts) = let p = lists-data t in let q = item_lists-data ts in rw (p, q) refl
-
-  entry_lists-data : (es : Entries) → entries_data (entries_rewritten false true es) ≡ entries_data es
-  entry_lists-data no_entries = refl
-  entry_lists-data (entry k t es) = let p = lists-data t in let q = entry_lists-data es in rw (p, q) refl
 
 pub lists-planned : (t : Tree) → is_within t ≡ true → may_be_planned (with_lists t) ≡ true
 lists-planned t within =

@@ -1,6 +1,5 @@
--- What holds of values and their JSON forms, whatever they are.
-use Rattle.std.specs.Prelude.{ℕ, List, ◌≡◌, ◌↔◌, true, Some, None}
-use Rattle.serde_json.specs.Data.{Data}
+-- What holds of values, whatever they are.
+use Rattle.std.specs.Prelude.{ℕ, List, ◌≡◌, ◌↔◌, true, Some}
 use Rattle.tf_value.specs.Tree.{Tree, Entries, IsHeld, IsSorted, get, put, same}
 use Rattle.tf_value.specs.Known.{known}
 use Rattle.tf_value.specs.Refinement.{Refines, refined}
@@ -10,7 +9,6 @@ use Rattle.tf_value.specs.Nulls.{with_nulls}
 use Rattle.tf_value.specs.Scalar.{scalar_text}
 use Rattle.tf_value.specs.Sets.{has_no_set, with_lists}
 use Rattle.tf_value.specs.Stored.{IsTable, MayBeStored, may_be_planned, may_be_stored}
-use Rattle.tf_value.specs.Json.{IsJson, value_data, value_from}
 
 -- Each value refines to itself.
 abbrev pub RefinementIsReflexive : Type 0
@@ -39,34 +37,6 @@ PartsRefine = (p : Place) (t u : Tree) → Refines t u → Refines (with_part p 
 -- `same` answers whether two values are equal.
 abbrev pub SameIsEquality : Type 0
 SameIsEquality = (t u : Tree) → (same t u ≡ true) ↔ (t ≡ u)
-
--- A value has at most one JSON form.
-abbrev pub FormIsOne : Type 0
-FormIsOne = (t : Tree) (d e : Data) → IsJson t d → IsJson t e → d ≡ e
-
--- A JSON tree is the form of at most one value without sets.
-abbrev pub ValueOfFormIsOne : Type 0
-ValueOfFormIsOne = (t u : Tree) (d : Data) → has_no_set t ≡ true → has_no_set u ≡ true → IsJson t d → IsJson u d → t ≡ u
-
--- What has a JSON form is known.
-abbrev pub FormedIsKnown : Type 0
-FormedIsKnown = (t : Tree) (d : Data) → IsJson t d → known t ≡ true
-
--- A known value has a JSON form, `value_data` of it.
-abbrev pub KnownHasForm : Type 0
-KnownHasForm = (t : Tree) → IsHeld t → known t ≡ true → IsJson t (value_data t)
-
--- `value_from` answers the value without sets that a JSON tree is the form of.
-abbrev pub ReadsForms : Type 0
-ReadsForms = (t : Tree) (d : Data) → (value_from d ≡ Some t) ↔ (IsJson t d × (has_no_set t ≡ true))
-
--- `value_from` answers none exactly where a JSON tree is no value's form.
-abbrev pub ReadsFormsAlone : Type 0
-ReadsFormsAlone = (d : Data) → (value_from d ≡ None) ↔ ((t : Tree) → ¬ IsJson t d)
-
--- The JSON form of a known value reads as that value, with a list for each set.
-abbrev pub FormReadsBack : Type 0
-FormReadsBack = (t : Tree) → IsHeld t → known t ≡ true → value_from (value_data t) ≡ Some (with_lists t)
 
 -- A value is within the limits or too large.
 abbrev pub LimitsDecide : Type 0
@@ -117,10 +87,6 @@ ListsRefine = (t u : Tree) → Refines t u → Refines (with_lists t) (with_list
 -- A list in place of a set changes neither weight nor depth.
 abbrev pub ListsMeasureTheSame : Type 0
 ListsMeasureTheSame = (t : Tree) → (weight (with_lists t) ≡ weight t) × (depth (with_lists t) ≡ depth t)
-
--- A list in place of a set doesn't change the JSON form.
-abbrev pub ListsHaveTheForm : Type 0
-ListsHaveTheForm = (t : Tree) → value_data (with_lists t) ≡ value_data t
 
 -- What is known and within the limits may be stored with a list for each set.
 abbrev pub ListsMayBeStored : Type 0

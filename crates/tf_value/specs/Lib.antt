@@ -4,9 +4,7 @@ pub mod Parts
 pub mod Known
 pub mod Refinement
 pub mod Measure
-pub mod Json
 pub mod Place
-pub mod Fault
 pub mod Nulls
 pub mod Sets
 pub mod Scalar

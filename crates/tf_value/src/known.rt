@@ -3,7 +3,8 @@ ghost use Rattle.tf_value.specs.Tree.{tree_of, entries_view};
 ghost use Rattle.tf_value.specs.Known.{known, known_entries};
 
 use crate::parts::{Parts, entries_have_only, has_only};
-use crate::value::{Entries, Value};
+use crate::value::Value;
+use std::collections::BTreeMap;
 
 const SETS: Parts = Parts {
     unknowns: false,
@@ -17,7 +18,8 @@ pub fn is_known(value: &Value) -> bool
     has_only(value, SETS)
 }
 
-pub(crate) fn entries_are_known(entries: &Entries) -> bool
+/// Whether no value of a map's entries has an unknown part.
+pub fn entries_are_known(entries: &BTreeMap<String, Value>) -> bool
     ensures { result ≡ known_entries (entries_view entries.now.entries) }
 {
     entries_have_only(entries, SETS)

@@ -1,5 +1,5 @@
 // Laws of values, proved for every value: each function's contract is a law, and its body does nothing.
-ghost use Rattle.tf_value.specs.Laws.{RefinementIsReflexive, RefinementIsTransitive, RefinementIsAntisymmetric, KnownStays, PartsRefine, SameIsEquality, FormIsOne, ValueOfFormIsOne, FormedIsKnown, KnownHasForm, ReadsForms, ReadsFormsAlone, FormReadsBack, LimitsDecide, PutIsFound, PutLeavesOthers, RefinedIsRefinement, NullsAreKnown, KnownKeepsItself, NullsRefine, NullsMeasureTheSame, NullsMayBeStored, ListsAreNoSets, NoSetKeepsItself, ListsAreAsKnown, ListsRefine, ListsMeasureTheSame, ListsHaveTheForm, ListsMayBePlanned, ListsMayBeStored, StoredIsTested, PutKeepsTable, ScalarIsKnown};
+ghost use Rattle.tf_value.specs.Laws.{RefinementIsReflexive, RefinementIsTransitive, RefinementIsAntisymmetric, KnownStays, PartsRefine, SameIsEquality, LimitsDecide, PutIsFound, PutLeavesOthers, RefinedIsRefinement, NullsAreKnown, KnownKeepsItself, NullsRefine, NullsMeasureTheSame, NullsMayBeStored, ListsAreNoSets, NoSetKeepsItself, ListsAreAsKnown, ListsRefine, ListsMeasureTheSame, ListsMayBePlanned, ListsMayBeStored, StoredIsTested, PutKeepsTable, ScalarIsKnown};
 
 /// Refinement is an order: each value refines to itself, refinements follow one another, and two values that
 /// refine to each other are equal. `refined` tests it.
@@ -25,23 +25,6 @@ pub fn equality_is_of_trees()
     ensures { SameIsEquality }
 {}
 
-/// A known value has exactly one JSON form, a JSON tree is the form of at most one value without sets, and what has a
-/// form is known.
-pub fn forms_are_one()
-    ensures one_form { FormIsOne }
-    ensures one_value { ValueOfFormIsOne }
-    ensures known { FormedIsKnown }
-    ensures formed { KnownHasForm }
-{}
-
-/// What is read of a JSON tree is the value without sets whose form it is, nothing is read where it is no value's form,
-/// and the form of a known value reads back as that value, with a list for each set.
-pub fn forms_read_back()
-    ensures reads { ReadsForms }
-    ensures reads_nothing_else { ReadsFormsAlone }
-    ensures back { FormReadsBack }
-{}
-
 /// A value is beyond the limits exactly where it isn't within them.
 pub fn limits_decide()
     ensures { LimitsDecide }
@@ -62,16 +45,15 @@ pub fn nulls_stand_for_unknowns()
     ensures measures { NullsMeasureTheSame }
 {}
 
-/// With a list for each set a value has no set; one without sets stays. As much is known of it, its weight, depth and
-/// JSON form are the same, it turns out to be what the value turns out to be with a list for each set, and it may be
-/// planned for an attribute where the value is within the limits, and stored where all of it is known too.
+/// With a list for each set a value has no set; one without sets stays. As much is known of it, its weight and depth are
+/// the same, it turns out to be what the value turns out to be with a list for each set, and it may be planned for an
+/// attribute where the value is within the limits, and stored where all of it is known too.
 pub fn lists_stand_for_sets()
     ensures no_set { ListsAreNoSets }
     ensures stays { NoSetKeepsItself }
     ensures known { ListsAreAsKnown }
     ensures refines { ListsRefine }
     ensures measures { ListsMeasureTheSame }
-    ensures form { ListsHaveTheForm }
     ensures planned { ListsMayBePlanned }
     ensures stored { ListsMayBeStored }
 {}

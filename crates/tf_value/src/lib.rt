@@ -1,38 +1,31 @@
 #![tactic(auto)]
 
-//! Values with parts that aren't known yet, and the form that they have as JSON.
+//! Values with parts that aren't known yet.
 
 mod copies;
 mod equality;
-mod json;
 mod known;
 mod laws;
 mod measure;
 mod nulls;
 mod parts;
-mod reading;
 mod refinement;
 mod scalar;
-mod sending;
 mod sets;
 mod stored;
 mod value;
-mod writing;
 
 pub use copies::copy;
-pub use json::JsonFault;
-pub use known::is_known;
+pub use known::{entries_are_known, is_known};
 pub use laws::{
-    equality_is_of_trees, forms_are_one, forms_read_back, known_values_stay, limits_decide,
-    lists_stand_for_sets, nulls_stand_for_unknowns, parts_refine, puts_are_found,
-    refinement_is_an_order, scalars_are_known, stored_values_are_known,
+    equality_is_of_trees, known_values_stay, limits_decide, lists_stand_for_sets,
+    nulls_stand_for_unknowns, parts_refine, puts_are_found, refinement_is_an_order,
+    scalars_are_known, stored_values_are_known,
 };
 pub use measure::{MAX_DEPTH, MAX_WEIGHT, depth, is_within_limits, weight};
 pub use nulls::with_nulls;
-pub use reading::from_json;
 pub use refinement::refines;
 pub use scalar::scalar_text;
 pub use sets::{has_no_set, with_lists};
 pub use stored::{each_may_be_stored, may_be_stored};
 pub use value::{Value, find};
-pub use writing::{entries_to_json, to_json};

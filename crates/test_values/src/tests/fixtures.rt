@@ -4,7 +4,8 @@ use serde_json::Value as Json;
 use std::alloc::{AllocError, Global};
 use std::collections::{BTreeMap, BTreeSet};
 use std::test::Fail;
-use tf_value::{JsonFault, Value, from_json};
+use tf_value::Value;
+use tf_value_json::{JsonFault, from_json};
 
 // The value of a JSON text, or why there is none; an `Err` where there is no memory.
 pub fn read(alloc: Global, text: &str) -> Result<Result<Value, JsonFault>, Fail> {

@@ -7,7 +7,7 @@ ghost use Rattle.std.specs.Prelude.{codes, string_bytes};
 use serde::{Described, Serialize, Serializer};
 use serde_json::Value as Json;
 use std::test::Fail;
-use tf_state_json::text;
+use tf_value_json::text;
 
 static LAID_OUT: &str =
     "{\n  \"a\": {},\n  \"b\": [],\n  \"c\": [\n    1,\n    {\n      \"d\": null\n    }\n  ]\n}\n";

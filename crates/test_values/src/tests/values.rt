@@ -6,10 +6,10 @@ use std::alloc::{AllocError, Global};
 use std::collections::BTreeMap;
 use std::test::Fail;
 use tf_value::{
-    JsonFault, MAX_DEPTH, MAX_WEIGHT, Value, copy, depth, entries_to_json, find, has_no_set,
-    is_known, is_within_limits, may_be_stored, refines, scalar_text, to_json, weight, with_lists,
-    with_nulls,
+    MAX_DEPTH, MAX_WEIGHT, Value, copy, depth, find, has_no_set, is_known, is_within_limits,
+    may_be_stored, refines, scalar_text, weight, with_lists, with_nulls,
 };
+use tf_value_json::{AsJson, JsonFault, entries_to_json, to_json};
 
 // What derives above a value rest on.
 #[derive(Debug, Clone, PartialEq, Eq, Drop)]
@@ -203,7 +203,7 @@ fn is_copied(value: &Value) -> Result<bool, Fail> {
 // Whether a value is written, and sent, as this text.
 fn is_written_as(alloc: Global, value: &Value, form: &str) -> Result<bool, Fail> {
     let json = to_json(alloc, value)?.to_string(alloc)?;
-    let sent = serde_json::to_string(alloc, value)?;
+    let sent = serde_json::to_string(alloc, &AsJson { value })?;
     Ok(json.as_str() == form && sent.as_str() == form)
 }
 
@@ -308,7 +308,7 @@ static SENT: [&str; 11] = [
 // Whether a value is laid out alike where it is sent and where its JSON is written.
 fn is_sent_as_laid_out(alloc: Global, value: &Value) -> Result<bool, Fail> {
     let json = to_json(alloc, value)?.to_string_pretty(alloc)?;
-    let sent = serde_json::to_string_pretty(alloc, value)?;
+    let sent = serde_json::to_string_pretty(alloc, &AsJson { value })?;
     Ok(sent == json)
 }
 
@@ -325,7 +325,7 @@ fn sent(rt: HostRuntime) -> Result<(), Fail> {
 #[test]
 fn unknown_is_sent_as_null(rt: HostRuntime) -> Result<(), Fail> {
     let planned = item_and_entry(rt.alloc(), Value::Unknown, Value::Unknown)?;
-    let text = serde_json::to_string(rt.alloc(), &planned)?;
+    let text = serde_json::to_string(rt.alloc(), &AsJson { value: &planned })?;
     assert!(rt; text.as_str() == "[null,{\"k\":null}]");
     Ok(())
 }
@@ -381,8 +381,8 @@ fn laws() {
     tf_value::known_values_stay();
     tf_value::parts_refine();
     tf_value::equality_is_of_trees();
-    tf_value::forms_are_one();
-    tf_value::forms_read_back();
+    tf_value_json::forms_are_one();
+    tf_value_json::forms_read_back();
     tf_value::lists_stand_for_sets();
     tf_value::limits_decide();
     tf_value::puts_are_found();

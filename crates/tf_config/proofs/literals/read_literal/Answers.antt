@@ -6,7 +6,7 @@ use Rattle.tf_config.specs.Demand.{holds}
 use Rattle.tf_config.specs.Parts.{number_checks}
 use Rattle.tf_config_refusal.specs.Check.{demanded}
 use Rattle.tf_config_refusal.specs.Place.{place_of}
-use Rattle.tf_value.specs.Json.{tree_from}
+use Rattle.tf_value_json.specs.Json.{tree_from}
 use Rattle.tf_value.specs.Measure.{is_within}
 use Rattle.tf_config.proofs.literals.read_literal.Goals as goal
 

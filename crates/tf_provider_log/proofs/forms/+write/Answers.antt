@@ -7,7 +7,7 @@ use Rattle.serde_json.specs.View.{members_view}
 use Rattle.serde_json.proofs.Views.{members_view-insert_entry}
 use Rattle.tf_value.specs.Tree.{AreHeldEntries, tree_of, entries_view}
 use Rattle.tf_value.proofs.Views.{Entry}
-use Rattle.tf_value.proofs.JsonForms.{put_last}
+use Rattle.tf_value_json.proofs.JsonForms.{put_last}
 use Rattle.tf_provider_log.specs.Form.{value_form}
 use Rattle.tf_provider_log.proofs.Written.{written_members, written_members-is, written_all_items}
 use Rattle.tf_provider_log.proofs.forms.+write.Goals as goal

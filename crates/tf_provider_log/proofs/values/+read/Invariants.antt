@@ -1,6 +1,6 @@
 use Rattle.std.proofs.Common.{◌≡◌, take, map}
 use Rattle.serde_json.specs.View.{view}
-use Rattle.tf_value.specs.Json.{tree_from}
+use Rattle.tf_value_json.specs.Json.{tree_from}
 use Rattle.tf_value.specs.Tree.{tree_of, entries_view}
 use Rattle.tf_value.proofs.Views.{ShownBefore}
 use Rattle.tf_provider_log.proofs.values.+read.Given as goal

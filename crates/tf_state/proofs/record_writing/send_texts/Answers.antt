@@ -1,7 +1,7 @@
 use Rattle.std.proofs.Common.{◌≡◌, length, map, string_bytes, sym, ◌∙◌, rules}
 use Rattle.serde_json.specs.Data.{string}
 use Rattle.serde_json.specs.View.{items_of}
-use Rattle.tf_value.proofs.Sent.{array_sent}
+use Rattle.tf_value_json.proofs.Sent.{array_sent}
 use Rattle.tf_state.proofs.Lengths.{items_len-map}
 use Rattle.tf_state.proofs.record_writing.send_texts.Goals as goal
 

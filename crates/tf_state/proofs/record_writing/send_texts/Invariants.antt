@@ -2,7 +2,7 @@ use Rattle.std.proofs.Common.{map, string_bytes}
 use Rattle.serde_json.specs.Data.{string}
 use Rattle.serde_json.specs.Events.{SendsItems}
 use Rattle.serde_json.specs.View.{items_of}
-use Rattle.tf_value.proofs.Sent.{GoesOn}
+use Rattle.tf_value_json.proofs.Sent.{GoesOn}
 use Rattle.tf_state.proofs.record_writing.send_texts.Given as goal
 
 abbrev pub invariant-loop-text : goal.invariant-loop-text

@@ -1,7 +1,7 @@
 use Rattle.std.proofs.Common.{◌≡◌, length, sym, ◌∙◌, rules}
 use Rattle.tf_state_data.specs.State.{outputs_of}
 use Rattle.tf_state.specs.Text.{outputs_data}
-use Rattle.tf_value.proofs.Sent.{object_sent}
+use Rattle.tf_value_json.proofs.Sent.{object_sent}
 use Rattle.tf_state.proofs.Lengths.{outputs_len}
 use Rattle.tf_state.proofs.writing.send_outputs.Goals as goal
 

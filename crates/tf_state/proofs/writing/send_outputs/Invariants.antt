@@ -1,7 +1,7 @@
 use Rattle.serde_json.specs.Events.{SendsMembers}
 use Rattle.tf_state_data.specs.State.{outputs_of}
 use Rattle.tf_state.specs.Text.{outputs_data}
-use Rattle.tf_value.proofs.Sent.{GoesOn}
+use Rattle.tf_value_json.proofs.Sent.{GoesOn}
 use Rattle.tf_state.proofs.writing.send_outputs.Given as goal
 
 abbrev pub invariant-loop-name : goal.invariant-loop-name

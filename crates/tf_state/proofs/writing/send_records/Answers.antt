@@ -3,7 +3,7 @@ use Rattle.std.proofs.lemmas.List.{drop_all}
 use Rattle.serde_json.specs.View.{items_of}
 use Rattle.tf_state_data.specs.Record.{record_of}
 use Rattle.tf_state.specs.Text.{record_data}
-use Rattle.tf_value.proofs.Sent.{array_sent}
+use Rattle.tf_value_json.proofs.Sent.{array_sent}
 use Rattle.tf_state.proofs.Lengths.{items_len-map}
 use Rattle.tf_state.proofs.writing.send_records.Goals as goal
 

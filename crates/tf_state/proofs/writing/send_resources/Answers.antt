@@ -5,7 +5,7 @@ use Rattle.serde_json.specs.View.{items_of}
 use Rattle.tf_state_data.specs.Resource.{resource_of}
 use Rattle.tf_state.specs.Arrangement.{with_records}
 use Rattle.tf_state.specs.Text.{resource_data}
-use Rattle.tf_value.proofs.Sent.{array_sent}
+use Rattle.tf_value_json.proofs.Sent.{array_sent}
 use Rattle.tf_state.proofs.Lengths.{items_len-each}
 use Rattle.tf_state.proofs.Loops.{rest_from}
 use Rattle.tf_state.proofs.Sent.{present_sent}

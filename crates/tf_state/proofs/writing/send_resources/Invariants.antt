@@ -4,7 +4,7 @@ use Rattle.serde_json.specs.View.{items_of}
 use Rattle.tf_state_data.specs.Resource.{resource_of}
 use Rattle.tf_state.specs.Arrangement.{with_records}
 use Rattle.tf_state.specs.Text.{resource_data}
-use Rattle.tf_value.proofs.Sent.{GoesOn}
+use Rattle.tf_value_json.proofs.Sent.{GoesOn}
 use Rattle.tf_state.proofs.writing.send_resources.Given as goal
 
 abbrev pub invariant-loop-resource : goal.invariant-loop-resource

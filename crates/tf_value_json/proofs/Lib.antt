@@ -1,0 +1,10 @@
+pub mod JsonForms
+pub mod ListForms
+pub mod Forms
+pub mod InOrder
+pub mod Sent
+pub mod Gaps
+pub mod Pretty
+pub mod Puts
+pub mod ReadsBack
+pub mod Sorted

@@ -1,0 +1,43 @@
+use Rattle.std.proofs.Common.{◌≡◌, List, [], ◌∷◌, ◌++◌, string_bytes, sym, ap, ◌∙◌, subst, append_assoc}
+use Rattle.std.proofs.lemmas.List.{append-nil}
+use Rattle.std.specs.List.Sorted.{IsStrictlySortedBy}
+use Rattle.std.specs.Map.{keys_of}
+use Rattle.std.specs.String.{string_cmp}
+use Rattle.serde_json.specs.View.{members_view}
+use Rattle.serde_json.proofs.Views.{members_view-insert_entry}
+use Rattle.tf_value.specs.Tree.{AreHeldEntries, tree_of, entries_view}
+use Rattle.tf_value_json.specs.Json.{value_data}
+use Rattle.tf_value.proofs.Views.{Entry}
+use Rattle.tf_value_json.proofs.JsonForms.{written_entries, written_entries-is, written_all_items, put_last}
+use Rattle.tf_value_json.proofs.writing.+write.Goals as goal
+
+pub written_entries-loop-key-preserved : goal.written_entries-loop-key-preserved
+written_entries-loop-key-preserved t c =
+    let l = c.loop-key in
+    let inv = l.invariant.done in
+    let done = inv.0 in
+    let e : Entry = (c.in-Some.key.now, c.in-Some.value.now) in
+    let left = c.next.new.self in
+    let all : c.args.entries.now.entries ≡ done ++ e ∷ left = inv.1 ∙ ap (λ es. done ++ es) c.in-Some.ensures.steps in
+    let last = put_last (λ v. value_data (tree_of v)) done e left (subst (λ es. IsStrictlySortedBy string_cmp (keys_of es)) all c.iter-key-items.ensures.ordered) in
+    let named : string_bytes c.in_ok-name.name ≡ string_bytes e.0 = c.in_ok-name.ensures.cases in
+    let next : (now : List Entry) × (c.args.entries.now.entries ≡ now ++ left) × (members_view c.insert.new.self.entries ≡ written_entries now) = (
+      done ++ e ∷ [],
+      all ∙ sym (append_assoc done (e ∷ []) left),
+      ap members_view c.in_ok-insert.ensures.entries ∙ members_view-insert_entry l.object.entries c.in_ok-name.name c.in_ok-written.field-0 ∙ rw (named, c.in_ok-written.ensures.value, inv.2) last,
+    ) in record {
+      held = λ h. l.invariant.held (subst (λ es. AreHeldEntries (entries_view es)) (sym c.in-Some.ensures.steps) (c.in_ok-written.ensures.held, h));
+      done = next;
+    }
+
+pub written_entries-returns-clause-value : goal.written_entries-returns-clause-value
+written_entries-returns-clause-value t c =
+    let l = c.loop-key in
+    let inv = l.invariant.done in
+    let done = inv.0 in
+    let all : c.args.entries.now.entries ≡ done = inv.1 ∙ ap (λ es. done ++ es) c.in-None.ensures.steps.0 ∙ append-nil done in
+    inv.2 ∙ rw (← all) (written_entries-is c.args.entries.now.entries)
+
+pub written_items-returns-clause-value : goal.written_items-returns-clause-value
+written_items-returns-clause-value t c =
+    written_all_items c.args.items.now.items c.loop-item.item-index _ (rw (← c.deref-item-items.ensures.value) c.loop-item-test.false) (rw (← c.deref-item-items.ensures.value) c.loop-item.invariant.done)

@@ -1,0 +1,5 @@
+pub mod Json
+pub mod Fault
+pub mod Plain
+pub mod Text
+pub mod Laws

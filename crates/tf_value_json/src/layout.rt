@@ -1,0 +1,26 @@
+//! The one text of a JSON tree: pretty, as `serde_json` lays it out, and a newline at its end.
+
+ghost use Rattle.serde.specs.Event.{Log};
+ghost use Rattle.std.specs.Prelude.{List, [], IfOk, Some, string_bytes};
+ghost use Rattle.tf_value_json.specs.Text.{IsTextOfEvents, IsTextOfSentTree};
+
+use serde::Serialize;
+use serde_json::Error;
+use std::alloc::Global;
+
+/// The text of what the value sends to be written, with no tree in between: two spaces a level, `[]` and `{}` for
+/// empty ones, members in the order in which they are sent, and one newline at the end. Refused where there is no
+/// memory, where what is sent cannot stand as JSON, and where the value's own `serialize` refuses.
+#[tactic(auto, using(crate::proofs::Pretty::text_of_events, crate::proofs::Pretty::text_of_sent_tree))]
+pub fn text<T: Serialize>(alloc: Global, value: &T) -> Result<String, Error>
+    // The tokens of the events that the value sends, in the pretty layout.
+    ensures events { IfOk result (λ s. (log : Log)
+        × T.writes value.now (Some []) log × IsTextOfEvents log (string_bytes s)) }
+    // Where those are the events of a tree without floats, the tree's own text.
+    ensures tree { IfOk result (λ s. (log : Log)
+        × T.writes value.now (Some []) log × IsTextOfSentTree log (string_bytes s)) }
+{
+    let mut text = serde_json::to_string_pretty(alloc, value)?;
+    text.push('\n')?;
+    Ok(text)
+}
