@@ -69,8 +69,8 @@ fn apply_by<T: Threads + Wait + Sync, O: Write, E: Write>(
 ) -> io::Result<ExitCode> {
     let alloc = rt.alloc();
     let control = CallControl::new(alloc, Arc::try_clone(file)?, given.options.stop_after)?;
-    let sim = control.control(alloc, Sim::new(alloc)?)?;
-    let local_file = control.control(alloc, LocalFile::new(alloc, *rt)?)?;
+    let sim = control.wrap(alloc, Sim::new(alloc)?)?;
+    let local_file = control.wrap(alloc, LocalFile::new(alloc, *rt)?)?;
     let mut providers: Vec<Box<dyn Provider + Sync>> = Vec::new(alloc);
     providers.push(Box::new(alloc, told(rt, given, sim))?)?;
     providers.push(Box::new(alloc, told(rt, given, local_file))?)?;

@@ -4,8 +4,7 @@ ghost use Rattle.std.specs.Prelude.{◌≡◌, IfOk};
 
 use crate::log_file::{LogFile, LogSink};
 use crate::stopping::{Countdown, Stopping};
-use std::alloc::Global;
-use std::io;
+use std::alloc::{AllocError, Global};
 use std::sync::Arc;
 use tf_provider_log::{Logged, OpenLog};
 use tf_provider_protocol::Provider;
@@ -16,38 +15,28 @@ use tf_walk_action::Stop;
 pub struct CallControl<F: LogFile> {
     log: Arc<OpenLog<LogSink<F>>>,
     countdown: Arc<Countdown>,
-    stop: Arc<Stop>,
 }
 
 impl<F: LogFile> CallControl<F> {
     /// Of no call yet. The log is in this file, and the flag is set before the call of this number returns; of 0 it is set from
     /// the first, and without a number it never is.
-    ///
-    /// # Errors
-    ///
-    /// Only where memory runs out.
-    pub fn new(alloc: Global, file: Arc<F>, last: Option<usize>) -> io::Result<CallControl<F>> {
-        let stop = Arc::new(alloc, Stop::new())?;
-        if last == Some(0) {
-            stop.set();
-        }
+    pub fn new(
+        alloc: Global,
+        file: Arc<F>,
+        last: Option<usize>,
+    ) -> Result<CallControl<F>, AllocError> {
         Ok(CallControl {
             log: Arc::new(alloc, OpenLog::new(LogSink::new(file)))?,
-            countdown: Arc::new(alloc, Countdown::new(last, Arc::try_clone(&stop)?))?,
-            stop,
+            countdown: Arc::new(alloc, Countdown::new(last))?,
         })
     }
 
     /// A provider whose calls are counted and logged from here on. It means what it meant.
-    ///
-    /// # Errors
-    ///
-    /// Only where there are too many of them to be counted.
-    pub fn control<P: Provider>(
+    pub fn wrap<P: Provider>(
         &self,
         alloc: Global,
         provider: P,
-    ) -> io::Result<Logged<Stopping<P>, LogSink<F>>>
+    ) -> Result<Logged<Stopping<P>, LogSink<F>>, AllocError>
         ensures { IfOk result (λ controlled. ⟦<Logged<Stopping<P>, LogSink<F>> as Provider>⟧.meaning controlled ≡ P.meaning provider) }
     {
         let stopping = Stopping::new(provider, Arc::try_clone(&self.countdown)?);
@@ -61,6 +50,6 @@ impl<F: LogFile> CallControl<F> {
 
     /// The flag.
     pub fn stop(&self) -> &Stop {
-        &self.stop
+        self.countdown.stop()
     }
 }

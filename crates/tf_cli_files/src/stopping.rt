@@ -7,24 +7,33 @@ use std::sync::atomic::{AtomicUsize, Ordering};
 use tf_provider_protocol::{Provider, Reply, Request, Schema};
 use tf_walk_action::Stop;
 
-/// After how many calls the walk is to stop; several providers share one.
+/// After how many calls the walk is to stop, and the flag that says so; several providers share one.
 #[derive(Drop)]
 pub struct Countdown {
     /// The number of the call before whose return the walk is stopped; the first is 1. With no number it never is.
     last: Option<usize>,
     /// How many calls were made.
     calls: AtomicUsize,
-    stop: Arc<Stop>,
+    stop: Stop,
 }
 
 impl Countdown {
-    /// Of no call yet, with the number of the call at which the flag is set.
-    pub fn new(last: Option<usize>, stop: Arc<Stop>) -> Countdown {
+    /// Of no call yet, with the number of the call at which the flag is set; it is set from the first where that is 0.
+    pub fn new(last: Option<usize>) -> Countdown {
+        let stop = Stop::new();
+        if last == Some(0) {
+            stop.set();
+        }
         Countdown {
             last,
             calls: AtomicUsize::new(0),
             stop,
         }
+    }
+
+    /// The flag.
+    pub fn stop(&self) -> &Stop {
+        &self.stop
     }
 
     /// Counts a call, and answers how many were made before it.
