@@ -1,12 +1,10 @@
 -- What is answered of a plan that was carried out.
-use Rattle.std.proofs.Common.{◌≡◌, ◌∙◌, ℕ, Bool, true, false, not, if◌then◌else◌, List, refl, sym, ap, subst, string_bytes, arith}
+use Rattle.std.proofs.Common.{◌≡◌, ◌∙◌, ℕ, Bool, true, false, not, if◌then◌else◌, List, Result, Ok, Err, refl, sym, ap, subst, string_bytes, arith}
 use Rattle.std.specs.Prelude.{◌==◌, ◌+◌, ◌↔◌, IfOk}
 use Rattle.tf_state_next.specs.StateAfter.{is_same, next_serial}
 use Rattle.tf_plan_data.specs.Plan.{PlanView}
-use Rattle.tf_plan_text.specs.Text.{plan_text}
 use Rattle.tf_provider_protocol.specs.Meaning.{Meaning}
 use Rattle.tf_walk_report.specs.Report.{IsReported, report_of}
-use Rattle.tf_walk_report.specs.Savable.{HasNames}
 use Rattle.tf_walk.specs.Run.{IsRun}
 use Rattle.tf_walk_report.specs.declared.report.Walked.{Walked}
 use Rattle.tf_walk_report.specs.declared.report.Walked.TheVariants.{Whole, Torn}
@@ -14,7 +12,9 @@ use Rattle.tf_state_data.specs.Equality.{state_Decides}
 use Rattle.tf_state_data.specs.State.{StateView, state_of}
 use Rattle.tf_state.specs.Text.{state_text}
 use Rattle.tf_state.specs.Valid.{IsValid}
-use Rattle.tf_cli.specs.Applies.{IsCarriedOut}
+use Rattle.tf_cli.specs.Applies.{IsApplied, IsCarriedOut, IsPlanOf, MayStart, text_in}
+use Rattle.tf_cli_inputs.specs.Texts.{Texts}
+use Rattle.tf_plan.specs.declared.refused.Refused.{Refused}
 use Rattle.tf_cli_text.specs.declared.applied.Applied.{Applied}
 
 same-serial : (n m : ℕ) → not (n == m) ≡ false → n ≡ m
@@ -42,20 +42,26 @@ reported_in ms plan (Torn report) walked = walked.reported
 reported_in ms plan (Whole report) walked = walked.reported
 
 pub is_carried_out : (ms : List Meaning) (plan : PlanView) (walked : Walked) (a : Applied)
-    → HasNames plan → IsValid plan.prior
-    → string_bytes a.plan ≡ plan_text plan.late plan.actions
+    → MayStart ms plan
+    → string_bytes a.plan ≡ text_in plan
     → IsRun ms plan walked
     → a.walked ≡ walked
     → IfOk a.state (λ text. string_bytes text ≡ state_text (state_of (report_of walked).state))
     → a.changed ≡ not ((state_of (report_of walked).state).serial == plan.prior.serial)
     → IsCarriedOut ms plan a
-is_carried_out ms plan walked a named valid shown was_walked same text changed =
+is_carried_out ms plan walked a starts shown was_walked same text changed =
     let told = (reported_in ms plan walked was_walked).is_report.told in
     let exactly = changed-exactly plan.prior (state_of (report_of walked).state) a.changed told.state.after.serial changed in
     record {
       shown = shown;
       walked = subst (λ (w : Walked). IsRun ms plan w) (sym same) was_walked;
-      valid = subst (λ (w : Walked). IsValid (state_of (report_of w).state)) (sym same) (told.valid named valid);
+      valid = subst (λ (w : Walked). IsValid (state_of (report_of w).state)) (sym same) (told.valid starts.2 starts.1);
       text = subst (λ (w : Walked). IfOk a.state (λ text. string_bytes text ≡ state_text (state_of (report_of w).state))) (sym same) text;
       changed = subst (λ (w : Walked). (a.changed ≡ false) ↔ (state_of (report_of w).state ≡ plan.prior)) (sym same) exactly;
     }
+
+-- where that is the plan of texts, it is the answer of their apply
+pub applied_then : (ms : List Meaning) (texts : Texts) (lineage : List ℕ) (plan : PlanView) → IsPlanOf ms texts lineage plan
+    → (answer : Result Applied Refused) → IfOk answer (IsCarriedOut ms plan) → IfOk answer (IsApplied ms texts lineage)
+applied_then ms texts lineage plan planned (Ok a) out = record { plan = plan; planned = planned; carried_out = out }
+applied_then ms texts lineage plan planned (Err refused) out = tt

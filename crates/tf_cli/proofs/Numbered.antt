@@ -1,5 +1,5 @@
 -- What is refused where a plan may not be carried out by so many workers.
-use Rattle.std.proofs.Common.{◌≡◌, ◌∷◌, [], ◌∙◌, ℕ, Bool, true, false, List, Result, Ok, Err, IfErr, refl, ap, inl, inr}
+use Rattle.std.proofs.Common.{◌≡◌, ◌∷◌, [], ◌∙◌, ℕ, Bool, true, false, List, Result, Ok, Err, IfErr, refl, ap, inr}
 use Rattle.std.specs.Prelude.{MatchBool}
 use Rattle.tf_cli_inputs.specs.Texts.{Texts}
 use Rattle.tf_plan.specs.Refused.{Tells}
@@ -10,26 +10,22 @@ use Rattle.tf_provider_protocol.specs.Meaning.{Meaning}
 use Rattle.tf_config_refusal.specs.Refusal.{RefusalView, no_memory, workers}
 use Rattle.tf_walk.specs.Run.{are_workers}
 use Rattle.tf_cli.specs.Applies.{IsPlanOf}
-use Rattle.tf_cli.specs.Refusals.{AreApplyRefusals, AreRefusals, RefusesBy}
+use Rattle.tf_cli.specs.Refusals.{AreApplyRefusals, IsNumberRefused, RefusesBy}
 
 module _ (ms : List Meaning) (texts : Texts) (lineage : List ℕ) (count : ℕ) where
-  -- what is refused of texts is refused of their apply
-  refused-anyway : (refused : Refused) → Tells (AreRefusals ms texts) refused → Tells (AreApplyRefusals ms texts lineage count) refused
-  refused-anyway NoMemory tells = tt
-  refused-anyway (These refusals) tells = inl tells
+  -- a plan whose number of workers is refused
+  pub refused_then : {T : Type 0} (plan : PlanView) → IsPlanOf ms texts lineage plan → (answer : Result T Refused) → IfErr answer (Tells (IsNumberRefused count)) → IfErr answer (Tells (AreApplyRefusals ms texts lineage count))
+  refused_then plan planned (Ok t) tells = tt
+  refused_then plan planned (Err NoMemory) tells = tt
+  refused_then plan planned (Err (These refusals)) tells = inr (record { plan = plan; planned = planned; wrong = tells })
 
-  pub refused-first : {T : Type 0} → (answer : Result T Refused) → IfErr answer (Tells (AreRefusals ms texts)) → IfErr answer (Tells (AreApplyRefusals ms texts lineage count))
-  refused-first (Ok t) tells = tt
-  refused-first (Err refused) tells = refused-anyway refused tells
-
-  by_number : (plan : PlanView) → IsPlanOf ms texts lineage plan → (b : Bool) → are_workers count ≡ b → (t : RefusalView) → MatchBool b (t ≡ no_memory) (t ≡ workers)
-      → (refused : Refused) → RefusesBy t refused → Tells (AreApplyRefusals ms texts lineage count) refused
-  by_number plan planned b is t why NoMemory by = tt
-  by_number plan planned true is t why (These refusals) by = absurd (by.1 why)
-  by_number plan planned false is t why (These refusals) by =
-      inr (record { plan = plan; planned = planned; wrong = is; alone = by.0 ∙ ap (λ (x : RefusalView). x ∷ []) why })
+module _ (count : ℕ) where
+  by_number : (b : Bool) → are_workers count ≡ b → (t : RefusalView) → MatchBool b (t ≡ no_memory) (t ≡ workers)
+      → (refused : Refused) → RefusesBy t refused → Tells (IsNumberRefused count) refused
+  by_number b is t why NoMemory by = tt
+  by_number true is t why (These refusals) by = absurd (by.1 why)
+  by_number false is t why (These refusals) by = (is, by.0 ∙ ap (λ (x : RefusalView). x ∷ []) why)
 
   -- a plan that a walk refuses is refused for want of memory, or since the number of workers is wrong
-  pub refused-walk : (plan : PlanView) → IsPlanOf ms texts lineage plan → (t : RefusalView) → MatchBool (are_workers count) (t ≡ no_memory) (t ≡ workers)
-      → (refused : Refused) → RefusesBy t refused → Tells (AreApplyRefusals ms texts lineage count) refused
-  refused-walk plan planned t why refused by = by_number plan planned (are_workers count) refl t why refused by
+  pub refused-walk : (t : RefusalView) → MatchBool (are_workers count) (t ≡ no_memory) (t ≡ workers) → (refused : Refused) → RefusesBy t refused → Tells (IsNumberRefused count) refused
+  refused-walk t why refused by = by_number (are_workers count) refl t why refused by

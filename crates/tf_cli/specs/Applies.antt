@@ -7,7 +7,9 @@ use Rattle.tf_plan.specs.Plan.{IsPlan}
 use Rattle.tf_plan_data.specs.Plan.{PlanView}
 use Rattle.tf_plan_text.specs.Text.{plan_text}
 use Rattle.tf_provider_protocol.specs.Meaning.{Meaning}
+use Rattle.tf_walk_action.specs.Words.{AreServed}
 use Rattle.tf_walk_report.specs.Report.{report_of}
+use Rattle.tf_walk_report.specs.Savable.{HasNames}
 use Rattle.tf_walk.specs.Run.{IsRun}
 use Rattle.tf_state_data.specs.State.{StateView, state_of}
 use Rattle.tf_state.specs.Text.{state_text}
@@ -22,12 +24,20 @@ pub record IsPlanOf (ms : List Meaning) (texts : Texts) (lineage : List ℕ) (pl
   pub stand : ReadAs texts lineage config values prior
   pub planned : IsPlan ms config values prior plan
 
+-- the text that shows a plan
+abbrev pub text_in : PlanView → List ℕ
+text_in plan = plan_text plan.late plan.actions
+
 -- the text that shows the plan of such texts
 pub record IsPlanText (ms : List Meaning) (texts : Texts) (text : List ℕ) : Type 0 where
   pub lineage : List ℕ
   pub plan : PlanView
   pub planned : IsPlanOf ms texts lineage plan
-  pub shown : text ≡ plan_text plan.late plan.actions
+  pub shown : text ≡ text_in plan
+
+-- A plan may be carried out where each action has a provider, the prior state is valid, and the addresses of blocks are of names.
+abbrev pub MayStart : List Meaning → PlanView → Type 0
+MayStart ms plan = AreServed ms plan.actions × IsValid plan.prior × HasNames plan
 
 -- the state after an apply
 abbrev pub state_in : Applied → StateView
@@ -37,7 +47,7 @@ state_in a = state_of (report_of a.walked).state
 -- text of the state after, where there was memory for it; and whether that state isn't the prior one. The state after is
 -- valid, so its text reads back as it.
 pub record IsCarriedOut (ms : List Meaning) (plan : PlanView) (a : Applied) : Type 0 where
-  pub shown : string_bytes a.plan ≡ plan_text plan.late plan.actions
+  pub shown : string_bytes a.plan ≡ text_in plan
   pub walked : IsRun ms plan a.walked
   pub valid : IsValid (state_in a)
   pub text : IfOk a.state (λ text. string_bytes text ≡ state_text (state_in a))

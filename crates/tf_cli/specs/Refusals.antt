@@ -34,12 +34,15 @@ pub record IsPlanRefused (ms : List Meaning) (texts : Texts) (refusal_views : Li
 abbrev pub AreRefusals : List Meaning → Texts → List RefusalView → Type 0
 AreRefusals ms texts refusal_views = IsRefusedAlone texts refusal_views ⊎ IsPlanRefused ms texts refusal_views
 
+-- A plan may not be carried out by so many workers, which is refused alone.
+abbrev pub IsNumberRefused : ℕ → List RefusalView → Type 0
+IsNumberRefused count refusal_views = (are_workers count ≡ false) × (refusal_views ≡ workers ∷ [])
+
 -- The texts have a plan, and it may not be carried out by so many workers; nothing else is refused.
 pub record IsRefusedByNumber (ms : List Meaning) (texts : Texts) (lineage : List ℕ) (count : ℕ) (refusal_views : List RefusalView) : Type 0 where
   pub plan : PlanView
   pub planned : IsPlanOf ms texts lineage plan
-  pub wrong : are_workers count ≡ false
-  pub alone : refusal_views ≡ workers ∷ []
+  pub wrong : IsNumberRefused count refusal_views
 
 -- what is refused of an apply of texts by so many workers
 abbrev pub AreApplyRefusals : List Meaning → Texts → List ℕ → ℕ → List RefusalView → Type 0

@@ -1,23 +1,24 @@
 //! From the texts that the user gives to what came of carrying out their plan.
 
 ghost use Rattle.std.specs.Prelude.{◌≡◌, ◌==◌, not, true, map, option_map, IfOk, IfErr, string_bytes};
-ghost use Rattle.tf_cli.specs.Applies.{IsApplied};
-ghost use Rattle.tf_cli.specs.Refusals.{AreApplyRefusals};
+ghost use Rattle.tf_cli.specs.Applies.{IsApplied, IsCarriedOut, MayStart};
+ghost use Rattle.tf_cli.specs.Refusals.{AreApplyRefusals, IsNumberRefused};
 ghost use Rattle.tf_cli_inputs.specs.Texts.{the_texts};
 ghost use Rattle.tf_plan.specs.Refused.{Tells};
+ghost use Rattle.tf_walk_action.specs.Words.{plan_of};
 ghost use Rattle.tf_walk_report.specs.Report.{report_of};
 ghost use Rattle.tf_walk.specs.Run.{are_workers, is_whole};
 ghost use Rattle.tf_state_data.specs.State.{state_of};
 ghost use Rattle.tf_state.specs.Text.{state_text};
 
-use crate::planning::{InputTexts, one_refusal, plan_of_texts};
+use crate::planning::{InputTexts, one_refusal, plan_of_texts, shown};
 use std::alloc::Global;
 use std::sync::Wait;
 use std::thread::Threads;
 use tf_cli_text::Applied;
 use tf_config::blocks_have_names;
 use tf_plan::Refused;
-use tf_plan_text::plan_text;
+use tf_plan_data::Planned;
 use tf_provider::Provider;
 use tf_state::write;
 use tf_walk::run;
@@ -51,11 +52,31 @@ pub fn apply_text<R: Threads + Wait + Sync>(
         state,
         lineage,
     };
-    let planned = plan_of_texts(alloc, &texts, providers)?;
-    let plan = &planned.plan;
-    let text = plan_text(alloc, plan.actions.as_slice(), plan.late.as_slice())?;
-    match run(rt, alloc, &planned, providers, workers, stop) {
-        Ok(walked) => Ok(answer_of(alloc, text, plan.prior.serial(), walked)),
+    match plan_of_texts(alloc, &texts, providers) {
+        Ok(planned) => carry_out(rt, alloc, &planned, providers, workers, stop),
+        Err(refused) => Err(refused),
+    }
+}
+
+/// Carries a plan out by so many workers, and answers its text and what came of it. Refused where the number of workers isn't
+/// 1 to 64, and else only where there is no memory.
+fn carry_out<R: Threads + Wait + Sync>(
+    rt: &R,
+    alloc: Global,
+    planned: &Planned,
+    providers: &[Box<dyn Provider + Sync>],
+    workers: usize,
+    stop: &Stop,
+) -> Result<Applied, Refused>
+    requires starts { MayStart (map meaning providers.now) (plan_of planned.now) }
+    ensures carried_out { IfOk result (IsCarriedOut (map meaning providers.now) (plan_of planned.now)) }
+    ensures workers { IfOk result (λ _. are_workers workers ≡ true) }
+    ensures whole { workers ≡ 1 → IfOk result (λ answer. is_whole answer.walked ≡ true) }
+    ensures refused { IfErr result (Tells (IsNumberRefused workers)) }
+{
+    let text = shown(alloc, planned)?;
+    match run(rt, alloc, planned, providers, workers, stop) {
+        Ok(walked) => Ok(answer_of(alloc, text, planned.plan.prior.serial(), walked)),
         Err(refusal) => Err(one_refusal(alloc, refusal)),
     }
 }

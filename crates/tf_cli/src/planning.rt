@@ -2,10 +2,11 @@
 
 ghost use Rattle.std.specs.Prelude.{◌≡◌, map, option_map, IfOk, IfErr, string_bytes};
 ghost use Rattle.tf_walk_action.specs.Words.{action_of, AreServed, plan_of, state_of};
-ghost use Rattle.tf_cli.specs.Applies.{IsPlanOf, IsPlanText};
+ghost use Rattle.tf_cli.specs.Applies.{IsPlanOf, IsPlanText, text_in};
 ghost use Rattle.tf_cli.specs.Refusals.{AreRefusals, RefusesBy};
 ghost use Rattle.tf_cli_inputs.specs.Texts.{the_texts};
 ghost use Rattle.tf_plan.specs.Refused.{Tells};
+ghost use Rattle.tf_plan.specs.declared.refused.Refused.TheVariants.{NoMemory};
 ghost use Rattle.tf_config_refusal.specs.Refusal.{refusal_of};
 ghost use Rattle.tf_state.specs.Valid.{IsValid};
 
@@ -48,7 +49,17 @@ pub fn plan_text(
         state,
         lineage: "",
     };
-    let planned = plan_of_texts(alloc, &texts, providers)?;
+    match plan_of_texts(alloc, &texts, providers) {
+        Ok(planned) => shown(alloc, &planned),
+        Err(refused) => Err(refused),
+    }
+}
+
+/// The text that shows a plan. Refused only where there is no memory.
+pub(crate) fn shown(alloc: Global, planned: &Planned) -> Result<String, Refused>
+    ensures shown { IfOk result (λ text. string_bytes text ≡ text_in (plan_of planned.now)) }
+    ensures refused { IfErr result (λ refused. refused ≡ NoMemory) }
+{
     let plan = &planned.plan;
     let text = text_of_plan(alloc, plan.actions.as_slice(), plan.late.as_slice())?;
     Ok(text)

@@ -76,4 +76,4 @@ never_unapplied resolved laws ms texts lineage count neither = never_unplanned r
   where
     by_count : (b : Bool) → are_workers count ≡ b → HavePlan ms texts lineage → ⊥
     by_count true e plan = neither.0 (plan, e)
-    by_count false e plan = neither.1 (workers ∷ [], inr (record { plan = plan.0; planned = plan.1; wrong = e; alone = refl }))
+    by_count false e plan = neither.1 (workers ∷ [], inr (record { plan = plan.0; planned = plan.1; wrong = (e, refl) }))

@@ -116,6 +116,6 @@ apply_refusals_one laws law none ms texts lineage other count refusal_views othe
   ]
   | inr number ↦ elim k [
     | inl refused ↦ absurd (none ms texts lineage number.plan others number.planned refused)
-    | inr also ↦ alike texts refusal_views others (number.alone ∙ sym also.alone)
+    | inr also ↦ alike texts refusal_views others (number.wrong.1 ∙ sym also.wrong.1)
   ]
 ]

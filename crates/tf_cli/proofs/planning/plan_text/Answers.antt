@@ -1,13 +1,8 @@
 use Rattle.std.proofs.Common.{[]}
 use Rattle.tf_plan_data.specs.Plan.{plan_of}
-use Rattle.tf_cli.proofs.Shown.{text_of_plan}
+use Rattle.tf_cli.proofs.Shown.{plan_shown}
 use Rattle.tf_cli.proofs.planning.plan_text.Goals as goal
 
-pub returns-clause-planned : goal.returns-clause-planned
-returns-clause-planned g c =
-    record {
-      lineage = [];
-      plan = plan_of c.in_ok-planned.planned;
-      planned = c.in_ok-planned.ensures.planned;
-      shown = text_of_plan _ c.in_ok-planned.planned _ _ _ c.in_ok-text.ensures c.as_slice.ensures.value c.as_slice-2.ensures.value c.planned.view_is;
-    }
+pub returns-in-Ok-clause-planned : goal.returns-in-Ok-clause-planned
+returns-in-Ok-clause-planned g c =
+    plan_shown _ _ [] (plan_of c.in-Ok.planned) c.in-Ok.ensures.planned c.shown.result c.shown.ensures.shown
