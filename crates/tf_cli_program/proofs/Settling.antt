@@ -1,5 +1,5 @@
 -- From what is looked back at to what is gone on from.
-use Rattle.std.proofs.Common.{Global, Result, Ok, Err, ◌≡◌, ◌∙◌, ℕ, List, Option, None, refl, ap, option_map, string_bytes}
+use Rattle.std.proofs.Common.{Global, Result, Ok, Err, ◌∙◌, ℕ, List, Option, None, refl, ap, option_map, string_bytes}
 use Rattle.std.specs.Prelude.{IfOk}
 use Rattle.std.specs.Option.{option_or}
 use Rattle.std.specs.declared.string.String.{String}

@@ -1,7 +1,6 @@
 -- How a program goes on from an apply that did not end.
-use Rattle.std.specs.Prelude.{◌≡◌, ◌≢◌, ◌⊎◌, ℕ, List, [], Option, Some, None, option_map, string_bytes}
+use Rattle.std.specs.Prelude.{◌≡◌, ◌≢◌, ◌⊎◌, ℕ, List, [], Option, option_map, string_bytes}
 use Rattle.std.specs.Option.{option_or}
-use Rattle.tf_provider_log.specs.LogEntry.{HeaderView}
 use Rattle.tf_provider_protocol.specs.Meaning.{Meaning}
 use Rattle.tf_cli_program.specs.Recovered.{IsRecovered}
 use Rattle.tf_cli_files.specs.declared.given.ProgramInput.{ProgramInput}

@@ -21,7 +21,7 @@ pub struct Hinting<N: WalkBrand> {
 
 impl<N: WalkBrand> Hinting<N> {
     /// Begins anew, as the next action ends.
-    pub fn begin(&mut self)
+    pub(crate) fn begin(&mut self)
         ensures { self.new.free ≡ 0 }
     {
         self.free = 0;

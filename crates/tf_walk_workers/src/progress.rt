@@ -30,17 +30,17 @@ impl WalkProgress {
     }
 
     /// How many actions have ended.
-    pub fn ended(&self) -> u64 {
+    pub(crate) fn ended(&self) -> u64 {
         self.ended.load(Ordering::SeqCst)
     }
 
     /// How often there was news.
-    pub fn news(&self) -> u64 {
+    pub(crate) fn news(&self) -> u64 {
         self.news.load(Ordering::SeqCst)
     }
 
     /// An action of so many that no other worker is given to look at, unless all begin anew; `None` where all were given.
-    pub fn next(&self, all: usize) -> Option<usize>
+    pub(crate) fn next(&self, all: usize) -> Option<usize>
         ensures { IfSome result (λ action. action < all) }
     {
         if self.next.load(Ordering::SeqCst) >= all as u64 {
@@ -55,13 +55,13 @@ impl WalkProgress {
     }
 
     /// Has the workers begin anew to look at the actions.
-    pub fn look_anew(&self) {
+    pub(crate) fn look_anew(&self) {
         self.next.store(0, Ordering::SeqCst);
     }
 
     /// Tells that one more action has ended, and that so many may be done now that waited for it. The worker that tells it
     /// takes one of those itself; for each other one a worker is woken.
-    pub fn tell_end(&self, free: u64) {
+    pub(crate) fn tell_end(&self, free: u64) {
         self.ended.fetch_add(1, Ordering::SeqCst);
         if free > 1 {
             self.tell_news(free - 1);
@@ -69,7 +69,7 @@ impl WalkProgress {
     }
 
     /// Tells that there is news for so many workers, and wakes so many of those that wait.
-    pub fn tell_news(&self, workers: u64) {
+    pub(crate) fn tell_news(&self, workers: u64) {
         self.news.fetch_add(1, Ordering::SeqCst);
         let waiting = self.waiting.load(Ordering::SeqCst);
         if waiting == 0 {
@@ -85,7 +85,7 @@ impl WalkProgress {
     }
 
     /// Waits to be woken, unless there was other news than so often. It may return for no reason.
-    pub fn wait_for_news<R: Wait>(&self, rt: &R, news: u64) {
+    pub(crate) fn wait_for_news<R: Wait>(&self, rt: &R, news: u64) {
         self.waiting.fetch_add(1, Ordering::SeqCst);
         self.news.park(rt, (news % 0x1_0000_0000) as u32);
         self.waiting.fetch_sub(1, Ordering::SeqCst);
