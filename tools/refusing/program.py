@@ -9,7 +9,7 @@ import sys
 import time
 
 sys.path.append(os.path.dirname(os.path.dirname(os.path.realpath(__file__))))
-from placed import place
+from placed import place, start_trying
 
 # The number of the growth that the compiled program refuses. A run has so many growths before its plan that the one that is
 # meant has this number; with none before its plan, no run comes so far.
@@ -39,9 +39,9 @@ def compiled(room):
     """Has `rt try` compile the program, and copies its file into the room while it waits for its configuration at a pipe."""
     pipe, program, end = f"{room}/pipe", f"{room}/scarce_memory", None
     os.mkfifo(pipe)
-    words = ["rt", "try", "--fail-alloc", str(REFUSED), "--", "one", pipe, "none", "1", "0", "0"]
+    words = ["--fail-alloc", str(REFUSED), "--", "one", pipe, "none", "1", "0", "0"]
     how = {"stdin": subprocess.DEVNULL, "stdout": subprocess.PIPE, "stderr": subprocess.STDOUT, "text": True}
-    ran = subprocess.Popen(words, cwd=place(room, "scarce_memory"), env={**os.environ, "TMPDIR": room}, **how)
+    ran = start_trying(words, cwd=place(room, "scarce_memory"), env={**os.environ, "TMPDIR": room}, **how)
     while ran.poll() is None and end is None:
         try:
             end = os.open(pipe, os.O_WRONLY | os.O_NONBLOCK)

@@ -1,9 +1,6 @@
 //! Plans a configuration, carries the plan out, and writes the state.
 #![tactic(auto)]
 
-mod taking_up;
-
-use crate::taking_up::take_up;
 use std::fs::File;
 use std::io;
 use std::io::{IsTerminal, Stderr, Write};
@@ -17,6 +14,7 @@ use tf_provider::Provider;
 use tf_provider_local::LocalFile;
 use tf_provider_progress::Progress;
 use tf_provider_sim::Sim;
+use tf_recovery::recover;
 
 fn main(rt: HostRuntime) -> io::Result<ExitCode> {
     run(
@@ -45,13 +43,9 @@ fn apply<T: Threads + Wait + Sync, O: Write, E: Write>(
         place,
         past,
     } = seen;
-    if let Some((past, entries)) = past {
-        let taken = take_up(
-            rt, threads, &place, &file, &mut given, &past, entries, out, err,
-        )?;
-        if let Err(status) = taken {
-            return Ok(status);
-        }
+    let recovered = recover(rt, threads, &place, &file, &mut given, past, out, err)?;
+    if let Err(status) = recovered {
+        return Ok(status);
     }
     let file = Arc::new(rt.alloc(), file)?;
     apply_by(rt, threads, &place, &file, &given, out, err)
