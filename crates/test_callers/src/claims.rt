@@ -106,7 +106,7 @@ fn is_seen(claims: &Claims, first: &mut Seat, second: &mut Seat, third: &mut Sea
 }
 
 #[test]
-fn a_seat_sees_what_another_did(rt: HostRuntime) -> Result<(), Fail> {
+fn seat_sees_other(rt: HostRuntime) -> Result<(), Fail> {
     let graph = Graph::new(rt.alloc(), 2, &[(0, 1)])?;
     let (claims, mut first) = Claims::new(rt.alloc(), &graph)?;
     let mut second = claims.split_seat(&mut first)?;
