@@ -1,0 +1,1 @@
+pub use Rattle.tf_provider.specs.Entries
