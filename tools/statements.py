@@ -380,11 +380,12 @@ class Statements:
             calls, words = calls.union(*(it.calls for it in called)), words.union(*(it.words for it in called))
 
     def whole(self, crate):
-        """Returns a crate's own sources without tests, its definitions, its proofs and its edits, with where each name comes from."""
+        """Returns a crate's own sources without tests and comments, its definitions, its proofs and its edits, with where each name
+        comes from."""
         folder = self.folder(crate)
-        texts = sources(folder)
+        texts = {path: without_remarks(text) for path, text in sources(folder).items()}
         imports = {self.resolved(f"{place} as {name}") for text in texts.values() for place, name in imports_of(tokens_of(text))}
         for part, ending in (("specs", ".antt"), ("proofs", ".antt"), ("must-fail", ".edit")):
-            texts.update((path, read(path)) for path in files(f"{folder}/{part}", ending))
+            texts.update((path, without_remarks(read(path))) for path in files(f"{folder}/{part}", ending))
         parts = [f"\n{os.path.relpath(path, self.root)} {len(texts[path])}\n{self.resolved(texts[path])}" for path in sorted(texts)]
         return "\n".join(["".join(parts), *sorted(imports)])
