@@ -1,4 +1,4 @@
-//! Plans a configuration, carries the plan out, and writes the state.
+//! The program `apply`: plans a configuration, carries out the plan and writes the state.
 #![tactic(auto)]
 
 use std::fs::File;
@@ -26,7 +26,7 @@ fn main(rt: HostRuntime) -> io::Result<ExitCode> {
     )
 }
 
-/// Takes up an apply that did not end, where there is one, and carries the plan out by threads.
+/// Recovers an unfinished apply, if there is one, and then applies.
 fn apply<T: Threads + Wait + Sync, O: Write, E: Write>(
     rt: &HostRuntime,
     threads: &T,
@@ -43,7 +43,7 @@ fn apply<T: Threads + Wait + Sync, O: Write, E: Write>(
         place,
         past,
     } = seen;
-    let recovered = recover(rt, threads, &place, &file, &mut given, past, out, err)?;
+    let recovered = recover(rt, &place, &file, &mut given, past, out, err)?;
     if let Err(status) = recovered {
         return Ok(status);
     }
@@ -51,7 +51,7 @@ fn apply<T: Threads + Wait + Sync, O: Write, E: Write>(
     apply_by(rt, threads, &place, &file, &given, out, err)
 }
 
-/// Carries the plan out by the providers and with the flag that the words ask for.
+/// Applies with `sim` and `local_file`, whose calls are logged, counted for `--stop-after`, and printed if that is asked for.
 fn apply_by<T: Threads + Wait + Sync, O: Write, E: Write>(
     rt: &HostRuntime,
     threads: &T,
@@ -66,8 +66,8 @@ fn apply_by<T: Threads + Wait + Sync, O: Write, E: Write>(
     let sim = control.wrap(alloc, Sim::new(alloc)?)?;
     let local_file = control.wrap(alloc, LocalFile::new(alloc, *rt)?)?;
     let mut providers: Vec<Box<dyn Provider + Sync>> = Vec::new(alloc);
-    providers.push(Box::new(alloc, told(rt, given, sim))?)?;
-    providers.push(Box::new(alloc, told(rt, given, local_file))?)?;
+    providers.push(Box::new(alloc, with_progress(rt, given, sim))?)?;
+    providers.push(Box::new(alloc, with_progress(rt, given, local_file))?)?;
     Ok(carry_out_logged(
         rt,
         threads,
@@ -82,8 +82,8 @@ fn apply_by<T: Threads + Wait + Sync, O: Write, E: Write>(
     ))
 }
 
-/// A provider of whose calls it is told, on standard error, where that is a terminal or the words ask for it.
-fn told<P: Provider>(
+/// Wraps a provider so that its calls are printed on standard error, if that is a terminal or `--progress` is given.
+fn with_progress<P: Provider>(
     rt: &HostRuntime,
     given: &ProgramInput,
     provider: P,

@@ -1,11 +1,9 @@
-//! Prints the plan of a configuration.
+//! The program `plan`: prints the plan of a configuration.
 #![tactic(auto)]
 
 use std::io;
 use std::io::Write;
 use std::process::ExitCode;
-use std::sync::Wait;
-use std::thread::Threads;
 use tf_cli_files::{ProgramInput, Seen, run, see};
 use tf_cli_options::{GraphForm, Options, Program};
 use tf_cli_program::{print_graph, print_plan};
@@ -20,14 +18,13 @@ fn main(rt: HostRuntime) -> io::Result<ExitCode> {
         Program::Plan,
         &mut rt.stdout(),
         &mut rt.stderr(),
-        |options, out, err| plan(&rt, &rt, options, out, err),
+        |options, out, err| plan(&rt, options, out, err),
     )
 }
 
-/// Prints the plan from the state that is there, or that an apply leaves that did not end.
-fn plan<T: Threads + Wait + Sync, O: Write, E: Write>(
+/// Prints the plan from the state file, or from the state that an unfinished apply left.
+fn plan<O: Write, E: Write>(
     rt: &HostRuntime,
-    threads: &T,
     options: Options,
     out: &mut O,
     err: &mut E,
@@ -41,13 +38,13 @@ fn plan<T: Threads + Wait + Sync, O: Write, E: Write>(
         place,
         past,
     } = seen;
-    if let Err(status) = preview(rt, threads, &place, &mut given, past, err)? {
+    if let Err(status) = preview(rt, &place, &mut given, past, err)? {
         return Ok(status);
     }
     print_given(rt, &given, out, err)
 }
 
-/// Prints the plan of what was given, or draws it.
+/// Prints the plan's text, or its drawing if the options ask for that.
 fn print_given<O: Write, E: Write>(
     rt: &HostRuntime,
     given: &ProgramInput,

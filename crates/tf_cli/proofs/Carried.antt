@@ -1,11 +1,11 @@
--- What is answered of a plan that was carried out.
+-- The answer for a plan that was carried out.
 use Rattle.std.proofs.Common.{◌≡◌, ◌∙◌, ℕ, Bool, true, false, not, if◌then◌else◌, List, Result, Ok, Err, refl, sym, ap, subst, string_bytes, arith}
 use Rattle.std.specs.Prelude.{◌==◌, ◌+◌, ◌↔◌, IfOk}
 use Rattle.tf_state_next.specs.StateAfter.{is_same, next_serial}
 use Rattle.tf_plan_data.specs.Plan.{PlanView}
 use Rattle.tf_provider_protocol.specs.Meaning.{Meaning}
-use Rattle.tf_walk_report.specs.Report.{IsReported, report_of}
-use Rattle.tf_walk.specs.Run.{IsRun}
+use Rattle.tf_walk_report.specs.Report.{IsReported, IsWalked, report_of}
+use Rattle.tf_walk.specs.Run.{IsRun, is_whole}
 use Rattle.tf_walk_report.specs.declared.report.Walked.{Walked}
 use Rattle.tf_walk_report.specs.declared.report.Walked.TheVariants.{Whole, Torn}
 use Rattle.tf_state_data.specs.Equality.{state_Decides}
@@ -23,23 +23,32 @@ same-serial n m e = grind (arith, e)
 not-other : (n m : ℕ) → n ≡ m → not (n == m) ≡ false
 not-other n m e = grind (arith, e)
 
--- a state whose serial is the prior one is the prior state
+-- a state with the prior serial is the prior state
 prior-again : (prior after : StateView) (b : Bool) → is_same prior after ≡ b → after.serial ≡ (if b then prior.serial else prior.serial + 1) → after.serial ≡ prior.serial → after ≡ prior
 prior-again prior after true same is h =
     ◌∙◌ {b = record after { serial = prior.serial }} (ap (λ (n : ℕ). record after { serial = n }) h) ((state_Decides (record after { serial = prior.serial }) prior).0 same)
 prior-again prior after false same is h = absurd (omega (arith, is, h))
 
--- the state after is the prior one exactly where its serial is
+-- the state after is the prior one exactly if its serial is
 changed-exactly : (prior after : StateView) (changed : Bool) → after.serial ≡ next_serial prior after → changed ≡ not (after.serial == prior.serial) → (changed ≡ false) ↔ (after ≡ prior)
 changed-exactly prior after changed serial is = (
   (λ e. prior-again prior after (is_same prior after) refl serial (same-serial after.serial prior.serial (sym is ∙ e))),
   (λ e. is ∙ not-other after.serial prior.serial (ap (λ (s : StateView). s.serial) e)),
 )
 
--- what the report of a walk tells
+-- what the report of a walk says
 pub reported_in : (ms : List Meaning) (plan : PlanView) (w : Walked) → IsRun ms plan w → IsReported ms plan (report_of w)
 reported_in ms plan (Torn report) walked = walked.reported
 reported_in ms plan (Whole report) walked = walked.reported
+
+-- a walk on one thread is one by any number of workers, and its report is whole
+pub walked_is_run : (ms : List Meaning) (plan : PlanView) (w : Walked) → IsWalked ms plan w → IsRun ms plan w
+walked_is_run ms plan (Whole report) walked = walked
+walked_is_run ms plan (Torn report) walked = absurd walked
+
+pub walked_is_whole : (ms : List Meaning) (plan : PlanView) (w : Walked) → IsWalked ms plan w → is_whole w ≡ true
+walked_is_whole ms plan (Whole report) walked = refl
+walked_is_whole ms plan (Torn report) walked = absurd walked
 
 pub is_carried_out : (ms : List Meaning) (plan : PlanView) (walked : Walked) (a : Applied)
     → MayStart ms plan
@@ -60,7 +69,7 @@ is_carried_out ms plan walked a starts shown was_walked same text changed =
       changed = subst (λ (w : Walked). (a.changed ≡ false) ↔ (state_of (report_of w).state ≡ plan.prior)) (sym same) exactly;
     }
 
--- where that is the plan of texts, it is the answer of their apply
+-- if the plan is that of texts, the answer is that of their apply
 pub applied_then : (ms : List Meaning) (texts : Texts) (lineage : List ℕ) (plan : PlanView) → IsPlanOf ms texts lineage plan
     → (answer : Result Applied Refused) → IfOk answer (IsCarriedOut ms plan) → IfOk answer (IsApplied ms texts lineage)
 applied_then ms texts lineage plan planned (Ok a) out = record { plan = plan; planned = planned; carried_out = out }

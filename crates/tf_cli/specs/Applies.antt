@@ -1,4 +1,4 @@
--- What an apply answers where nothing is refused.
+-- What an apply returns if nothing is refused.
 use Rattle.std.specs.Prelude.{◌≡◌, ◌↔◌, ℕ, false, List, IfOk, string_bytes}
 use Rattle.tf_cli_text.specs.declared.applied.Applied.{Applied}
 use Rattle.tf_config_data.specs.Config.{ConfigView}
@@ -35,7 +35,7 @@ pub record IsPlanText (ms : List Meaning) (texts : Texts) (text : List ℕ) : Ty
   pub planned : IsPlanOf ms texts lineage plan
   pub shown : text ≡ text_in plan
 
--- A plan may be carried out where each action has a provider, the prior state is valid, and the addresses of blocks are of names.
+-- A plan may be carried out if each action has a provider, the prior state is valid, and the addresses of blocks consist of names.
 abbrev pub MayStart : List Meaning → PlanView → Type 0
 MayStart ms plan = AreServed ms plan.actions × IsValid plan.prior × HasNames plan
 
@@ -44,7 +44,7 @@ abbrev pub state_in : Applied → StateView
 state_in a = state_of (report_of a.walked).state
 
 -- The answer for a plan: its text; the report of a walk that carries it out, whole or with a journal that is withheld; the
--- text of the state after, where there was memory for it; and whether that state isn't the prior one. The state after is
+-- text of the state after, if there was memory for it; and whether that state isn't the prior one. The state after is
 -- valid, so its text reads back as it.
 pub record IsCarriedOut (ms : List Meaning) (plan : PlanView) (a : Applied) : Type 0 where
   pub shown : string_bytes a.plan ≡ text_in plan
@@ -53,7 +53,7 @@ pub record IsCarriedOut (ms : List Meaning) (plan : PlanView) (a : Applied) : Ty
   pub text : IfOk a.state (λ text. string_bytes text ≡ state_text (state_in a))
   pub changed : (a.changed ≡ false) ↔ (state_in a ≡ plan.prior)
 
--- The answer of an apply: its texts have a plan, and this is what came of it.
+-- The answer of an apply: its texts have a plan, and this is the result of carrying it out.
 pub record IsApplied (ms : List Meaning) (texts : Texts) (lineage : List ℕ) (a : Applied) : Type 0 where
   pub plan : PlanView
   pub planned : IsPlanOf ms texts lineage plan

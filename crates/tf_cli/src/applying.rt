@@ -1,10 +1,11 @@
-//! From the texts that the user gives to what came of carrying out their plan.
+//! From the texts that the user gives to the result of carrying out their plan.
 
 ghost use Rattle.std.specs.Prelude.{◌≡◌, ◌==◌, not, true, map, option_map, IfOk, IfErr, string_bytes};
 ghost use Rattle.tf_cli.specs.Applies.{IsApplied, IsCarriedOut, MayStart};
-ghost use Rattle.tf_cli.specs.Refusals.{AreApplyRefusals, IsNumberRefused};
+ghost use Rattle.tf_cli.specs.Refusals.{AreApplyRefusals, AreRefusals, IsNumberRefused};
 ghost use Rattle.tf_cli_inputs.specs.Texts.{the_texts};
 ghost use Rattle.tf_plan.specs.Refused.{Tells};
+ghost use Rattle.tf_plan.specs.declared.refused.Refused.TheVariants.{NoMemory};
 ghost use Rattle.tf_walk_action.specs.Words.{plan_of};
 ghost use Rattle.tf_walk_report.specs.Report.{report_of};
 ghost use Rattle.tf_walk.specs.Run.{are_workers, is_whole};
@@ -21,14 +22,21 @@ use tf_plan::Refused;
 use tf_plan_data::Planned;
 use tf_provider::Provider;
 use tf_state::write;
-use tf_walk::run;
+use tf_walk::{run, run_one};
 use tf_walk_action::Stop;
 use tf_walk_report::Walked;
 
-/// Plans a configuration beside a prior state, and carries the plan out by so many workers, 1 to 64, of which the calling
-/// thread is one; with more than one it may wait. Its variables have the values that the variables file and their defaults give; where no state
-/// is given, nothing exists yet, and the lineage is that of the new state. Once the flag is set, no further provider is
-/// called. Where it refuses, no provider was asked for anything but schemas.
+/// Plans a configuration against a prior state and carries out the plan with `workers` workers, 1 to 64, one of which is the
+/// calling thread. If `vars` is `None`, there is no variables file. If `state` is `None`, nothing exists yet, and `lineage` is
+/// the lineage of the new state. One worker applies as [`apply_one`] does. More of them may wait.
+///
+/// After `stop` is set, no action begins; a call that a worker has already begun, or is about to make after its look at the
+/// flag, is still made and recorded. A refusal comes before any call but those of `schema`.
+///
+/// # Errors
+///
+/// What is refused of the texts, in the order of `docs/REFUSALS.md`; `Workers` if `workers` isn't 1 to 64; `NoMemory` if memory
+/// runs out.
 pub fn apply_text<R: Threads + Wait + Sync>(
     rt: &R,
     alloc: Global,
@@ -45,6 +53,9 @@ pub fn apply_text<R: Threads + Wait + Sync>(
     ensures whole { workers ≡ 1 → IfOk result (λ answer. is_whole answer.walked ≡ true) }
     ensures refused { IfErr result (Tells (AreApplyRefusals (map meaning providers.now) (the_texts config.now (option_map (λ s. s.now) vars.entry) (option_map (λ s. s.now) state.entry)) lineage.now workers)) }
 {
+    if workers == 1 {
+        return apply_one(alloc, config, vars, state, lineage, providers, stop);
+    }
     blocks_have_names();
     let texts = InputTexts {
         config,
@@ -58,8 +69,41 @@ pub fn apply_text<R: Threads + Wait + Sync>(
     }
 }
 
-/// Carries a plan out by so many workers, and answers its text and what came of it. Refused where the number of workers isn't
-/// 1 to 64, and else only where there is no memory.
+/// Plans a configuration against a prior state and carries out the plan on the calling thread. It starts no thread and never
+/// waits. The arguments are those of [`apply_text`]. The report is whole: its journal holds exactly the calls that were made.
+///
+/// # Errors
+///
+/// What is refused of the texts, in the order of `docs/REFUSALS.md`; `NoMemory` if memory runs out. Both come before any call
+/// but those of `schema`.
+pub fn apply_one(
+    alloc: Global,
+    config: &[u8],
+    vars: Option<&[u8]>,
+    state: Option<&[u8]>,
+    lineage: &str,
+    providers: &[Box<dyn Provider + Sync>],
+    stop: &Stop,
+) -> Result<Applied, Refused>
+    ensures applied { IfOk result (IsApplied (map meaning providers.now) (the_texts config.now (option_map (λ s. s.now) vars.entry) (option_map (λ s. s.now) state.entry)) lineage.now) }
+    ensures whole { IfOk result (λ answer. is_whole answer.walked ≡ true) }
+    ensures refused { IfErr result (Tells (AreRefusals (map meaning providers.now) (the_texts config.now (option_map (λ s. s.now) vars.entry) (option_map (λ s. s.now) state.entry)))) }
+{
+    blocks_have_names();
+    let texts = InputTexts {
+        config,
+        vars,
+        state,
+        lineage,
+    };
+    match plan_of_texts(alloc, &texts, providers) {
+        Ok(planned) => carry_out_one(alloc, &planned, providers, stop),
+        Err(refused) => Err(refused),
+    }
+}
+
+/// Carries out a plan with the given number of workers, and returns its text and what the walk reports. Refuses a number that
+/// isn't 1 to 64; any other refusal is `NoMemory`.
 fn carry_out<R: Threads + Wait + Sync>(
     rt: &R,
     alloc: Global,
@@ -81,8 +125,27 @@ fn carry_out<R: Threads + Wait + Sync>(
     }
 }
 
-/// What is answered where a plan that starts from a state of this serial was carried out: its text, the report, and the
-/// text of the report's state. A state that isn't the prior one has another serial.
+/// Carries out a plan on the calling thread, and returns its text and what the walk reports. Refuses only if memory runs out.
+fn carry_out_one(
+    alloc: Global,
+    planned: &Planned,
+    providers: &[Box<dyn Provider + Sync>],
+    stop: &Stop,
+) -> Result<Applied, Refused>
+    requires starts { MayStart (map meaning providers.now) (plan_of planned.now) }
+    ensures carried_out { IfOk result (IsCarriedOut (map meaning providers.now) (plan_of planned.now)) }
+    ensures whole { IfOk result (λ answer. is_whole answer.walked ≡ true) }
+    ensures refused { IfErr result (λ refused. refused ≡ NoMemory) }
+{
+    let text = shown(alloc, planned)?;
+    match run_one(alloc, planned, providers, stop) {
+        Ok(walked) => Ok(answer_of(alloc, text, planned.plan.prior.serial(), walked)),
+        Err(refusal) => Err(one_refusal(alloc, refusal)),
+    }
+}
+
+/// Returns the answer for a plan that was carried out: its text, the report of the walk and the text of the report's state.
+/// `prior_serial` is the serial of the prior state; a state that differs from it has another serial.
 fn answer_of(alloc: Global, plan: String, prior_serial: u32, walked: Walked) -> Applied
     ensures plan { result.plan ≡ plan }
     ensures walked { result.walked ≡ walked }

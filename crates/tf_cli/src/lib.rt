@@ -1,10 +1,10 @@
-//! The engine as a library call: texts in, texts out; and what is printed of its answers.
+//! The engine as a library call, from texts to texts, and the lines that the programs print of its answers.
 #![tactic(auto)]
 
 mod applying;
 mod planning;
 
-pub use applying::apply_text;
+pub use applying::{apply_one, apply_text};
 pub use planning::{InputTexts, plan_of_texts, plan_text};
 pub use tf_cli_lines::{SaveFault, save, save_all};
 pub use tf_cli_text::{Applied, print, print_refused, show, state_to_write};

@@ -1,4 +1,4 @@
-//! From the texts that the user gives to a plan.
+//! From the user's texts to a plan.
 
 ghost use Rattle.std.specs.Prelude.{◌≡◌, map, option_map, IfOk, IfErr, string_bytes};
 ghost use Rattle.tf_walk_action.specs.Words.{action_of, AreServed, plan_of, state_of};
@@ -18,21 +18,25 @@ use tf_plan_data::Planned;
 use tf_plan_text::plan_text as text_of_plan;
 use tf_provider::Provider;
 
-/// The texts that the user gives, and the lineage of a new state.
+/// The user's texts, and the lineage of a new state.
 #[derive(Clone, Copy)]
 pub struct InputTexts<'a> {
     /// The configuration, in Terraform's JSON syntax.
     pub config: &'a [u8],
-    /// The variables file, where there is one.
+    /// The variables file, if there is one.
     pub vars: Option<&'a [u8]>,
-    /// The prior state, where there is one; else nothing exists yet.
+    /// The prior state. If there is none, nothing exists yet.
     pub state: Option<&'a [u8]>,
-    /// The lineage of the state where no prior one is given.
+    /// The lineage of the new state if there is no prior one.
     pub lineage: &'a str,
 }
 
-/// The text that `plan` prints for a configuration and a prior state. The variables have the values that the variables
-/// file and their defaults give; where no state is given, nothing exists yet.
+/// Returns the text that `plan` prints for a configuration and a prior state. If `vars` is `None`, there is no variables file. If
+/// `state` is `None`, nothing exists yet.
+///
+/// # Errors
+///
+/// What is refused of the texts, in the order of `docs/REFUSALS.md`; `NoMemory` if memory runs out.
 pub fn plan_text(
     alloc: Global,
     config: &[u8],
@@ -55,7 +59,7 @@ pub fn plan_text(
     }
 }
 
-/// The text that shows a plan. Refused only where there is no memory.
+/// Returns the text of a plan. Refuses only if memory runs out.
 pub(crate) fn shown(alloc: Global, planned: &Planned) -> Result<String, Refused>
     ensures shown { IfOk result (λ text. string_bytes text ≡ text_in (plan_of planned.now)) }
     ensures refused { IfErr result (λ refused. refused ≡ NoMemory) }
@@ -65,12 +69,11 @@ pub(crate) fn shown(alloc: Global, planned: &Planned) -> Result<String, Refused>
     Ok(text)
 }
 
-/// The plan of a configuration beside a prior state, or beside the empty one of a lineage; or what is refused of the texts, in the
-/// order in which `plan_text` says it.
+/// Plans a configuration against its prior state, or against the empty state of a lineage.
 ///
 /// # Errors
 ///
-/// As `plan_text`: `NoMemory` may be told in place of any answer.
+/// As [`plan_text`].
 pub fn plan_of_texts(
     alloc: Global,
     texts: &InputTexts<'_>,
@@ -95,7 +98,7 @@ pub fn plan_of_texts(
     }
 }
 
-/// The list of one refusal, or want of memory.
+/// Returns one refusal as a list, or `NoMemory` if memory runs out for the list.
 pub fn one_refusal(alloc: Global, refusal: Refusal) -> Refused
     ensures { RefusesBy (refusal_of refusal) result }
 {

@@ -1,4 +1,4 @@
 mod Cut
-mod Settling
+mod Continuing
 mod Taken
 mod Worked

@@ -1,4 +1,4 @@
--- What holds of what is recovered.
+-- The laws of recovery.
 use Rattle.std.specs.Prelude.{◌≡◌, ◌++◌, ◌⊎◌, ℕ, List, [], take, Option}
 use Rattle.tf_provider_log.specs.LogEntry.{LogEntryView}
 use Rattle.tf_provider_log.specs.Header.{HeaderView}
@@ -9,21 +9,21 @@ use Rattle.tf_provider_log.specs.True.{AreTrue}
 use Rattle.tf_provider_protocol.specs.Meaning.{Meaning}
 use Rattle.tf_cli_program.specs.Recovered.{IsRecovered}
 
--- What is recovered by providers that answer what the entries of a log tell, each what its own entries tell, is recovered by the
--- very providers, where the entries are true of them: it is taken of an apply of the same texts by them.
+-- If the entries of a log are true of some providers, what is recovered with providers that answer from their own entries is
+-- recovered with the providers themselves: it is taken from an apply of the same texts by them.
 abbrev pub RecoveredIsApplied : Type 0
 RecoveredIsApplied =
     (ms : List Meaning) (es : List LogEntryView) (given : HeaderView) (answers : ℕ) (state : Option (List ℕ))
     → AreTrue ms es → IsRecovered (all_replayed (own_entries ms es) ms) given answers state → IsRecovered ms given answers state
 
--- Of a beginning of a log with a whole first line just what stands whole in it is read; and what is recovered of these entries, by
--- providers that answer what their own entries tell, is recovered by the very providers.
+-- A beginning of a log with a whole first line reads as exactly its whole lines, and what is recovered from these entries, with
+-- providers that answer from their own entries, is recovered with the providers themselves.
 pub record RecoversAsFar (ms : List Meaning) (given : HeaderView) (written : List ℕ) (es : List LogEntryView) (texts : List (List ℕ)) (bytes : List ℕ) : Type 0 where
   pub read : ReadsAsFar given written es texts bytes
   pub recovered : (answers : ℕ) (state : Option (List ℕ)) → IsRecovered (all_replayed (own_entries ms (take read.n es)) ms) given answers state → IsRecovered ms given answers state
 
--- So it is of each beginning, cut at any byte, of a log that was written line by line of entries that are true of some providers, but for
--- one in which no line is whole.
+-- So it is for each beginning, cut at any byte, of a log that was written line by line with entries that are true of some providers,
+-- unless no line in it is whole.
 abbrev pub CutLogsAreRecovered : Type 0
 CutLogsAreRecovered =
     (ms : List Meaning) (given : HeaderView) (written : List ℕ) (es : List LogEntryView) (texts : List (List ℕ)) (bytes rest : List ℕ)

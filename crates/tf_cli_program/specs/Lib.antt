@@ -1,5 +1,5 @@
 pub mod Laws
 pub mod Recovered
-pub mod Settled
+pub mod Recovery
 pub mod Unrecovered
 pub mod Work

@@ -21,18 +21,18 @@ is_answered _ = false
 abbrev pub used_answers : Applied → ℕ
 used_answers a = count_by is_answered (report_of a.walked).outcomes.items
 
--- the texts that a log tells to have been given
+-- the texts that a log's first line gives
 abbrev pub texts_in : HeaderView → Texts
 texts_in given = the_texts given.config given.vars given.state
 
--- Of an apply that used so many answers the text that is to be written is taken, and there is one where the state isn't the
+-- The text that has to be written is taken from an apply that used each of the log's answers. There is one if the state isn't the
 -- prior one.
 pub record IsTaken (a : Applied) (answers : ℕ) (state : Option (List ℕ)) : Type 0 where
   pub all_used : used_answers a ≡ answers
   pub written : state ≡ to_write (Ok a)
   pub there : a.changed ≡ true → IsSome state
 
--- What is recovered is taken of an apply of the texts that were given.
+-- What is recovered is taken from an apply of the given texts.
 pub record IsRecovered (ms : List Meaning) (given : HeaderView) (answers : ℕ) (state : Option (List ℕ)) : Type 0 where
   pub applied : Applied
   pub is_applied : IsApplied ms (texts_in given) given.lineage applied

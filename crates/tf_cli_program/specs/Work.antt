@@ -1,6 +1,5 @@
--- What the programs do with what they were given.
+-- What the programs do with the files that they were given.
 use Rattle.std.specs.Prelude.{◌≡◌, ◌⊎◌, true, ℕ, List, Option, Some, None, Result, Ok, Err, option_map, string_bytes}
-use Rattle.std.specs.Io.KnownBytes.{Appends}
 use Rattle.std.specs.Process.{exit_status}
 use Rattle.std.specs.declared.alloc.Global.{Global}
 use Rattle.std.specs.declared.process.ExitCode.{ExitCode}
@@ -25,7 +24,7 @@ use Rattle.tf_cli_files.specs.declared.given.ProgramInput.{ProgramInput}
 abbrev pub texts_of : ProgramInput → Texts
 texts_of given = the_texts given.config.items (option_map (λ bytes. bytes.items) given.vars) (option_map (λ bytes. bytes.items) given.state)
 
--- an answer with its text without where it lies in memory
+-- an answer as plain data
 abbrev pub answer_of : Result (String Global) Refused → Result (List ℕ) Refused
 answer_of (Ok text) = Ok (string_bytes text)
 answer_of (Err refused) = Err refused
@@ -47,12 +46,11 @@ abbrev pub IsGraphAnswer : List Meaning → ProgramInput → Result (List ℕ) R
 IsGraphAnswer ms given (Ok text) = IsGraphText ms (texts_of given) text
 IsGraphAnswer ms given (Err refused) = Tells (AreRefusals ms (texts_of given)) refused
 
--- The text, of the plan or the one that draws it, is on standard output, with status 0, or a first part of it, with status 1; or the refusals, or a first part
--- of them, are on standard error, with status 1. Nothing else is anywhere.
+-- The text, or a beginning of it if a write failed, is on standard output, with status 0; or the refusals, or a beginning of them,
+-- are on standard error, with status 1. Nothing else is written to either.
 abbrev pub EndsPlan : Result (List ℕ) Refused → (result : ℕ) (out out_after err err_after : Option (List ℕ)) → Type 0
 EndsPlan (Ok text) result out out_after err err_after =
-    (err_after ≡ err)
-    × (((result ≡ 0) × Appends out out_after text) ⊎ ((result ≡ 1) × AppendsStart out out_after text))
+    (result ≡ 0) × (err_after ≡ err) × AppendsStart out out_after text
 EndsPlan (Err refused) result out out_after err err_after =
     (result ≡ 1) × (out_after ≡ out) × AppendsStart err err_after (refused_errors refused)
 
@@ -63,11 +61,11 @@ IsAnswer ms given (Ok applied) =
 IsAnswer ms given (Err refused) =
     Tells (AreApplyRefusals ms (texts_of given) (string_bytes given.options.lineage) given.options.parallelism) refused
 
--- what is shown of an answer, or a first part of it, and nothing else
+-- what is printed of an answer, or a beginning of it, and nothing else
 abbrev pub IsShown : Result Applied Refused → (out out_after err err_after : Option (List ℕ)) → Type 0
 IsShown answer out out_after err err_after = AppendsStart out out_after (output_of answer) × AppendsStart err err_after (errors_of answer)
 
--- What was answered is shown, and then the state is kept, where there is one to write.
+-- The answer is printed, and then the state is written, if there is one to write.
 abbrev pub EndsWith : Option (List ℕ) → Result Applied Refused → (result : ℕ) (out out_after err err_after : Option (List ℕ)) → Type 0
 EndsWith None answer result out out_after err err_after = (result ≡ status_of answer) × IsShown answer out out_after err err_after
 EndsWith (Some text) answer result out out_after err err_after =
@@ -77,8 +75,8 @@ EndsWith (Some text) answer result out out_after err err_after =
 abbrev pub EndsApply : Result Applied Refused → (result : ℕ) (out out_after err err_after : Option (List ℕ)) → Type 0
 EndsApply answer result out out_after err err_after = EndsWith (to_write answer) answer result out out_after err err_after
 
--- An apply with a log ends before any call, with status 1 and nothing on standard output; or it ends as the apply that it is,
--- where more may be told on standard error.
+-- An apply with a log ends before any call, with status 1 and nothing on standard output; or it ends as an apply without one does,
+-- and may print more on standard error.
 abbrev pub EndsLogged : List Meaning → ProgramInput → (result : ExitCode) (out out_after err : Option (List ℕ)) → Type 0
 EndsLogged ms given result out out_after err =
     ((exit_status result ≡ 1) × (out_after ≡ out))

@@ -1,4 +1,4 @@
-//! From what a program was given to the text that draws its plan.
+//! The text that draws a plan.
 
 ghost use Rattle.std.specs.Prelude.{◌≡◌, map, IfErr, IfOk, string_bytes};
 ghost use Rattle.tf_cli.specs.Refusals.{AreRefusals};
@@ -11,7 +11,11 @@ use tf_cli_files::ProgramInput;
 use tf_plan_text::dot_text;
 use tf_provider::Provider;
 
-/// The text that draws the plan of what a program was given, where nothing is refused.
+/// Returns the text that draws the plan of what a program was given.
+///
+/// # Errors
+///
+/// What `plan_text` refuses of it.
 pub fn graph_text(
     alloc: Global,
     given: &ProgramInput,

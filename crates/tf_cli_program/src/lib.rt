@@ -1,18 +1,18 @@
-//! What the programs `plan` and `apply` do with what they were given, and how they go on from an apply that was cut off.
+//! What the programs `plan` and `apply` do with the files that they were given, and how they recover an unfinished apply.
 //!
-//! What an apply that was cut off did is told by its log: one more apply of the same texts, in which what was answered is
-//! answered again from the log, and nothing is called.
+//! The log of an unfinished apply says what it did. To recover its state, the same texts are applied again with providers that
+//! answer from the log, so nothing is called.
 #![tactic(auto)]
 
 mod drawing;
 mod laws;
 mod logging;
-mod looking;
 mod recovering;
+mod recovery_status;
 mod taking;
 mod work;
 
 pub use laws::{what_a_cut_log_leaves_is_recovered, what_is_recovered_is_applied};
-pub use logging::{carry_out_logged, foresee, settle};
+pub use logging::{carry_out_logged, finish_recovery, preview_recovery};
 pub use taking::Recovered;
 pub use work::{carry_out, print_graph, print_plan};

@@ -1,11 +1,11 @@
-//! An apply with a log, and what comes before it where the one before it did not end.
+//! An apply with a log, and the recovery before it.
 
 ghost use Rattle.std.specs.Prelude.{◌≡◌, ◌⊎◌, IfErr, IfOk, OnOk, map, option_map, string_bytes};
 ghost use Rattle.tf_cli_files.specs.Program.{IsFailure};
 ghost use Rattle.tf_cli_program.specs.Work.{EndsLogged};
-ghost use Rattle.tf_cli_program.specs.Settled.{GoesOnFrom, IsLookedInto, IsPut};
+ghost use Rattle.tf_cli_program.specs.Recovery.{ContinuesFrom, IsInspected, IsReplaced};
 
-use crate::looking::{LogStanding, look_back};
+use crate::recovery_status::{RecoveryStatus, recovery_status};
 use crate::work::carry_out;
 use std::alloc::{AllocError, Global};
 use std::io::Write;
@@ -21,15 +21,18 @@ use tf_cli_files::{
 use tf_provider::Provider;
 use tf_provider_log::{Header, NotStarted, OpenLog, Sink};
 
-/// The status where somebody is to look before anything is done.
-const TO_BE_LOOKED_AT: u8 = 2;
+/// The exit status if a call's result isn't known, so that somebody has to inspect it.
+const EXIT_INSPECT: u8 = 2;
 
-/// Puts the state that an apply that did not end leaves in the place of the one before it, and empties its log. The state that is
-/// given is then that. Where it can't be recovered or written, or where something was begun whose result isn't known, the program
-/// is not to go on; that has been told, and this is its status.
-pub fn settle<R: Files + AllocGlobal, T: Threads + Wait + Sync, O: Write, E: Write>(
+/// Recovers the state that an unfinished apply left, writes it and empties the log. `given` then has that state in place of its
+/// own.
+///
+/// # Errors
+///
+/// The program's status if the state can't be recovered or written, or if a call was begun whose result isn't known. The reason
+/// is then on standard error.
+pub fn finish_recovery<R: Files + AllocGlobal, O: Write, E: Write>(
     rt: &R,
-    threads: &T,
     place: &Place,
     file: &R::File,
     given: &mut ProgramInput,
@@ -40,26 +43,29 @@ pub fn settle<R: Files + AllocGlobal, T: Threads + Wait + Sync, O: Write, E: Wri
 ) -> Result<(), ExitCode>
 where
     R::File: LogFile,
-    ensures from { IfOk result (λ _. GoesOnFrom (map meaning replayed.now) past.now given.old given.new) }
-    ensures into { IfOk result (λ _. IsLookedInto past.now given.old) }
+    ensures from { IfOk result (λ _. ContinuesFrom (map meaning replayed.now) past.now given.old given.new) }
+    ensures into { IfOk result (λ _. IsInspected past.now given.old) }
 {
-    match look_back(threads, rt.alloc(), place, given, past, replayed, err)? {
-        LogStanding::After => empty_or_tell(file, place, err),
-        LogStanding::Before(state) => {
-            put_in_place(rt, place, given, state, out, err)?;
-            empty_or_tell(file, place, err)?;
+    match recovery_status(rt.alloc(), place, given, past, replayed, err)? {
+        RecoveryStatus::After => empty_log(file, place, err),
+        RecoveryStatus::Before(state) => {
+            replace_state(rt, place, given, state, out, err)?;
+            empty_log(file, place, err)?;
             if past.in_flight.is_empty() {
                 Ok(())
             } else {
-                Err(ExitCode::from(TO_BE_LOOKED_AT))
+                Err(ExitCode::from(EXIT_INSPECT))
             }
         }
     }
 }
 
-/// Does what comes before a plan where an apply did not end: the state that is given is then the recovered one. No file is written.
-pub fn foresee<T: Threads + Wait + Sync, E: Write>(
-    threads: &T,
+/// Recovers the state that an unfinished apply left, and writes no file. `given` then has that state in place of its own.
+///
+/// # Errors
+///
+/// The program's status, 1, if the state can't be recovered. The reason is then on standard error.
+pub fn preview_recovery<E: Write>(
     alloc: Global,
     place: &Place,
     given: &mut ProgramInput,
@@ -67,17 +73,18 @@ pub fn foresee<T: Threads + Wait + Sync, E: Write>(
     replayed: &[Box<dyn Provider + Sync>],
     err: &mut E,
 ) -> Result<(), ExitCode>
-    ensures from { IfOk result (λ _. GoesOnFrom (map meaning replayed.now) past.now given.old given.new) }
+    ensures from { IfOk result (λ _. ContinuesFrom (map meaning replayed.now) past.now given.old given.new) }
     ensures status { IfErr result IsFailure }
 {
-    match look_back(threads, alloc, place, given, past, replayed, err)? {
-        LogStanding::After | LogStanding::Before(None) => {}
-        LogStanding::Before(Some(state)) => given.state = Some(state.into_bytes()),
+    match recovery_status(alloc, place, given, past, replayed, err)? {
+        RecoveryStatus::After | RecoveryStatus::Before(None) => {}
+        RecoveryStatus::Before(Some(state)) => given.state = Some(state.into_bytes()),
     }
     Ok(())
 }
 
-fn put_in_place<R: Files, O: Write, E: Write>(
+/// Writes a recovered state, if there is one, and puts it in place of the given one.
+fn replace_state<R: Files, O: Write, E: Write>(
     rt: &R,
     place: &Place,
     given: &mut ProgramInput,
@@ -85,7 +92,7 @@ fn put_in_place<R: Files, O: Write, E: Write>(
     out: &mut O,
     err: &mut E,
 ) -> Result<(), ExitCode>
-    ensures { IfOk result (λ _. IsPut (option_map string_bytes state) given.old given.new) }
+    ensures { IfOk result (λ _. IsReplaced (option_map string_bytes state) given.old given.new) }
 {
     let Some(state) = state else {
         return Ok(());
@@ -98,7 +105,8 @@ fn put_in_place<R: Files, O: Write, E: Write>(
     Ok(())
 }
 
-fn empty_or_tell<F: LogFile, E: Write>(file: &F, place: &Place, err: &mut E) -> Result<(), ExitCode>
+/// Empties the log.
+fn empty_log<F: LogFile, E: Write>(file: &F, place: &Place, err: &mut E) -> Result<(), ExitCode>
     ensures { IfErr result IsFailure }
 {
     match empty(file) {
@@ -107,9 +115,9 @@ fn empty_or_tell<F: LogFile, E: Write>(file: &F, place: &Place, err: &mut E) -> 
     }
 }
 
-/// Carries out the plan of what `apply` was given, by threads and by providers that log their calls, shows what came of it, and keeps
-/// the state where that has changed. The log has what was given before any provider is called, and is empty afterwards, but where
-/// the state isn't written. The answer is the status.
+/// Carries out the plan of what `apply` was given with providers that log their calls, prints the result, writes the state if it
+/// changed, and returns the status. Before any call, the log has what was given. Afterwards it is empty, unless the state
+/// couldn't be written.
 pub fn carry_out_logged<
     R: Files + AllocGlobal,
     T: Threads + Wait + Sync,
@@ -145,7 +153,7 @@ where
     ExitCode::from(status)
 }
 
-/// Begins the log with what was given. Texts that aren't UTF-8 are refused before any call, so there is no log of them.
+/// Starts the log with what was given. Texts that aren't UTF-8 are refused before any call, so they aren't logged.
 fn start<R: Files + AllocGlobal, S: Sink, E: Write>(
     rt: &R,
     place: &Place,
@@ -172,7 +180,7 @@ fn start<R: Files + AllocGlobal, S: Sink, E: Write>(
     }
 }
 
-/// What was given, as texts; none where one of them isn't UTF-8.
+/// Returns what was given as texts, or `None` if one of them isn't UTF-8.
 fn header_of(alloc: Global, given: &ProgramInput) -> Result<Option<Header>, AllocError> {
     let lineage = String::from_str(alloc, given.options.lineage.as_str())?;
     let Some(config) = text_of(alloc, given.config.as_slice())? else {
@@ -192,7 +200,7 @@ fn header_of(alloc: Global, given: &ProgramInput) -> Result<Option<Header>, Allo
     }))
 }
 
-/// Bytes as a text, where they are UTF-8.
+/// Returns bytes as a text if they are UTF-8.
 fn text_of(alloc: Global, bytes: &[u8]) -> Result<Option<String>, AllocError> {
     match str::from_utf8(bytes) {
         Ok(text) => Ok(Some(String::from_str(alloc, text)?)),
@@ -200,7 +208,7 @@ fn text_of(alloc: Global, bytes: &[u8]) -> Result<Option<String>, AllocError> {
     }
 }
 
-/// Bytes that need not be there as a text that need not; `None` where they are there and aren't UTF-8.
+/// Returns optional bytes as an optional text, or `None` if they aren't UTF-8.
 fn optional_text(
     alloc: Global,
     bytes: Option<&[u8]>,

@@ -1,4 +1,4 @@
-//! The apply from a log.
+//! Applies the texts of a log.
 
 ghost use Rattle.std.specs.Prelude.{◌≡◌, IfErr, IfOk, map, option_map, string_bytes};
 ghost use Rattle.tf_cli_program.specs.Recovered.{IsRecovered};
@@ -6,16 +6,13 @@ ghost use Rattle.tf_cli_program.specs.Unrecovered.{IsUnrecovered};
 
 use crate::taking::{Recovered, Unrecovered, take};
 use std::alloc::Global;
-use std::sync::Wait;
-use std::thread::Threads;
-use tf_cli::{Stop, apply_text};
+use tf_cli::{Stop, apply_one};
 use tf_provider_log::Header;
 use tf_provider_protocol::Provider;
 
-/// Applies the texts of a log once more, by one worker and by providers that answer from the log, which has so many answers. What
-/// comes of it is the state that the log tells, where each answer is used.
-pub(crate) fn recover<R: Threads + Wait + Sync>(
-    rt: &R,
+/// Applies the texts of a log again on this thread, with providers that answer from the log's `answers` answers. Returns the
+/// state that the log leads to if each answer is used.
+pub(crate) fn recover(
     alloc: Global,
     header: &Header,
     answers: usize,
@@ -24,15 +21,13 @@ pub(crate) fn recover<R: Threads + Wait + Sync>(
     ensures recovered { IfOk result (λ recovered. IsRecovered (map meaning providers.now) header.now answers (option_map string_bytes recovered.state)) }
     ensures unrecovered { IfErr result (IsUnrecovered (map meaning providers.now) header.now answers) }
 {
-    let answer = apply_text(
-        rt,
+    let answer = apply_one(
         alloc,
         header.config.as_bytes(),
         bytes_of(&header.vars),
         bytes_of(&header.state),
         header.lineage.as_str(),
         providers,
-        1,
         &Stop::new(),
     );
     match answer {
@@ -41,7 +36,7 @@ pub(crate) fn recover<R: Threads + Wait + Sync>(
     }
 }
 
-/// The bytes of a text, where there is one.
+/// Returns the bytes of an optional text.
 fn bytes_of(text: &Option<String>) -> Option<&[u8]>
     ensures { option_map (λ bytes. bytes.now) result ≡ option_map string_bytes text.now }
 {

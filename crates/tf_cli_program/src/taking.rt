@@ -1,4 +1,4 @@
-//! What is taken of an apply from a log.
+//! Takes the state from an apply of a log's texts.
 
 ghost use Rattle.std.specs.Prelude.{◌≡◌, IfErr, IfOk, count_by, option_map, string_bytes};
 ghost use Rattle.tf_cli_program.specs.Recovered.{IsTaken, is_answered};
@@ -8,25 +8,25 @@ use tf_cli::{Applied, Refused, Report};
 use tf_provider_protocol::Verdict;
 use tf_walk_action::Outcome;
 
-/// What is recovered from a log.
+/// The result of recovering from a log.
 #[derive(Debug, Drop)]
 pub struct Recovered {
-    /// The text of the state that is to be written in the place of the prior one; none where the prior one holds.
+    /// The text of the state that has to replace the prior one; `None` if the prior one is still right.
     pub state: Option<String>,
 }
 
-/// Why nothing is recovered from a log. Then nothing may be written, and the log has to stay.
+/// Why nothing is recovered from a log. Nothing may be written then, and the log has to stay.
 #[derive(Drop)]
 pub(crate) enum Unrecovered {
-    /// The texts in it are refused.
+    /// The log's texts are refused.
     Refused(Refused),
-    /// Not as many answers are used as it has: memory ran out, or it isn't the log of an apply of these texts.
+    /// Not all of its answers are used: memory ran out, or it isn't the log of an apply of these texts.
     NotAll,
-    /// There was no memory for the text of the state.
+    /// Memory ran out for the text of the state.
     OutOfMemory,
 }
 
-/// The text to be written of an apply that used so many answers.
+/// Takes the text that has to be written from an apply that used `answers` answers.
 pub(crate) fn take(applied: Applied, answers: usize) -> Result<Recovered, Unrecovered>
     ensures taken { IfOk result (λ recovered. IsTaken applied answers (option_map string_bytes recovered.state)) }
     ensures not_taken { IfErr result (IsNotTaken applied answers) }
@@ -57,7 +57,7 @@ pub(crate) fn take(applied: Applied, answers: usize) -> Result<Recovered, Unreco
     }
 }
 
-/// How many actions were answered.
+/// Returns how many actions were answered.
 fn answer_count(outcomes: &[Outcome]) -> usize
     ensures { result ≡ count_by is_answered outcomes.now }
 {
@@ -67,7 +67,7 @@ fn answer_count(outcomes: &[Outcome]) -> usize
         .count()
 }
 
-/// Whether the provider of an action was called and answered.
+/// Returns whether the provider of an action was called and answered.
 fn is_answered(outcome: &Outcome) -> bool
     ensures { result ≡ is_answered outcome.now }
 {

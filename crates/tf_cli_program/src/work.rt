@@ -1,8 +1,6 @@
-//! What the two programs do with what they were given.
+//! What the programs `plan` and `apply` do with the files that they were given.
 
-ghost use Rattle.std.specs.Io.KnownBytes.{Appends};
-ghost use Rattle.std.specs.Prelude.{◌≡◌, ◌⊎◌, map};
-ghost use Rattle.tf_cli_lines.specs.Saved.{AppendsStart};
+ghost use Rattle.std.specs.Prelude.{map};
 ghost use Rattle.tf_cli_program.specs.Work.{EndsApply, EndsPlan, IsAnswer, IsGraphAnswer, IsPlanAnswer, answer_of};
 
 use crate::drawing::graph_text;
@@ -15,8 +13,8 @@ use tf_cli::{Refused, Stop, apply_text, plan_text, print_refused, save, show, st
 use tf_cli_files::{Place, ProgramInput, keep_state};
 use tf_provider::Provider;
 
-/// Prints the plan of what `plan` was given, or what is refused of it. The answer is the status: 1 where something is refused, and
-/// where standard output doesn't take the whole text.
+/// Prints the plan's text on standard output and returns 0, or prints the refusals on standard error and returns 1. A failed
+/// write changes neither status.
 pub fn print_plan<O: Write, E: Write>(
     alloc: Global,
     given: &ProgramInput,
@@ -36,8 +34,7 @@ pub fn print_plan<O: Write, E: Write>(
     print_answer(answer, out, err)
 }
 
-/// Prints the order of the plan of what `plan` was given, for Graphviz, in place of the plan's text, or what is refused of it. The
-/// answer is the status: 1 where something is refused, and where standard output doesn't take the whole text.
+/// Like [`print_plan`], but prints the order of the plan's actions for Graphviz in place of its text.
 pub fn print_graph<O: Write, E: Write>(
     alloc: Global,
     given: &ProgramInput,
@@ -50,12 +47,15 @@ pub fn print_graph<O: Write, E: Write>(
     print_answer(graph_text(alloc, given, providers), out, err)
 }
 
-/// Prints a text, or what is refused in its place. The answer is the status.
+/// Prints a text on standard output or refusals on standard error, and returns the status.
 fn print_answer<O: Write, E: Write>(answer: Result<String, Refused>, out: &mut O, err: &mut E) -> u8
     ensures { EndsPlan (answer_of answer) result (O.contents out.old) (O.contents out.new) (E.contents err.old) (E.contents err.new) }
 {
     match answer {
-        Ok(text) => print_text(text.as_str(), out),
+        Ok(text) => {
+            let _ = save(out, text.as_str());
+            0
+        }
         Err(refused) => {
             let _ = print_refused(&refused, err);
             1
@@ -63,18 +63,8 @@ fn print_answer<O: Write, E: Write>(answer: Result<String, Refused>, out: &mut O
     }
 }
 
-/// Prints a text. The answer is the status.
-fn print_text<O: Write>(text: &str, out: &mut O) -> u8
-    ensures { ((result ≡ 0) × Appends (O.contents out.old) (O.contents out.new) text.now) ⊎ ((result ≡ 1) × AppendsStart (O.contents out.old) (O.contents out.new) text.now) }
-{
-    match save(out, text) {
-        Ok(()) => 0,
-        Err(_) => 1,
-    }
-}
-
-/// Carries out the plan of what `apply` was given, by threads, shows what came of it, and keeps the state where that has
-/// changed. The answer is the status.
+/// Carries out the plan of what `apply` was given with the number of workers that its options name, prints the result, writes
+/// the state if it changed, and returns the status.
 pub fn carry_out<R: Files + AllocGlobal, T: Threads + Wait + Sync, O: Write, E: Write>(
     rt: &R,
     threads: &T,

@@ -4,6 +4,8 @@ use Rattle.std.specs.Prelude.{codes, is_some, option_and_then}
 use Rattle.std.specs.Str.{bytes_eq}
 use Rattle.tf_provider_protocol.specs.Meaning.{Meaning, first_with, schema_in}
 use Rattle.tf_provider_protocol.specs.Schema.{IsSchema, SchemaView}
+use Rattle.tf_provider_local.specs.Answers.{file_meaning}
+use Rattle.tf_provider_local.specs.Schema.{file_schema}
 use Rattle.tf_provider_sim.specs.Table.{host_schema, net_schema, sim_meaning}
 use Rattle.tf_laws.specs.ReapplyTexts.{HasSchemas, HaveSchemas}
 
@@ -35,3 +37,15 @@ sim_at false false schema e = absurd (cc)
 
 pub sim_has_schemas : HasSchemas sim_meaning
 sim_has_schemas name schema e = sim_at (bytes_eq name (codes "sim_net")) (bytes_eq name (codes "sim_host")) schema e
+
+-- ---- `local_file`
+
+file_is : IsSchema file_schema
+file_is = record { few = omega arith; named = refl; free = refl; ascending = refl }
+
+file_at : (b : Bool) (schema : SchemaView) → (if b then Some file_schema else None) ≡ Some schema → IsSchema schema
+file_at true schema e = subst IsSchema (same_schema file_schema schema e) file_is
+file_at false schema e = absurd (cc)
+
+pub local_file_has_schemas : HasSchemas file_meaning
+local_file_has_schemas name schema e = file_at (bytes_eq name (codes "local_file")) schema e

@@ -9,6 +9,7 @@ ghost use Rattle.tf_laws.specs.TextPlans.{AppliesShowThePlan, PlannedTextsAreNot
 ghost use Rattle.tf_laws.specs.Refusals.{ApplyRefusalsTellTheSame, PlannedTextsHaveNoRefusals, ReadTextsAreNotRefused, RefusalsTellTheSame, RefusedReadingsAreOne};
 ghost use Rattle.tf_laws.specs.Readings.{TextsReadAsOne, TextsReadAsOneApart};
 ghost use Rattle.tf_laws.specs.Success.{SecondAppliesSettle, SuccessIsComplete, ThirdAppliesChangeNothing};
+ghost use Rattle.tf_provider_local.specs.Answers.{file_meaning};
 ghost use Rattle.tf_provider_sim.specs.Table.{sim_meaning};
 
 use crate::convergence::{
@@ -132,9 +133,9 @@ pub fn texts_converge()
     quiet_applies_keep_objects();
 }
 
-/// The provider `sim`, which is that of the programs, has schemas.
-pub fn sim_has_schemas()
-    ensures { HaveSchemas (sim_meaning ∷ []) }
+/// Each schema of the programs' providers, `sim` and `local_file`, is one as `Schema::new` makes it.
+pub fn programs_have_schemas()
+    ensures { HaveSchemas (sim_meaning ∷ file_meaning ∷ []) }
 {}
 
 /// Where the status of an apply is 0, all that was planned was done: each action is good, and each output has a value. So a

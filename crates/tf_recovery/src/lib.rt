@@ -1,4 +1,4 @@
-//! What both programs do where an apply did not end: the providers `sim` and `local_file` answer from its log.
+//! Recovers an unfinished apply with the providers `sim` and `local_file`, which answer from its log.
 #![tactic(auto)]
 
 mod own;

@@ -1,55 +1,57 @@
-//! What `plan` does where an apply did not end.
+//! Recovery for `plan`.
 
-ghost use Rattle.std.specs.Prelude.{◌≡◌, None, IfErr, IfOk};
+ghost use Rattle.std.specs.Prelude.{◌≡◌, None, IfErr, IfOk, IfSome, map};
 ghost use Rattle.tf_cli_files.specs.Program.{IsFailure};
+ghost use Rattle.tf_cli_program.specs.Recovery.{ContinuesFrom};
+ghost use Rattle.tf_provider_log.specs.LogEntry.{log_entry_of};
+ghost use Rattle.tf_recovery.specs.Replayed.{replayed_from};
 
 use crate::own::own_entries;
 use std::alloc::AllocError;
 use std::io::Write;
 use std::process::ExitCode;
-use std::sync::Wait;
-use std::thread::Threads;
 use tf_cli_files::{Past, Place, ProgramInput, both_replayed};
-use tf_cli_program::foresee;
+use tf_cli_program::preview_recovery;
 use tf_provider::Provider;
 use tf_provider_local::LocalFile;
 use tf_provider_log::LogEntry;
 use tf_provider_sim::Sim;
 
-/// Puts the state that an apply left which did not end, if there is one, in the place of the prior state that is given. No file is
-/// written. Returns the program's status where it is not to go on; that has been reported.
+/// Recovers the state that an unfinished apply left, if there is one, and plans from it: `given` then has that state in place of
+/// its own. Writes no file. Returns the program's status, 1, if the program can't continue; the reason is then on standard
+/// error.
 ///
 /// # Errors
 ///
-/// Only where memory runs out.
-pub fn preview<T: Threads + Wait + Sync, E: Write>(
+/// Only if memory runs out.
+pub fn preview<E: Write>(
     rt: &HostRuntime,
-    threads: &T,
     place: &Place,
     given: &mut ProgramInput,
     past: Option<(Past, Vec<LogEntry>)>,
     err: &mut E,
 ) -> Result<Result<(), ExitCode>, AllocError>
     ensures none { past ≡ None → given.new ≡ given.old }
+    ensures recovered { IfOk result (λ answer. IfOk answer (λ _. IfSome past (λ log. ContinuesFrom (replayed_from (map log_entry_of log.1.items)) log.0 given.old given.new))) }
     ensures status { IfOk result (λ answer. IfErr answer IsFailure) }
 {
     match past {
         None => Ok(Ok(())),
-        Some((past, entries)) => preview_replayed(rt, threads, place, given, &past, entries, err),
+        Some((past, entries)) => preview_replayed(rt, place, given, &past, entries, err),
     }
 }
 
-/// Recovers the state by providers that answer each from its own entries of the log.
-fn preview_replayed<T: Threads + Wait + Sync, E: Write>(
+/// Recovers the state with providers that each answer from their own entries of the log.
+fn preview_replayed<E: Write>(
     rt: &HostRuntime,
-    threads: &T,
     place: &Place,
     given: &mut ProgramInput,
     past: &Past,
     entries: Vec<LogEntry>,
     err: &mut E,
 ) -> Result<Result<(), ExitCode>, AllocError>
-    ensures { IfOk result (λ answer. IfErr answer IsFailure) }
+    ensures recovered { IfOk result (λ answer. IfOk answer (λ _. ContinuesFrom (replayed_from (map log_entry_of entries.items)) past.now given.old given.new)) }
+    ensures status { IfOk result (λ answer. IfErr answer IsFailure) }
 {
     let alloc = rt.alloc();
     let own = own_entries(rt, entries)?;
@@ -57,13 +59,5 @@ fn preview_replayed<T: Threads + Wait + Sync, E: Write>(
     let mut providers: Vec<Box<dyn Provider + Sync>> = Vec::new(alloc);
     providers.push(Box::new(alloc, sim)?)?;
     providers.push(Box::new(alloc, files)?)?;
-    Ok(foresee(
-        threads,
-        alloc,
-        place,
-        given,
-        past,
-        providers.as_slice(),
-        err,
-    ))
+    Ok(preview_recovery(alloc, place, given, past, providers.as_slice(), err))
 }

@@ -1,30 +1,31 @@
-//! What `apply` does where an apply did not end.
+//! Recovery for `apply`.
 
-ghost use Rattle.std.specs.Prelude.{◌≡◌, None};
+ghost use Rattle.std.specs.Prelude.{◌≡◌, None, IfOk, IfSome, map};
+ghost use Rattle.tf_cli_program.specs.Recovery.{ContinuesFrom, IsInspected};
+ghost use Rattle.tf_provider_log.specs.LogEntry.{log_entry_of};
+ghost use Rattle.tf_recovery.specs.Replayed.{replayed_from};
 
 use crate::own::own_entries;
 use std::alloc::AllocError;
 use std::fs::File;
 use std::io::Write;
 use std::process::ExitCode;
-use std::sync::Wait;
-use std::thread::Threads;
 use tf_cli_files::{Past, Place, ProgramInput, both_replayed};
-use tf_cli_program::settle;
+use tf_cli_program::finish_recovery;
 use tf_provider::Provider;
 use tf_provider_local::LocalFile;
 use tf_provider_log::LogEntry;
 use tf_provider_sim::Sim;
 
-/// Writes the state that an apply left which did not end, if there is one, and empties its log, which is this file. The state that
-/// is given is that one afterwards. Returns the program's status where it is not to go on; that has been reported.
+/// Recovers the state that an unfinished apply left, if there is one, writes it and empties the log, which is `file`: `given`
+/// then has that state in place of its own. Returns the program's status if the program can't continue, or if a call was begun
+/// whose result isn't known; the reason is then on standard error.
 ///
 /// # Errors
 ///
-/// Only where memory runs out.
-pub fn recover<T: Threads + Wait + Sync, O: Write, E: Write>(
+/// Only if memory runs out.
+pub fn recover<O: Write, E: Write>(
     rt: &HostRuntime,
-    threads: &T,
     place: &Place,
     file: &File,
     given: &mut ProgramInput,
@@ -33,19 +34,20 @@ pub fn recover<T: Threads + Wait + Sync, O: Write, E: Write>(
     err: &mut E,
 ) -> Result<Result<(), ExitCode>, AllocError>
     ensures none { past ≡ None → given.new ≡ given.old }
+    ensures recovered { IfOk result (λ answer. IfOk answer (λ _. IfSome past (λ log. ContinuesFrom (replayed_from (map log_entry_of log.1.items)) log.0 given.old given.new))) }
+    ensures looked { IfOk result (λ answer. IfOk answer (λ _. IfSome past (λ log. IsInspected log.0 given.old))) }
 {
     match past {
         None => Ok(Ok(())),
         Some((past, entries)) => {
-            recover_replayed(rt, threads, place, file, given, &past, entries, out, err)
+            recover_replayed(rt, place, file, given, &past, entries, out, err)
         }
     }
 }
 
-/// Recovers the state by providers that answer each from its own entries of the log.
-fn recover_replayed<T: Threads + Wait + Sync, O: Write, E: Write>(
+/// Recovers the state with providers that each answer from their own entries of the log.
+fn recover_replayed<O: Write, E: Write>(
     rt: &HostRuntime,
-    threads: &T,
     place: &Place,
     file: &File,
     given: &mut ProgramInput,
@@ -53,22 +55,15 @@ fn recover_replayed<T: Threads + Wait + Sync, O: Write, E: Write>(
     entries: Vec<LogEntry>,
     out: &mut O,
     err: &mut E,
-) -> Result<Result<(), ExitCode>, AllocError> {
+) -> Result<Result<(), ExitCode>, AllocError>
+    ensures recovered { IfOk result (λ answer. IfOk answer (λ _. ContinuesFrom (replayed_from (map log_entry_of entries.items)) past.now given.old given.new)) }
+    ensures looked { IfOk result (λ answer. IfOk answer (λ _. IsInspected past.now given.old)) }
+{
     let alloc = rt.alloc();
     let own = own_entries(rt, entries)?;
     let (sim, files) = both_replayed(alloc, own, Sim::new(alloc)?, LocalFile::new(alloc, *rt)?);
     let mut providers: Vec<Box<dyn Provider + Sync>> = Vec::new(alloc);
     providers.push(Box::new(alloc, sim)?)?;
     providers.push(Box::new(alloc, files)?)?;
-    Ok(settle(
-        rt,
-        threads,
-        place,
-        file,
-        given,
-        past,
-        providers.as_slice(),
-        out,
-        err,
-    ))
+    Ok(finish_recovery(rt, place, file, given, past, providers.as_slice(), out, err))
 }

@@ -1,61 +1,62 @@
-//! Looking back at an apply that did not end.
+//! Compares the state file with the state that an unfinished apply left.
 
 ghost use Rattle.std.specs.Prelude.{◌≡◌, ◌↔◌, IfErr, IfOk, IsTrue, map, option_map, string_bytes};
 ghost use Rattle.tf_cli_files.specs.Program.{IsFailure};
-ghost use Rattle.tf_cli_program.specs.Settled.{IsLookedAt, state_given};
+ghost use Rattle.tf_cli_program.specs.Recovery.{IsRecoveryStatus, state_given};
 
 use crate::recovering::recover;
 use crate::taking::Unrecovered;
 use std::alloc::Global;
 use std::io::Write;
 use std::process::ExitCode;
-use std::sync::Wait;
-use std::thread::Threads;
 use tf_cli::Refused;
 use tf_cli_files::{
     Past, Place, ProgramInput, tell_misfit, tell_no_memory, tell_past, tell_unrecovered,
 };
 use tf_provider::Provider;
 
-/// How the state that is there stands to an apply that did not end.
+/// Which state the state file holds: the one before an unfinished apply, or the one after it.
 #[derive(Drop)]
-pub enum LogStanding {
-    /// It is the one that the apply began with. This text is to take its place; none where the apply changed nothing.
+pub enum RecoveryStatus {
+    /// The state with which the apply began. This text has to replace it; `None` if the apply changed nothing.
     Before(Option<String>),
-    /// It is the one that is recovered.
+    /// The recovered state.
     After,
 }
 
-/// Recovers the state that an apply that did not end leaves, by providers that answer from its log, and compares the state that
-/// is there. Where that is the one before, what is recovered is told. Where nothing can be recovered, or the state is neither the one
-/// before nor the one recovered, that is told, and this is the program's status.
-pub fn look_back<T: Threads + Wait + Sync, E: Write>(
-    threads: &T,
+/// Recovers the state that an unfinished apply left, with providers that answer from its log, and compares the given state with
+/// it. If that is the state before the apply, prints what is recovered.
+///
+/// # Errors
+///
+/// The program's status, 1, if nothing can be recovered, or if the given state is neither the one before nor the recovered one.
+/// The reason is then on standard error.
+pub fn recovery_status<E: Write>(
     alloc: Global,
     place: &Place,
     given: &ProgramInput,
     past: &Past,
     replayed: &[Box<dyn Provider + Sync>],
     err: &mut E,
-) -> Result<LogStanding, ExitCode>
-    ensures looked { IfOk result (IsLookedAt (map meaning replayed.now) past.now given.now) }
+) -> Result<RecoveryStatus, ExitCode>
+    ensures looked { IfOk result (IsRecoveryStatus (map meaning replayed.now) past.now given.now) }
     ensures status { IfErr result IsFailure }
 {
-    let state = match recover(threads, alloc, &past.header, past.answers, replayed) {
+    let state = match recover(alloc, &past.header, past.answers, replayed) {
         Ok(recovered) => recovered.state,
-        Err(fault) => return Err(tell_fault(place, &fault, err)),
+        Err(fault) => return Err(report_fault(place, &fault, err)),
     };
     if is_state(given, &past.header.state) {
         tell_past(alloc, past, err);
-        return Ok(LogStanding::Before(state));
+        return Ok(RecoveryStatus::Before(state));
     }
     if state.is_some() && is_state(given, &state) {
-        return Ok(LogStanding::After);
+        return Ok(RecoveryStatus::After);
     }
     Err(tell_misfit(place, err))
 }
 
-/// Whether the state that is there has this text, or both are none.
+/// Returns whether the given state has this text, or there is neither.
 fn is_state(given: &ProgramInput, text: &Option<String>) -> bool
     ensures { IsTrue result ↔ (state_given given.now ≡ option_map string_bytes text.now) }
 {
@@ -66,8 +67,8 @@ fn is_state(given: &ProgramInput, text: &Option<String>) -> bool
     }
 }
 
-/// Tells why nothing is recovered. The answer is the program's status.
-fn tell_fault<E: Write>(place: &Place, fault: &Unrecovered, err: &mut E) -> ExitCode
+/// Prints why nothing is recovered, and returns the program's status.
+fn report_fault<E: Write>(place: &Place, fault: &Unrecovered, err: &mut E) -> ExitCode
     ensures { IsFailure result }
 {
     match fault {
