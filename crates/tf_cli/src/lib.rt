@@ -6,7 +6,9 @@ mod planning;
 
 pub use applying::{apply_one, apply_text};
 pub use planning::{InputTexts, plan_of_texts, plan_text};
+pub use tf_cli_files::keep;
 pub use tf_cli_lines::{SaveFault, save, save_all};
+pub use tf_cli_options::{GraphForm, Options, Program, options};
 pub use tf_cli_text::{Applied, print, print_refused, show, state_to_write};
 pub use tf_config_refusal::Refusal;
 pub use tf_plan::Refused;

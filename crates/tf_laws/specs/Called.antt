@@ -1,4 +1,4 @@
--- After what an action is called.
+-- After which actions an action is called.
 use Rattle.std.specs.Prelude.{◌≡◌, ℕ, List, Some, slice_get, take}
 use Rattle.std.specs.List.{AllByRecursion}
 use Rattle.tf_graph.specs.Digraph.{predecessors_of}
@@ -13,24 +13,24 @@ use Rattle.tf_provider.specs.declared.journal.Entry.{Entry}
 use Rattle.tf_walk_report.specs.Report.{IsReported, IsWhole}
 use Rattle.tf_walk_report.specs.declared.report.Report.{Report}
 
--- By a report, each action directly before an action is good.
+-- In a report, each action directly before an action is good.
 abbrev pub FollowsGood : PlanView → Report → ℕ → Type 0
 FollowsGood plan report n = AllByRecursion (λ m. slice_get report.outcomes.items m ≡ Some (Judged Good)) (predecessors_of plan.order n)
 
--- An action that was called, and one whose provider had no memory for its call, follows good ones.
+-- An action that was called follows good ones, and so does one whose provider had no memory for its call.
 abbrev pub CalledAfterGood : Type 0
 CalledAfterGood =
     (ms : List Meaning) (plan : PlanView) (report : Report) → (is : IsReported ms plan report)
     → (n : ℕ) (v : Verdict) → entered_verdict (done_at is.done n) ≡ Some v → FollowsGood plan report n
 
--- So does one that the report tells a verdict of.
+-- An action follows good ones if the report has a verdict on it.
 abbrev pub JudgedAfterGood : Type 0
 JudgedAfterGood =
     (ms : List Meaning) (plan : PlanView) (report : Report) → IsReported ms plan report
     → (n : ℕ) (v : Verdict) → slice_get report.outcomes.items n ≡ Some (Judged v) → FollowsGood plan report n
 
--- And so does one that has an entry in the journal of a whole report: each action directly before it has an earlier entry, which
--- says that it was good.
+-- So does an action that has an entry in the journal of a whole report: each action directly before it has an earlier entry
+-- with the verdict good.
 abbrev pub EnteredAfterGood : Type 0
 EnteredAfterGood =
     (ms : List Meaning) (plan : PlanView) (report : Report) → IsWhole ms plan report

@@ -32,7 +32,7 @@ expression_at expr.no_entries n = None
 expression_at (expr.entry name e es) zero = Some e
 expression_at (expr.entry name e es) (suc n) = expression_at es n
 
--- The output at a place is to be evaluated anew, by what came of the actions: each name that it names is settled.
+-- The output at a place is to be evaluated after these results of the actions: each name in its expression is settled.
 pub record IsToBeEvaluated (plan : PlanView) (done : List ActionResultView) (n : ℕ) : Type 0 where
   pub settled : ℕ → Bool
   pub are_settled : AreSettled (plan_names plan) (are_good_at plan.actions done) settled
@@ -40,8 +40,8 @@ pub record IsToBeEvaluated (plan : PlanView) (done : List ActionResultView) (n :
   pub stands : expression_at plan.config.outputs n ≡ Some expression
   pub all_settled : names_are_settled (plan_names plan) settled expression ≡ true
 
--- An excuse is due: the action that it names was excused at the moment that it tells; or the output that it names is to be
--- evaluated anew, and memory was refused for it.
+-- An excuse is due. The action that it names was excused at the moment that the excuse gives; or the output that it names is to
+-- be evaluated, and ran out of memory.
 abbrev pub IsDue : PlanView → List ActionResultView → List outputs.OutputResultView → Excuse → Type 0
 IsDue plan done ended (Before n) = slice_get done n ≡ Some (excused before_call)
 IsDue plan done ended (During n) = slice_get done n ≡ Some (excused during_call)
@@ -52,13 +52,13 @@ IsDue plan done ended (Output n) = (slice_get ended n ≡ Some outputs.excused) 
 abbrev pub ExcusesAreDue : Type 0
 ExcusesAreDue = (ms : List Meaning) (plan : PlanView) (report : Report) → (is : IsReported ms plan report) → AllByRecursion (IsDue plan is.done is.outputs) report.excused.items
 
--- Nothing is named by two excuses of a report.
+-- No two excuses of a report name the same action or output.
 abbrev pub NamedOnce : Type 0
 NamedOnce =
     (ms : List Meaning) (plan : PlanView) (report : Report) → IsReported ms plan report
     → (i j : ℕ) (e f : Excuse) → slice_get report.excused.items i ≡ Some e → slice_get report.excused.items j ≡ Some f → subject_of e ≡ subject_of f → i ≡ j
 
--- An action's outcome is that it is excused exactly where an excuse names it.
+-- An action's outcome is `Excused` exactly if an excuse names it.
 abbrev pub ExcusedAreNamed : Type 0
 ExcusedAreNamed =
     (ms : List Meaning) (plan : PlanView) (report : Report) → IsReported ms plan report

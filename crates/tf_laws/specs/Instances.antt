@@ -1,4 +1,4 @@
--- The instances that a plan has of each resource are those that its `count` or `for_each` comes to, at each stage.
+-- That a plan's instances of each resource are those that its `count` or `for_each` gives, at each stage.
 use Rattle.std.specs.Prelude.{◌≡◌, ℕ, true, List, Some, Ok, Contains}
 use Rattle.tf_plan_data.specs.Action.{ActionView}
 use Rattle.tf_config_address.specs.ObjectId.{InstanceKeyView}
@@ -27,40 +27,41 @@ InstancesAreExpanded =
     → (n : ℕ) (block : BlockView) → meant_at (plan_names plan) n ≡ Some (a_block block)
     → instances block.repetition (environment plan.variables (plan_names plan) resolved_names) ≡ Ok (plan.shapes n)
 
--- where `count` or `for_each` of a resource comes to instances, they are those that a plan has
+-- if `count` or `for_each` of a resource gives instances, they are those that a plan has
 abbrev pub HavePlannedInstances : PlanView → (ℕ → ResolvedView) → Type 0
 HavePlannedInstances plan resolved_names =
     (n : ℕ) (block : BlockView) (shape : InstanceKeysView) → meant_at (plan_names plan) n ≡ Some (a_block block)
     → instances block.repetition (environment plan.variables (plan_names plan) resolved_names) ≡ Ok shape → shape ≡ plan.shapes n
 
--- They stay where names stand for what is planned.
+-- A plan's instances stay the same in the plan itself, if names have their planned values.
 abbrev pub InstancesStayInPlans : Type 0
 InstancesStayInPlans =
     (ms : List Meaning) (config : ConfigView) (variables : Entries) (prior : StateView) (plan : PlanView) (resolved_names : ℕ → ResolvedView)
     → IsSoundPlan ms config variables prior plan → AreResolvedNames (deciding ms plan.prior.resources plan.shapes) plan.variables (plan_names plan) resolved_names
     → HavePlannedInstances plan resolved_names
 
--- And in an apply, whatever objects instances stand for.
+-- They also stay in an apply, whatever objects instances have.
 abbrev pub InstancesStayInApplies : Type 0
 InstancesStayInApplies =
     (ms : List Meaning) (config : ConfigView) (variables : Entries) (prior : StateView) (plan : PlanView) (objects : ℕ → InstanceKeyView → Tree) (resolved_names : ℕ → ResolvedView)
     → IsSoundPlan ms config variables prior plan → AreResolvedNames (applying plan.shapes objects) plan.variables (plan_names plan) resolved_names
     → HavePlannedInstances plan resolved_names
 
--- what the `for_each` of a resource comes to are the instances that a plan has
+-- the `for_each` of a resource gives the instances that a plan has
 abbrev pub HasPlannedKeys : PlanView → (ℕ → ResolvedView) → ℕ → Type 0
 HasPlannedKeys plan resolved_names n =
     (block : BlockView) (e : expr.Tree) → meant_at (plan_names plan) n ≡ Some (a_block block) → block.repetition ≡ for_each e
     → instances (for_each e) (environment plan.variables (plan_names plan) resolved_names) ≡ Ok (plan.shapes n)
 
--- Of an instance that is made or changed, `for_each` has the plan's keys where names stand for what is planned.
+-- If an instance is created or updated, `for_each` gives exactly the plan's keys in the plan, if names have their planned
+-- values.
 abbrev pub KeysStayInPlans : Type 0
 KeysStayInPlans =
     (ms : List Meaning) (config : ConfigView) (variables : Entries) (prior : StateView) (plan : PlanView) (resolved_names : ℕ → ResolvedView) (a : ActionView)
     → IsSoundPlan ms config variables prior plan → AreResolvedNames (deciding ms plan.prior.resources plan.shapes) plan.variables (plan_names plan) resolved_names
     → Contains plan.actions a → is_apply a.step ≡ true → HasPlannedKeys plan resolved_names a.resource
 
--- And in an apply, where its request can be made, whatever objects instances stand for.
+-- It also does in an apply, if the request can be built, whatever objects instances have.
 abbrev pub KeysStayInRequests : Type 0
 KeysStayInRequests =
     (ms : List Meaning) (config : ConfigView) (variables : Entries) (prior : StateView) (plan : PlanView) (requests : Requests) (objects : ℕ → InstanceKeyView → Tree) (resolved_names : ℕ → ResolvedView)

@@ -1,4 +1,4 @@
--- Which instances have nothing left to do, by what was planned for them and what came of it.
+-- Which instances need no change, by what was planned for them and what was answered.
 use Rattle.std.specs.Prelude.{◌≡◌, ℕ, true, false, List, Some, Ok}
 use Rattle.std.specs.List.{list_all}
 use Rattle.tf_plan_data.specs.Action.{ActionView, StepView}
@@ -19,15 +19,15 @@ use Rattle.tf_value.specs.Refinement.{Refines}
 use Rattle.tf_value.specs.Tree.{Tree}
 use Rattle.tf_laws.specs.Known.{IsKnown}
 
--- Where all that names stand for is known, all of an instance's object is known but for what the provider makes.
+-- If all names have known values, each attribute of an instance's object is known, except those that keep their prior value.
 abbrev pub ObjectsAreSettled : Type 0
 ObjectsAreSettled =
     (schema : SchemaView) (ignored : List (List ℕ)) (block : BlockView) (key : InstanceKeyView) (env : Environment) (t : Tree)
     → IsSchema schema → IsKnown env → instance_object schema block key env ≡ Ok t → list_all (is_settled schema ignored t) schema.attributes ≡ true
 
--- A create, a replacement or an update was asked for by what the block makes of the instance, known but for what is kept, and
--- was answered well: beside the object that was answered nothing is done by what the block makes, whatever the update was
--- planned beside, and also where what wasn't known in the plan turned out to differ in nothing.
+-- No change is decided for the object that a provider answered well to a create, a replacement or an update, if the request was
+-- built from what the block gives for the instance, known except for what is kept. That holds for any prior object of the
+-- update, and also if what wasn't known in the plan turned out to differ in nothing.
 abbrev pub AnsweredInstancesRest : Type 0
 AnsweredInstancesRest =
     (schema : SchemaView) (ignored : List (List ℕ)) (a : ActionView) (step : StepView) (made : Tree) (asked : Asked) (r : RecordView)
@@ -36,8 +36,8 @@ AnsweredInstancesRest =
     → is_good_verdict (verdict_on_object schema asked.object r.attributes) ≡ true → r.tainted ≡ false
     → change schema ignored (Some r) made ≡ nothing
 
--- Nothing was planned beside an object, and more is known of what the block makes of the instance: nothing is done beside it
--- still. Its record may be given other dependencies and another flag meanwhile.
+-- If no change was decided for an object, and more becomes known of what the block gives for the instance, there is still no
+-- change. The object's record may get other dependencies and another flag meanwhile.
 abbrev pub UntouchedInstancesRest : Type 0
 UntouchedInstancesRest =
     (schema : SchemaView) (ignored : List (List ℕ)) (r later : RecordView) (planned made : Tree)

@@ -1,4 +1,4 @@
--- What is known where all that names stand for is known.
+-- What is known if all names have known values.
 use Rattle.std.specs.Prelude.{◌≡◌, ℕ, true, List, Ok}
 use Rattle.tf_expr_syntax.specs.ExprTree as expr
 use Rattle.tf_value.specs.Known.{known}
@@ -10,6 +10,6 @@ use Rattle.tf_expr_eval.specs.ExprMeaning.{meaning}
 abbrev pub IsKnown : Environment → Type 0
 IsKnown env = (first name : List ℕ) (v : Tree) → env first name ≡ Ok v → known v ≡ true
 
--- Where all that names stand for is known, what an expression means is known.
+-- If all names have known values, so does each expression.
 abbrev pub ExpressionsStayKnown : Type 0
 ExpressionsStayKnown = (env : Environment) (e : expr.Tree) (v : Tree) → IsKnown env → meaning env e ≡ Ok v → known v ≡ true

@@ -1,4 +1,4 @@
--- That of texts one of two holds: they can be read, or a refusal is told of them; they have a plan, or refusals.
+-- That one of two holds for texts: they can be read or have a refusal; they have a plan or refusals.
 use Rattle.std.specs.Prelude.{◌≡◌, ◌≢◌, ◌⊎◌, ℕ, true, List}
 use Rattle.tf_cli.specs.Applies.{IsPlanOf}
 use Rattle.tf_cli.specs.Refusals.{AreApplyRefusals, AreRefusals}
@@ -14,7 +14,7 @@ use Rattle.tf_state_data.specs.State.{StateView}
 use Rattle.tf_expr_syntax.specs.TemplateTree.{Woven}
 use Rattle.tf_value.specs.Tree.{Entries}
 
--- it isn't so that neither of the two holds
+-- the two aren't both false
 abbrev pub NeverNeither : Type 0 → Type 0 → Type 0
 NeverNeither A B = ¬ (¬ A × ¬ B)
 
@@ -22,7 +22,7 @@ NeverNeither A B = ¬ (¬ A × ¬ B)
 abbrev pub AreRead : Texts → List ℕ → Type 0
 AreRead texts lineage = (config : ConfigView) × (values : Entries) × (prior : StateView) × ReadAs texts lineage config values prior
 
--- some refusal is told of texts, which isn't want of memory
+-- texts have a refusal other than out of memory
 abbrev pub AreToldOf : Texts → Type 0
 AreToldOf texts = (refusal : RefusalView) × (refusal ≢ no_memory) × IsToldOf texts refusal
 
@@ -34,28 +34,28 @@ HavePlan ms texts lineage = (plan : PlanView) × IsPlanOf ms texts lineage plan
 abbrev pub HaveRefusals : List Meaning → Texts → Type 0
 HaveRefusals ms texts = (refusal_views : List RefusalView) × AreRefusals ms texts refusal_views
 
--- Of no texts it is so that they can't be read, and that nothing is told of them but want of memory.
+-- Texts can't be both unreadable and without a refusal other than out of memory.
 abbrev pub TextsAreReadOrRefused : Type 0
 TextsAreReadOrRefused = (texts : Texts) (lineage : List ℕ) → NeverNeither (AreRead texts lineage) (AreToldOf texts)
 
--- No texts have neither a plan nor refusals.
+-- Texts can't have neither a plan nor refusals.
 abbrev pub TextsHavePlanOrRefusals : Type 0
 TextsHavePlanOrRefusals = (ms : List Meaning) (texts : Texts) (lineage : List ℕ) → NeverNeither (HavePlan ms texts lineage) (HaveRefusals ms texts)
 
--- And of an apply by so many workers: no texts have neither a plan that may be carried out by as many, nor refusals.
+-- For an apply by the given number of workers, texts can't have neither a plan that these workers may carry out nor refusals.
 abbrev pub AppliesHavePlanOrRefusals : Type 0
 AppliesHavePlanOrRefusals =
     (ms : List Meaning) (texts : Texts) (lineage : List ℕ) (count : ℕ)
     → NeverNeither (HavePlan ms texts lineage × (are_workers count ≡ true)) ((refusal_views : List RefusalView) × AreApplyRefusals ms texts lineage count refusal_views)
 
--- of each text it can be told whether it is a template, no deeper than allowed
+-- one can decide of each text whether it is a template within the depth limit
 abbrev pub TemplatesAreTold : Type 0
 TemplatesAreTold = (text : List ℕ) → ((w : Woven) × IsTemplate w text) ⊎ ((w : Woven) → ¬ IsTemplate w text)
 
--- Where that can be told, it can be told which of the two holds of texts: what they stand for, or a refusal.
+-- If one can decide that, one can decide whether texts can be read or have a refusal.
 abbrev pub ReadingsAreTold : Type 0
 ReadingsAreTold = TemplatesAreTold → (texts : Texts) (lineage : List ℕ) → AreRead texts lineage ⊎ AreToldOf texts
 
--- So can their plan, or their refusals.
+-- One can also decide whether they have a plan or refusals.
 abbrev pub PlansAreTold : Type 0
 PlansAreTold = TemplatesAreTold → (ms : List Meaning) (texts : Texts) (lineage : List ℕ) → HavePlan ms texts lineage ⊎ HaveRefusals ms texts

@@ -11,8 +11,7 @@ use Rattle.tf_state_data.specs.State.{StateView}
 use Rattle.tf_value.specs.Tree.{Entries}
 use Rattle.tf_laws.specs.Founded.{IsFounded}
 
--- A plan of a configuration from a valid prior state is founded, where no name needs itself and blocks stand in the order of
--- their addresses.
+-- A plan of a configuration from a valid prior state is founded, if no name needs itself and blocks are in address order.
 abbrev pub PlansAreFounded : Type 0
 PlansAreFounded =
     (ms : List Meaning) (config : ConfigView) (variables : Entries) (prior : StateView) (plan : PlanView)

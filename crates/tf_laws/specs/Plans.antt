@@ -19,9 +19,9 @@ use Rattle.tf_state_data.specs.State.{StateView}
 use Rattle.tf_expr_syntax.specs.TemplateNames.{Pair}
 use Rattle.tf_value.specs.Tree.{Entries}
 
--- What is planned keeps to what was shown where it was read: no name of the configuration needs itself; its blocks stand in the
--- order of their addresses, and none is of the type `local`, by which locals are named; and the resources of the prior state
--- stand in the order of their addresses, with the records of each in the order of their ids.
+-- What is shown of the inputs of a plan when they are read: no name of the configuration needs itself; its blocks are in
+-- address order, and no block has the type `local`, which names locals; the resources of the prior state are in address order,
+-- and the records of each are in the order of their ids.
 pub record AreOrderly (config : ConfigView) (prior : StateView) : Type 0 where
   pub ranked : Ranked (directly_before (names_of config))
   pub blocks : IsStrictlySortedBy addr_cmp (map (λ b. b.addr) config.blocks)
@@ -29,8 +29,8 @@ pub record AreOrderly (config : ConfigView) (prior : StateView) : Type 0 where
   pub resources : AreByAddress prior.resources
   pub records : AllByRecursion (λ r. AreById r.records) prior.resources
 
--- Two plans are the same: they start from the same state, configuration and values; each name has the same instances, and what
--- it needs is the same; the same resources are late; and they have the same actions in the same order.
+-- Two plans are the same: they start from the same state, configuration and values; each name has the same instances and the
+-- same needs; the same resources are late; and they have the same actions in the same order.
 pub record AreOne (p q : PlanView) : Type 0 where
   pub prior : p.prior ≡ q.prior
   pub config : p.config ≡ q.config
@@ -47,27 +47,27 @@ PlansAreOne =
     (ms : List Meaning) (config : ConfigView) (variables : Entries) (prior : StateView) (p q : PlanView)
     → AreOrderly config prior → IsPlan ms config variables prior p → IsPlan ms config variables prior q → AreOne p q
 
--- So the same text is shown of them.
+-- So they have the same text.
 abbrev pub PlanTextsAreOne : Type 0
 PlanTextsAreOne =
     (ms : List Meaning) (config : ConfigView) (variables : Entries) (prior : StateView) (p q : PlanView)
     → AreOrderly config prior → IsPlan ms config variables prior p → IsPlan ms config variables prior q
     → plan_text p.late p.actions ≡ plan_text q.late q.actions
 
--- Where there is a plan, nothing is refused.
+-- If there is a plan, no list is the list of refusals.
 abbrev pub PlansAreNotRefused : Type 0
 PlansAreNotRefused =
     (ms : List Meaning) (config : ConfigView) (variables : Entries) (prior : StateView) (plan : PlanView) (refusal_views : List RefusalView)
     → AreOrderly config prior → IsPlan ms config variables prior plan → ¬ AreRefused ms config variables prior refusal_views
 
--- Two lists of what is refused of one configuration, one list of values and one prior state are the same.
+-- Two lists of refusals of one configuration, one list of values and one prior state are equal.
 abbrev pub RefusalsAreOne : Type 0
 RefusalsAreOne =
     (ms : List Meaning) (config : ConfigView) (variables : Entries) (prior : StateView) (refusal_views others : List RefusalView)
     → AreOrderly config prior → AreRefused ms config variables prior refusal_views → AreRefused ms config variables prior others → refusal_views ≡ others
 
--- Where no name of a configuration needs itself, there is a plan, or something is refused: of fewer names than 2^63, which is
--- more than any memory holds.
+-- If no name of a configuration needs itself, there is a plan or a list of refusals. The configuration has fewer than 2^63
+-- names, which is more than any memory holds.
 abbrev pub PlannedOrRefused : Type 0
 PlannedOrRefused =
     (ms : List Meaning) (config : ConfigView) (variables : Entries) (prior : StateView)

@@ -1,4 +1,4 @@
--- What an apply without an action changes.
+-- What an apply without actions changes.
 use Rattle.std.specs.Prelude.{◌≡◌, ℕ, Bool, List, [], Option, Some, None}
 use Rattle.tf_config_address.specs.ResourceAddr.{ResourceAddrView}
 use Rattle.tf_config_address.specs.ObjectId.{ObjectIdView}
@@ -11,13 +11,14 @@ use Rattle.tf_state_data.specs.Record.{RecordView}
 use Rattle.tf_state_data.specs.State.{StateView, record_in}
 use Rattle.tf_value.specs.Tree.{Entries}
 
--- No object is known still, or the same one, whose record may be given other dependencies and another flag.
+-- An object that had no record still has no record. An object that had one keeps it, possibly with other dependencies and
+-- another flag.
 abbrev pub IsRenewed : Option RecordView → Option RecordView → Type 0
 IsRenewed None after = after ≡ None
 IsRenewed (Some r) after = (dependencies : List (List ℕ)) × (late : Bool) × (after ≡ Some (renewed dependencies late r))
 
--- An apply of a plan without actions makes, changes and forgets no object: of each the record stays, but for the dependencies and
--- the flag `create_before_destroy` that it is given anew.
+-- An apply of a plan without actions adds, changes and removes no object: each record stays, except for its dependencies and
+-- its flag `create_before_destroy`, which are updated.
 abbrev pub QuietAppliesKeepObjects : Type 0
 QuietAppliesKeepObjects =
     (ms : List Meaning) (plan : PlanView) (done : List ActionResultView) (outputs : Entries) (after : StateView)

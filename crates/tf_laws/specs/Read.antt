@@ -1,4 +1,4 @@
--- What configurations and variables that were read keep to.
+-- Properties of configurations and variables that were read.
 use Rattle.std.specs.Prelude.{◌≡◌, ℕ, List, Option, Some}
 use Rattle.serde_json.specs.Data.{Data}
 use Rattle.tf_config.specs.Configuration.{IsConfiguration}
@@ -12,7 +12,7 @@ use Rattle.tf_config.specs.Values.{AreValues}
 use Rattle.tf_laws.specs.Reapply.{IsSound}
 use Rattle.tf_laws.specs.Twice.{HasOrderedOutputs, HasOwnNames}
 
--- What a plan starts from is sound where the configuration was read, its variables have these values by a variables file or by
+-- The inputs of a plan are sound, if the configuration was read, its variables have these values from a variables file or by
 -- default, providers have schemas, and the prior state is valid.
 abbrev pub ReadIsSound : Type 0
 ReadIsSound =
@@ -20,6 +20,6 @@ ReadIsSound =
     → IsConfiguration tree config → AreValues file config.variables values
     → ((name : List ℕ) (schema : SchemaView) → schema_in name ms ≡ Some schema → IsSchema schema) → IsValid prior → IsSound ms config values prior
 
--- In a configuration that was read each name stands for one thing, and outputs stand in byte order of their names.
+-- In a configuration that was read, each name means one thing, and outputs are in byte order of their names.
 abbrev pub ReadHasOwnNames : Type 0
 ReadHasOwnNames = (tree : Data) (config : ConfigView) → IsConfiguration tree config → HasOwnNames config × HasOrderedOutputs config

@@ -1,10 +1,10 @@
--- What all laws of texts rest on.
+-- The laws that all laws of texts use.
 use Rattle.tf_config.specs.Laws.{BlocksAreInOrder, RefusedIsNotRead, RefusedOnce, StandsForOne}
 use Rattle.tf_laws.specs.Read.{ReadHasOwnNames}
 use Rattle.tf_state.specs.Laws.{EmptyIsValid, ReadIsValid, TextIsOfOne}
 use Rattle.tf_config.specs.VariableLaws.{ValuesAreFaultless, ValuesAreOne}
 
--- The laws of what reading answers: of configurations, of what is refused of them, of values, and of states and their texts.
+-- The laws of what reading returns: of configurations, of their refusals, of values, and of states and their texts.
 pub record Laws : Type 0 where
   pub one : StandsForOne
   pub order : BlocksAreInOrder

@@ -1,12 +1,12 @@
--- For what the texts that a user gives stand, where they are read more than once.
+-- What texts read as, if they are read more than once.
 use Rattle.std.specs.Prelude.{◌≡◌, ℕ, List, []}
 use Rattle.tf_config_data.specs.Config.{ConfigView}
 use Rattle.tf_cli_inputs.specs.Texts.{ReadAs, Texts}
 use Rattle.tf_state_data.specs.State.{StateView}
 use Rattle.tf_value.specs.Tree.{Entries}
 
--- Texts read as one configuration, one list of values of its variables and one prior state, which is of the same lineage
--- where none is given.
+-- Texts read as one configuration, one list of values of its variables and one prior state, if a new state has the same
+-- lineage.
 abbrev pub TextsReadAsOne : Type 0
 TextsReadAsOne =
     (texts : Texts) (lineage : List ℕ) (config config_again : ConfigView) (values values_again : Entries) (prior prior_again : StateView)
@@ -17,7 +17,7 @@ TextsReadAsOne =
 abbrev pub without_lineage : StateView → StateView
 without_lineage s = record s { lineage = [] }
 
--- By different lineages, too, they stand for one configuration and one list of values; and the prior states are the same but for their
+-- With different lineages they also read as one configuration and one list of values. The prior states differ only in their
 -- lineages.
 abbrev pub TextsReadAsOneApart : Type 0
 TextsReadAsOneApart =

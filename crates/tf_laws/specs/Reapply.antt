@@ -1,4 +1,4 @@
--- An apply that went well has nothing left to do.
+-- That after an apply that went well nothing is left to do.
 use Rattle.std.specs.Prelude.{◌≡◌, ℕ, true, false, List, [], map, Some, Ok, Contains}
 use Rattle.std.specs.List.{AllByRecursion}
 use Rattle.std.specs.List.Sorted.{IsStrictlySortedBy}
@@ -34,9 +34,9 @@ use Rattle.tf_value.specs.Known.{known_entries}
 use Rattle.tf_value.specs.Tree.{Tree, Entries}
 use Rattle.tf_laws.specs.Rest.{AreAtRest, EachMeans}
 
--- What a plan starts from is sound: blocks stand in the order of their addresses, providers have schemas, the values of
--- variables are known, and the prior state is valid. A schema as `Schema::new` makes it keeps to it, and so do a state, a
--- configuration and variables that were read.
+-- The inputs of a plan are sound: blocks are in address order, providers have schemas, the values of variables are known, and
+-- the prior state is valid. A schema that `Schema::new` makes meets its part of this, and so do a state, a configuration and
+-- variables that were read.
 pub record IsSound (ms : List Meaning) (config : ConfigView) (variables : Entries) (prior : StateView) : Type 0 where
   pub blocks : IsStrictlySortedBy addr_cmp (map (λ b. b.addr) config.blocks)
   pub schemas : (name : List ℕ) (schema : SchemaView) → schema_in name ms ≡ Some schema → IsSchema schema
@@ -44,7 +44,7 @@ pub record IsSound (ms : List Meaning) (config : ConfigView) (variables : Entrie
   pub valid : IsValid prior
 
 -- A plan from a prior state was carried out well, and left this state: no name of its configuration needs itself, each action
--- is good, and the state is the one that comes of that, with whatever outputs.
+-- is good, and the state is the one that results, with whatever outputs.
 pub record IsCarriedOut (ms : List Meaning) (config : ConfigView) (variables : Entries) (prior : StateView) (plan : PlanView) (done : List ActionResultView) (outputs : Entries) (after : StateView) : Type 0 where
   pub planned : IsPlan ms config variables prior plan
   pub acyclic : (n : ℕ) → plan.needs n n ≡ false
@@ -56,28 +56,28 @@ pub record IsCarriedOut (ms : List Meaning) (config : ConfigView) (variables : E
   pub state : IsStateOf ms plan done outputs after
   pub in_order : IsInOrder after
 
--- The state after such an apply is at rest: each record in it is the current one of an instance that a block has, each instance
--- has one and stands for it, and nothing is done beside it by what its block makes, where resources stand for these objects.
+-- The state after such an apply is at rest. Each record in it is the current one of an instance that a block has; each instance
+-- has one, with its object, and no change of it is decided by what its block gives if resources have these objects.
 abbrev pub StateAfterIsAtRest : Type 0
 StateAfterIsAtRest =
     (ms : List Meaning) (config : ConfigView) (variables : Entries) (prior : StateView) (plan : PlanView) (done : List ActionResultView) (outputs : Entries) (after : StateView)
     → IsSound ms config variables prior → IsCarriedOut ms config variables prior plan done outputs after
     → AreAtRest ms plan.variables (plan_names plan) plan.shapes (objects_after plan done) after.resources
 
--- So the same configuration and variables plan no action over that state: whatever there was before, whether objects were made,
--- changed, replaced, deposed, destroyed or left alone, with tainted objects, orphans, ignored changes, computed attributes,
--- `count` and `for_each`.
--- A plan is one with nothing to refuse. Two things can be refused after an apply that went well: an output that has a fault by
--- now, and an instance that the apply left alone whose `for_each` or an argument has a fault now that more is known, as an
--- ignored argument may. What isn't refused isn't planned as anything else.
+-- So the same configuration and variables plan no action over that state, whatever existed before. Objects may have been
+-- created, changed, replaced, deposed, destroyed or left alone, with tainted objects, orphans, ignored changes, computed
+-- attributes, `count` and `for_each`.
+-- A plan exists only if nothing is refused. Two things can be refused after an apply that went well: an output that has a fault
+-- by now, and an instance that the apply left alone, if its `for_each` or an argument has a fault now that more is known. An
+-- ignored argument may have one. What isn't refused isn't planned as anything else.
 abbrev pub Converges : Type 0
 Converges =
     (ms : List Meaning) (config : ConfigView) (variables : Entries) (prior : StateView) (plan : PlanView) (done : List ActionResultView) (outputs : Entries) (after : StateView) (again : PlanView)
     → IsSound ms config variables prior → IsCarriedOut ms config variables prior plan done outputs after
     → IsPlan ms config variables after again → again.actions ≡ []
 
--- What may be at fault by now isn't, where names stand for what came of the apply: blocks make objects of the instances that no
--- action made or changed, and outputs have values.
+-- What could have a fault by now has no fault, if names have their values after the apply: blocks give objects for the
+-- instances that no action created or updated, and outputs have values.
 pub record AreStillMade (ms : List Meaning) (plan : PlanView) (done : List ActionResultView) : Type 0 where
   pub instances : (resolved_names : ℕ → ResolvedView) → AreResolvedNames (applying plan.shapes (objects_after plan done)) plan.variables (plan_names plan) resolved_names
       → (n : ℕ) (block : BlockView) (key : InstanceKeyView) (schema : SchemaView) → meant_at (plan_names plan) n ≡ Some (a_block block) → is_among (instance_keys (plan.shapes n)) key ≡ true
@@ -99,7 +99,7 @@ NothingIsRefusedAgain =
 abbrev pub IsValued : OutputResultView → Type 0
 IsValued d = (t : Tree) × (d ≡ valued t)
 
--- Where the apply gave each output a value, outputs have values.
+-- If the apply gave each output a value, outputs have values.
 abbrev pub ValuedOutputsMean : Type 0
 ValuedOutputsMean =
     (plan : PlanView) (done : List ActionResultView) (outputs : List OutputResultView) (resolved_names : ℕ → ResolvedView)
@@ -107,7 +107,7 @@ ValuedOutputsMean =
     → AreResolvedNames (applying plan.shapes (objects_after plan done)) plan.variables (plan_names plan) resolved_names
     → EachMeans (environment plan.variables (plan_names plan) resolved_names) plan.config.outputs
 
--- The same of a report, by however many workers: where each outcome that it tells is a good verdict, the same configuration and
+-- The same law for a report, by any number of workers: if each outcome in it is a good verdict, the same configuration and
 -- variables plan no action over its state.
 abbrev pub ReportsConverge : Type 0
 ReportsConverge =

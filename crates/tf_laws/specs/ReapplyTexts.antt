@@ -1,4 +1,4 @@
--- What holds of texts whose apply went well: the same configuration and variables have nothing left to do.
+-- Laws of texts whose apply went well: the same configuration and variables plan nothing more.
 use Rattle.std.specs.Prelude.{◌≡◌, ◌≤◌, ◌⊎◌, ℕ, false, if◌then◌else◌, List, [], ◌∷◌, codes, Some, Result, Ok, Err, String, string_bytes}
 use Rattle.std.specs.List.{AllByRecursion}
 use Rattle.std.specs.declared.alloc.AllocError.{AllocError}
@@ -26,16 +26,16 @@ use Rattle.tf_state.specs.Table.{last_serial}
 use Rattle.tf_state_data.specs.State.{record_in}
 use Rattle.tf_value.specs.Tree.{Entries}
 
--- Each schema that a provider has for a type is one as `Schema::new` makes them: of at most 200 attributes, in byte order of
--- their names, which differ and are names, and none of which is reserved.
+-- Each schema that a provider has for a type is one as `Schema::new` makes it: at most 200 attributes, in byte order of their
+-- names, which are distinct, valid and not reserved.
 abbrev pub HasSchemas : Meaning → Type 0
 HasSchemas m = (name : List ℕ) (schema : SchemaView) → m.schema_of name ≡ Some schema → IsSchema schema
 
--- so has each of some providers
+-- each of some providers has such schemas
 abbrev pub HaveSchemas : List Meaning → Type 0
 HaveSchemas ms = AllByRecursion HasSchemas ms
 
--- An apply went well where each outcome that its report tells is a good verdict: no action was skipped, excused or at fault.
+-- An apply went well if each outcome in its report is a good verdict: no action was skipped, excused or at fault.
 abbrev pub WentWell : Applied → Type 0
 WentWell a = AllByRecursion (λ o. o ≡ Judged Good) (report_of a.walked).outcomes.items
 
@@ -49,7 +49,7 @@ no_changes = codes "No changes.\n"
 
 -- ---- over the state that an apply left
 
--- An apply of texts went well, and there was memory for the text of the state that it left. Where the same configuration and
+-- An apply of texts went well, and there was memory for the text of the state that it left. If the same configuration and
 -- variables have a plan over that text, its text is `No changes.` in a line.
 abbrev pub NothingIsPlannedAgain : Type 0
 NothingIsPlannedAgain =
@@ -57,16 +57,16 @@ NothingIsPlannedAgain =
     → HaveSchemas ms → IsApplied ms texts lineage a → WentWell a → a.state ≡ Ok saved
     → IsPlanText ms (over texts (string_bytes saved)) text → text ≡ no_changes
 
--- A second apply did nothing after a first: its plan's text is `No changes.` in a line; its report tells of no action, and its
--- journal, where it isn't withheld, of no call; and of each object the record stays, but for the dependencies and the flag
--- `create_before_destroy` that it is given anew.
+-- A second apply did nothing after a first one. Its plan's text is `No changes.` in a line; its report has no outcome, and its
+-- journal, if it isn't withheld, has no entry. Each record stays, except for its dependencies and its flag
+-- `create_before_destroy`, which are updated.
 pub record DidNothing (first second : Applied) : Type 0 where
   pub shown : string_bytes second.plan ≡ no_changes
   pub no_outcomes : (report_of second.walked).outcomes.items ≡ []
   pub no_calls : is_torn second.walked ≡ false → (report_of second.walked).journal.entries ≡ []
   pub kept : (addr : ResourceAddrView) (id : ObjectIdView) → IsRenewed (record_in addr id (state_in first)) (record_in addr id (state_in second))
 
--- Nor does an apply over that text do anything, where it answers.
+-- An apply over that text, if it returns an answer, does nothing.
 abbrev pub NothingIsDoneAgain : Type 0
 NothingIsDoneAgain =
     (ms : List Meaning) (texts : Texts) (lineage other : List ℕ) (a : Applied) (saved : String Global) (again : Applied)
@@ -75,16 +75,16 @@ NothingIsDoneAgain =
 
 -- ---- by the status
 
--- the texts with what was written over the prior state's, where there was memory for it
+-- the texts with what was written as the prior state's text, if there was memory for it
 abbrev pub with_written : Texts → Result (String Global) AllocError → Texts
 with_written texts (Ok saved) = over texts (string_bytes saved)
 with_written texts (Err why) = texts
 
--- What texts there are after an apply: the state's text is written exactly where the state has changed, and else all stays.
+-- The texts that exist after an apply: the state's text is written exactly if the state changed, and the other texts stay.
 abbrev pub texts_after : Texts → Applied → Texts
 texts_after texts a = if a.changed then with_written texts a.state else texts
 
--- Where the status of an apply is 0, what the texts after it plan is shown as `No changes.` in a line, where they have a plan.
+-- If the status of an apply is 0, and the texts after it have a plan, that plan's text is `No changes.` in a line.
 abbrev pub NothingIsPlannedAfterSuccess : Type 0
 NothingIsPlannedAfterSuccess =
     (ms : List Meaning) (texts : Texts) (lineage : List ℕ) (a : Applied) (text : List ℕ)
@@ -93,7 +93,7 @@ NothingIsPlannedAfterSuccess =
 
 -- ---- what may be refused
 
--- Some instance or output is refused over the state that an apply left: those that are told, and nothing else.
+-- Instances or outputs are refused over the state that an apply left, and these are all the refusals.
 pub record AreUnplannedAgain (ms : List Meaning) (texts : Texts) (a : Applied) (refusal_views : List RefusalView) : Type 0 where
   pub config : ConfigView
   pub values : Entries
@@ -101,12 +101,12 @@ pub record AreUnplannedAgain (ms : List Meaning) (texts : Texts) (a : Applied) (
   pub valued : AreTheValues texts.vars config values
   pub refused : IsUnplanned ms (state_in a).resources values (names_of config) config.outputs refusal_views
 
--- The new state itself is refused, with 14 alone: it has the last serial, so no other can follow.
+-- The new state itself is refused, only with 14: it has the last serial, so no other can follow.
 abbrev pub HasLastSerial : Applied → List RefusalView → Type 0
 HasLastSerial a refusal_views = (refusal_views ≡ at_state code.Limit ∷ []) × (last_serial ≤ (state_in a).serial)
 
--- What is refused of the same configuration and variables over that text is the state itself, or instances and outputs. No fault of
--- the configuration, of its names or of the variables is, nor how many instances and actions there are.
+-- Over that text, only the state itself is refused, or instances and outputs. No fault of the configuration, of its names or of
+-- the variables is reported, and the numbers of instances and actions are not refused.
 abbrev pub OnlyInstancesAreRefused : Type 0
 OnlyInstancesAreRefused =
     (ms : List Meaning) (texts : Texts) (lineage : List ℕ) (a : Applied) (saved : String Global) (refusal_views : List RefusalView)

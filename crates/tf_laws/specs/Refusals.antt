@@ -1,4 +1,4 @@
--- What is told of texts that can't be read: one fault, and of texts that can be read none.
+-- The refusals of reading texts: texts that can't be read have one fault, and texts that can be read have no fault.
 use Rattle.std.specs.Prelude.{◌≡◌, ◌≢◌, ◌⊎◌, ℕ, List, [], ◌∷◌, ⊤}
 use Rattle.tf_cli.specs.Applies.{IsPlanOf}
 use Rattle.tf_cli.specs.Refusals.{AreApplyRefusals, AreRefusals}
@@ -12,18 +12,18 @@ use Rattle.tf_config_refusal.specs.Refusal.{RefusalView, fault, no_memory, Way}
 use Rattle.tf_state_data.specs.State.{StateView}
 use Rattle.tf_value.specs.Tree.{Entries}
 
--- Of texts that read as something no refusal is told, but that there was no memory.
+-- If texts can be read, the only refusal of reading them is out of memory.
 abbrev pub ReadTextsAreNotRefused : Type 0
 ReadTextsAreNotRefused =
     (texts : Texts) (lineage : List ℕ) (config : ConfigView) (values : Entries) (prior : StateView) (refusal : RefusalView)
     → ReadAs texts lineage config values prior → IsToldOf texts refusal → refusal ≡ no_memory
 
--- So no list is one of the refusals of texts that have a plan.
+-- So if texts have a plan, no list is the list of their refusals.
 abbrev pub PlannedTextsHaveNoRefusals : Type 0
 PlannedTextsHaveNoRefusals = (ms : List Meaning) (texts : Texts) (lineage : List ℕ) (plan : PlanView) (refusal_views : List RefusalView) → IsPlanOf ms texts lineage plan → ¬ AreRefusals ms texts refusal_views
 
--- Both refusals tell that a text in the configuration, which stands at one place and spells no template, is none: each with an
--- offset in it, or that it is too deep.
+-- Both refusals are about one text in the configuration, at one place, that spells no template: each gives an offset in it, or
+-- says that it is too deep.
 pub record AreOfNoTemplate (texts : Texts) (first second : RefusalView) : Type 0 where
   pub place : List ℕ
   pub way : Way
@@ -32,26 +32,26 @@ pub record AreOfNoTemplate (texts : Texts) (first second : RefusalView) : Type 0
   pub told : (first ≡ fault way.0 place way.1) × IsTemplateWay way
   pub told_too : (second ≡ fault other.0 place other.1) × IsTemplateWay other
 
--- Two refusals tell the same fault: they are the same, or are of one text in the configuration that spells no template.
+-- Two refusals report the same fault: they are equal, or about one text in the configuration that spells no template.
 abbrev pub TellTheSameFault : Texts → RefusalView → RefusalView → Type 0
 TellTheSameFault texts first second = (first ≡ second) ⊎ AreOfNoTemplate texts first second
 
--- Two refusals of the same texts that can't be read tell the same fault, where neither is want of memory.
+-- Two refusals of the same texts that can't be read report the same fault, if neither is out of memory.
 abbrev pub RefusedReadingsAreOne : Type 0
 RefusedReadingsAreOne =
     (texts : Texts) (first second : RefusalView) → IsToldOf texts first → IsToldOf texts second → first ≢ no_memory → second ≢ no_memory → TellTheSameFault texts first second
 
--- two lists of as many refusals tell the same faults, in the same order
+-- two lists of equal length report the same faults, in the same order
 abbrev pub TellTheSameFaults : Texts → List RefusalView → List RefusalView → Type 0
 TellTheSameFaults texts [] [] = ⊤
 TellTheSameFaults texts (t ∷ ts) (u ∷ us) = TellTheSameFault texts t u × TellTheSameFaults texts ts us
 TellTheSameFaults texts _ _ = ⊥
 
--- So two lists of the refusals of the same texts tell the same faults.
+-- So two lists of refusals of the same texts report the same faults.
 abbrev pub RefusalsTellTheSame : Type 0
 RefusalsTellTheSame = (ms : List Meaning) (texts : Texts) (refusal_views others : List RefusalView) → AreRefusals ms texts refusal_views → AreRefusals ms texts others → TellTheSameFaults texts refusal_views others
 
--- And two lists of the refusals of an apply of them by so many workers do.
+-- So do two lists of refusals of an apply of the texts by the given number of workers.
 abbrev pub ApplyRefusalsTellTheSame : Type 0
 ApplyRefusalsTellTheSame =
     (ms : List Meaning) (texts : Texts) (lineage other : List ℕ) (count : ℕ) (refusal_views others : List RefusalView)

@@ -1,4 +1,4 @@
--- What an apply asks of providers keeps to its plan.
+-- That an apply's requests to providers agree with its plan.
 use Rattle.std.specs.Prelude.{◌≡◌, ℕ, true, false, List, Option, Some, None, option_and_then, slice_get, Ok, Contains}
 use Rattle.tf_plan_data.specs.Action.{ActionView, StepView, update, replaced, destroyed, deposed_destroyed}
 use Rattle.tf_config_address.specs.ObjectId.{InstanceKeyView}
@@ -22,7 +22,7 @@ use Rattle.tf_value.specs.Known.{known}
 use Rattle.tf_value.specs.Refinement.{Refines}
 use Rattle.tf_value.specs.Tree.{Tree, Entries, part_at}
 
--- the object that a step changes or destroys; one that makes an object has none
+-- the object that a step changes or destroys; a step that creates an object has no such object
 abbrev pub object_before : StepView → Option Tree
 object_before (update prior asked names) = Some prior
 object_before (replaced prior) = Some prior
@@ -30,9 +30,9 @@ object_before (destroyed prior) = Some prior
 object_before (deposed_destroyed key prior) = Some prior
 object_before _ = None
 
--- What is asked is as planned: it is about the instance of the action, is to do what the action's step does, and names the
--- object that the step changes or destroys. The object that the step is planned with refines to the one that is asked for; so
--- an attribute that is known in the plan stands in it unchanged.
+-- A request is as planned: it has the action's instance, the operation of the action's step, and the object that the step
+-- changes or destroys. The step's planned object refines to the requested one, so an attribute that is known in the plan is
+-- unchanged in it.
 pub record IsAskedAsPlanned (a : ActionView) (asked : Asked) : Type 0 where
   pub op : asked.op ≡ op_of a.step
   pub address : asked.address ≡ address_text a.addr a.key
@@ -42,22 +42,21 @@ pub record IsAskedAsPlanned (a : ActionView) (asked : Asked) : Type 0 where
   pub object : RefinesWhere (planned_object a.step) asked.object
   pub unchanged : (name : List ℕ) (v : Tree) → option_and_then (part_at name) (planned_object a.step) ≡ Some v → known v ≡ true → option_and_then (part_at name) asked.object ≡ Some v
 
--- A plan was made of a configuration and a prior state that are sound, and no name of the configuration needs itself.
+-- A plan was made from a sound configuration and a sound prior state, and no name of the configuration needs itself.
 pub record IsSoundPlan (ms : List Meaning) (config : ConfigView) (variables : Entries) (prior : StateView) (plan : PlanView) : Type 0 where
   pub sound : IsSound ms config variables prior
   pub planned : IsPlan ms config variables prior plan
   pub acyclic : (n : ℕ) → plan.needs n n ≡ false
 
--- Instances stand for what a plan says of them, those of what the resource at a place needs: the object that a create, an
--- update or a replacement is planned with refines to the one that its instance stands for, and an instance that no such action
--- is about stands for its prior object.
+-- The instances that the resource at a place needs agree with the plan. The object that a create, an update or a replacement is
+-- planned with refines to its instance's object, and an instance without such an action has its prior object.
 pub record StandAsPlanned (plan : PlanView) (place : ℕ) (objects : ℕ → InstanceKeyView → Tree) : Type 0 where
   pub planned : (a : ActionView) (t : Tree) → Contains plan.actions a → plan.needs place a.resource ≡ true → planned_object a.step ≡ Some t → Refines t (objects a.resource a.key)
   pub left : (n : ℕ) (key : InstanceKeyView) → plan.needs place n ≡ true
       → ((a : ActionView) → Contains plan.actions a → is_apply a.step ≡ true → a.resource ≡ n → ¬ (a.key ≡ key))
       → objects n key ≡ prior_object plan.prior key (meant_at (plan_names plan) n)
 
--- What an action asks is as planned wherever the instances of what its resource needs stand for what the plan says of them.
+-- If the instances that an action's resource needs agree with the plan, the action's request is as planned.
 abbrev pub RequestsAreAsPlanned : Type 0
 RequestsAreAsPlanned =
     (ms : List Meaning) (config : ConfigView) (variables : Entries) (prior : StateView) (plan : PlanView) (requests : Requests) (objects : ℕ → InstanceKeyView → Tree)
@@ -66,8 +65,8 @@ RequestsAreAsPlanned =
     → Contains plan.actions a → schema_in a.addr.type_name ms ≡ Some schema → StandAsPlanned plan a.resource objects
     → asked_for (plan_names plan) schema a (requests objects a schema) ≡ Ok asked → IsAskedAsPlanned a asked
 
--- So it is in every apply: whatever came of other actions, each one that was called was asked as planned, and what was known of
--- its object in the plan stood unchanged in the request.
+-- In every apply, whatever the outcomes of other actions, the request of each called action is as planned, and what was known
+-- of its object in the plan was unchanged in the request.
 abbrev pub CallsAreAsPlanned : Type 0
 CallsAreAsPlanned =
     (ms : List Meaning) (config : ConfigView) (variables : Entries) (prior : StateView) (plan : PlanView) (requests : Requests) (excuses : List Excuse) (done : List ActionResultView)

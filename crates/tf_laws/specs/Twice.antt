@@ -1,4 +1,4 @@
--- What applies change after one that went well: the second one flags at most, and the third one nothing.
+-- What applies change after one that went well: the second one only flags, and the third one nothing.
 use Rattle.std.specs.Prelude.{◌≡◌, ◌+◌, ◌⊎◌, ℕ, false, List, map, codes}
 use Rattle.std.specs.Cmp.Lexicographic.{slice_cmp}
 use Rattle.std.specs.List.{AllByRecursion}
@@ -24,31 +24,30 @@ use Rattle.tf_laws.specs.Reapply.{IsCarriedOut, IsSound, IsValued}
 
 -- ---- states but for their flags
 
--- what is known of an object but for the flag `create_before_destroy`
+-- an object's record without the flag `create_before_destroy`
 abbrev pub record_without_flag : RecordView → RecordView
 record_without_flag r = record r { create_before_destroy = false }
 
--- a resource but for the flags of its records
+-- a resource without the flags of its records
 abbrev pub resource_without_flags : ResourceView → ResourceView
 resource_without_flags r = record r { records = map record_without_flag r.records }
 
--- A state but for the flags of its records, and for its serial, which only tells that something changed.
+-- A state without the flags of its records and without its serial, which only shows that something changed.
 abbrev pub without_flags : StateView → StateView
 without_flags s = record s { serial = 0; resources = map resource_without_flags s.resources }
 
 -- ---- premises
 
--- No block is of the type `local`, by which locals are named, so that each name stands for one thing, as in each
--- configuration that was read.
+-- No block has the type `local`, which names locals, so each name means one thing. Each configuration that was read meets this.
 abbrev pub HasOwnNames : ConfigView → Type 0
 HasOwnNames config = AllByRecursion (λ b. ¬ (b.addr.type_name ≡ codes "local")) config.blocks
 
--- Outputs stand in byte order of their names, no two with one, as those of each configuration that was read.
+-- Outputs are in byte order of their names, and no two have one name. Each configuration that was read meets this.
 abbrev pub HasOrderedOutputs : ConfigView → Type 0
 HasOrderedOutputs config = IsStrictlySortedBy (slice_cmp nat_cmp) (names_in config.outputs)
 
--- An apply of the same configuration and variables over the state that one before it left: a plan from that state, and the
--- state that came of it, whatever came of its outputs.
+-- An apply of the same configuration and variables over the state that the previous one left: a plan from that state, and the
+-- state that results, whatever the results of its outputs.
 pub record IsAppliedAgain (ms : List Meaning) (config : ConfigView) (variables : Entries) (before : StateView) (again : PlanView) (later : StateView) : Type 0 where
   pub planned : IsPlan ms config variables before again
   pub done : List ActionResultView
@@ -59,9 +58,9 @@ pub record IsAppliedAgain (ms : List Meaning) (config : ConfigView) (variables :
 
 -- ---- the second apply
 
--- After an apply that went well, the second keeps each object and all that is known of it, stored dependencies too, but for
--- the flag `create_before_destroy`: lateness follows stored dependencies, and those that the first apply began from
--- were others. No object appears or goes, and lineage and version stay.
+-- After an apply that went well, the second keeps each object and its record, with the stored dependencies, except for the flag
+-- `create_before_destroy`. Lateness follows stored dependencies, and the first apply started from other ones. No object is
+-- added or removed, and lineage and version stay.
 abbrev pub SecondAppliesKeepObjects : Type 0
 SecondAppliesKeepObjects =
     (ms : List Meaning) (config : ConfigView) (variables : Entries) (prior : StateView) (plan : PlanView) (done : List ActionResultView) (outputs : Entries) (after : StateView) (again : PlanView) (later : StateView)
@@ -69,7 +68,7 @@ SecondAppliesKeepObjects =
     → IsAppliedAgain ms config variables after again later
     → (map resource_without_flags later.resources ≡ map resource_without_flags after.resources) × (later.lineage ≡ after.lineage) × (later.terraform_version ≡ after.terraform_version)
 
--- An apply that went well, of which each output has a value.
+-- An apply that went well and gave each output a value.
 pub record IsAppliedWell (ms : List Meaning) (config : ConfigView) (variables : Entries) (prior : StateView) (plan : PlanView) (after : StateView) : Type 0 where
   pub done : List ActionResultView
   pub outputs : List OutputResultView
@@ -77,19 +76,19 @@ pub record IsAppliedWell (ms : List Meaning) (config : ConfigView) (variables : 
   pub are_outputs : AreOutputsOf plan done outputs
   pub each_valued : AllByRecursion IsValued outputs
 
--- Over the state that such an apply left, the second leaves the same state but for flags and the serial: outputs stay too, also
--- one that is refused memory then.
+-- Over the state that such an apply left, the second changes only flags and the serial. Outputs stay too, even one that runs
+-- out of memory then.
 abbrev pub SecondAppliesChangeFlags : Type 0
 SecondAppliesChangeFlags =
     (ms : List Meaning) (config : ConfigView) (variables : Entries) (prior : StateView) (plan : PlanView) (after : StateView) (again : PlanView) (later : StateView)
     → IsSound ms config variables prior → HasOwnNames config → HasOrderedOutputs config → IsAppliedWell ms config variables prior plan after
     → IsAppliedAgain ms config variables after again later → without_flags later ≡ without_flags after
 
--- A serial tells whether anything changed: the state is the same, or resources differ and the serial is one more.
+-- A serial shows whether anything changed: the state is the same, or resources differ and the serial is one more.
 abbrev pub HasToldSerial : StateView → StateView → Type 0
 HasToldSerial after later = (later ≡ after) ⊎ ((later.serial ≡ after.serial + 1) × (¬ (later.resources ≡ after.resources)))
 
--- Its serial tells whether a flag changed.
+-- The second apply's serial shows whether a flag changed.
 abbrev pub SecondSerialsTell : Type 0
 SecondSerialsTell =
     (ms : List Meaning) (config : ConfigView) (variables : Entries) (prior : StateView) (plan : PlanView) (after : StateView) (again : PlanView) (later : StateView)
@@ -98,16 +97,15 @@ SecondSerialsTell =
 
 -- ---- the third apply
 
--- The third changes no record at all, flags too, whatever came of outputs: the dependencies that are stored are those that
--- the second began from, so the same are late.
+-- The third changes no record, not even a flag, whatever the results of outputs: the stored dependencies are those that the
+-- second started from, so the same resources are late.
 abbrev pub ThirdAppliesKeepRecords : Type 0
 ThirdAppliesKeepRecords =
     (ms : List Meaning) (config : ConfigView) (variables : Entries) (prior : StateView) (plan : PlanView) (done : List ActionResultView) (outputs : Entries) (after : StateView) (again : PlanView) (later : StateView) (third : PlanView) (last : StateView)
     → IsSound ms config variables prior → HasOwnNames config → IsCarriedOut ms config variables prior plan done outputs after
     → IsAppliedAgain ms config variables after again later → IsAppliedAgain ms config variables later third last → last.resources ≡ later.resources
 
--- So where each output of the first had a value, the third leaves the very state that the second left, with its
--- serial.
+-- So if each output of the first had a value, the third leaves exactly the state that the second left, with its serial.
 abbrev pub ThirdAppliesChangeNothing : Type 0
 ThirdAppliesChangeNothing =
     (ms : List Meaning) (config : ConfigView) (variables : Entries) (prior : StateView) (plan : PlanView) (after : StateView) (again : PlanView) (later : StateView) (third : PlanView) (last : StateView)
@@ -116,9 +114,9 @@ ThirdAppliesChangeNothing =
 
 -- ---- reports
 
--- The same of reports, by however many workers: where each outcome that the first tells is a good verdict and each output has a
--- value, the state of a second report is the same but for flags and the serial, which tells whether one changed; and that
--- of a third one is the second's.
+-- The same laws for reports, by any number of workers. If each outcome in the first is a good verdict and each output has a
+-- value, the second report's state differs only in flags and the serial, which shows whether a flag changed. The third report's
+-- state is the second's.
 abbrev pub ReportsSettle : Type 0
 ReportsSettle =
     (ms : List Meaning) (config : ConfigView) (variables : Entries) (prior : StateView) (plan again third : PlanView) (requests : Requests)

@@ -1,4 +1,4 @@
-//! Laws on what is asked.
+//! Laws on the requests of an apply.
 
 ghost use Rattle.tf_laws.specs.AskingLaws.{KnownAttributesStay, PlannedObjectsAreAsked, RequestsRefine};
 
@@ -7,9 +7,9 @@ use tf_plan_decision::laws::changes_have_a_cause;
 use tf_plan_object::laws::{objects_grow, updates_grow};
 use tf_value::known_values_stay;
 
-/// Where what instances stand for in the plan refines to what they stand for in the apply, the object that an action would
-/// ask for by the plan refines to the one that it asks for. So what is known in the plan stands unchanged in the request of
-/// each create, replacement and update.
+/// If each instance's object in the plan refines to its object in the apply, the object that an action would request by the
+/// plan refines to the one that it requests. So each attribute that is known in the plan is unchanged in the request of each
+/// create, replacement and update.
 pub fn requests_grow()
     ensures refine { RequestsRefine }
     ensures known { KnownAttributesStay }
@@ -21,7 +21,8 @@ pub fn requests_grow()
     updates_grow();
 }
 
-/// What an action would ask for by the plan is the object that it is planned with.
+/// If an action's step is one of those decided about its instance, the object that the action would request by the plan is its
+/// planned object.
 pub fn planned_objects_are_asked()
     ensures { PlannedObjectsAreAsked }
 {

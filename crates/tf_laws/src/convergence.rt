@@ -12,8 +12,8 @@ use tf_expand::standing_laws::resolved_names_grow;
 use tf_expr_operators::laws::known_stays_known;
 use tf_plan_object::laws::objects_grow;
 
-/// Where all that names stand for is known, so is what an expression means, and what a block makes of an instance but for
-/// what the provider makes.
+/// If all names have known values, so does each expression. In an instance's object each attribute is known, except those that
+/// keep their prior value.
 pub fn known_names_give_known_values()
     ensures expressions { ExpressionsStayKnown }
     ensures objects { ObjectsAreSettled }
@@ -21,22 +21,22 @@ pub fn known_names_give_known_values()
     known_stays_known();
 }
 
-/// Beside an object that was asked for and answered well nothing is done by what its block made of the instance, and none
-/// beside one for which nothing was planned, once more is known of what its block makes.
+/// No change is decided for an object that was requested and answered well. If no change was decided for an object, knowing
+/// more of what its block gives adds no change.
 pub fn instances_rest()
     ensures answered { AnsweredInstancesRest }
     ensures untouched { UntouchedInstancesRest }
 {}
 
-/// Beside resources at rest nothing is planned. There is such a plan where no instance and no output is refused.
+/// Over resources at rest a plan has no action. There is such a plan if no instance and no output is refused.
 pub fn nothing_is_planned_at_rest()
     ensures planned { NothingIsPlannedAtRest }
     ensures refused { NothingIsRefusedAtRest }
 {}
 
-/// Where each action of an apply is good, the state after it is at rest; so the same configuration and variables plan no
-/// action over it. Nothing is refused then where outputs have values, as each has that the apply gave one, and where nothing
-/// has come to be at fault of the instances that the apply left alone.
+/// If each action of an apply is good, the state after it is at rest, so the same configuration and variables plan no action
+/// over it. That plan refuses nothing if blocks still give objects for the instances that no action created or updated, and
+/// outputs have values, as they do if the apply gave each one a value.
 pub fn applies_converge()
     ensures rest { StateAfterIsAtRest }
     ensures again { Converges }
@@ -49,15 +49,15 @@ pub fn applies_converge()
     objects_grow();
 }
 
-/// An apply of a plan without actions makes, changes and forgets no object; their records are given anew what their resources
-/// need and whether these are late, and no more.
+/// An apply of a plan without actions adds, changes and removes no object. It updates only the dependencies and the flag
+/// `create_before_destroy` in their records.
 pub fn quiet_applies_keep_objects()
     ensures { QuietAppliesKeepObjects }
 {}
 
-/// After an apply that went well a second one keeps each object and all that is known of it, but for the flag
-/// `create_before_destroy`. Where each output had a value, the second leaves the same state but for such flags, and a serial
-/// that is one more exactly where one changed; and a third leaves the very state that the second left.
+/// After an apply that went well, a second one keeps each object and its record, except for the flag `create_before_destroy`.
+/// If each output had a value, the second changes only such flags and the serial, which is one more exactly if a flag changed.
+/// A third one then leaves exactly the state that the second left.
 pub fn applies_settle()
     ensures objects { SecondAppliesKeepObjects }
     ensures second { SecondAppliesChangeFlags }
@@ -71,8 +71,9 @@ pub fn applies_settle()
     objects_grow();
 }
 
-/// What a plan starts from is sound where the configuration was read and its variables have values; and each of its names
-/// stands for one thing.
+/// The inputs of a plan are sound if the configuration was read, its variables have values from a file or by default, providers
+/// have schemas, and the prior state is valid. In a configuration that was read, each name means one thing, and outputs are in
+/// byte order.
 pub fn read_configurations_fit()
     ensures sound { ReadIsSound }
     ensures names { ReadHasOwnNames }

@@ -1,5 +1,5 @@
-//! What holds of plans, reports, requests, applies and texts as they are defined: they leave one answer, what an apply asks keeps
-//! to its plan, and the same configuration plans nothing again over what an apply that went well left.
+//! Laws of plans, reports, requests, applies and texts that follow from their definitions: answers are unique, requests agree
+//! with the plan, and after an apply that went well the same configuration plans no action.
 #![tactic(auto)]
 
 pub mod asking;

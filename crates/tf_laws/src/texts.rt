@@ -21,7 +21,7 @@ use crate::reports::{plans_are_founded, reports_are_one};
 use tf_config::{blocks_are_in_order, faultless_trees_stand, names_are_few, values_are_one};
 use tf_state::{new_states_are_valid, read_states_are_valid, texts_are_of_one, texts_read_back};
 
-/// What reading answers has the laws that all those of texts rest on.
+/// The results of reading have the laws in `Laws`, which all laws of texts use.
 fn laws_of_reading()
     ensures { Laws }
 {
@@ -35,8 +35,8 @@ fn laws_of_reading()
     read_configurations_fit();
 }
 
-/// Texts read as one configuration, one list of values of its variables and one prior state, where a new state is of
-/// one lineage; and by another lineage no more than that of a new state is another.
+/// Texts read as one configuration, one list of values of its variables and one prior state, if a new state has one lineage.
+/// With another lineage, only the lineage of a new state differs.
 pub fn texts_read_as_one()
     ensures one { TextsReadAsOne }
     ensures apart { TextsReadAsOneApart }
@@ -44,8 +44,8 @@ pub fn texts_read_as_one()
     laws_of_reading();
 }
 
-/// Texts have one plan: by another lineage of a new state no more than that lineage is another. So one text is shown of it,
-/// by a plan as by an apply.
+/// Texts have one plan. With another lineage of a new state, only that lineage differs. So their plan has one text, and both a
+/// plan and an apply of the texts show it.
 pub fn texts_have_one_plan()
     ensures plans { TextsHaveOnePlan }
     ensures apart { TextsHaveOnePlanApart }
@@ -56,7 +56,7 @@ pub fn texts_have_one_plan()
     plans_are_one();
 }
 
-/// What the plan of texts is refused for is one list, and there is none where they have a plan.
+/// Two lists of refusals of the plan of texts are equal. If texts have a plan, no list is the list of refusals of their plan.
 pub fn plans_exclude_refusals()
     ensures excluded { PlannedTextsAreNotRefused }
     ensures one { RefusalsOfTextsAreOne }
@@ -66,8 +66,7 @@ pub fn plans_exclude_refusals()
     refusals_are_one();
 }
 
-/// Of texts that read as something no refusal is told, but that there was no memory; so texts that have a plan have no
-/// list of refusals.
+/// If texts can be read, the only refusal of reading them is out of memory. So texts that have a plan have no list of refusals.
 pub fn readings_exclude_refusals()
     ensures read { ReadTextsAreNotRefused }
     ensures planned { PlannedTextsHaveNoRefusals }
@@ -76,8 +75,9 @@ pub fn readings_exclude_refusals()
     plans_exclude_refusals();
 }
 
-/// Texts that can't be read are refused for one fault, so two lists of the refusals of the same texts tell the same; but of
-/// a text in the configuration that spells no template an offset is told, which is free, or that it is too deep.
+/// Two refusals of texts that can't be read report the same fault: they are equal, or about one text in the configuration that
+/// is no template or too deep, with any offset. So two lists of refusals of the same texts report the same faults in order,
+/// also those of an apply by the same number of workers.
 pub fn refused_readings_are_one()
     ensures read { RefusedReadingsAreOne }
     ensures lists { RefusalsTellTheSame }
@@ -88,8 +88,8 @@ pub fn refused_readings_are_one()
     readings_exclude_refusals();
 }
 
-/// Of no texts neither of two holds: they stand for something, or a refusal of them is told that isn't want of memory. Where it
-/// can be told of each text whether it is a template, it can be told which of the two holds.
+/// Texts can't be both unreadable and without a refusal other than out of memory. If one can decide of each text whether it is
+/// a template within the depth limit, one can decide which of the two holds.
 pub fn texts_are_read_or_refused()
     ensures never_neither { TextsAreReadOrRefused }
     ensures told { ReadingsAreTold }
@@ -98,8 +98,9 @@ pub fn texts_are_read_or_refused()
     values_are_one();
 }
 
-/// So no texts have neither a plan nor refusals, and of an apply of them by some number of workers neither; and where it can be told of
-/// each text whether it is a template, it can be told which of the two texts have.
+/// Texts can't have neither a plan nor refusals. For an apply, they can't have neither a plan that the given number of workers
+/// may carry out nor refusals. If one can decide of each text whether it is a template within the depth limit, one can decide
+/// whether texts have a plan or refusals.
 pub fn texts_have_plan_or_refusals()
     ensures never_neither { TextsHavePlanOrRefusals }
     ensures applies { AppliesHavePlanOrRefusals }
@@ -111,9 +112,9 @@ pub fn texts_have_plan_or_refusals()
     planned_or_refused();
 }
 
-/// Where an apply of texts went well, the same configuration and variables plan nothing over the text of the state that it
-/// left, and an apply over that text does nothing. Where its status is 0, the texts that there are after it plan nothing. What may
-/// be refused over that text is the state itself, or instances and outputs.
+/// After an apply of texts that went well, the same configuration and variables plan no action over the text of the new state,
+/// and an apply over that text does nothing. If the status of an apply is 0, the texts that exist after it plan no action. Over
+/// the new state's text, only the state itself is refused, or instances and outputs.
 pub fn texts_converge()
     ensures planned { NothingIsPlannedAgain }
     ensures done { NothingIsDoneAgain }
@@ -138,9 +139,9 @@ pub fn programs_have_schemas()
     ensures { HaveSchemas (sim_meaning ∷ file_meaning ∷ []) }
 {}
 
-/// Where the status of an apply is 0, all that was planned was done: each action is good, and each output has a value. So a
-/// second apply over the text of the state that it left changes flags `create_before_destroy` at most, and the serial, and a
-/// third one nothing.
+/// If the status of an apply is 0, everything that was planned was done: each action is good, and each output has a value. So a
+/// second apply over the text of the new state changes only flags `create_before_destroy` and the serial, and a third one over
+/// the text of the second's state changes nothing.
 pub fn success_is_complete()
     ensures complete { SuccessIsComplete }
     ensures second { SecondAppliesSettle }
@@ -152,7 +153,7 @@ pub fn success_is_complete()
     applies_settle();
 }
 
-/// Two applies of the same texts that excuse the same answer the same, by however many workers.
+/// Two applies of the same texts with one lineage and the same excuses return the same answer, for any numbers of workers.
 pub fn applies_are_one()
     ensures { AppliesAreOne }
 {

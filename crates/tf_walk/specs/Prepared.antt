@@ -1,4 +1,4 @@
--- What carrying out a plan begins with.
+-- What a walk on one thread begins with.
 use Rattle.std.specs.Prelude.{◌≡◌, [], None, replicate}
 use Rattle.tf_claim.specs.declared.book.Stage.TheVariants as stage
 use Rattle.tf_config_names.specs.Table.{names_in}
@@ -7,7 +7,7 @@ use Rattle.tf_plan_data.specs.declared.plan.Plan.{Plan}
 use Rattle.tf_walk_report.specs.Reserved.{AreReserved}
 use Rattle.tf_walk.specs.declared.prepared.Prepared.{Prepared}
 
--- the names are the configuration's, nothing has ended, nothing was called, and there is room for the report
+-- the names are the configuration's, nothing has ended, nothing was called, and the report's parts are reserved
 pub record IsPrepared (plan : Plan) (p : Prepared) : Type 0 where
   pub names : names_in p.names ≡ plan_names (plan_of plan)
   pub claims : p.book.graph ≡ plan.order

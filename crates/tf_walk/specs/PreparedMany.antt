@@ -1,4 +1,4 @@
--- What a walk of many workers begins with.
+-- What a walk with several workers begins with.
 use Rattle.std.specs.Prelude.{◌≡◌, All, None, replicate}
 use Rattle.tf_config_names.specs.Table.{names_in}
 use Rattle.tf_plan_data.specs.Plan.{plan_names, plan_of}
@@ -6,8 +6,8 @@ use Rattle.tf_plan_data.specs.declared.plan.Plan.{Plan}
 use Rattle.tf_walk_report.specs.Reserved.{AreReserved}
 use Rattle.tf_walk.specs.declared.prepared_many.PreparedWalk.{PreparedWalk}
 
--- The names are the configuration's, the claims and the journal are over the plan's order, all seats are at the claims, each
--- action has a cell and a place in the list, of which nothing is filled, and there is room for the report.
+-- The names are the configuration's, the claims and the journal are over the plan's order, all seats are of these claims, each
+-- action has an empty cell and an empty place in the list, and the report's parts are reserved.
 pub record IsPrepared {N : Type 0} (plan : Plan) (p : PreparedWalk N) : Type 0 where
   pub names : names_in p.names ≡ plan_names (plan_of plan)
   pub claims : p.claims.graph ≡ plan.order

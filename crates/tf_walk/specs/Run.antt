@@ -1,4 +1,4 @@
--- What a walk of many workers answers.
+-- What a walk with several workers returns.
 use Rattle.std.specs.Prelude.{ℕ, ◌&&◌, Bool, true, false, nat_le, List}
 use Rattle.tf_walk_action.specs.Journal.{IsJournal}
 use Rattle.tf_plan_data.specs.Plan.{PlanView}
@@ -8,13 +8,13 @@ use Rattle.tf_walk_report.specs.declared.report.Report.{Report}
 use Rattle.tf_walk_report.specs.declared.report.Walked.{Walked}
 use Rattle.tf_walk_report.specs.declared.report.Walked.TheVariants.{Whole, Torn}
 
--- A report tells what came of a plan, but its journal isn't that of the calls that it tells of.
+-- A report is right about a plan, except that its journal isn't that of the calls that it reports.
 pub record IsTorn (ms : List Meaning) (plan : PlanView) (report : Report) : Type 0 where
   pub reported : IsReported ms plan report
   pub not_journal : IsJournal plan reported.done report.journal.entries → ⊥
 
--- What a walk answers: a whole report, as that of one thread; or a report whose journal is withheld, exactly since it isn't
--- that of the calls.
+-- A walk returns a whole report, as a walk on one thread does; or a report whose journal is withheld, because it isn't that
+-- of the calls.
 abbrev pub IsRun : List Meaning → PlanView → Walked → Type 0
 IsRun ms plan (Whole report) = IsWalked ms plan (Whole report)
 IsRun ms plan (Torn report) = IsTorn ms plan report

@@ -1,4 +1,4 @@
-//! The end of a walk: what came of all actions, reported and compared with the journal.
+//! The end of a walk: the report on all actions, compared with the journal.
 
 ghost use Rattle.std.specs.Prelude.{◌≡◌, List, None, map, replicate};
 ghost use Rattle.tf_walk_action.specs.Words.{FitsTogether, names_in, plan_names, plan_of};
@@ -17,8 +17,8 @@ use tf_walk_action::ActionResult;
 use tf_walk_report::{ReportBuffers, Walked, report_of, settle};
 use tf_walk_workers::{Cells, WalkBrand};
 
-/// The report on a plan whose actions have all ended, by their cells: whole exactly where the journal is that of the calls,
-/// and else torn. It has no answer that says that there was no memory.
+/// Returns the report on a plan whose actions have all ended, from their cells: whole exactly if the journal is that of the
+/// calls, else torn. It can't return out of memory.
 pub(crate) fn report_walk<N: WalkBrand, R: Wait>(
     rt: &R,
     alloc: Global,

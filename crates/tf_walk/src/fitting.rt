@@ -1,4 +1,4 @@
-//! Whether the ends of all actions fit together.
+//! Checks that the results of all actions fit together.
 
 ghost use Rattle.std.specs.List.{list_all};
 ghost use Rattle.std.specs.Prelude.{◌≡◌, ◌<◌, ℕ, All, IsTrue, length};
@@ -12,8 +12,8 @@ use std::sync::atomic::AtomicU64;
 use tf_graph::Graph;
 use tf_walk_action::ActionResult;
 
-/// Returns where each action is skipped exactly where one directly before it isn't good. Of ends that don't fit together
-/// nothing can be reported, so it sleeps for ever there.
+/// Returns if each action is skipped exactly if one directly before it isn't good. No report would be true of results that
+/// don't fit together, so it sleeps forever then.
 pub(crate) fn demand_fit<R: Wait>(rt: &R, order: &Graph, results: &[Option<ActionResult>])
     requires { length results.now ≡ order.now.nodes }
     ensures { AreSkippedRightly order.now (action_results_of results.now) }
@@ -28,7 +28,7 @@ pub(crate) fn demand_fit<R: Wait>(rt: &R, order: &Graph, results: &[Option<Actio
     unreachable!()
 }
 
-/// Whether each action is skipped exactly where one directly before it isn't good.
+/// Returns whether each action is skipped exactly if one directly before it isn't good.
 fn all_fit(order: &Graph, results: &[Option<ActionResult>]) -> bool
     requires { length results.now ≡ order.now.nodes }
     ensures { IsTrue result → AreSkippedRightly order.now (action_results_of results.now) }
@@ -42,7 +42,7 @@ fn all_fit(order: &Graph, results: &[Option<ActionResult>]) -> bool
     true
 }
 
-/// Whether an action is skipped exactly where one directly before it isn't good.
+/// Returns whether an action is skipped exactly if one directly before it isn't good.
 fn fits(order: &Graph, results: &[Option<ActionResult>], action: usize) -> bool
     requires sized { length results.now ≡ order.now.nodes }
     requires within { action < order.now.nodes }
@@ -51,7 +51,7 @@ fn fits(order: &Graph, results: &[Option<ActionResult>], action: usize) -> bool
     is_skipped_at(results, action) != are_good(results, order.predecessors(action))
 }
 
-/// Whether an action was skipped.
+/// Returns whether an action was skipped.
 fn is_skipped_at(results: &[Option<ActionResult>], action: usize) -> bool
     requires { action < length results.now }
     ensures { result ≡ is_skipped (done_at (action_results_of results.now) action) }
@@ -59,7 +59,7 @@ fn is_skipped_at(results: &[Option<ActionResult>], action: usize) -> bool
     is_skipped(&results[action])
 }
 
-/// Whether each of some actions is good.
+/// Returns whether each of some actions is good.
 fn are_good(results: &[Option<ActionResult>], actions: &[usize]) -> bool
     requires { All (λ n. n < length results.now) actions.now }
     ensures { result ≡ list_all (λ n. is_good (done_at (action_results_of results.now) n)) actions.now }
@@ -72,7 +72,7 @@ fn are_good(results: &[Option<ActionResult>], actions: &[usize]) -> bool
     true
 }
 
-/// Whether an action is good; one of which nothing came isn't.
+/// Returns whether an action is good. One without a result isn't.
 fn is_good(ended: &Option<ActionResult>) -> bool
     ensures { result ≡ is_good (result_or_skipped ended.now) }
 {
@@ -82,7 +82,7 @@ fn is_good(ended: &Option<ActionResult>) -> bool
     }
 }
 
-/// Whether an action was skipped; one of which nothing came was.
+/// Returns whether an action was skipped. One without a result was.
 fn is_skipped(ended: &Option<ActionResult>) -> bool
     ensures { result ≡ is_skipped (result_or_skipped ended.now) }
 {

@@ -1,8 +1,8 @@
-//! Carrying out a plan: each action is called once, when all that it depends on is good, and what came of it is recorded and
-//! reported.
+//! Carries out a plan: calls each action once, when every action that it depends on is good, records the call and reports its
+//! outcome.
 //!
-//! One thread does so (`run_one`), or many workers (`run`), which share claims, result cells and hints (`tf_walk_workers`). What
-//! many workers did is compared and reported once they are joined.
+//! `run_one` does this on one thread, `run` with several workers, which share claims, result cells and hints
+//! (`tf_walk_workers`). After the workers are joined, `run` compares the journal with the results and reports them.
 #![tactic(auto)]
 
 mod ending;
@@ -14,5 +14,5 @@ mod single;
 
 pub use many::{MOST_WORKERS, run, run_and_close};
 pub use single::run_one;
-pub use tf_walk_action::{Excuse, Outcome};
-pub use tf_walk_report::{Diagnostic, Report, Walked};
+pub use tf_walk_action::{Excuse, Outcome, Stop};
+pub use tf_walk_report::{Diagnostic, Report, Walked, settle};

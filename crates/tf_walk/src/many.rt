@@ -1,4 +1,4 @@
-//! Carrying out a plan by many workers.
+//! Carries out a plan with several workers.
 
 ghost use Rattle.std.specs.Prelude.{◌≡◌, List, map, true, IfOk, MatchBool, MatchResult};
 ghost use Rattle.tf_walk_action.specs.Words.{action_of, AreServed, FitsTogether, plan_of};
@@ -23,18 +23,19 @@ use tf_walk_workers::{
     BorrowedInput, Log, ResultCells, SharedWalk, WalkBrand, WalkProgress, share_out,
 };
 
-/// The most workers that a walk may have.
+/// The largest number of workers.
 pub const MOST_WORKERS: usize = 64;
 
-/// Carries out a plan by so many workers, of which the calling thread is one; a worker that can't be started is done
-/// without. One worker carries it out as `run_one` does, so that no journal is withheld. Every action is ended once, after all
-/// that stand before it; once `stop` is set, none that hasn't begun is called. Some provider in the list has the type of each
-/// action. Refused, before the first call, only where `workers` isn't 1 to 64 or there is no memory for the walk; after the first
-/// call, no memory is taken for what a reply says. With more than one worker it may wait.
+/// Carries out a plan with `workers` workers, one of which is the calling thread. If a worker can't be started, the others do its
+/// work. One worker carries it out as [`run_one`] does, so no journal is withheld. Every action ends once, after all actions
+/// before it. Requires that some provider in the list has the type of each action.
+///
+/// After `stop` is set, no action begins; a call that a worker has begun, or is about to make after its look at the flag, is still
+/// made and recorded. After the first call, nothing is allocated for what a reply says. More than one worker may wait.
 ///
 /// # Errors
 ///
-/// `Workers` where `workers` isn't 1 to 64, and else only where memory runs out.
+/// `Workers` if `workers` isn't 1 to 64, and otherwise only if memory runs out. Both come before the first call.
 pub fn run<R: Threads + Wait + Sync>(
     rt: &R,
     alloc: Global,
@@ -60,12 +61,12 @@ pub fn run<R: Threads + Wait + Sync>(
     }
 }
 
-/// As `run`, but one worker too goes by shared claims, and it says also whether these could be closed: whether each action was
-/// claimed and ended, and all that waited for it was let go. No contract says so, so tests ask it.
+/// Like [`run`], but one worker uses the shared claims too, and it also returns whether these could be closed: whether each action
+/// was claimed and ended, and every edge was released. No contract says that they can, so tests ask for it.
 ///
 /// # Errors
 ///
-/// As `run`.
+/// As [`run`].
 pub fn run_and_close<R: Threads + Wait + Sync>(
     rt: &R,
     alloc: Global,
@@ -90,14 +91,14 @@ pub fn run_and_close<R: Threads + Wait + Sync>(
     }
 }
 
-/// Whether a walk may have so many workers.
+/// Returns whether a walk may have this number of workers.
 fn are_workers(workers: usize) -> bool
     ensures { result ≡ are_workers workers }
 {
     1 <= workers && workers <= MOST_WORKERS
 }
 
-/// Carries out a plan, under a name of the walk.
+/// Carries out a plan. `N` names the walk.
 fn run_as<N: WalkBrand + Send + Sync, R: Threads + Wait + Sync>(
     rt: &R,
     alloc: Global,
@@ -117,8 +118,7 @@ fn run_as<N: WalkBrand + Send + Sync, R: Threads + Wait + Sync>(
     Ok(carry_out(rt, alloc, plan, providers, stop, prepared))
 }
 
-/// The report on a plan that is carried out, and whether its claims could be closed. It has no answer that says that there
-/// was no memory.
+/// Carries out a plan and returns its report, and whether its claims could be closed. It can't return out of memory.
 fn carry_out<N: WalkBrand + Send + Sync, R: Threads + Wait + Sync>(
     rt: &R,
     alloc: Global,

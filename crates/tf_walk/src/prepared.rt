@@ -1,4 +1,4 @@
-//! What carrying out a plan begins with.
+//! What a walk on one thread allocates before the first call.
 
 ghost use Rattle.std.specs.Prelude.{IfOk};
 ghost use Rattle.tf_plan_data.specs.Fits.{FitsTogether};
@@ -12,8 +12,8 @@ use tf_provider::Journal;
 use tf_walk_action::{ActionResult, not_ended};
 use tf_walk_report::{ReportBuffers, reserve_report};
 
-/// All that the report on a plan needs memory for, the names of its configuration, and the claims on its actions. The
-/// results are for what may not be let go, so neither may this.
+/// Everything that the report on a plan needs memory for, the names of its configuration, and the claims on its actions. It can't
+/// be dropped, since its results will hold what can't be dropped.
 pub struct Prepared<'p> {
     pub names: Declarations<'p>,
     pub book: Book,
@@ -22,11 +22,11 @@ pub struct Prepared<'p> {
     pub results: Vec<Option<ActionResult>>,
 }
 
-/// Takes the memory for the report on a plan. No provider is handed in, so none is called.
+/// Allocates everything for the report on a plan. It isn't given a provider, so it calls none.
 ///
 /// # Errors
 ///
-/// Only where memory runs out.
+/// Only if memory runs out.
 pub fn prepare(alloc: Global, plan: &Plan) -> Result<Prepared<'_>, AllocError>
     requires { FitsTogether plan.now }
     ensures { IfOk result (IsPrepared plan.now) }

@@ -1,4 +1,4 @@
-//! What a walk of many workers begins with.
+//! What a walk with several workers allocates before the first call.
 
 ghost use Rattle.std.specs.Prelude.{◌≡◌, All, IfOk};
 ghost use Rattle.tf_plan_data.specs.Fits.{FitsTogether};
@@ -15,8 +15,8 @@ use tf_walk_workers::{
     HintStealer, Hinting, Hints, PlanBound, ResultCells, WalkBrand, WorkerState,
 };
 
-/// All that a walk needs memory for: the names of the plan's configuration, the claims on its actions, a state for each worker, the
-/// journal, the cells of results, and all that the report needs.
+/// Everything that a walk needs memory for: the names of the plan's configuration, the claims on its actions, a state for each
+/// worker, the journal, the cells of results, and the parts of the report.
 pub(crate) struct PreparedWalk<'p, N: WalkBrand> {
     pub names: Declarations<'p>,
     pub claims: Claims,
@@ -26,7 +26,7 @@ pub(crate) struct PreparedWalk<'p, N: WalkBrand> {
     pub buffers: ReportBuffers<'p>,
 }
 
-/// The states of all workers, that of the calling thread first, and with what each steals the hints of the others.
+/// The states of all workers, that of the calling thread first, and the stealers of their hints.
 #[derive(Drop)]
 pub(crate) struct Team<N: WalkBrand> {
     pub worker_state: WorkerState<N>,
@@ -34,12 +34,12 @@ pub(crate) struct Team<N: WalkBrand> {
     pub stealers: Vec<HintStealer<PlanBound<N>>>,
 }
 
-/// Takes the memory for a walk by so many workers, but by no more than there are actions. No provider is handed in, so none is
-/// called.
+/// Allocates everything for a walk with `workers` workers, or as many as there are actions if that is fewer. It isn't given a
+/// provider, so it calls none.
 ///
 /// # Errors
 ///
-/// Only where memory runs out.
+/// Only if memory runs out.
 pub(crate) fn prepare<'p, N: WalkBrand>(
     alloc: Global,
     plan: &'p Plan,
@@ -71,7 +71,7 @@ pub(crate) fn prepare<'p, N: WalkBrand>(
     }
 }
 
-/// The states of so many workers, one at least, the first with this seat.
+/// Returns the states of `workers` workers, at least one. The first has the given seat.
 fn team_of<N: WalkBrand>(
     alloc: Global,
     claims: &Claims,
@@ -96,10 +96,10 @@ fn team_of<N: WalkBrand>(
     })
 }
 
-/// How many hints a worker has room for at first.
+/// The number of hints that a worker has space for at first.
 const HINTS: usize = 64;
 
-/// The state of a worker with this seat. Another stealer is for its hints.
+/// Returns the state of a worker with this seat, and adds the stealer of its hints.
 fn worker_state_of<N: WalkBrand>(
     alloc: Global,
     seat: Seat,

@@ -1,4 +1,4 @@
-//! Carrying out a plan by one thread.
+//! Carries out a plan on one thread.
 
 ghost use Rattle.std.specs.Prelude.{◌≡◌, map, IfOk, IfErr};
 ghost use Rattle.tf_walk_action.specs.Words.{action_of, AreServed, FitsTogether, plan_of};
@@ -16,14 +16,13 @@ use tf_walk_action::Stop;
 use tf_walk_report::{Report, Walked, report_of};
 use tf_walk_single::walk;
 
-/// Carries out a plan by one thread, without waiting: every action is ended once, after all that stand before
-/// it. Some provider in the list has the type of each action. Of an action that may be called the flag is looked at once,
-/// before its request is made: where it is set, the action is left. Refused, before the first call, only where there is no
-/// memory for the report; after the first call, no memory is taken for what a reply says.
+/// Carries out a plan on the calling thread, without waiting. Every action ends once, after all actions before it. Requires that
+/// some provider in the list has the type of each action. The flag is read once for each action that isn't skipped, before its
+/// request is built; if it is set, the action is left. After the first call, nothing is allocated for what a reply says.
 ///
 /// # Errors
 ///
-/// Only where memory runs out.
+/// Only if memory runs out, before the first call.
 pub fn run_one(
     alloc: Global,
     plan: &Planned,
@@ -42,7 +41,7 @@ pub fn run_one(
     }
 }
 
-/// The report on a plan that is carried out. It has no answer that says that there was no memory.
+/// Carries out a plan and returns its report. It can't return out of memory.
 fn carry_out(
     alloc: Global,
     plan: &Plan,
